@@ -1,0 +1,3 @@
+pub mod SectorSums
+pub mod EquationLaws
+pub mod GlobalCounts

@@ -1,0 +1,24 @@
+-- What the search for the first broken equation finds on its way.
+use Rattle.std.specs.Prelude.{◌≡◌, ◌≢◌, ℕ, ◌<◌, List, Option, slice_index, MatchOption}
+use Rattle.stair_model.specs.Geometry.{Geometry, classes, coverage}
+use Rattle.stair_model.specs.Stripe.{Stripe, SECTOR, byte_of}
+use Rattle.stair_model.specs.Codeword.{IsRowEquation, IsGlobalEquation}
+use Rattle.stair_model.specs.Equation.{Equation, RowEquation, GlobalEquation}
+use Rattle.stair_base.specs.declared.equations.Broken.{Broken}
+use Rattle.stair_base.specs.declared.equations.Broken.TheVariants.{Row, Global}
+
+abbrev pub equation_of : Broken → Equation
+equation_of (Row i k p) = RowEquation i k p
+equation_of (Global l h p) = GlobalEquation l h p
+
+abbrev pub RowEquationsHold : Geometry → Stripe → Type 0
+RowEquationsHold g stripe = (p i k : ℕ) → p < SECTOR → i < g.r → k < g.m → IsRowEquation g (byte_of stripe p) i k
+
+abbrev pub GlobalEquationsHold : Geometry → Stripe → Type 0
+GlobalEquationsHold g stripe = (p l h : ℕ) → p < SECTOR → l < classes g → h < coverage g l → IsGlobalEquation g (byte_of stripe p) l h
+
+-- the bytes agree, or differ first at this one
+abbrev pub FirstDifference : List ℕ → List ℕ → Option ℕ → Type 0
+FirstDifference a b found =
+    MatchOption found ((p : ℕ) → p < SECTOR → slice_index a p ≡ slice_index b p)
+    (λ p. (p < SECTOR) × (slice_index a p ≢ slice_index b p) × ((q : ℕ) → q < p → slice_index a q ≡ slice_index b q))

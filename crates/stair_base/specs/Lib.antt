@@ -1,0 +1,10 @@
+-- What contracts see of a geometry and a stripe, beside the words of the code.
+pub mod Padding
+pub mod Stored
+pub mod Kinds
+pub mod Equations
+pub use Rattle.stair_model.specs.Geometry
+pub use Rattle.stair_model.specs.Cell
+pub use Rattle.stair_model.specs.Stripe
+pub use Rattle.stair_model.specs.Codeword
+pub use Rattle.stair_model.specs.Equation

@@ -1,0 +1,234 @@
+ghost use Rattle.std.specs.Prelude.{◌≡◌, ℕ, ◌+◌, ◌-◌, ◌*◌, ◌<◌, ◌≤◌, ◌↔◌, ◌^◌, length, sum, All, IsTrue, IfOk, IfErr, IsOk};
+ghost use Rattle.stair_model.specs.Geometry.{IsCoverageVector};
+ghost use Rattle.stair_base.specs.Padding.{padded};
+
+use std::marker::Model;
+
+/// The number of the first limit that a geometry breaks, 1 to 8.
+#[derive(Clone, Copy, Debug, PartialEq, Eq)]
+pub struct GeometryFault {
+    pub limit: u8,
+}
+
+/// The geometry of an array, within the limits. The letters are those of Li and Lee, STAIR Codes (FAST 2014).
+#[derive(Clone, Copy, Debug, PartialEq, Eq)]
+pub struct Geometry {
+    n: u8,
+    m: u8,
+    r: u8,
+    classes: u8,
+    coverage: [u8; 32],
+    stripes: u32,
+    id: [u8; 16],
+}
+
+impl Model for Geometry {
+    ghost use Rattle.stair_model.specs.Geometry.{Geometry as Numbers};
+
+    ghost Value = { Numbers };
+
+    ghost use Rattle.stair_base.specs.Stored.{shown, kept, IsStored, kept-shown};
+
+    ghost view = { shown };
+
+    ghost invariant = { IsStored };
+
+    ghost inverse = { kept };
+
+    ghost inverse_ok = { kept-shown };
+}
+
+/// Whether each entry is 1 to r, and none is below the one before.
+fn is_coverage_vector(e: &[u64], r: u64) -> bool
+    ensures { IsTrue result ↔ IsCoverageVector e.now r }
+{
+    let mut least = 1;
+    for x in e {
+        if *x < least || *x > r {
+            return false;
+        }
+        least = *x;
+    }
+    true
+}
+
+fn total(e: &[u64]) -> u64
+    requires count { length e.now ≤ 32 }
+    requires small { All (λ x. x ≤ 32) e.now }
+    ensures { result ≡ sum e.now }
+{
+    let mut sum = 0;
+    for x in e {
+        sum += *x;
+    }
+    sum
+}
+
+/// The entries, with zeros behind them.
+fn padded_coverage(e: &[u64]) -> [u8; 32]
+    requires count { length e.now ≤ 32 }
+    requires small { All (λ x. x ≤ 32) e.now }
+    ensures { result ≡ padded e.now }
+{
+    let mut coverage = [0; 32];
+    for (l, x) in e.iter().enumerate() {
+        coverage[l] = *x as u8;
+    }
+    coverage
+}
+
+impl Geometry {
+    ghost use Rattle.stair_model.specs.Geometry.{geometry_of, IsWithinLimits, IsFirstBrokenLimit, classes, coverage, global_cells, greatest_coverage, data_cells, block_count, sectors_needed};
+
+    /// The geometry of these numbers: devices, row parities, rows, coverage vector, stripes, and the array's identity.
+    /// Where a limit is broken, the answer is the first one.
+    pub fn new(
+        n: u64,
+        m: u64,
+        r: u64,
+        e: &[u64],
+        stripes: u64,
+        id: [u8; 16],
+    ) -> Result<Geometry, GeometryFault>
+        ensures ok { IfOk result (λ geometry. geometry ≡ geometry_of n m r e.now stripes id) }
+        ensures within { IsOk result ↔ IsWithinLimits (geometry_of n m r e.now stripes id) }
+        ensures err { IfErr result (λ fault. IsFirstBrokenLimit (geometry_of n m r e.now stripes id) fault.limit) }
+    {
+        if n < 3 || n > 32 {
+            return Err(GeometryFault { limit: 1 });
+        }
+        if m < 1 {
+            return Err(GeometryFault { limit: 2 });
+        }
+        if m >= n || n - m <= m {
+            return Err(GeometryFault { limit: 3 });
+        }
+        if e.is_empty() || e.len() as u64 > n - m {
+            return Err(GeometryFault { limit: 4 });
+        }
+        if r < 1 || r > 32 {
+            return Err(GeometryFault { limit: 5 });
+        }
+        if !is_coverage_vector(e, r) {
+            return Err(GeometryFault { limit: 6 });
+        }
+        if r * (n - m) <= total(e) {
+            return Err(GeometryFault { limit: 7 });
+        }
+        if stripes < 1 || stripes > 65_536 || n * r * stripes > 4_194_304 {
+            return Err(GeometryFault { limit: 8 });
+        }
+        Ok(Geometry {
+            n: n as u8,
+            m: m as u8,
+            r: r as u8,
+            classes: e.len() as u8,
+            coverage: padded_coverage(e),
+            stripes: stripes as u32,
+            id,
+        })
+    }
+
+    /// Devices of the array, and chunks of a stripe: 3 to 32.
+    pub fn n(&self) -> u8
+        ensures value { result ≡ self.now.n }
+        ensures limits { IsWithinLimits self.now }
+    {
+        self.n
+    }
+
+    /// Row parities of a stripe: so many whole devices may be lost.
+    pub fn m(&self) -> u8
+        ensures value { result ≡ self.now.m }
+        ensures limits { IsWithinLimits self.now }
+    {
+        self.m
+    }
+
+    /// Rows of a stripe, which is sectors of a chunk: 1 to 32.
+    pub fn r(&self) -> u8
+        ensures value { result ≡ self.now.r }
+        ensures limits { IsWithinLimits self.now }
+    {
+        self.r
+    }
+
+    /// Coverage classes, m': so many further chunks may have lost sectors.
+    pub fn classes(&self) -> u8
+        ensures value { result ≡ classes self.now }
+        ensures limits { IsWithinLimits self.now }
+    {
+        self.classes
+    }
+
+    /// Entry l of the coverage vector: so many sectors of a chunk may be lost in class l.
+    pub fn coverage(&self, l: u8) -> u8
+        requires { l < classes self.now }
+        ensures value { result ≡ coverage self.now l }
+        ensures rows { result ≤ self.now.r }
+        ensures limits { IsWithinLimits self.now }
+    {
+        self.coverage[l as usize]
+    }
+
+    /// Global parity cells of a stripe, the sum of the coverage vector.
+    pub fn s(&self) -> u16
+        ensures value { result ≡ global_cells self.now }
+        ensures limits { IsWithinLimits self.now }
+    {
+        let mut sum = 0;
+        for l in 0..self.classes as usize {
+            sum += u16::from(self.coverage[l]);
+        }
+        sum
+    }
+
+    /// The greatest entry of the coverage vector, which is its last.
+    pub fn e_max(&self) -> u8
+        ensures value { result ≡ greatest_coverage self.now }
+        ensures limits { IsWithinLimits self.now }
+    {
+        self.coverage(self.classes - 1)
+    }
+
+    /// Blocks of a stripe.
+    pub fn u(&self) -> u16
+        ensures value { result ≡ data_cells self.now }
+        ensures limits { IsWithinLimits self.now }
+    {
+        u16::from(self.r) * u16::from(self.n - self.m) - self.s()
+    }
+
+    /// Stripes of the array.
+    pub fn stripes(&self) -> u32
+        ensures value { result ≡ self.now.stripes }
+        ensures limits { IsWithinLimits self.now }
+    {
+        self.stripes
+    }
+
+    /// Blocks of the array.
+    pub fn blocks(&self) -> u64
+        ensures value { result ≡ block_count self.now }
+        ensures limits { IsWithinLimits self.now }
+    {
+        u64::from(self.u()) * u64::from(self.stripes)
+    }
+
+    /// Sectors that each device must have at least: two superblocks, the gate, the journal's body, and a chunk of each stripe.
+    pub fn need(&self) -> u32
+        ensures value { result ≡ sectors_needed self.now }
+        ensures limits { IsWithinLimits self.now }
+    {
+        let rows = u32::from(self.r);
+        3 + u32::from(self.n) * rows + self.stripes * rows
+    }
+
+    /// The array's identity.
+    pub fn id(&self) -> [u8; 16]
+        ensures value { result ≡ self.now.id }
+        ensures limits { IsWithinLimits self.now }
+    {
+        self.id
+    }
+}

@@ -1,0 +1,39 @@
+//! `stair FOLDER COMMAND ..`: the words after the folder are done over standard input and output.
+#![tactic(auto)]
+
+use stair_engine::{Status, stair};
+use stair_rack::{FromRead, FromWrite};
+use std::process::ExitCode;
+use std::{env, io};
+
+/// The words after the folder. Words that are no text are a faulty command line.
+fn read_words(rt: &HostRuntime) -> Result<Vec<String>, Status> {
+    let mut words = match env::args(rt) {
+        Ok(words) => words,
+        Err(error) if error.kind() == io::ErrorKind::OutOfMemory => return Err(Status::OutOfMemory),
+        Err(_) => return Err(Status::Usage),
+    };
+    let _program = words.next();
+    let _folder = words.next();
+    words.collect(rt.alloc()).map_err(|_| Status::OutOfMemory)
+}
+
+fn run(rt: &HostRuntime) -> Status {
+    match read_words(rt) {
+        Ok(words) => {
+            let mut input = FromRead::new(rt.stdin());
+            let mut output = FromWrite::new(rt.stdout());
+            stair(rt.alloc(), &words, &mut input, &mut output)
+        }
+        Err(status) => status,
+    }
+}
+
+fn main(rt: HostRuntime) -> ExitCode {
+    let status = run(&rt);
+    if status != Status::Done {
+        // Where standard error can't be written, the exit status still tells.
+        let _ = eprintln!(rt; "{status}");
+    }
+    ExitCode::from(status.code())
+}

@@ -1,0 +1,4 @@
+pub mod StreamLaws
+pub mod Taking
+pub mod CheckLaws
+pub mod WordsLemmas

@@ -1,0 +1,26 @@
+-- What is taken and put, piece by piece.
+use Rattle.std.proofs.Common.{◌≡◌, ℕ, Bool, true, false, refl, ◌+◌, ◌≤◌, List, ◌++◌, length, take, drop, sym, ap, ap₂, ◌∙◌, le_refl}
+use Rattle.std.specs.Prelude.{IsTrue}
+use Rattle.std.proofs.lemmas.List.{take-append-le, take-take, length-take-le}
+use Rattle.std.proofs.lemmas.Slice.{take-put_mid_below}
+use borrow.Rule.Slice.PartMut.{put_mid, post_of}
+use lib.Seq.{drop_at, take-add}
+
+-- the bytes at the front of a piece, and the next ones behind them
+pub take-put_mid_more : (filled k size : ℕ) (xs ys : List ℕ) → filled ≤ length xs → k ≤ length ys
+    → take (filled + k) (put_mid filled size xs ys) ≡ take filled xs ++ take k ys
+take-put_mid_more filled k size xs ys in_xs in_ys =
+    take-add filled k (put_mid filled size xs ys)
+    ∙ ap₂ (λ (a b : List ℕ). a ++ b) (take-put_mid_below filled size xs ys filled (le_refl filled) in_xs)
+        (ap (take k) (drop_at (take filled xs) (ys ++ post_of filled size xs) filled (length-take-le filled xs in_xs))
+          ∙ take-append-le k ys (post_of filled size xs) in_ys)
+
+-- the bytes that were put, and the next ones behind them
+pub take-part_more : (put k size : ℕ) (xs : List ℕ) → k ≤ size → take put xs ++ take k (take size (drop put xs)) ≡ take (put + k) xs
+take-part_more put k size xs in_size =
+    ap (λ b. take put xs ++ b) (take-take k size (drop put xs) in_size) ∙ sym (take-add put k xs)
+
+-- a test that isn't true
+pub not_true : (b : Bool) → (IsTrue b → ⊥) → b ≡ false
+not_true true fails = absurd (fails refl)
+not_true false fails = refl

@@ -1,0 +1,5 @@
+pub mod CountLaws
+pub mod CellLaws
+pub mod DataLaws
+pub mod FieldLaws
+pub mod SumLaws

@@ -1,0 +1,10 @@
+-- What the words of a STAIR code mean, over plain numbers and lists and for every geometry.
+pub mod Sum
+pub mod Field
+pub mod Geometry
+pub mod Matrix
+pub mod Cell
+pub mod Stripe
+pub mod Codeword
+pub mod Equation
+pub mod Examples

@@ -1,0 +1,5 @@
+//! What the words of a STAIR code mean, and the laws about them.
+#![tactic(auto)]
+
+pub mod field;
+pub mod layout;
