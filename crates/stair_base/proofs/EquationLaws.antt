@@ -1,15 +1,26 @@
 -- The first broken equation, from the first byte that isn't zero.
-use Rattle.std.proofs.Common.{◌≡◌, ℕ, ◌<◌, List, Some, replicate, slice_index, subst, sym, ◌∙◌, inl, inr}
+use Rattle.std.proofs.Common.{◌≡◌, ℕ, ◌+◌, ◌<◌, List, Some, replicate, slice_index, subst, sym, ap, ◌∙◌, inl, inr}
 use Rattle.std.proofs.lemmas.List.{get_or-replicate}
 use Rattle.stair_model.specs.Geometry.{Geometry, classes, coverage}
 use Rattle.stair_model.specs.Stripe.{Stripe, byte_of}
-use Rattle.stair_model.specs.Codeword.{IsGlobalEquation, global_sum}
+use Rattle.stair_model.specs.Field.{product}
+use Rattle.stair_model.specs.Matrix.{column_coefficient}
+use Rattle.stair_model.specs.Codeword.{IsGlobalEquation, column_sum, global_sum, row_sum}
+use Rattle.stair_model.proofs.SumLaws.{field_sum_same}
 use Rattle.stair_model.specs.Equation.{Equation, RowEquation, GlobalEquation, ComesBefore, IsEquationOf, Precedes, HoldsIn, IsFirstBroken}
-use Rattle.stair_base.specs.Equations.{RowEquationsHold, FirstDifference}
+use Rattle.stair_base.specs.Equations.{RowEquationsHold, FirstDifference, IsIntermediateChunk, symbol_byte}
 
 -- a sum that is zero at this byte
 pub zero_at : (sum : List ℕ) (p : ℕ) → p < 512 → slice_index sum p ≡ slice_index (replicate 512 0) p → slice_index sum p ≡ 0
 zero_at sum p h same = same ∙ get_or-replicate 512 p 0 0 h
+
+-- the sum over the symbols of an intermediate chunk
+pub column_sum-intermediate : (g : Geometry) (stripe : Stripe) (l h q : ℕ) (symbols : List (List ℕ)) → IsIntermediateChunk g stripe l symbols
+    → q < 512 → column_sum g (symbol_byte symbols q) h ≡ global_sum g (byte_of stripe q) l h
+column_sum-intermediate g stripe l h q symbols is in_sector =
+    field_sum_same g.r (λ i. product (column_coefficient g h i) (symbol_byte symbols q i))
+    (λ i. product (column_coefficient g h i) (row_sum g (byte_of stripe q) i (g.m + l)))
+    (λ i in_rows. ap (product (column_coefficient g h i)) (is i q in_rows in_sector))
 
 module _ (g : Geometry) (stripe : Stripe) (l h p : ℕ) (sum : List ℕ)
     (rows : RowEquationsHold g stripe)

@@ -1,8 +1,8 @@
 -- What the search for the first broken equation finds on its way.
-use Rattle.std.specs.Prelude.{◌≡◌, ◌≢◌, ℕ, ◌<◌, List, Option, slice_index, MatchOption}
+use Rattle.std.specs.Prelude.{◌≡◌, ◌≢◌, ℕ, ◌+◌, ◌<◌, List, [], Option, slice_index, slice_index_or, MatchOption}
 use Rattle.stair_model.specs.Geometry.{Geometry, classes, coverage}
 use Rattle.stair_model.specs.Stripe.{Stripe, SECTOR, byte_of}
-use Rattle.stair_model.specs.Codeword.{IsRowEquation, IsGlobalEquation}
+use Rattle.stair_model.specs.Codeword.{IsRowEquation, IsGlobalEquation, row_sum}
 use Rattle.stair_model.specs.Equation.{Equation, RowEquation, GlobalEquation}
 use Rattle.stair_base.specs.declared.equations.Broken.{Broken}
 use Rattle.stair_base.specs.declared.equations.Broken.TheVariants.{Row, Global}
@@ -16,6 +16,15 @@ RowEquationsHold g stripe = (p i k : ℕ) → p < SECTOR → i < g.r → k < g.m
 
 abbrev pub GlobalEquationsHold : Geometry → Stripe → Type 0
 GlobalEquationsHold g stripe = (p l h : ℕ) → p < SECTOR → l < classes g → h < coverage g l → IsGlobalEquation g (byte_of stripe p) l h
+
+-- byte p of each symbol of a chunk
+abbrev pub symbol_byte : List (List ℕ) → ℕ → ℕ → ℕ
+symbol_byte symbols p i = slice_index (slice_index_or symbols i []) p
+
+-- the symbols are those of intermediate chunk l
+abbrev pub IsIntermediateChunk : Geometry → Stripe → ℕ → List (List ℕ) → Type 0
+IsIntermediateChunk g stripe l symbols =
+    (i p : ℕ) → i < g.r → p < SECTOR → symbol_byte symbols p i ≡ row_sum g (byte_of stripe p) i (g.m + l)
 
 -- the bytes agree, or differ first at this one
 abbrev pub FirstDifference : List ℕ → List ℕ → Option ℕ → Type 0

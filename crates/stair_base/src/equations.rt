@@ -1,25 +1,35 @@
 ghost use Rattle.std.specs.Prelude.{◌≡◌, ℕ, ◌+◌, ◌<◌, ◌↔◌, IsNone, IfNone, IfSome, slice_index};
-ghost use Rattle.stair_model.specs.Codeword.{IsCodeword, row_sum as row_sum_of, global_sum as global_sum_of};
+ghost use Rattle.stair_model.specs.Codeword.{IsCodeword, column_sum, row_sum as row_sum_of};
 ghost use Rattle.stair_model.specs.Equation.{IsFirstBroken};
 ghost use Rattle.stair_model.specs.Geometry.{classes, coverage, data_chunks};
 ghost use Rattle.stair_model.specs.Matrix.{row_coefficient as row_coefficient_of, column_coefficient as column_coefficient_of};
 ghost use Rattle.stair_model.specs.Stripe.{IsStripeOf, byte_of};
-ghost use Rattle.stair_base.specs.Equations.{FirstDifference, equation_of, RowEquationsHold, GlobalEquationsHold};
+ghost use Rattle.stair_base.specs.Equations.{FirstDifference, equation_of, IsIntermediateChunk, symbol_byte, RowEquationsHold, GlobalEquationsHold};
 
 use crate::geometry::Geometry;
 use crate::stripe::{SECTOR, Stripe};
 use stair_gf::{inv, mul_add};
 
-/// An equation of the code that a stripe breaks.
+/// The most rows that a stripe may have.
+const MAX_ROWS: usize = 32;
+
+/// An equation of the code that a stripe breaks, at one byte position, 0 to 511.
 #[derive(Clone, Copy, Debug, PartialEq, Eq)]
 pub enum Broken {
-    /// Row parity `parity` of row `row`, at this byte of the sector.
+    /// The equation of row parity `parity`, below m, of row `row`, below r.
     Row { row: u8, parity: u8, byte: u16 },
-    /// Global parity `h` of coverage class `l`, at this byte of the sector.
+    /// The equation of global parity `h`, below entry l of the coverage vector, of class `l`, below m'.
     Global { l: u8, h: u8, byte: u16 },
 }
 
-/// The first equation that the stripe breaks; None exactly where it is a codeword.
+/// The first equation that the stripe breaks; None exactly where it is a codeword. The stripe is one of this geometry.
+///
+/// The equations are those of Li and Lee, STAIR Codes (FAST 2014), over GF(2^8), with two Cauchy matrices (Blömer et
+/// al., An XOR-Based Erasure-Resilient Coding Scheme, 1995): A[k][j] = 1/((n-m+k) xor j) and B[h][i] = 1/((r+h) xor i).
+/// At each byte position,
+///
+/// - cell (i, n-m+k) is the sum over j < n-m of A[k][j]·cell(i, j), for each row i and parity k, and
+/// - the sum over i < r of B[h][i]·(the sum over j < n-m of A[m+l][j]·cell(i, j)) is 0, for each class l and h < e_l.
 ///
 /// Row equations come first, by row, parity and byte, and then global equations, by class, number and byte.
 pub fn first_broken(geometry: &Geometry, stripe: &Stripe) -> Option<Broken>
@@ -59,8 +69,9 @@ fn first_broken_global(geometry: &Geometry, stripe: &Stripe) -> Option<Broken>
     ensures broken { IfSome result (λ b. IsFirstBroken geometry.now stripe.now (equation_of b)) }
 {
     for l in 0..geometry.classes() {
+        let symbols = intermediate_chunk(geometry, stripe, l);
         for h in 0..geometry.coverage(l) {
-            let sum = global_sum(geometry, stripe, l, h);
+            let sum = global_sum(geometry, &symbols, h);
             if let Some(byte) = first_difference(&sum, &[0; SECTOR]) {
                 return Some(Broken::Global { l, h, byte });
             }
@@ -87,17 +98,28 @@ fn row_sum(geometry: &Geometry, stripe: &Stripe, row: u8, k: u8) -> [u8; SECTOR]
     sum
 }
 
-/// Row `h` of the column matrix over intermediate chunk `l`, at each byte.
-fn global_sum(geometry: &Geometry, stripe: &Stripe, l: u8, h: u8) -> [u8; SECTOR]
+/// Intermediate chunk `l`, a symbol for each row: row m+l of the row matrix over the data chunks, at each byte.
+fn intermediate_chunk(geometry: &Geometry, stripe: &Stripe, l: u8) -> [[u8; SECTOR]; MAX_ROWS]
     requires of { IsStripeOf geometry.now stripe.now }
     requires l_in { l < classes geometry.now }
-    requires h_in { h < coverage geometry.now l }
-    ensures { (p : ℕ) → p < 512 → slice_index result p ≡ global_sum_of geometry.now (byte_of stripe.now p) l h }
+    ensures { IsIntermediateChunk geometry.now stripe.now l result }
+{
+    let mut symbols = [[0; SECTOR]; MAX_ROWS];
+    for row in 0..geometry.r() {
+        symbols[usize::from(row)] = row_sum(geometry, stripe, row, geometry.m() + l);
+    }
+    symbols
+}
+
+/// Row `h` of the column matrix over the symbols of an intermediate chunk, at each byte.
+fn global_sum(geometry: &Geometry, symbols: &[[u8; SECTOR]; MAX_ROWS], h: u8) -> [u8; SECTOR]
+    requires { h < geometry.now.r }
+    ensures { (p : ℕ) → p < 512 → slice_index result p ≡ column_sum geometry.now (symbol_byte symbols.now p) h }
 {
     let mut sum = [0; SECTOR];
     for row in 0..geometry.r() {
-        let symbol = row_sum(geometry, stripe, row, geometry.m() + l);
-        mul_add(&mut sum, &symbol, column_coefficient(geometry, h, row));
+        let symbol = &symbols[usize::from(row)];
+        mul_add(&mut sum, symbol, column_coefficient(geometry, h, row));
     }
     sum
 }

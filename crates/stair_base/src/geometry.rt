@@ -4,13 +4,16 @@ ghost use Rattle.stair_base.specs.Padding.{padded};
 
 use std::marker::Model;
 
-/// The number of the first limit that a geometry breaks, 1 to 8.
+/// What [`Geometry::new`] refuses: the number of the first limit that is broken, 1 to 8.
 #[derive(Clone, Copy, Debug, PartialEq, Eq)]
 pub struct GeometryFault {
     pub limit: u8,
 }
 
-/// The geometry of an array, within the limits. The letters are those of Li and Lee, STAIR Codes (FAST 2014).
+/// The geometry of an array, within the limits of [`Geometry::new`]. The letters are those of Li and Lee, STAIR Codes
+/// (FAST 2014).
+///
+/// A stripe has n chunks, one on each device, and a chunk has r sectors of 512 bytes.
 #[derive(Clone, Copy, Debug, PartialEq, Eq)]
 pub struct Geometry {
     n: u8,
@@ -81,7 +84,17 @@ impl Geometry {
     ghost use Rattle.stair_model.specs.Geometry.{geometry_of, IsWithinLimits, IsFirstBrokenLimit, classes, coverage, global_cells, greatest_coverage, data_cells, block_count, sectors_needed};
 
     /// The geometry of these numbers: devices, row parities, rows, coverage vector, stripes, and the array's identity.
-    /// Where a limit is broken, the answer is the first one.
+    ///
+    /// Any numbers may be handed in. Where a limit is broken, the answer is the number of the first one:
+    ///
+    /// 1. 3 <= n <= 32
+    /// 2. m >= 1
+    /// 3. n > 2m
+    /// 4. 1 <= m' <= n-m, where m' is the length of e
+    /// 5. 1 <= r <= 32
+    /// 6. each entry of e is 1 to r, and none is below the one before
+    /// 7. a stripe has a block: r(n-m) is above the sum of e
+    /// 8. 1 <= stripes <= 65,536, and n·r·stripes <= 4,194,304
     pub fn new(
         n: u64,
         m: u64,
@@ -118,7 +131,15 @@ impl Geometry {
         if stripes < 1 || stripes > 65_536 || n * r * stripes > 4_194_304 {
             return Err(GeometryFault { limit: 8 });
         }
-        Ok(Geometry {
+        Ok(Self::from_numbers(n, m, r, e, stripes, id))
+    }
+
+    /// The geometry of numbers that keep the limits.
+    fn from_numbers(n: u64, m: u64, r: u64, e: &[u64], stripes: u64, id: [u8; 16]) -> Geometry
+        requires { IsWithinLimits (geometry_of n m r e.now stripes id) }
+        ensures { result ≡ geometry_of n m r e.now stripes id }
+    {
+        Geometry {
             n: n as u8,
             m: m as u8,
             r: r as u8,
@@ -126,7 +147,7 @@ impl Geometry {
             coverage: padded_coverage(e),
             stripes: stripes as u32,
             id,
-        })
+        }
     }
 
     /// Devices of the array, and chunks of a stripe: 3 to 32.
@@ -161,7 +182,7 @@ impl Geometry {
         self.classes
     }
 
-    /// Entry l of the coverage vector: so many sectors of a chunk may be lost in class l.
+    /// Entry l of the coverage vector, 1 to r: so many sectors of a further chunk may be lost in class l.
     pub fn coverage(&self, l: u8) -> u8
         requires { l < classes self.now }
         ensures value { result ≡ coverage self.now l }
@@ -171,7 +192,7 @@ impl Geometry {
         self.coverage[l as usize]
     }
 
-    /// Global parity cells of a stripe, the sum of the coverage vector.
+    /// Global parity cells of a stripe, s: the sum of the coverage vector.
     pub fn s(&self) -> u16
         ensures value { result ≡ global_cells self.now }
         ensures limits { IsWithinLimits self.now }
@@ -183,7 +204,7 @@ impl Geometry {
         sum
     }
 
-    /// The greatest entry of the coverage vector, which is its last.
+    /// The greatest entry of the coverage vector, which is its last: 1 to r.
     pub fn e_max(&self) -> u8
         ensures value { result ≡ greatest_coverage self.now }
         ensures limits { IsWithinLimits self.now }
@@ -191,7 +212,7 @@ impl Geometry {
         self.coverage(self.classes - 1)
     }
 
-    /// Blocks of a stripe.
+    /// Blocks of a stripe, u = r(n-m) - s: at least 1.
     pub fn u(&self) -> u16
         ensures value { result ≡ data_cells self.now }
         ensures limits { IsWithinLimits self.now }
@@ -199,7 +220,7 @@ impl Geometry {
         u16::from(self.r) * u16::from(self.n - self.m) - self.s()
     }
 
-    /// Stripes of the array.
+    /// Stripes of the array: 1 to 65,536.
     pub fn stripes(&self) -> u32
         ensures value { result ≡ self.now.stripes }
         ensures limits { IsWithinLimits self.now }
@@ -207,7 +228,7 @@ impl Geometry {
         self.stripes
     }
 
-    /// Blocks of the array.
+    /// Blocks of the array: u of each stripe.
     pub fn blocks(&self) -> u64
         ensures value { result ≡ block_count self.now }
         ensures limits { IsWithinLimits self.now }
@@ -215,7 +236,8 @@ impl Geometry {
         u64::from(self.u()) * u64::from(self.stripes)
     }
 
-    /// Sectors that each device must have at least: two superblocks, the gate, the journal's body, and a chunk of each stripe.
+    /// Sectors that each device must have at least, 3 + n·r + stripes·r: two superblocks, the gate, the journal's body,
+    /// and a chunk of each stripe.
     pub fn need(&self) -> u32
         ensures value { result ≡ sectors_needed self.now }
         ensures limits { IsWithinLimits self.now }
@@ -224,7 +246,7 @@ impl Geometry {
         3 + u32::from(self.n) * rows + self.stripes * rows
     }
 
-    /// The array's identity.
+    /// The array's identity, sixteen bytes as they were handed in.
     pub fn id(&self) -> [u8; 16]
         ensures value { result ≡ self.now.id }
         ensures limits { IsWithinLimits self.now }

@@ -5,19 +5,22 @@ ghost use Rattle.stair_base.specs.Kinds.{cell_of};
 
 use crate::geometry::Geometry;
 
-/// What a cell of a stripe holds.
+/// What a cell of a stripe holds. The letters are those of [`Geometry`].
 #[derive(Clone, Copy, Debug, PartialEq, Eq)]
 pub enum Kind {
-    /// The block with this number, counted from 0 within the stripe.
+    /// The block with this number, below u, counted within the stripe.
     Block(u16),
-    /// Global parity `h` of coverage class `l`.
+    /// Global parity `h` of coverage class `l`: l is below m', and h below entry l of the coverage vector.
     Global { l: u8, h: u8 },
-    /// This row parity.
+    /// The row parity with this number, below m, of the cell's row.
     Parity(u8),
 }
 
 impl Geometry {
-    /// What the cell in this row of this slot's chunk holds.
+    /// What the cell in this row of this slot's chunk holds; the slot is the chunk's number.
+    ///
+    /// Chunk n-m+k is row parity k. The bottom e_l cells of chunk n-m-m'+l are the global parities of class l, from the
+    /// top. All other cells are blocks, numbered row by row from 0.
     pub fn kind(&self, row: u8, slot: u8) -> Kind
         requires row_in { row < self.now.r }
         requires slot_in { slot < self.now.n }

@@ -1,4 +1,6 @@
-//! Geometries, stripes, and the equations that a stripe meets.
+//! Geometries of arrays, the cells of their stripes, and the equations that a codeword meets.
+//!
+//! The code is that of Li and Lee, STAIR Codes (FAST 2014). [`Stripe::new`] alone takes memory.
 #![tactic(auto)]
 
 pub use equations::{Broken, first_broken};
@@ -10,3 +12,5 @@ mod equations;
 mod geometry;
 mod kind;
 mod stripe;
+#[cfg(test)]
+mod tests;

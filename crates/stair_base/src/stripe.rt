@@ -4,10 +4,10 @@ use crate::geometry::Geometry;
 use std::alloc::{AllocError, Global};
 use std::marker::Model;
 
-/// The bytes of a sector, of a cell and of a block.
+/// How many bytes a sector has, and so a cell and a block.
 pub const SECTOR: usize = 512;
 
-/// The cells of a stripe: `r` rows of `n` cells of 512 bytes.
+/// The cells of a stripe: r rows of n cells of 512 bytes. Cell (i, j) is row i of the chunk in slot j.
 #[derive(Drop)]
 pub struct Stripe {
     rows: u8,
@@ -28,7 +28,7 @@ impl Model for Stripe {
 impl Stripe {
     ghost use Rattle.stair_model.specs.Stripe.{IsSector, IsWellFormed, cell, with_cell, zero_stripe};
 
-    /// The stripe of this geometry in which every byte is zero.
+    /// The stripe of this geometry in which every byte is zero. The error comes only for want of memory for r·n sectors.
     pub fn new(alloc: Global, geometry: &Geometry) -> Result<Stripe, AllocError>
         ensures zero { IfOk result (λ stripe. stripe ≡ zero_stripe geometry.now) }
         ensures well_formed { IfOk result IsWellFormed }
@@ -55,7 +55,7 @@ impl Stripe {
         &self.cells[usize::from(row) * usize::from(self.chunks) + usize::from(slot)]
     }
 
-    /// Puts these bytes into the cell; all other cells stay.
+    /// Puts these bytes into the cell in this row of this slot's chunk; all other cells stay.
     pub fn put(&mut self, row: u8, slot: u8, bytes: &[u8; SECTOR])
         requires row_in { row < self.old.rows }
         requires slot_in { slot < self.old.chunks }

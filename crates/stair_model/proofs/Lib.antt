@@ -3,3 +3,4 @@ pub mod CellLaws
 pub mod DataLaws
 pub mod FieldLaws
 pub mod SumLaws
+pub mod StripeLaws

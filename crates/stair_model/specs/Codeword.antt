@@ -18,9 +18,13 @@ row_sum g w i k = field_sum (data_chunks g) (λ j. product (row_coefficient g k 
 abbrev pub IsRowEquation : Geometry → Word → ℕ → ℕ → Type 0
 IsRowEquation g w i k = w i (data_chunks g + k) ≡ row_sum g w i k
 
--- row h of the column matrix over intermediate chunk l
+-- row h of the column matrix over the symbols of a chunk: the sum over i < r of B[h][i]·symbol(i)
+abbrev pub column_sum : Geometry → (ℕ → ℕ) → ℕ → ℕ
+column_sum g symbol h = field_sum g.r (λ i. product (column_coefficient g h i) (symbol i))
+
+-- row h of the column matrix over intermediate chunk l, whose symbols are row m+l of the row matrix over each row
 abbrev pub global_sum : Geometry → Word → ℕ → ℕ → ℕ
-global_sum g w l h = field_sum g.r (λ i. product (column_coefficient g h i) (row_sum g w i (g.m + l)))
+global_sum g w l h = column_sum g (λ i. row_sum g w i (g.m + l)) h
 
 -- virtual symbol h of intermediate chunk l is zero
 abbrev pub IsGlobalEquation : Geometry → Word → ℕ → ℕ → Type 0

@@ -1,0 +1,157 @@
+ghost use Rattle.std.specs.Prelude.{◌≡◌, IfOk};
+ghost use Rattle.stair_model.specs.Stripe.{IsStripeOf};
+
+use super::*;
+use std::alloc::{AllocError, Global};
+use std::test::Fail;
+
+// Four devices with one row parity, two rows, one global parity and three stripes.
+fn four_devices() -> Result<Geometry, GeometryFault>
+    ensures devices { IfOk result (λ geometry. geometry.n ≡ 4) }
+    ensures rows { IfOk result (λ geometry. geometry.r ≡ 2) }
+{
+    Geometry::new(4, 1, 2, &[1], 3, [0; 16])
+}
+
+// The stripe of four chunks and two rows whose cells are filled with these bytes.
+fn filled(alloc: Global, geometry: &Geometry, bytes: &[[u8; 4]; 2]) -> Result<Stripe, AllocError>
+    requires devices { geometry.now.n ≡ 4 }
+    requires rows { geometry.now.r ≡ 2 }
+    ensures { IfOk result (λ stripe. IsStripeOf geometry.now stripe) }
+{
+    let mut stripe = Stripe::new(alloc, geometry)?;
+    stripe.put(0, 0, &[bytes[0][0]; SECTOR]);
+    stripe.put(0, 1, &[bytes[0][1]; SECTOR]);
+    stripe.put(0, 2, &[bytes[0][2]; SECTOR]);
+    stripe.put(0, 3, &[bytes[0][3]; SECTOR]);
+    stripe.put(1, 0, &[bytes[1][0]; SECTOR]);
+    stripe.put(1, 1, &[bytes[1][1]; SECTOR]);
+    stripe.put(1, 2, &[bytes[1][2]; SECTOR]);
+    stripe.put(1, 3, &[bytes[1][3]; SECTOR]);
+    Ok(stripe)
+}
+
+#[test]
+fn geometry_names_the_first_broken_limit(rt: HostRuntime) {
+    const MAX: u64 = u64::MAX;
+    let cases: [(u64, u64, u64, &[u64], u64, Option<u8>); 29] = [
+        (4, 1, 2, &[1], 3, None),
+        (3, 1, 1, &[1], 1, None),
+        (32, 1, 32, &[1], 4_096, None),
+        (4, 1, 2, &[1], 65_536, None),
+        (2, 1, 2, &[1], 1, Some(1)),
+        (33, 1, 2, &[1], 1, Some(1)),
+        (4, 0, 2, &[1], 1, Some(2)),
+        (4, 2, 2, &[1], 1, Some(3)),
+        (4, 1, 2, &[], 1, Some(4)),
+        (4, 1, 2, &[1, 1, 1, 1], 1, Some(4)),
+        (4, 1, 0, &[1], 1, Some(5)),
+        (4, 1, 33, &[1], 1, Some(5)),
+        (5, 1, 2, &[2, 1], 1, Some(6)),
+        (4, 1, 2, &[0], 1, Some(6)),
+        (4, 1, 2, &[3], 1, Some(6)),
+        (3, 1, 1, &[1, 1], 1, Some(7)),
+        (4, 1, 2, &[1], 0, Some(8)),
+        (4, 1, 2, &[1], 65_537, Some(8)),
+        (32, 1, 32, &[1], 4_097, Some(8)),
+        (MAX, 1, 2, &[1], 1, Some(1)),
+        (4, MAX, 2, &[1], 1, Some(3)),
+        (4, 1, MAX, &[1], 1, Some(5)),
+        (4, 1, 2, &[MAX], 1, Some(6)),
+        (4, 1, 2, &[1], MAX, Some(8)),
+        // two limits at once: the first one is named
+        (2, 0, 2, &[1], 1, Some(1)),
+        (4, 2, 2, &[], 1, Some(3)),
+        (4, 1, 0, &[], 1, Some(4)),
+        (4, 1, 33, &[2, 1], 1, Some(5)),
+        (MAX, MAX, MAX, &[MAX], MAX, Some(1)),
+    ];
+    for (n, m, r, e, stripes, want) in cases {
+        let limit = Geometry::new(n, m, r, e, stripes, [0; 16])
+            .err()
+            .map(|fault| fault.limit);
+        assert_eq!(rt; limit, want, "{n} {m} {r} {e:?} {stripes}");
+    }
+}
+
+#[test]
+fn geometry_tells_its_numbers(rt: HostRuntime) -> Result<(), Fail> {
+    let id = [0, 0, 0, 0, 0, 0, 0, 0, 0, 0, 0, 0, 0, 0, 0, 8];
+    let geometry = Geometry::new(8, 2, 4, &[1, 1, 2], 64, id)?;
+    assert_eq!(rt; geometry.n(), 8);
+    assert_eq!(rt; geometry.m(), 2);
+    assert_eq!(rt; geometry.r(), 4);
+    assert_eq!(rt; geometry.classes(), 3);
+    assert_eq!(rt; geometry.coverage(0), 1);
+    assert_eq!(rt; geometry.coverage(2), 2);
+    assert_eq!(rt; geometry.s(), 4);
+    assert_eq!(rt; geometry.e_max(), 2);
+    assert_eq!(rt; geometry.u(), 20);
+    assert_eq!(rt; geometry.stripes(), 64);
+    assert_eq!(rt; geometry.blocks(), 1_280);
+    assert_eq!(rt; geometry.need(), 291);
+    assert_eq!(rt; geometry.id(), id);
+    Ok(())
+}
+
+#[test]
+fn kinds_of_all_cells_of_four_devices(rt: HostRuntime) -> Result<(), Fail> {
+    let geometry = four_devices()?;
+    assert_eq!(rt; geometry.kind(0, 0), Kind::Block(0));
+    assert_eq!(rt; geometry.kind(0, 1), Kind::Block(1));
+    assert_eq!(rt; geometry.kind(0, 2), Kind::Block(2));
+    assert_eq!(rt; geometry.kind(0, 3), Kind::Parity(0));
+    assert_eq!(rt; geometry.kind(1, 0), Kind::Block(3));
+    assert_eq!(rt; geometry.kind(1, 1), Kind::Block(4));
+    assert_eq!(rt; geometry.kind(1, 2), Kind::Global { l: 0, h: 0 });
+    assert_eq!(rt; geometry.kind(1, 3), Kind::Parity(0));
+    Ok(())
+}
+
+#[test]
+fn first_broken_equations_of_known_stripes(rt: HostRuntime) -> Result<(), Fail> {
+    let geometry = four_devices()?;
+    for (bytes, want) in [
+        ([[0x01, 0x00, 0x00, 0xF4], [0x00, 0x00, 0x46, 0x46]], None),
+        (
+            [[0x01, 0x00, 0x00, 0x00], [0x00, 0x00, 0x46, 0x46]],
+            Some(Broken::Row {
+                row: 0,
+                parity: 0,
+                byte: 0,
+            }),
+        ),
+        ([[0x00; 4]; 2], None),
+        (
+            [[0x01, 0x00, 0x00, 0xF4], [0x00; 4]],
+            Some(Broken::Global {
+                l: 0,
+                h: 0,
+                byte: 0,
+            }),
+        ),
+    ] {
+        let stripe = filled(rt.alloc(), &geometry, &bytes)?;
+        assert_eq!(rt; first_broken(&geometry, &stripe), want, "{bytes:?}");
+    }
+    Ok(())
+}
+
+// The global equation is broken too: the row equation comes first.
+#[test]
+fn last_byte_of_a_cell_counts(rt: HostRuntime) -> Result<(), Fail> {
+    let geometry = four_devices()?;
+    let codeword = [[0x01, 0x00, 0x00, 0xF4], [0x00, 0x00, 0x46, 0x46]];
+    let mut stripe = filled(rt.alloc(), &geometry, &codeword)?;
+    let mut bytes = *stripe.cell(1, 2);
+    assert_eq!(rt; bytes, [0x46; SECTOR]);
+    bytes[511] = 0x00;
+    stripe.put(1, 2, &bytes);
+    let broken = Broken::Row {
+        row: 1,
+        parity: 0,
+        byte: 511,
+    };
+    assert_eq!(rt; first_broken(&geometry, &stripe), Some(broken));
+    Ok(())
+}
