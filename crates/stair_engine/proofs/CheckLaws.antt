@@ -1,7 +1,6 @@
 -- From what was taken to the status.
 use Rattle.std.proofs.Common.{◌≡◌, ◌≢◌, ℕ, ◌*◌, List, None, Some, IfSome, length, sym, ap, ap₂, ◌∙◌, refl}
 use Rattle.std.specs.Prelude.{Option}
-use Rattle.std.specs.List.{concat}
 use Rattle.std.proofs.lemmas.Option.{IfSome_then}
 use Rattle.stair_model.specs.Geometry.{Geometry, IsWithinLimits}
 use Rattle.stair_model.specs.Stripe.{Stripe}
@@ -11,7 +10,7 @@ use Rattle.stair_base.specs.declared.equations.Broken.{Broken}
 use Rattle.stair_base.specs.Equations.{equation_of}
 use Rattle.stair_engine.specs.declared.status.Status.{Status}
 use Rattle.stair_engine.specs.declared.status.Status.TheVariants.{Done, NotCodeword, Usage, Limit, Input, InputFault, OutputFault, OutOfMemory}
-use Rattle.stair_engine.specs.Check.{HasBytes, HasCause, IsStatusOfCheck, LimitsComeFirst, RefusesStripe, TookStripe, bytes_needed}
+use Rattle.stair_engine.specs.Check.{HasBytes, HasCause, IsStatusOfCheck, LimitsComeFirst, RefusesStripe, TookStripe}
 use Rattle.stair_engine.proofs.Taking.{length-concat}
 
 -- a fact of every told input
@@ -23,13 +22,13 @@ if_told (Some input) P always = always input
 pub HasBytes-taken : (g : Geometry) (told : Option (List ℕ)) (stripe : Stripe) → TookStripe g told stripe → IfSome told (HasBytes g stripe)
 HasBytes-taken g told stripe took =
     IfSome_then told took.all (λ input same. record {
-        of = took.of;
-        well_formed = took.well_formed;
-        same_bytes = same;
-        count =
-            sym (ap length same) ∙ length-concat stripe.cells took.well_formed.sectors
-            ∙ ap (λ k. k * 512) (took.well_formed.count ∙ ap₂ (λ (a b : ℕ). a * b) took.of.rows took.of.chunks);
-      })
+      of = took.of;
+      well_formed = took.well_formed;
+      same_bytes = same;
+      count =
+          sym (ap length same) ∙ length-concat stripe.cells took.well_formed.sectors
+          ∙ ap (λ k. k * 512) (took.well_formed.count ∙ ap₂ (λ (a b : ℕ). a * b) took.of.rows took.of.chunks);
+    })
 
 pub cause_of_codeword : (g : Geometry) (told : Option (List ℕ)) (stripe : Stripe) → IsWithinLimits g → TookStripe g told stripe
     → IsCodeword g stripe → IfSome told (λ input. IsStatusOfCheck g input Done)

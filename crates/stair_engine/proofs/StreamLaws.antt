@@ -12,8 +12,8 @@ pub take-put_mid_more : (filled k size : ℕ) (xs ys : List ℕ) → filled ≤ 
 take-put_mid_more filled k size xs ys in_xs in_ys =
     take-add filled k (put_mid filled size xs ys)
     ∙ ap₂ (λ (a b : List ℕ). a ++ b) (take-put_mid_below filled size xs ys filled (le_refl filled) in_xs)
-        (ap (take k) (drop_at (take filled xs) (ys ++ post_of filled size xs) filled (length-take-le filled xs in_xs))
-          ∙ take-append-le k ys (post_of filled size xs) in_ys)
+    (ap (take k) (drop_at (take filled xs) (ys ++ post_of filled size xs) filled (length-take-le filled xs in_xs))
+    ∙ take-append-le k ys (post_of filled size xs) in_ys)
 
 -- the bytes that were put, and the next ones behind them
 pub take-part_more : (put k size : ℕ) (xs : List ℕ) → k ≤ size → take put xs ++ take k (take size (drop put xs)) ≡ take (put + k) xs

@@ -1,16 +1,16 @@
 -- A stripe whose first cells were taken from a source, row by row.
-use Rattle.std.proofs.Common.{◌≡◌, ◌≢◌, ℕ, ◌+◌, ◌*◌, ◌<◌, ◌≤◌, List, [], ◌∷◌, ◌++◌, None, Some, IfSome, length, take, set, refl, sym, ap, ap₂, ◌∙◌, subst, arith, length-append, append_assoc, append-nil}
+use Rattle.std.proofs.Common.{◌≡◌, ℕ, ◌+◌, ◌*◌, ◌<◌, ◌≤◌, List, [], ◌∷◌, ◌++◌, None, Some, IfSome, length, take, set, refl, sym, ap, ap₂, ◌∙◌, subst, arith, length-append, append_assoc, append-nil}
 use Rattle.std.specs.Prelude.{Option, All}
 use Rattle.std.specs.List.{concat}
-use Rattle.std.specs.Io.KnownBytes.{Consumes, IsAtEnd}
-use Rattle.std.proofs.KnownBytes.{Consumes-nil, Consumes-trans}
+use Rattle.std.specs.Io.KnownBytes.{Consumes, IsAtEnd, Keeps}
+use Rattle.std.proofs.KnownBytes.{Consumes-kept, Consumes-nil, Consumes-trans}
 use Rattle.std.proofs.Math.Nat.{mul_comm}
 use Rattle.std.proofs.lemmas.Nat.{mul-add-lt}
 use Rattle.std.proofs.lemmas.List.{take_more_set, take_all, length-take-le}
 use Rattle.std.proofs.lemmas.List.Elements.{All-head, All-tail, All-take}
 use Rattle.stair_model.specs.Geometry.{Geometry}
 use Rattle.stair_model.specs.Stripe.{Stripe, IsSector, IsStripeOf, IsWellFormed, with_cell, zero_stripe}
-use Rattle.stair_engine.specs.Check.{bytes_needed, IsOtherLength}
+use Rattle.stair_engine.specs.Check.{IsOtherLength, TakesCount, TakesAtMost}
 
 -- the stripe's first `done` cells are what the source gave
 pub record HasTaken (g : Geometry) (old now : Option (List ℕ)) (stripe : Stripe) (done took : ℕ) : Type 0 where
@@ -53,21 +53,55 @@ HasTaken-more g old now next stripe row slot took sector row_in slot_in well bef
     let done = row * g.n + slot in
     let same : at ≡ done = ap (λ n. row * n + slot) before.of.chunks in
     let in_stripe : at < length cells =
-        omega (arith, before.well_formed.count, mul-add-lt row stripe.chunks slot stripe.rows (omega (arith, before.of.rows)) (omega (arith, before.of.chunks)),
-          mul_comm stripe.rows stripe.chunks)
+    omega (
+      arith,
+      before.well_formed.count,
+      mul-add-lt row stripe.chunks slot stripe.rows (omega (arith, before.of.rows)) (omega (arith, before.of.chunks)),
+      mul_comm stripe.rows stripe.chunks,
+    )
     in
     let front : take (row * g.n + (slot + 1)) (set cells at sector) ≡ take done cells ++ sector ∷ [] =
-        ap (λ k. take k (set cells at sector)) (omega (arith, same)) ∙ take_more_set cells at sector in_stripe
-        ∙ ap (λ k. take k cells ++ sector ∷ []) same
+    ap (λ k. take k (set cells at sector)) (omega (arith, same)) ∙ take_more_set cells at sector in_stripe
+    ∙ ap (λ k. take k cells ++ sector ∷ []) same
     in
     record {
       of = record { rows = before.of.rows; chunks = before.of.chunks };
       well_formed = well;
       taken =
           subst (Consumes old next) (sym (ap concat front ∙ concat-push (take done cells) sector))
-            (Consumes-trans old now next (concat (take done cells)) sector before.taken gives);
+          (Consumes-trans old now next (concat (take done cells)) sector before.taken gives);
       took_is = omega (arith, before.took_is);
     }
+
+-- the bytes of the first cells were taken, and then these
+pub length-taken : (g : Geometry) (old now : Option (List ℕ)) (stripe : Stripe) (done took : ℕ) (more : List ℕ)
+    → done ≤ g.r * g.n → HasTaken g old now stripe done took → length (concat (take done stripe.cells) ++ more) ≡ done * 512 + length more
+length-taken g old now stripe done took more within before =
+    let in_cells : done ≤ stripe.rows * stripe.chunks =
+    subst (λ (k : ℕ). done ≤ k) (sym (ap₂ (λ (a b : ℕ). a * b) before.of.rows before.of.chunks)) within
+    in
+    length-append (concat (take done stripe.cells)) more
+    ∙ ap (λ k. k + length more) (length-concat_take stripe done before.well_formed in_cells)
+
+pub TakesCount-more : (g : Geometry) (old now next : Option (List ℕ)) (stripe : Stripe) (done took count : ℕ) (more : List ℕ)
+    → done ≤ g.r * g.n → count ≡ done * 512 + length more → HasTaken g old now stripe done took → Consumes now next more → TakesCount old next count
+TakesCount-more g old now next stripe done took count more within is before gives = (
+  concat (take done stripe.cells) ++ more,
+  length-taken g old now stripe done took more within before ∙ sym is,
+  Consumes-trans old now next (concat (take done stripe.cells)) more before.taken gives,
+)
+
+pub TakesAtMost-more : (g : Geometry) (old now next : Option (List ℕ)) (stripe : Stripe) (done took most : ℕ) (more : List ℕ)
+    → done ≤ g.r * g.n → done * 512 + length more ≤ most → HasTaken g old now stripe done took → Consumes now next more → TakesAtMost old next most
+TakesAtMost-more g old now next stripe done took most more within few before gives = (
+  concat (take done stripe.cells) ++ more,
+  omega (arith, length-taken g old now stripe done took more within before, few),
+  Consumes-trans old now next (concat (take done stripe.cells)) more before.taken gives,
+)
+
+-- what is kept loses nothing
+pub Consumes-none : (old new : Option (List ℕ)) → Keeps old new → Consumes old new []
+Consumes-none old new kept = Consumes-kept old old new [] (Consumes-nil old) kept
 
 -- the source ended within a cell
 pub IsOtherLength-short : (g : Geometry) (old now : Option (List ℕ)) (stripe : Stripe) (done took count needed : ℕ) (sector : List ℕ)
@@ -77,12 +111,12 @@ IsOtherLength-short g None now stripe done took count needed sector done_in coun
 IsOtherLength-short g (Some xs) None stripe done took count needed sector done_in count_in long needs before last = absurd before.taken
 IsOtherLength-short g (Some xs) (Some ys) stripe done took count needed sector done_in count_in long needs before last =
     let in_cells : done ≤ stripe.rows * stripe.chunks =
-        subst (λ (k : ℕ). done ≤ k) (sym (ap₂ (λ (a b : ℕ). a * b) before.of.rows before.of.chunks)) (omega arith)
+    subst (λ (k : ℕ). done ≤ k) (sym (ap₂ (λ (a b : ℕ). a * b) before.of.rows before.of.chunks)) (omega arith)
     in
     let all : length xs ≡ done * 512 + count =
-        ap length before.taken ∙ length-append (concat (take done stripe.cells)) ys
-        ∙ ap₂ (λ (a b : ℕ). a + b) (length-concat_take stripe done before.well_formed in_cells)
-            (sym (ap length last) ∙ length-take-le count sector (omega (arith, long)))
+    ap length before.taken ∙ length-append (concat (take done stripe.cells)) ys
+    ∙ ap₂ (λ (a b : ℕ). a + b) (length-concat_take stripe done before.well_formed in_cells)
+    (sym (ap length last) ∙ length-take-le count sector (omega (arith, long)))
     in
     record { other = λ same. omega (arith, all); needs = needs; takes = omega (arith, all, before.took_is) }
 
@@ -95,11 +129,11 @@ IsOtherLength-long g (Some xs) None next stripe done took needed more done_is so
 IsOtherLength-long g (Some xs) (Some ys) None stripe done took needed more done_is some needs before gives = absurd gives
 IsOtherLength-long g (Some xs) (Some ys) (Some zs) stripe done took needed more done_is some needs before gives =
     let in_cells : done ≤ stripe.rows * stripe.chunks =
-        subst (λ (k : ℕ). done ≤ k) (sym (ap₂ (λ (a b : ℕ). a * b) before.of.rows before.of.chunks)) (omega arith)
+    subst (λ (k : ℕ). done ≤ k) (sym (ap₂ (λ (a b : ℕ). a * b) before.of.rows before.of.chunks)) (omega arith)
     in
     let all : length xs ≡ done * 512 + (length more + length zs) =
-        ap length before.taken ∙ length-append (concat (take done stripe.cells)) ys
-        ∙ ap₂ (λ (a b : ℕ). a + b) (length-concat_take stripe done before.well_formed in_cells) (ap length gives ∙ length-append more zs)
+    ap length before.taken ∙ length-append (concat (take done stripe.cells)) ys
+    ∙ ap₂ (λ (a b : ℕ). a + b) (length-concat_take stripe done before.well_formed in_cells) (ap length gives ∙ length-append more zs)
     in
     record { other = λ same. omega (arith, all); needs = needs; takes = omega (arith, all) }
 
@@ -110,7 +144,7 @@ all_taken g None now stripe done took done_is before at_end = tt
 all_taken g (Some xs) None stripe done took done_is before at_end = absurd before.taken
 all_taken g (Some xs) (Some ys) stripe done took done_is before at_end =
     let whole : length stripe.cells ≤ done =
-        subst (λ (k : ℕ). k ≤ done) (sym (before.well_formed.count ∙ ap₂ (λ (a b : ℕ). a * b) before.of.rows before.of.chunks)) (omega arith)
+    subst (λ (k : ℕ). k ≤ done) (sym (before.well_formed.count ∙ ap₂ (λ (a b : ℕ). a * b) before.of.rows before.of.chunks)) (omega arith)
     in
     sym (before.taken ∙ ap (λ b. concat (take done stripe.cells) ++ b) at_end ∙ append-nil (concat (take done stripe.cells))
-      ∙ ap concat (take_all done stripe.cells whole))
+    ∙ ap concat (take_all done stripe.cells whole))

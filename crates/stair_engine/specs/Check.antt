@@ -1,13 +1,12 @@
 -- What `check` answers for an input, and what it puts out.
-use Rattle.std.specs.Prelude.{◌≡◌, ◌≢◌, ℕ, ◌+◌, ◌*◌, ◌<◌, List, [], ◌∷◌, ◌++◌, length, take, min, replicate, codes, Option, ⊤}
+use Rattle.std.specs.Prelude.{◌≡◌, ◌≢◌, ℕ, ◌+◌, ◌*◌, ◌<◌, ◌≤◌, Bool, true, false, MatchBool, List, [], ◌∷◌, ◌++◌, length, take, min, replicate, codes, Option, ⊤}
 use Rattle.std.specs.List.{concat}
 use Rattle.std.specs.Option.{IfSome}
-use Rattle.std.specs.Io.KnownBytes.{Appends, Keeps}
+use Rattle.std.specs.Io.KnownBytes.{Appends, Consumes, Keeps}
 use Rattle.stair_model.specs.Geometry.{Geometry, geometry_of, IsWithinLimits, IsFirstBrokenLimit}
 use Rattle.stair_model.specs.Stripe.{Stripe, SECTOR, IsStripeOf, IsWellFormed}
 use Rattle.stair_model.specs.Codeword.{IsCodeword}
 use Rattle.stair_model.specs.Equation.{IsFirstBroken}
-use Rattle.stair_base.specs.declared.equations.Broken.{Broken}
 use Rattle.stair_base.specs.Equations.{equation_of}
 use Rattle.stair_engine.specs.declared.status.Status.{Status}
 use Rattle.stair_engine.specs.declared.status.Status.TheVariants.{Done, NotCodeword, Usage, Limit, Input, InputFault, OutputFault, OutOfMemory}
@@ -77,6 +76,49 @@ IfRefusedAtOnce (NotCodeword b) fact = ⊤
 IfRefusedAtOnce (Input needed took) fact = ⊤
 IfRefusedAtOnce InputFault fact = ⊤
 IfRefusedAtOnce OutputFault fact = ⊤
+
+-- told bytes lose the first `count`
+abbrev pub TakesCount : Option (List ℕ) → Option (List ℕ) → ℕ → Type 0
+TakesCount old new count = (taken : List ℕ) × (length taken ≡ count) × Consumes old new taken
+
+-- told bytes lose at most `most`, from the front
+abbrev pub TakesAtMost : Option (List ℕ) → Option (List ℕ) → ℕ → Type 0
+TakesAtMost old new most = (taken : List ℕ) × (length taken ≤ most) × Consumes old new taken
+
+-- Exactly the bytes of a stripe are taken, and one more only to tell that it came.
+abbrev pub TakesInput : Geometry → Option (List ℕ) → Option (List ℕ) → Status → Type 0
+TakesInput g old new Done = TakesCount old new (bytes_needed g)
+TakesInput g old new (NotCodeword b) = TakesCount old new (bytes_needed g)
+TakesInput g old new OutputFault = TakesCount old new (bytes_needed g)
+TakesInput g old new (Input needed took) = TakesCount old new took
+TakesInput g old new InputFault = TakesAtMost old new (bytes_needed g)
+TakesInput g old new Usage = Keeps old new
+TakesInput g old new (Limit k) = Keeps old new
+TakesInput g old new OutOfMemory = Keeps old new
+
+-- Of every source, also one that doesn't tell its bytes, by whether it had ended before and has ended now: a stripe is
+-- judged only after the end was seen behind it, and an input of another length ended before the bytes that are needed,
+-- or did not end behind them.
+abbrev pub LooksForEnd : Geometry → Bool → Bool → Status → Type 0
+LooksForEnd g old new Done = (old ≡ false) × (new ≡ true)
+LooksForEnd g old new (NotCodeword b) = (old ≡ false) × (new ≡ true)
+LooksForEnd g old new OutputFault = (old ≡ false) × (new ≡ true)
+LooksForEnd g old new (Input needed took) = (needed ≡ bytes_needed g) × MatchBool new (took < needed) (took ≡ needed + 1)
+LooksForEnd g old new InputFault = ⊤
+LooksForEnd g old new Usage = ⊤
+LooksForEnd g old new (Limit k) = ⊤
+LooksForEnd g old new OutOfMemory = ⊤
+
+-- what holds where the cells weren't found to be a codeword
+abbrev pub IfNoCodeword : Status → Type 0 → Type 0
+IfNoCodeword Done fact = ⊤
+IfNoCodeword OutputFault fact = ⊤
+IfNoCodeword (NotCodeword b) fact = fact
+IfNoCodeword (Input needed took) fact = fact
+IfNoCodeword InputFault fact = fact
+IfNoCodeword Usage fact = fact
+IfNoCodeword (Limit k) fact = fact
+IfNoCodeword OutOfMemory fact = fact
 
 -- the line for a codeword
 abbrev pub codeword_line : List ℕ

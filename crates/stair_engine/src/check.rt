@@ -1,6 +1,6 @@
-ghost use Rattle.std.specs.Prelude.{◌≡◌, IfOk, IfErr, OnOk, IfSome, true, false};
+ghost use Rattle.std.specs.Prelude.{◌≡◌, ◌≤◌, IfOk, IfErr, OnOk, IfSome, true, false};
 ghost use Rattle.stair_model.specs.Geometry.{IsWithinLimits};
-ghost use Rattle.stair_engine.specs.Check.{HasCause, IfRefusedAtOnce, LimitsComeFirst, PutsOut, RefusesStripe, TookStripe};
+ghost use Rattle.stair_engine.specs.Check.{HasCause, IfNoCodeword, IfRefusedAtOnce, LimitsComeFirst, LooksForEnd, PutsOut, RefusesStripe, TakesCount, TakesInput, TookStripe, bytes_needed};
 ghost use Rattle.stair_rack.specs.Count.{Rose};
 
 use crate::status::Status;
@@ -23,6 +23,11 @@ pub(crate) fn check<S: Source, K: Sink>(
     ensures output_fault { result ≡ Status.OutputFault → Rose (K.faults output.old) (K.faults output.new) }
     ensures refused { IfRefusedAtOnce result ((input.new ≡ input.old) × (output.new ≡ output.old)) }
     ensures ended { result ≡ Status.Done → (S.ended input.old ≡ false) × (S.ended input.new ≡ true) }
+    ensures taken { TakesInput geometry.now (S.left input.old) (S.left input.new) result }
+    ensures looked { LooksForEnd geometry.now (S.ended input.old) (S.ended input.new) result }
+    ensures untouched { IfNoCodeword result (output.new ≡ output.old) }
+    ensures input_count { S.faults input.old ≤ S.faults input.new }
+    ensures output_count { K.faults output.old ≤ K.faults output.new }
 {
     let stripe = match take_stripe(alloc, geometry, input) {
         Ok(stripe) => stripe,
@@ -49,6 +54,10 @@ fn take_stripe<S: Source>(
     ensures err { IfErr result
         (RefusesStripe geometry.now (S.left input.old) (Rose (S.faults input.old) (S.faults input.new))) }
     ensures refused { IfErr result (λ status. IfRefusedAtOnce status (input.new ≡ input.old)) }
+    ensures taken { OnOk result (TakesCount (S.left input.old) (S.left input.new) (bytes_needed geometry.now)) }
+    ensures taken_at_refusal { IfErr result (TakesInput geometry.now (S.left input.old) (S.left input.new)) }
+    ensures looked { IfErr result (LooksForEnd geometry.now (S.ended input.old) (S.ended input.new)) }
+    ensures count { S.faults input.old ≤ S.faults input.new }
 {
     let needed = u64::from(geometry.r()) * u64::from(geometry.n()) * SECTOR as u64;
     let mut stripe = match Stripe::new(alloc, geometry) {

@@ -4,18 +4,19 @@
 mod check;
 mod status;
 mod streams;
+#[cfg(test)]
+mod tests;
 mod words;
 
-pub use status::Status;
-
-ghost use Rattle.std.specs.Prelude.{◌≡◌, ◌≢◌, ◌↔◌, ℕ, List, map, string_bytes, IfSome, true, false};
-ghost use Rattle.stair_engine.specs.Check.{HasCause, IfRefusedAtOnce, IsStatusOfCheck, LimitsComeFirst, PutsOut, one_stripe};
+ghost use Rattle.std.specs.Prelude.{◌≡◌, ◌≢◌, ◌≤◌, ◌↔◌, ℕ, List, map, string_bytes, IfSome, true, false};
+ghost use Rattle.stair_engine.specs.Check.{HasCause, IfNoCodeword, IfRefusedAtOnce, IsStatusOfCheck, LimitsComeFirst, LooksForEnd, PutsOut, TakesInput, one_stripe};
 ghost use Rattle.stair_engine.specs.Words.{IsSpelled, SpellsCheck};
 ghost use Rattle.stair_rack.specs.Count.{Rose};
 
 use check::check;
 use stair_base::Geometry;
 use stair_rack::{Sink, Source};
+pub use status::Status;
 use std::alloc::Global;
 use words::{WordsFault, read_check};
 
@@ -49,9 +50,18 @@ pub fn stair<S: Source, K: Sink>(
     ensures output_fault { result ≡ Status.OutputFault → Rose (K.faults output.old) (K.faults output.new) }
     ensures ended { result ≡ Status.Done → (S.ended input.old ≡ false) × (S.ended input.new ≡ true) }
 
+    // What is taken, and that the end is looked for.
+    ensures taken { (n m r : ℕ) (e : List ℕ) → SpellsCheck (map string_bytes words.now) n m r e
+        → TakesInput (one_stripe n m r e) (S.left input.old) (S.left input.new) result }
+    ensures looked { (n m r : ℕ) (e : List ℕ) → SpellsCheck (map string_bytes words.now) n m r e
+        → LooksForEnd (one_stripe n m r e) (S.ended input.old) (S.ended input.new) result }
+    ensures input_count { S.faults input.old ≤ S.faults input.new }
+
     // What is put out, and what a refusal leaves.
     ensures output { PutsOut (K.held output.old) (K.held output.new) result }
+    ensures untouched { IfNoCodeword result (output.new ≡ output.old) }
     ensures refused { IfRefusedAtOnce result ((input.new ≡ input.old) × (output.new ≡ output.old)) }
+    ensures output_count { K.faults output.old ≤ K.faults output.new }
 {
     let numbers = match read_check(alloc, words) {
         Ok(numbers) => numbers,

@@ -62,9 +62,7 @@ impl fmt::Display for Status {
             }
             Status::Usage => write!(f, "usage: stair FOLDER check"),
             Status::Limit(limit) => write!(f, "geometry: limit {limit}"),
-            Status::Input { needed, took } => {
-                write!(f, "input: needed {needed}, took {took}")
-            }
+            Status::Input { needed, took } => { write!(f, "input: needed {needed}, took {took}") }
             Status::InputFault => write!(f, "input failed"),
             Status::OutputFault => write!(f, "output failed"),
             Status::OutOfMemory => write!(f, "out of memory"),

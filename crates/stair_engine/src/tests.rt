@@ -1,0 +1,345 @@
+//! Worked rows of `check`, over memory. The cells and the answers were computed by hand.
+
+ghost use Rattle.std.specs.Prelude.{◌<◌};
+
+use super::*;
+use stair_base::{Broken, SECTOR};
+use stair_rack::{MemSink, MemSource};
+use std::alloc::{AllocError, Global};
+use std::test::Fail;
+
+// Four devices with one row parity, two rows, and one global parity.
+const FOUR: [&str; 5] = ["check", "4", "1", "2", "1"];
+
+const EIGHT: [&str; 7] = ["check", "8", "2", "4", "1", "1", "2"];
+
+// A codeword of the four devices, row by row. In GF(2^8) modulo 0x11D, 1/3 = F4, and the global parity 46 solves
+// (1/3)(1/6)·46 = (1/2)(1/4).
+const CODEWORD: [u8; 8] = [0x01, 0x00, 0x00, 0xF4, 0x00, 0x00, 0x46, 0x46];
+
+const AMPLE: usize = 64;
+
+// What came of a call, what the source has left, and what the sink holds.
+#[derive(Drop)]
+struct Outcome {
+    status: Status,
+    left: usize,
+    put: Vec<u8>,
+}
+
+// The bytes of these cells: each has one byte in all of its places.
+fn cells_of(alloc: Global, cells: &[u8]) -> Result<Vec<u8>, AllocError> {
+    let mut bytes = Vec::new(alloc);
+    for cell in cells {
+        bytes.extend_from_slice(&[*cell; SECTOR])?;
+    }
+    Ok(bytes)
+}
+
+// The source and the sink of a call: the most bytes that the source gives in one answer, and the byte at which it fails.
+#[derive(Clone, Copy, Drop)]
+struct Ends {
+    piece: usize,
+    fail_at: Option<u64>,
+    room: usize,
+}
+
+fn run(alloc: Global, line: &[&str], bytes: &[u8], ends: Ends) -> Result<Outcome, AllocError>
+    requires { 0 < ends.piece }
+{
+    let mut words = Vec::new(alloc);
+    for word in line {
+        words.push(String::from_str(alloc, word)?)?;
+    }
+    let mut input = MemSource::new(alloc, bytes, ends.piece, ends.fail_at)?;
+    let mut output = MemSink::new(alloc, ends.room)?;
+    let status = stair(alloc, &words, &mut input, &mut output);
+    Ok(Outcome {
+        status,
+        left: input.left().len(),
+        put: output.bytes().to_vec(alloc)?,
+    })
+}
+
+// Each row is a stripe, one byte of it that is changed, and the status. Where it is `Done` the line is put out, and
+// nothing elsewhere. This is also what refuses a body that always wants memory, which every clause allows.
+#[test]
+fn judges_a_stripe_with_ample_memory(rt: HostRuntime) -> Result<(), Fail> {
+    let rows: [(&[&str], &[u8], Option<(usize, u8)>, Status); 7] = [
+        (&FOUR, &CODEWORD, None, Status::Done),
+        (
+            &FOUR,
+            &[0x01, 0x00, 0x00, 0x00, 0x00, 0x00, 0x46, 0x46],
+            None,
+            Status::NotCodeword(Broken::Row {
+                row: 0,
+                parity: 0,
+                byte: 0,
+            }),
+        ),
+        (
+            &FOUR,
+            &CODEWORD,
+            Some((6 * SECTOR + 511, 0x00)),
+            Status::NotCodeword(Broken::Row {
+                row: 1,
+                parity: 0,
+                byte: 511,
+            }),
+        ),
+        (&FOUR, &[0x00; 8], None, Status::Done),
+        (
+            &FOUR,
+            &[0x01, 0x00, 0x00, 0xF4, 0x00, 0x00, 0x00, 0x00],
+            None,
+            Status::NotCodeword(Broken::Global {
+                l: 0,
+                h: 0,
+                byte: 0,
+            }),
+        ),
+        (&EIGHT, &[0x00; 32], None, Status::Done),
+        (
+            &EIGHT,
+            &[0x00; 32],
+            Some((31 * SECTOR + 5, 0x01)),
+            Status::NotCodeword(Broken::Row {
+                row: 3,
+                parity: 1,
+                byte: 5,
+            }),
+        ),
+    ];
+    for piece in [1, 7, 512] {
+        for (line, cells, change, status) in rows {
+            let mut bytes = cells_of(rt.alloc(), cells)?;
+            if let Some((at, changed)) = change {
+                assert!(rt; at < bytes.len());
+                bytes[at] = changed;
+            }
+            let ends = Ends {
+                piece,
+                fail_at: None,
+                room: AMPLE,
+            };
+            let came = run(rt.alloc(), line, &bytes, ends)?;
+            let put = if status == Status::Done {
+                b"codeword\n".as_slice()
+            } else {
+                b"".as_slice()
+            };
+            assert_eq!(rt; came.status, status, "{piece} {line:?} {change:?}");
+            assert_eq!(rt; came.put.as_slice(), put, "{piece} {line:?} {change:?}");
+            assert_eq!(rt; came.left, 0, "{piece} {line:?} {change:?}");
+        }
+    }
+    Ok(())
+}
+
+// A codeword of the eight devices with the data 01 to 14, row by row, made by Gaussian elimination over the equations.
+const EIGHT_CODEWORD: [u8; 32] = [
+    0x01, 0x02, 0x03, 0x04, 0x05, 0x06, 0xF2, 0xBB, // row 0
+    0x07, 0x08, 0x09, 0x0A, 0x0B, 0x0C, 0x0A, 0x78, // row 1
+    0x0D, 0x0E, 0x0F, 0x10, 0x11, 0xF6, 0xC6, 0x54, // row 2
+    0x12, 0x13, 0x14, 0x55, 0xCC, 0x2A, 0x24, 0x7C, // row 3
+];
+
+// A change in a data or a global cell breaks the first parity of its row, and a change in a parity cell that parity
+// alone: each of the cells stands in its row's first equation with a coefficient that is not zero, or is its parity.
+#[test]
+fn judges_a_stripe_of_eight_devices(rt: HostRuntime) -> Result<(), Fail> {
+    let rows: [(&str, u8, u8, u16, u8); 6] = [
+        ("data", 0, 0, 0, 0),
+        ("data", 2, 4, 511, 0),
+        ("global", 3, 3, 100, 0),
+        ("global", 2, 5, 9, 0),
+        ("parity", 1, 6, 256, 0),
+        ("parity", 1, 7, 257, 1),
+    ];
+    let whole = Ends {
+        piece: 512,
+        fail_at: None,
+        room: AMPLE,
+    };
+    let codeword = cells_of(rt.alloc(), &EIGHT_CODEWORD)?;
+    let came = run(rt.alloc(), &EIGHT, &codeword, whole)?;
+    assert_eq!(rt; came.status, Status::Done);
+    assert_eq!(rt; came.put.as_slice(), b"codeword\n".as_slice());
+    for (cell, row, slot, byte, parity) in rows {
+        let mut bytes = codeword.to_vec(rt.alloc())?;
+        let at = (usize::from(row) * 8 + usize::from(slot)) * SECTOR + usize::from(byte);
+        assert!(rt; at < bytes.len());
+        bytes[at] ^= 0x40;
+        let came = run(rt.alloc(), &EIGHT, &bytes, whole)?;
+        let broken = Broken::Row { row, parity, byte };
+        assert_eq!(rt;
+            came.status,
+            Status::NotCodeword(broken),
+            "{cell} {row} {slot}"
+        );
+        assert!(rt; came.put.is_empty(), "{cell} {row} {slot}");
+    }
+    Ok(())
+}
+
+#[test]
+fn counts_an_input_of_another_length(rt: HostRuntime) -> Result<(), Fail> {
+    let mut bytes = cells_of(rt.alloc(), &CODEWORD)?;
+    bytes.extend_from_slice(&[0; 3])?;
+    let rows = [(4095, 4095, 0), (4097, 4097, 0), (4099, 4097, 2), (0, 0, 0)];
+    for piece in [1, 7, 512] {
+        for (length, took, left) in rows {
+            assert!(rt; length <= bytes.len());
+            let ends = Ends {
+                piece,
+                fail_at: None,
+                room: AMPLE,
+            };
+            let came = run(rt.alloc(), &FOUR, &bytes[..length], ends)?;
+            let needed = 4096;
+            assert_eq!(rt;
+                came.status,
+                Status::Input { needed, took },
+                "{piece} {length}"
+            );
+            assert_eq!(rt; came.left, left, "{piece} {length}");
+            assert!(rt; came.put.is_empty(), "{piece} {length}");
+        }
+    }
+    Ok(())
+}
+
+#[test]
+fn refuses_words_and_limits_before_the_input(rt: HostRuntime) -> Result<(), Fail> {
+    let rows: [(&[&str], Status); 24] = [
+        (&["check", "2", "1", "2", "1"], Status::Limit(1)),
+        (&["check", "33", "1", "2", "1"], Status::Limit(1)),
+        (
+            &["check", "18446744073709551615", "1", "2", "1"],
+            Status::Limit(1),
+        ),
+        (&["check", "4", "0", "2", "1"], Status::Limit(2)),
+        (&["check", "4", "2", "2", "1"], Status::Limit(3)),
+        (
+            &["check", "4", "1", "2", "1", "1", "1", "1"],
+            Status::Limit(4),
+        ),
+        (&["check", "4", "1", "0", "1"], Status::Limit(5)),
+        (&["check", "4", "1", "33", "1"], Status::Limit(5)),
+        (&["check", "5", "1", "2", "2", "1"], Status::Limit(6)),
+        (&["check", "4", "1", "2", "0"], Status::Limit(6)),
+        (
+            &["check", "4", "1", "2", "18446744073709551615"],
+            Status::Limit(6),
+        ),
+        (&["check", "3", "1", "1", "1", "1"], Status::Limit(7)),
+        (&["check", "2", "0", "0", "0"], Status::Limit(1)),
+        (&["check", "4", "1", "2"], Status::Usage),
+        (&["check", "4", "1", "2", "01"], Status::Usage),
+        (&["check", "4", "1", "2", "+1"], Status::Usage),
+        (&["check", "4", "1", "2", "-1"], Status::Usage),
+        (&["check", "4", "1", "2", ""], Status::Usage),
+        (&["check", "4", "1", "2", "1 "], Status::Usage),
+        (
+            &["check", "18446744073709551616", "1", "2", "1"],
+            Status::Usage,
+        ),
+        (
+            &["check", "4", "1", "2", "99999999999999999999999999"],
+            Status::Usage,
+        ),
+        (&["chek", "4", "1", "2", "1"], Status::Usage),
+        (&["Check", "4", "1", "2", "1"], Status::Usage),
+        (&[], Status::Usage),
+    ];
+    let bytes = cells_of(rt.alloc(), &CODEWORD)?;
+    for piece in [1, 7, 512] {
+        for (line, status) in rows {
+            let ends = Ends {
+                piece,
+                fail_at: None,
+                room: AMPLE,
+            };
+            let came = run(rt.alloc(), line, &bytes, ends)?;
+            assert_eq!(rt; came.status, status, "{piece} {line:?}");
+            assert_eq!(rt; came.left, 4096, "{piece} {line:?}");
+            assert!(rt; came.put.is_empty(), "{piece} {line:?}");
+        }
+    }
+    Ok(())
+}
+
+// A fault at byte 4,096 comes where the end is looked for.
+#[test]
+fn hands_on_faults_of_source_and_sink(rt: HostRuntime) -> Result<(), Fail> {
+    let rows: [(Option<u64>, usize, Status, &[u8]); 6] = [
+        (Some(0), AMPLE, Status::InputFault, b""),
+        (Some(700), AMPLE, Status::InputFault, b""),
+        (Some(4095), AMPLE, Status::InputFault, b""),
+        (Some(4096), AMPLE, Status::InputFault, b""),
+        (None, 0, Status::OutputFault, b""),
+        (None, 3, Status::OutputFault, b"cod"),
+    ];
+    let bytes = cells_of(rt.alloc(), &CODEWORD)?;
+    for piece in [1, 7, 512] {
+        for (fail_at, room, status, put) in rows {
+            let came = run(
+                rt.alloc(),
+                &FOUR,
+                &bytes,
+                Ends {
+                    piece,
+                    fail_at,
+                    room,
+                },
+            )?;
+            assert_eq!(rt; came.status, status, "{piece} {fail_at:?} {room}");
+            assert_eq!(rt; came.put.as_slice(), put, "{piece} {fail_at:?} {room}");
+        }
+    }
+    Ok(())
+}
+
+#[test]
+fn each_status_has_its_code_and_line(rt: HostRuntime) -> Result<(), Fail> {
+    let rows = [
+        (Status::Done, 0, ""),
+        (
+            Status::NotCodeword(Broken::Row {
+                row: 1,
+                parity: 0,
+                byte: 511,
+            }),
+            1,
+            "not a codeword: row 1 parity 0 byte 511",
+        ),
+        (
+            Status::NotCodeword(Broken::Global {
+                l: 0,
+                h: 0,
+                byte: 0,
+            }),
+            1,
+            "not a codeword: global 0 0 byte 0",
+        ),
+        (Status::Usage, 2, "usage: stair FOLDER check"),
+        (Status::Limit(3), 3, "geometry: limit 3"),
+        (
+            Status::Input {
+                needed: 4096,
+                took: 4095,
+            },
+            4,
+            "input: needed 4096, took 4095",
+        ),
+        (Status::InputFault, 5, "input failed"),
+        (Status::OutputFault, 6, "output failed"),
+        (Status::OutOfMemory, 17, "out of memory"),
+    ];
+    for (status, code, line) in rows {
+        assert_eq!(rt; status.code(), code, "{status:?}");
+        let shown = format!(in rt.alloc(); "{status}")?;
+        assert_eq!(rt; shown.as_str(), line, "{status:?}");
+    }
+    Ok(())
+}
