@@ -1,3 +1,2 @@
-pub mod SectorSums
 pub mod EquationLaws
 pub mod GlobalCounts

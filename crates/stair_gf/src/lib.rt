@@ -5,9 +5,13 @@
 //! Fault-Tolerance in RAID-like Systems (1997). No call takes memory, and none reads a table.
 #![tactic(auto)]
 
+mod steps;
+
 ghost use Rattle.std.specs.Prelude.{◌≡◌, ◌<◌, length};
 ghost use Rattle.stair_model.specs.Field.{times_x, product, inverse};
 ghost use Rattle.stair_gf.specs.AddsMultiple.{AddsMultiple};
+
+pub use steps::Steps;
 
 /// x·a: a shift by one place, and where x^8 comes up, it is x^4 + x^3 + x^2 + 1.
 fn double(a: u8) -> u8

@@ -226,7 +226,7 @@ product-one_mod : (a : ℕ) → product 1 a ≡ a % 256
 product-one_mod a = sym (product-mod_right 1 a) ∙ product-one_left (a % 256) (mod-lt a (zero-lt-suc 255))
 
 -- the factors on the right change places
-product_right_comm : (a b c : ℕ) → product (product a b) c ≡ product (product a c) b
+pub product_right_comm : (a b c : ℕ) → product (product a b) c ≡ product (product a c) b
 unfolding product
 product_right_comm a b c =
     shift_and_add-through (λ u. product u c) (product-zero_left c) (λ u v. product-xor_left u v c)

@@ -1,6 +1,10 @@
 pub mod CountLaws
 pub mod CellLaws
 pub mod DataLaws
+pub mod StripeLaws
 pub mod FieldLaws
 pub mod SumLaws
-pub mod StripeLaws
+pub mod ProductLaws
+pub mod PolynomialLaws
+pub mod LagrangeLaws
+pub mod CodeLaws

@@ -1,6 +1,7 @@
 -- What the words of a STAIR code mean, over plain numbers and lists and for every geometry.
 pub mod Sum
 pub mod Field
+pub mod CauchyCode
 pub mod Geometry
 pub mod Matrix
 pub mod Cell

@@ -1,6 +1,7 @@
 //! What the words of a STAIR code mean, and the laws about them.
 #![tactic(auto)]
 
+pub mod code;
 pub mod field;
 pub mod layout;
 pub mod stripe;

@@ -4,7 +4,7 @@ use Rattle.std.specs.Int.Bits.{xor_zero_r}
 use Rattle.std.proofs.lemmas.Nat.{and_mask, shr-shr}
 use Rattle.stair_model.specs.Field.{times_x, product}
 use Rattle.stair_model.proofs.FieldLaws.{product-zero_right}
-use Rattle.stair_gf.proofs.Steps.{step_odd, step_even}
+use Rattle.stair_gf.proofs.ShiftAndAdd.{step_odd, step_even}
 use Rattle.stair_gf.proofs.mul.Goals as goal
 use Rattle.stair_gf.proofs.mul.Goals.{then-bits-eq1, else-bits-eq1}
 

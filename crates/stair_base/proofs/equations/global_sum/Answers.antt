@@ -2,7 +2,7 @@
 use Rattle.std.proofs.Common.{ap, ap₂}
 use Rattle.stair_model.specs.Field.{product}
 use Rattle.stair_base.specs.Equations.{symbol_byte}
-use Rattle.stair_base.proofs.SectorSums.{IsSumOf-none, IsSumOf-more}
+use Rattle.stair_gf.proofs.SectorSums.{IsSumOf-none, IsSumOf-more}
 use Rattle.stair_base.proofs.equations.global_sum.Goals as goal
 
 pub loop-row-init : goal.loop-row-init

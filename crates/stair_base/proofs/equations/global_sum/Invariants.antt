@@ -2,7 +2,7 @@
 use Rattle.stair_model.specs.Field.{product}
 use Rattle.stair_model.specs.Matrix.{column_coefficient}
 use Rattle.stair_base.specs.Equations.{symbol_byte}
-use Rattle.stair_base.proofs.SectorSums.{IsSumOf}
+use Rattle.stair_gf.proofs.SectorSums.{IsSumOf}
 use Rattle.stair_base.proofs.equations.global_sum.Given as goal
 
 abbrev pub invariant-loop-row : goal.invariant-loop-row

@@ -1,7 +1,7 @@
 -- No chunk, and one chunk more.
 use Rattle.std.proofs.Common.{ap, ap₂, slice_index}
 use Rattle.stair_model.specs.Field.{product}
-use Rattle.stair_base.proofs.SectorSums.{IsSumOf-none, IsSumOf-more}
+use Rattle.stair_gf.proofs.SectorSums.{IsSumOf-none, IsSumOf-more}
 use Rattle.stair_base.proofs.equations.row_sum.Goals as goal
 
 pub loop-chunk-init : goal.loop-chunk-init

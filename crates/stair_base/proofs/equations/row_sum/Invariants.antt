@@ -2,7 +2,7 @@
 use Rattle.stair_model.specs.Field.{product}
 use Rattle.stair_model.specs.Matrix.{row_coefficient}
 use Rattle.stair_model.specs.Stripe.{byte_of}
-use Rattle.stair_base.proofs.SectorSums.{IsSumOf}
+use Rattle.stair_gf.proofs.SectorSums.{IsSumOf}
 use Rattle.stair_base.proofs.equations.row_sum.Given as goal
 
 abbrev pub invariant-loop-chunk : goal.invariant-loop-chunk

@@ -1,0 +1,4 @@
+use Rattle.stair_bench.proofs.rounds.check_of_rounds.Given as goal
+
+abbrev pub ghosts-check_of_solving : goal.ghosts-check_of_solving
+ghosts-check_of_solving a = record { name = a.blank.name; parts = a.blank.parts }

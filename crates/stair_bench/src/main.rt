@@ -1,0 +1,110 @@
+//! `stair_bench [KERNEL ROUNDS]`: runs a kernel so many times, or one small round of each, and prints what it made.
+#![tactic(auto)]
+
+mod check;
+mod kernel;
+mod rounds;
+
+use kernel::Kernel;
+use rounds::check_of_rounds;
+use std::alloc::AllocError;
+use std::process::ExitCode;
+use std::{env, fmt, io};
+
+/// Why nothing, or not all, was printed.
+#[derive(Clone, Copy)]
+enum Fault {
+    /// The words name no kernel and number of rounds.
+    Usage,
+    /// Standard output failed.
+    Output,
+    /// There was no memory.
+    OutOfMemory,
+}
+
+impl Fault {
+    /// The exit status of the program.
+    fn code(self) -> u8 {
+        match self {
+            Fault::Usage => 2,
+            Fault::Output => 6,
+            Fault::OutOfMemory => 17,
+        }
+    }
+}
+
+impl fmt::Display for Fault {
+    fn fmt<W: fmt::Write>(&self, f: &mut fmt::Formatter<W>) -> fmt::Result {
+        match self {
+            Fault::Usage => write!(
+                f,
+                "usage: stair_bench [solve-8-2|copy-8-2|solve-32-3|copy-32-3 ROUNDS]"
+            ),
+            Fault::Output => write!(f, "output failed"),
+            Fault::OutOfMemory => write!(f, "out of memory"),
+        }
+    }
+}
+
+impl From<AllocError> for Fault {
+    fn from(_: AllocError) -> Fault {
+        Fault::OutOfMemory
+    }
+}
+
+/// What the words ask for.
+#[derive(Clone, Copy)]
+enum Request {
+    OneRoundOfEach,
+    Rounds { kernel: Kernel, rounds: u32 },
+}
+
+/// Reads the words after the program's name. Words that are no text are a faulty command line.
+fn read_request(rt: &HostRuntime) -> Result<Request, Fault> {
+    let mut words = match env::args(rt) {
+        Ok(words) => words,
+        Err(error) if error.kind() == io::ErrorKind::OutOfMemory => return Err(Fault::OutOfMemory),
+        Err(_) => return Err(Fault::Usage),
+    };
+    let _program = words.next();
+    let words: Vec<String> = words.collect(rt.alloc())?;
+    match words.as_slice() {
+        [] => Ok(Request::OneRoundOfEach),
+        [name, count] => {
+            let kernel = Kernel::named(name.as_str()).ok_or(Fault::Usage)?;
+            let rounds = count.as_str().parse().map_err(|_| Fault::Usage)?;
+            Ok(Request::Rounds { kernel, rounds })
+        }
+        _ => Err(Fault::Usage),
+    }
+}
+
+/// Runs the rounds of a kernel, and prints its name and the check of what it made.
+fn print_check(rt: &HostRuntime, kernel: Kernel, rounds: u32) -> Result<(), Fault> {
+    let check = check_of_rounds(rt.alloc(), kernel, rounds)?;
+    let name = kernel.name();
+    println!(rt; "{name} {check:016x}").map_err(|_| Fault::Output)
+}
+
+fn run(rt: &HostRuntime) -> Result<(), Fault> {
+    match read_request(rt)? {
+        Request::OneRoundOfEach => {
+            for kernel in Kernel::ALL {
+                print_check(rt, kernel, 1)?;
+            }
+            Ok(())
+        }
+        Request::Rounds { kernel, rounds } => print_check(rt, kernel, rounds),
+    }
+}
+
+fn main(rt: HostRuntime) -> ExitCode {
+    match run(&rt) {
+        Ok(()) => ExitCode::SUCCESS,
+        Err(fault) => {
+            // Where standard error can't be written, the exit status still tells.
+            let _ = eprintln!(rt; "{fault}");
+            ExitCode::from(fault.code())
+        }
+    }
+}

@@ -1,0 +1,95 @@
+ghost use Rattle.std.specs.Prelude.{◌≡◌, ◌-◌, ◌<◌, ◌≤◌, IfOk, length};
+ghost use Rattle.std.specs.List.{range_with_len};
+
+use crate::check::check_of;
+use crate::kernel::{Code, Kernel};
+use stair_gf::Steps;
+use stair_mds::{Mds, SYMBOL, Symbols};
+use std::alloc::{AllocError, Global};
+use std::marker::Brand;
+use std::sync::ledger::{Blank, Ledger};
+
+/// Runs so many rounds of the kernel, and gives a check of the symbols that it made.
+pub(crate) fn check_of_rounds(
+    alloc: Global,
+    kernel: Kernel,
+    rounds: u32,
+) -> Result<u64, AllocError> {
+    let steps = Blank::new(1);
+    match kernel {
+        Kernel::SolveEightTwo => check_of_solving::<Brand>(alloc, Code::EIGHT_TWO, rounds, steps),
+        Kernel::CopyEightTwo => check_of_copying(alloc, Code::EIGHT_TWO, rounds),
+        Kernel::SolveThirtyTwoThree => {
+            check_of_solving::<Brand>(alloc, Code::THIRTY_TWO_THREE, rounds, steps)
+        }
+        Kernel::CopyThirtyTwoThree => check_of_copying(alloc, Code::THIRTY_TWO_THREE, rounds),
+    }
+}
+
+/// Solves every parity from all held symbols, so many times.
+fn check_of_solving<L: Ledger>(
+    alloc: Global,
+    code: Code,
+    rounds: u32,
+    blank: Blank,
+) -> Result<u64, AllocError>
+    requires name { blank.name ≡ L.name }
+    requires parts { blank.parts ≡ L.parts }
+    requires some { 0 < L.parts }
+{
+    let held = u16::from(code.n - code.m);
+    let total = u16::from(code.n + 1);
+    let mut mds = Mds::row(alloc, code.n, code.m, 1)?;
+    let known = places(alloc, 0, held)?;
+    let wanted = places(alloc, held, total)?;
+    let mut work = symbols_of(alloc, held, total)?;
+    let mut steps = Steps::<L>::new(blank);
+    for _round in 0..rounds {
+        mds.solve(&known, &wanted, &mut work, &mut steps);
+    }
+    Ok(check_of(&work, held, total))
+}
+
+/// Copies all held symbols, so many times.
+fn check_of_copying(alloc: Global, code: Code, rounds: u32) -> Result<u64, AllocError> {
+    let held = u16::from(code.n - code.m);
+    let from = symbols_of(alloc, held, held)?;
+    let mut into = Symbols::new(alloc, held)?;
+    for _round in 0..rounds {
+        for place in 0..held {
+            into.put(place, from.symbol(place));
+        }
+    }
+    Ok(check_of(&into, 0, held))
+}
+
+/// The places from `first` up to `end`.
+fn places(alloc: Global, first: u16, end: u16) -> Result<Vec<u16>, AllocError>
+    requires { first ≤ end }
+    ensures { IfOk result (λ places. places.items ≡ range_with_len first (end - first)) }
+{
+    (first..end).collect(alloc)
+}
+
+/// The symbols of a code: byte q of held symbol p is (31·p + 7·q + 1) mod 251, and all others are zero.
+fn symbols_of(alloc: Global, held: u16, total: u16) -> Result<Symbols, AllocError>
+    requires within { held ≤ total }
+    requires few { total ≤ 256 }
+    ensures { IfOk result (λ symbols. length symbols ≡ total) }
+{
+    let mut symbols = Symbols::new(alloc, total)?;
+    for place in 0..held {
+        symbols.put(place, &held_symbol(place));
+    }
+    Ok(symbols)
+}
+
+fn held_symbol(place: u16) -> [u8; SYMBOL]
+    requires { place < 256 }
+{
+    let mut bytes = [0; SYMBOL];
+    for (q, byte) in bytes.iter_mut().enumerate() {
+        *byte = ((31 * usize::from(place) + 7 * q + 1) % 251) as u8;
+    }
+    bytes
+}

@@ -1,0 +1,3 @@
+pub mod Products
+pub mod Solution
+pub mod SolvedSoFar

@@ -1,0 +1,15 @@
+-- One zero symbol more.
+use Rattle.std.proofs.Common.{ℕ, ◌<◌, replicate, lit<}
+use Rattle.std.proofs.lemmas.List.{replicate-append-replicate, length-replicate}
+use Rattle.std.proofs.lemmas.List.Elements.{All-replicate}
+use Rattle.stair_model.specs.Stripe.{IsSector}
+use Rattle.stair_mds.proofs.symbols.Symbols.new.Goals as goal
+
+pub loop-made-preserved : goal.loop-made-preserved
+loop-made-preserved c =
+    rw (c.in_ok-push.ensures.items, c.loop-made.invariant) (replicate-append-replicate c.loop-made._made 1 (replicate 512 0))
+
+pub invariant_of-result : goal.invariant_of-result
+invariant_of-result c = rw c.loop-made.invariant
+    (All-replicate IsSector c.loop-made._made (replicate 512 0)
+    (length-replicate {A = ℕ} 512 0, All-replicate (λ b. b < 256) 512 0 (lit< tt)))

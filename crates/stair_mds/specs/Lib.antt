@@ -1,0 +1,3 @@
+-- What contracts see of a code and its symbols.
+pub mod Solving
+pub mod Weights

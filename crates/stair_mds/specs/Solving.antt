@@ -1,0 +1,32 @@
+-- What solving makes of the symbols.
+use Rattle.std.specs.Prelude.{◌≡◌, ℕ, ◌<◌, List, [], length, slice_index, slice_index_or, All, Contains}
+use Rattle.stair_model.specs.CauchyCode.{AreDistinct, Agree, IsSystematicCodeword, coefficient}
+
+-- a code of so many held symbols and so many places in all
+pub record Shape : Type 0 where
+  pub held : ℕ
+  pub total : ℕ
+
+-- byte q of the symbol at each place
+abbrev pub word : List (List ℕ) → ℕ → ℕ → ℕ
+word symbols q place = slice_index (slice_index_or symbols place []) q
+
+-- the word is a codeword of the Cauchy code
+abbrev pub IsCodewordOf : Shape → (ℕ → ℕ) → Type 0
+IsCodewordOf code w = IsSystematicCodeword code.held code.total (coefficient code.held) w
+
+-- places to be solved: none of them twice, and none of them known
+pub record AreWantedPlaces (code : Shape) (known wanted : List ℕ) : Type 0 where
+  pub below : All (λ p. p < code.total) wanted
+  pub distinct : AreDistinct (length wanted) (slice_index wanted)
+  pub unknown : All (λ p. Contains known p → ⊥) wanted
+
+-- the wanted symbols are those of the one codeword with the known ones, and all others are as they were
+pub record Solves (code : Shape) (known wanted : List ℕ) (old new : List (List ℕ)) : Type 0 where
+  pub count : length new ≡ length old
+  pub others : (p : ℕ) → (Contains wanted p → ⊥) → slice_index_or new p [] ≡ slice_index_or old p []
+  pub some :
+      (q : ℕ) → q < 512 →
+      (c : ℕ → ℕ) × IsCodewordOf code c × Agree known c (word old q) × Agree wanted c (word new q)
+  pub each :
+      (q : ℕ) (c : ℕ → ℕ) → q < 512 → IsCodewordOf code c → Agree known c (word old q) → Agree wanted c (word new q)
