@@ -92,8 +92,10 @@ Solves-all code known wanted old new within small places asked count sectors all
       count = all.count;
       others = λ p not_wanted.
           all.others p (λ j in_wanted same. not_wanted (subst (λ (x : ℕ). Contains wanted x) same (Contains-get_or wanted j 0 in_wanted)));
-      some = λ q in_sector.
-          let made = codeword_exists code.held code.total known (word old q) within small places (bytes q in_sector) in
-          (made.0, made.1, made.2, agrees q made.0 in_sector made.1 made.2);
-      each = λ q c in_sector codeword same. agrees q c in_sector codeword same;
+      symbols = record {
+        some = λ q in_sector.
+            let made = codeword_exists code.held code.total known (word old q) within small places (bytes q in_sector) in
+            (made.0, made.1, made.2, agrees q made.0 in_sector made.1 made.2);
+        each = λ q c in_sector codeword same. agrees q c in_sector codeword same;
+      };
     }

@@ -1,6 +1,6 @@
 -- What solving makes of the symbols.
 use Rattle.std.specs.Prelude.{◌≡◌, ℕ, ◌<◌, List, [], length, slice_index, slice_index_or, All, Contains}
-use Rattle.stair_model.specs.CauchyCode.{AreDistinct, Agree, IsSystematicCodeword, coefficient}
+use Rattle.stair_model.specs.CauchyCode.{AreDistinct, AreSolved, IsSystematicCodeword, coefficient}
 
 -- a code of so many held symbols and so many places in all
 pub record Shape : Type 0 where
@@ -25,8 +25,4 @@ pub record AreWantedPlaces (code : Shape) (known wanted : List ℕ) : Type 0 whe
 pub record Solves (code : Shape) (known wanted : List ℕ) (old new : List (List ℕ)) : Type 0 where
   pub count : length new ≡ length old
   pub others : (p : ℕ) → (Contains wanted p → ⊥) → slice_index_or new p [] ≡ slice_index_or old p []
-  pub some :
-      (q : ℕ) → q < 512 →
-      (c : ℕ → ℕ) × IsCodewordOf code c × Agree known c (word old q) × Agree wanted c (word new q)
-  pub each :
-      (q : ℕ) (c : ℕ → ℕ) → q < 512 → IsCodewordOf code c → Agree known c (word old q) → Agree wanted c (word new q)
+  pub symbols : AreSolved (IsCodewordOf code) known wanted (word old) (word new)

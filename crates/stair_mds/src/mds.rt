@@ -1,7 +1,8 @@
-ghost use Rattle.std.specs.Prelude.{◌≡◌, ℕ, ◌+◌, ◌-◌, ◌*◌, ◌<◌, ◌≤◌, IfOk, length, slice_index};
+ghost use Rattle.std.specs.Prelude.{◌≡◌, ℕ, ◌+◌, ◌-◌, ◌*◌, ◌<◌, ◌≤◌, IfOk, All, length, slice_index};
 ghost use Rattle.stair_model.specs.CauchyCode.{AreKnownPlaces, solving};
 ghost use Rattle.stair_model.specs.Sum.{field_sum};
 ghost use Rattle.stair_model.specs.Field.{product};
+ghost use Rattle.stair_model.specs.Stripe.{IsSector};
 ghost use Rattle.stair_mds.specs.Solving.{AreWantedPlaces, Solves, word};
 
 use crate::distances::{distances, weight};
@@ -82,6 +83,7 @@ impl Mds {
         requires wanted { AreWantedPlaces self.old known.now wanted.now }
         requires count { length work.old ≡ self.old.total }
         ensures solved { Solves self.old known.now wanted.now work.old work.new }
+        ensures sectors { All IsSector work.new }
         ensures cost { steps.new ≡ steps.old + length known.now * length wanted.now }
         ensures code { self.new ≡ self.old }
     {
@@ -92,6 +94,8 @@ impl Mds {
             let symbol = self.solved(known, *place, work, steps);
             work.put(*place, &symbol);
         }
+        // And what the symbols keep is known again.
+        let _ = &work.symbols;
     }
 
     /// The symbol at a wanted place, from the known ones.

@@ -8,3 +8,8 @@ pub mod ProductLaws
 pub mod PolynomialLaws
 pub mod LagrangeLaws
 pub mod CodeLaws
+pub mod CanonicalLaws
+pub mod PlaceLaws
+pub mod KnownSymbolLaws
+pub mod VirtualRowLaws
+pub mod EncodingLaws

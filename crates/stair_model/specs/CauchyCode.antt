@@ -3,6 +3,7 @@
 -- parity of those. The points of the Cauchy matrix are the places' own numbers.
 use Rattle.std.specs.Prelude.{◌≡◌, ◌≢◌, ℕ, ◌+◌, ◌<◌, List, length, slice_index, All, bit_xor}
 use Rattle.stair_model.specs.Field.{product, inverse}
+use Rattle.stair_model.specs.Stripe.{SECTOR}
 use Rattle.stair_model.specs.Sum.{field_sum, product_except}
 
 -- of parity k over held symbol j: 1/((held+k) + j)
@@ -31,6 +32,15 @@ pub record AreKnownPlaces (held total : ℕ) (known : List ℕ) : Type 0 where
 -- two words agree at each of these places
 abbrev pub Agree : List ℕ → (ℕ → ℕ) → (ℕ → ℕ) → Type 0
 Agree places v w = All (λ p. v p ≡ w p) places
+
+-- At each byte position the wanted symbols are those of the one codeword that has the known ones as they were before: some
+-- codeword has both, and each that has the known ones has the wanted ones. Before and after are position to word.
+pub record AreSolved (IsCode : (ℕ → ℕ) → Type 0) (known wanted : List ℕ) (before after : ℕ → ℕ → ℕ) : Type 0 where
+  pub some :
+      (q : ℕ) → q < SECTOR →
+      (c : ℕ → ℕ) × IsCode c × Agree known c (before q) × Agree wanted c (after q)
+  pub each :
+      (q : ℕ) (c : ℕ → ℕ) → q < SECTOR → IsCode c → Agree known c (before q) → Agree wanted c (after q)
 
 -- the product of x + y over n points y, without that of point i
 unfoldable pub distances : ℕ → (ℕ → ℕ) → ℕ → ℕ → ℕ

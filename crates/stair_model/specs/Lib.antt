@@ -8,4 +8,7 @@ pub mod Cell
 pub mod Stripe
 pub mod Codeword
 pub mod Equation
+pub mod Canonical
+pub mod Encoding
+pub mod Costs
 pub mod Examples

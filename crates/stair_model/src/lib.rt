@@ -2,6 +2,7 @@
 #![tactic(auto)]
 
 pub mod code;
+pub mod encoding;
 pub mod field;
 pub mod layout;
 pub mod stripe;

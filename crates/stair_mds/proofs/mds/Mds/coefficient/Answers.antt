@@ -4,9 +4,10 @@ use Rattle.std.proofs.lemmas.List.{get_or_read}
 use Rattle.stair_model.specs.Field.{product, inverse}
 use Rattle.stair_model.specs.CauchyCode.{AreKnownPlaces, weight, distances, solving}
 use Rattle.stair_model.proofs.FieldLaws.{product-pos}
+use Rattle.stair_model.proofs.LagrangeLaws.{distances-lt, own_distances-pos}
+use Rattle.stair_model.proofs.CodeLaws.{weight-lt, weight-pos, known_bytes, known_distinct}
 use Rattle.stair_mds.specs.Solving.{Shape}
 use Rattle.stair_mds.specs.Weights.{HasWeights}
-use Rattle.stair_mds.proofs.Solution.{weight-pos, weight-lt, distances-pos, distances-lt}
 use Rattle.stair_mds.proofs.mds.Mds.coefficient.Goals as goal
 
 module _ (code : Shape) (held : ℕ) (weights known : List ℕ) (kept : HasWeights held weights) (is_held : held ≡ code.held)
@@ -29,7 +30,7 @@ module _ (code : Shape) (held : ℕ) (weights known : List ℕ) (kept : HasWeigh
       let within : code.held ≤ 256 = omega (arith, is_held, kept.within, kept.bytes) in
       product-pos (weight code.held b) (distances code.held (slice_index known) i (slice_index known i))
       (weight-pos code.held b within (omega arith)) (weight-lt code.held b)
-      (distances-pos code.held code.total known i small places in_known)
+      (own_distances-pos code.held (slice_index known) i (known_bytes code.held code.total known small places) (known_distinct code.held code.total known places) in_known)
       (distances-lt code.held (slice_index known) i (slice_index known i))
 
 pub inv-requires : goal.inv-requires

@@ -1,0 +1,5 @@
+pub mod Marks
+pub mod Places
+pub mod Rows
+pub mod Symbols
+pub mod Storing

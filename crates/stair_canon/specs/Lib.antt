@@ -1,0 +1,4 @@
+-- What contracts see of a canonical stripe, and what its calls make of it.
+pub mod Canonical
+pub mod Solving
+pub mod Kept
