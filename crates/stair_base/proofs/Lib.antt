@@ -1,2 +1,4 @@
 pub mod EquationLaws
 pub mod GlobalCounts
+pub mod RowScan
+pub mod CoverageScan

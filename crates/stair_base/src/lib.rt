@@ -3,14 +3,21 @@
 //! The code is that of Li and Lee, STAIR Codes (FAST 2014). [`Stripe::new`] alone takes memory.
 #![tactic(auto)]
 
+pub use coverage::{NotCovered, covered};
 pub use equations::{Broken, first_broken};
 pub use geometry::{Geometry, GeometryFault};
 pub use kind::Kind;
+pub use place::Place;
+pub use sets::{CellSet, Slots};
 pub use stripe::{SECTOR, Stripe};
 
+mod coverage;
+mod device;
 mod equations;
 mod geometry;
 mod kind;
+mod place;
+mod sets;
 mod stripe;
 #[cfg(test)]
 mod tests;

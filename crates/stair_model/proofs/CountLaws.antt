@@ -1,8 +1,9 @@
 -- Laws of `sum_below`, the sum of the first values of a function.
-use Rattle.std.proofs.Common.{◌≡◌, ℕ, zero, suc, ◌+◌, ◌-◌, ◌*◌, ◌<◌, ◌≤◌, inl, inr, refl, ◌∙◌, ap, ap₂, subst, List, length, take, slice_index, sum, arith}
+use Rattle.std.proofs.Common.{◌≡◌, ℕ, zero, suc, ◌+◌, ◌-◌, ◌*◌, ◌<◌, ◌≤◌, inl, inr, refl, sym, ◌∙◌, ap, ap₂, subst, List, length, take, slice_index, slice_index_or, sum, arith}
 use Rattle.std.proofs.Common.{add-one}
 use Rattle.std.proofs.Math.Seq.{take-length}
 use Rattle.std.proofs.lemmas.Bool.{cases_lt, cases_eq}
+use Rattle.std.specs.List.{sum_by}
 use Rattle.std.proofs.lemmas.List.Sums.{sum_by_more}
 use Rattle.stair_model.specs.Sum.{sum_below}
 
@@ -15,6 +16,11 @@ sum_below_none f = refl
 pub sum_below_more : (n : ℕ) (f : ℕ → ℕ) → sum_below (suc n) f ≡ sum_below n f + f n
 unfolding sum_below
 sum_below_more n f = refl
+
+-- a sum so far, and one term more
+pub sum_below_next : (n sum term : ℕ) (f : ℕ → ℕ) → sum ≡ sum_below n f → term ≡ f n → sum + term ≡ sum_below (n + 1) f
+sum_below_next n sum term f so_far next =
+    ap₂ (λ (a b : ℕ). a + b) so_far next ∙ sym (sum_below_more n f) ∙ ap (λ (k : ℕ). sum_below k f) (sym (add-one n))
 
 -- sums of the same terms are the same
 pub sum_below_same : (n : ℕ) (f g : ℕ → ℕ) → ((k : ℕ) → k < n → f k ≡ g k) → sum_below n f ≡ sum_below n g
@@ -133,6 +139,28 @@ sum_below_marks (suc n) f mark =
     let last : f n ≤ 1 = mark n (omega arith) in
     omega arith
 
+-- a sum of zeros
+pub sum_below_zeros : (n : ℕ) (f : ℕ → ℕ) → ((k : ℕ) → k < n → f k ≡ 0) → sum_below n f ≡ 0
+unfolding sum_below
+sum_below_zeros zero f none = refl
+sum_below_zeros (suc n) f none =
+    let earlier : sum_below n f ≡ 0 = sum_below_zeros n f (λ k below. none k (omega arith)) in
+    let last : f n ≡ 0 = none n (omega arith) in
+    omega arith
+
+-- a longer sum whose further terms are zero
+pub sum_below_tail : (m n : ℕ) (f : ℕ → ℕ) → m ≤ n → ((k : ℕ) → m ≤ k → k < n → f k ≡ 0) → sum_below n f ≡ sum_below m f
+unfolding sum_below
+sum_below_tail m zero f le none = let e : m ≡ 0 = omega arith in rw e refl
+sum_below_tail m (suc n) f le none =
+    elim (cases_lt m (suc n)) [
+      | inl below ↦
+          let earlier : sum_below n f ≡ sum_below m f = sum_below_tail m n f (omega arith) (λ k from to. none k from (omega arith)) in
+          let last : f n ≡ 0 = none n (omega arith) (omega arith) in
+          omega arith
+      | inr above ↦ let e : m ≡ suc n = omega arith in rw e refl
+    ]
+
 -- the sum of the first elements of a list
 sum_below_take : (xs : List ℕ) (n : ℕ) → n ≤ length xs → sum_below n (λ k. slice_index xs k) ≡ sum (take n xs)
 unfolding sum_below
@@ -145,3 +173,17 @@ sum_below_take xs (suc n) within =
 -- the sum of a list
 pub sum_below_list : (xs : List ℕ) → sum_below (length xs) (λ k. slice_index xs k) ≡ sum xs
 sum_below_list xs = sum_below_take xs (length xs) (omega arith) ∙ ap sum (take-length xs)
+
+-- the sum of the parts of the first elements of a list
+sum_below_by_take : {X : Type 0} (f : X → ℕ) (d : X) (xs : List X) (n : ℕ) → n ≤ length xs
+    → sum_below n (λ k. f (slice_index_or xs k d)) ≡ sum_by f (take n xs)
+unfolding sum_below
+sum_below_by_take f d xs zero within = refl
+sum_below_by_take f d xs (suc n) within =
+    let earlier : sum_below n (λ k. f (slice_index_or xs k d)) ≡ sum_by f (take n xs) = sum_below_by_take f d xs n (omega arith) in
+    let step : sum_by f (take (suc n) xs) ≡ sum_by f (take n xs) + f (slice_index_or xs n d) = rw add-one at (sum_by_more f xs n d within) in
+    omega arith
+
+-- the sum of the parts of a list's elements
+pub sum_below_by : {X : Type 0} (f : X → ℕ) (d : X) (xs : List X) → sum_below (length xs) (λ k. f (slice_index_or xs k d)) ≡ sum_by f xs
+sum_below_by f d xs = sum_below_by_take f d xs (length xs) (omega arith) ∙ ap (sum_by f) (take-length xs)

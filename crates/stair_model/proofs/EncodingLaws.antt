@@ -93,6 +93,23 @@ same_stripe g a b limits a_of a_formed b_of b_formed same =
     place : (s : Stripe) → IsStripeOf g s → (k : ℕ) → k / g.n * s.chunks + k % g.n ≡ k
     place s of k = ap (λ (n : ℕ). k / g.n * n + k % g.n) of.chunks ∙ div-add-mod' k g.n
 
+-- codewords are the same where at each byte their canonical codewords have the same cells
+pub codewords_from_canonical : (g : Geometry) (a b : Stripe) → IsWithinLimits g → IsStripeOf g a → IsWellFormed a → IsCodeword g a
+    → IsStripeOf g b → IsWellFormed b → IsCodeword g b
+    → ((p : ℕ) (x y : Word) → p < SECTOR → IsCanonicalCodeword g x → IsCanonicalCodeword g y
+    → ((i j : ℕ) → i < g.r → j < g.n → x i j ≡ byte_of a p i j) → ((i j : ℕ) → i < g.r → j < g.n → y i j ≡ byte_of b p i j)
+    → (i j : ℕ) → i < g.r → j < g.n → x i j ≡ y i j)
+    → a ≡ b
+codewords_from_canonical g a b limits a_of a_formed a_codeword b_of b_formed b_codeword same =
+    same_stripe g a b limits a_of a_formed b_of b_formed
+    (λ p i j p_in row chunk.
+    let x = extension_exists g (byte_of a p) in
+    let y = extension_exists g (byte_of b p) in
+    sym (x.1.cells i j row chunk)
+    ∙ same p x.0 y.0 p_in (codeword_is_canonical g a p x.0 limits a_of a_formed a_codeword p_in x.1)
+    (codeword_is_canonical g b p y.0 limits b_of b_formed b_codeword p_in y.1) x.1.cells y.1.cells i j row chunk
+    ∙ y.1.cells i j row chunk)
+
 -- ---- one encoding
 
 -- codewords with the same data cells have the same bytes

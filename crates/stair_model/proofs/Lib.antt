@@ -13,3 +13,10 @@ pub mod PlaceLaws
 pub mod KnownSymbolLaws
 pub mod VirtualRowLaws
 pub mod EncodingLaws
+pub mod SetLaws
+pub mod SortedLaws
+pub mod OrderLaws
+pub mod CoverageLaws
+pub mod AgreementLaws
+pub mod RestoringLaws
+pub mod DeviceLaws

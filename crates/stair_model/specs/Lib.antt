@@ -11,4 +11,9 @@ pub mod Equation
 pub mod Canonical
 pub mod Encoding
 pub mod Costs
+pub mod Slots
+pub mod CellSet
+pub mod Coverage
+pub mod Restoring
+pub mod Device
 pub mod Examples

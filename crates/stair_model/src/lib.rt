@@ -2,7 +2,10 @@
 #![tactic(auto)]
 
 pub mod code;
+pub mod coverage;
+pub mod device;
 pub mod encoding;
 pub mod field;
 pub mod layout;
+pub mod restoring;
 pub mod stripe;

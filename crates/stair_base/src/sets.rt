@@ -1,0 +1,139 @@
+ghost use Rattle.std.specs.Prelude.{◌≡◌, ℕ, ◌<◌, ◌⊎◌, ◌↔◌, IsTrue, slice_index};
+ghost use Rattle.stair_model.specs.CellSet.{HasCell, cell_count, count_in_slot, IsCellSet};
+ghost use Rattle.stair_model.specs.Slots.{HasSlot, slot_count, IsSlotSet};
+
+use std::marker::Model;
+
+/// A set of slots, each of which is a number below 32.
+///
+/// Two sets are equal exactly where they have the same slots.
+#[derive(Clone, Copy, Debug, PartialEq, Eq)]
+pub struct Slots {
+    marks: [bool; 32],
+}
+
+impl Model for Slots {
+    ghost use Rattle.stair_model.specs.Slots.{Slots as SlotSet, IsSlotSet};
+
+    ghost Value = { SlotSet };
+
+    ghost view = { λ s. record { marks = s.marks } };
+
+    ghost invariant = { λ s. IsSlotSet (record { marks = s.marks }) };
+
+    ghost inverse = { λ set. record { marks = set.marks } };
+}
+
+impl Slots {
+    /// The set without slots.
+    pub fn empty() -> Slots
+        ensures none { (j : ℕ) → ¬ HasSlot result j }
+        ensures well_formed { IsSlotSet result }
+    {
+        Slots { marks: [false; 32] }
+    }
+
+    /// Adds a slot, a number below 32; one that is in the set stays in it.
+    pub fn add(&mut self, slot: u8)
+        requires { slot < 32 }
+        ensures members { (j : ℕ) → HasSlot self.new j ↔ (HasSlot self.old j ⊎ (j ≡ slot)) }
+        ensures well_formed { IsSlotSet self.new }
+    {
+        self.marks[usize::from(slot)] = true;
+    }
+
+    /// Whether the slot, a number below 32, is in the set.
+    pub fn has(&self, slot: u8) -> bool
+        requires { slot < 32 }
+        ensures member { IsTrue result ↔ HasSlot self.now slot }
+        ensures well_formed { IsSlotSet self.now }
+    {
+        self.marks[usize::from(slot)]
+    }
+
+    /// How many slots are in the set, at most 32.
+    pub fn count(&self) -> u8
+        ensures value { result ≡ slot_count self.now }
+        ensures well_formed { IsSlotSet self.now }
+    {
+        self.marks.iter().filter(|mark| **mark).count() as u8
+    }
+}
+
+/// A set of cells of a stripe, each a row and a slot below 32: which cells are erased, or which ones a journal records.
+///
+/// Two sets are equal exactly where they have the same cells.
+#[derive(Clone, Copy, Debug, PartialEq, Eq)]
+pub struct CellSet {
+    rows: [Slots; 32],
+}
+
+impl Model for CellSet {
+    ghost use Rattle.stair_model.specs.CellSet.{CellSet as Cells, IsCellSet};
+
+    ghost Value = { Cells };
+
+    ghost view = { λ s. record { rows = s.rows } };
+
+    ghost invariant = { λ s. IsCellSet (record { rows = s.rows }) };
+
+    ghost inverse = { λ set. record { rows = set.rows } };
+}
+
+impl CellSet {
+    /// The set without cells.
+    pub fn empty() -> CellSet
+        ensures none { (i j : ℕ) → ¬ HasCell result i j }
+        ensures well_formed { IsCellSet result }
+    {
+        CellSet {
+            rows: [Slots::empty(); 32],
+        }
+    }
+
+    /// Adds the cell in this row of this slot's chunk, both below 32; one that is in the set stays in it.
+    pub fn add(&mut self, row: u8, slot: u8)
+        requires row_in { row < 32 }
+        requires slot_in { slot < 32 }
+        ensures members { (i j : ℕ) →
+            HasCell self.new i j ↔ (HasCell self.old i j ⊎ ((i ≡ row) × (j ≡ slot))) }
+        ensures well_formed { IsCellSet self.new }
+    {
+        self.rows[usize::from(row)].add(slot);
+    }
+
+    /// Whether the cell in this row of this slot's chunk, both below 32, is in the set.
+    pub fn has(&self, row: u8, slot: u8) -> bool
+        requires row_in { row < 32 }
+        requires slot_in { slot < 32 }
+        ensures member { IsTrue result ↔ HasCell self.now row slot }
+        ensures well_formed { IsCellSet self.now }
+    {
+        self.rows[usize::from(row)].has(slot)
+    }
+
+    /// How many cells are in the set, at most 1,024.
+    pub fn count(&self) -> u16
+        ensures value { result ≡ cell_count self.now }
+        ensures well_formed { IsCellSet self.now }
+    {
+        let mut count = 0;
+        for row in &self.rows {
+            count += u16::from(row.count());
+        }
+        count
+    }
+
+    /// For each slot, how many of its cells are in the set: at most 32.
+    pub fn counts(&self) -> [u8; 32]
+        ensures value { (j : ℕ) → j < 32 → slice_index result j ≡ count_in_slot self.now j }
+        ensures well_formed { IsCellSet self.now }
+    {
+        let mut counts = [0; 32];
+        for slot in 0..32u8 {
+            let count = self.rows.iter().filter(|row| row.has(slot)).count();
+            counts[usize::from(slot)] = count as u8;
+        }
+        counts
+    }
+}

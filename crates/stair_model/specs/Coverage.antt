@@ -1,0 +1,43 @@
+-- Which erased cells of a stripe can be restored (Li and Lee, STAIR Codes, FAST 2014): those of m whole chunks and,
+-- beside them, up to e_l cells in a further chunk for each class l.
+use Rattle.std.specs.Prelude.{◌≡◌, ℕ, ◌+◌, ◌-◌, ◌<◌, ◌≤◌, List, length, map, slice_index, All, Contains}
+use Rattle.std.specs.List.{range_with_len}
+use Rattle.std.specs.List.Sorted.{IsPermutation}
+use Rattle.stair_model.specs.Geometry.{Geometry, classes, coverage}
+use Rattle.stair_model.specs.CellSet.{CellSet, count_in_slot}
+
+-- no number is above one before it
+abbrev pub IsNonIncreasing : List ℕ → Type 0
+IsNonIncreasing c = (p q : ℕ) → p ≤ q → q < length c → slice_index c q ≤ slice_index c p
+
+-- how many cells are erased in each of the n chunks, in slot order
+abbrev pub erased_counts : Geometry → CellSet → List ℕ
+erased_counts g erased = map (count_in_slot erased) (range_with_len 0 g.n)
+
+-- the chunks' counts, sorted downwards
+pub record AreSortedCounts (g : Geometry) (erased : CellSet) (c : List ℕ) : Type 0 where
+  pub permutation : IsPermutation (erased_counts g erased) c
+  pub falling : IsNonIncreasing c
+
+-- of falling counts the first m may be any; count m+k is within entry m'-1-k of the coverage vector, and the rest are 0
+pub record AreWithinCoverage (g : Geometry) (c : List ℕ) : Type 0 where
+  pub partial_chunks : (k : ℕ) → k < classes g → g.m + k < g.n → slice_index c (g.m + k) ≤ coverage g (classes g - 1 - k)
+  pub intact_chunks : (p : ℕ) → g.m + classes g ≤ p → p < g.n → slice_index c p ≡ 0
+
+-- the erased cells are covered
+abbrev pub IsCovered : Geometry → CellSet → Type 0
+IsCovered g erased = (c : List ℕ) × AreSortedCounts g erased c × AreWithinCoverage g c
+
+-- an order of the n chunks in which the erased cells fall and are within coverage: chunk number p of it for p < m may be
+-- erased whole, chunk m+k has at most e_{m'-1-k} erased cells, and later ones have none
+pub record IsCoveredOrder (g : Geometry) (erased : CellSet) (order : List ℕ) : Type 0 where
+  pub permutation : IsPermutation (range_with_len 0 g.n) order
+  pub falling : IsNonIncreasing (map (count_in_slot erased) order)
+  pub within : AreWithinCoverage g (map (count_in_slot erased) order)
+
+-- each number below n stands at exactly one of the n places of the list
+pub record HasEachOnce (n : ℕ) (order : List ℕ) : Type 0 where
+  pub count : length order ≡ n
+  pub below : All (λ j. j < n) order
+  pub distinct : (p q : ℕ) → p < n → q < n → slice_index order p ≡ slice_index order q → p ≡ q
+  pub reached : (j : ℕ) → j < n → Contains order j
