@@ -100,13 +100,13 @@ sorted_chunks g erased =
 
 pub counts_from_covered : (g : Geometry) (erased : CellSet) → IsCovered g erased → IsCoveredByCounts g erased
 counts_from_covered g erased covered =
-    counts_from_within g erased covered.0 (AreCountsInOrder-sorted g erased covered.0 covered.1) covered.2
+    counts_from_within g erased covered.counts (AreCountsInOrder-sorted g erased covered.counts covered.sorted) covered.within
 
 pub covered_from_counts : (g : Geometry) (erased : CellSet) → IsCoveredByCounts g erased → IsCovered g erased
 covered_from_counts g erased counts =
     let found = sorted_chunks g erased in
     let c = map (count_in_slot erased) found.0 in
-    (c, found.2, within_from_counts g erased c (AreCountsInOrder-sorted g erased c found.2) counts)
+    record { counts = c; sorted = found.2; within = within_from_counts g erased c (AreCountsInOrder-sorted g erased c found.2) counts }
 
 -- every sorted list of the counts tells the same
 pub covered_each : (g : Geometry) (erased : CellSet)
@@ -117,7 +117,7 @@ covered_each g erased = (
   λ each.
       let found = sorted_chunks g erased in
       let c = map (count_in_slot erased) found.0 in
-      (c, found.2, each c found.2),
+      record { counts = c; sorted = found.2; within = each c found.2 },
 )
 
 -- and so does the order of the chunks
@@ -134,14 +134,15 @@ covered_order g erased covered =
     )
 
 pub covered_from_order : (g : Geometry) (erased : CellSet) (order : List ℕ) → IsCoveredOrder g erased order → IsCovered g erased
-covered_from_order g erased order ordered = (
-  map (count_in_slot erased) order,
-  record {
-    permutation = IsPermutation-map (count_in_slot erased) (range_with_len 0 g.n) order ordered.permutation;
-    falling = ordered.falling;
-  },
-  ordered.within,
-)
+covered_from_order g erased order ordered = record {
+  counts = map (count_in_slot erased) order;
+  sorted =
+      record {
+        permutation = IsPermutation-map (count_in_slot erased) (range_with_len 0 g.n) order ordered.permutation;
+        falling = ordered.falling;
+      };
+  within = ordered.within;
+}
 
 -- of fewer cells no chunk has more
 count_in_slot-le : (fewer erased : CellSet) → ((i j : ℕ) → HasCell fewer i j → HasCell erased i j)

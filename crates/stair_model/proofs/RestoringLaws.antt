@@ -1,20 +1,21 @@
 -- Covered erased cells are determined by the held ones, virtual row after virtual row: of n-m chunks with few erased cells,
 -- those with at most h follow from their held cells and h virtual symbols, and virtual row h follows from these chunks and
 -- the global zeros that stand in for all others.
-use Rattle.std.proofs.Common.{◌≡◌, ℕ, zero, suc, ◌+◌, ◌-◌, ◌<◌, ◌≤◌, false, inl, inr, sym, ap, subst, ◌∙◌, arith, slice_index, List, nat_lt, if◌then◌else◌}
-use Rattle.std.proofs.lemmas.Bool.{cases_lt, lt-ltb, le-ltb, cond-true, cond-false, false≢true, false_from_ne_true}
+use Rattle.std.proofs.Common.{◌≡◌, ℕ, zero, suc, ◌+◌, ◌-◌, ◌<◌, ◌≤◌, Bool, false, inl, inr, sym, ap, subst, ◌∙◌, arith, slice_index, List, nat_lt, if◌then◌else◌}
+use Rattle.std.proofs.lemmas.Bool.{cases_lt, lt-ltb, le-ltb, cond-true, cond-false, false≢true, and_left, and_from}
+use Rattle.std.specs.Prelude.{◌&&◌}
 use Rattle.std.proofs.lemmas.List.{get_or-map}
 use Rattle.std.proofs.lemmas.List.Elements.{All-get_or}
 use Rattle.stair_model.specs.Sum.{sum_below}
 use Rattle.stair_model.specs.CauchyCode.{AreDistinct}
 use Rattle.stair_model.specs.Geometry.{Geometry, IsWithinLimits, classes, coverage, data_chunks, greatest_coverage}
-use Rattle.stair_model.specs.CellSet.{CellSet, has_cell, HasCell, count_in_slot, IsInStripe}
+use Rattle.stair_model.specs.CellSet.{CellSet, has_cell, HasCell, count_in_slot}
 use Rattle.stair_model.specs.Coverage.{IsCovered}
 use Rattle.stair_model.specs.Stripe.{Stripe, IsStripeOf, IsWellFormed}
 use Rattle.stair_model.specs.Codeword.{Word, IsCodeword}
 use Rattle.stair_model.specs.Canonical.{canonical_chunks, canonical_rows, IsRowCodeword, IsColumnCodeword, IsCanonicalCodeword}
 use Rattle.stair_model.specs.Restoring.{SameHeld}
-use Rattle.stair_model.proofs.CountLaws.{sum_below_longer, sum_below_tail}
+use Rattle.stair_model.proofs.CountLaws.{sum_below_le, sum_below_longer, sum_below_tail}
 use Rattle.stair_model.proofs.CellLaws.{coverage_le}
 use Rattle.stair_model.proofs.CanonicalLaws.{coverage_le_greatest}
 use Rattle.stair_model.proofs.PlaceLaws.{ArePlaces, same_from_places}
@@ -56,30 +57,38 @@ few_erased g erased limits covered =
 -- ---- a chunk by its held cells and as many virtual symbols as it has erased cells
 
 -- two chunks that agree at these agree everywhere
-pub chunk_from_held : (g : Geometry) (erased : CellSet) (j : ℕ) (c d : ℕ → ℕ) (h b : ℕ) → IsWithinLimits g → IsInStripe g erased
+pub chunk_from_held : (g : Geometry) (erased : CellSet) (j : ℕ) (c d : ℕ → ℕ) (h b : ℕ) → IsWithinLimits g
     → IsColumnCodeword g c → IsColumnCodeword g d → count_in_slot erased j ≤ h → h ≤ greatest_coverage g
     → ((i : ℕ) → i < g.r → ¬ HasCell erased i j → c i ≡ d i)
     → ((t : ℕ) → t < h → c (g.r + t) ≡ d (g.r + t))
     → b < canonical_rows g → c b ≡ d b
-chunk_from_held g erased j c d h b limits inside first second few h_in cells virtual within =
+chunk_from_held g erased j c d h b limits first second few h_in cells virtual within =
     let last = coverage_le g limits (classes g - 1) (omega (arith, limits.covered_chunks.0)) in
-    same_from_kept g.r (canonical_rows g) (g.r + h) (λ i. has_cell erased i j) c d b (omega arith)
+    same_from_kept g.r (canonical_rows g) (g.r + h) lost c d b (omega arith)
     (omega (arith, last.1, limits.rows.1))
-    (omega (arith, erased_in_rows, sum_below_longer mark g.r 32 limits.rows.1)) first second agree within
+    (omega (arith, lost_le, sum_below_longer mark g.r 32 limits.rows.1)) first second agree within
   where
     mark : ℕ → ℕ
     mark i = if has_cell erased i j then 1 else 0
 
-    outside : (i : ℕ) → g.r ≤ i → has_cell erased i j ≡ false
-    outside i past = false_from_ne_true (has_cell erased i j) (λ has. let place = inside i j has in omega (arith, place.0))
+    lost : ℕ → Bool
+    lost i = nat_lt i g.r && has_cell erased i j
 
-    erased_in_rows : sum_below (g.r + h) mark ≡ sum_below g.r mark
-    erased_in_rows = sum_below_tail g.r (g.r + h) mark (omega arith) (λ i from to. cond-false (has_cell erased i j) 1 0 (outside i from))
+    lost_mark : ℕ → ℕ
+    lost_mark i = if lost i then 1 else 0
 
-    agree : (i : ℕ) → i < g.r + h → has_cell erased i j ≡ false → c i ≡ d i
+    lost_le : sum_below (g.r + h) lost_mark ≤ sum_below g.r mark
+    lost_le =
+        let rows : sum_below (g.r + h) lost_mark ≡ sum_below g.r lost_mark =
+        sum_below_tail g.r (g.r + h) lost_mark (omega arith) (λ i from to. cond-false _ _ _ (and_left _ (has_cell erased i j) (le-ltb i g.r from))) in
+        let each : sum_below g.r lost_mark ≤ sum_below g.r mark =
+        sum_below_le g.r lost_mark mark (λ i row. let e : lost_mark i ≡ mark i = ap (λ (b : Bool). if b && has_cell erased i j then 1 else 0) (lt-ltb i g.r row) in omega arith) in
+        omega arith
+
+    agree : (i : ℕ) → i < g.r + h → lost i ≡ false → c i ≡ d i
     agree i i_in kept =
         elim (cases_lt i g.r) [
-          | inl row ↦ cells i row (λ has. false≢true (sym kept ∙ has))
+          | inl row ↦ cells i row (λ has. false≢true (sym kept ∙ and_from _ _ (lt-ltb i g.r row) has))
           | inr past ↦
               let place : g.r + (i - g.r) ≡ i = omega arith in
               subst (λ (p : ℕ). c p ≡ d p) place (virtual (i - g.r) (omega arith))
@@ -155,7 +164,7 @@ module _ (g : Geometry) (erased : CellSet) (chunk : ℕ → ℕ) (limits : IsWit
 abbrev pub SameHeldCells : Geometry → CellSet → Word → Word → Type 0
 SameHeldCells g erased x y = (i j : ℕ) → i < g.r → j < g.n → ¬ HasCell erased i j → x i j ≡ y i j
 
-module _ (g : Geometry) (erased : CellSet) (limits : IsWithinLimits g) (inside : IsInStripe g erased) (chunk : ℕ → ℕ)
+module _ (g : Geometry) (erased : CellSet) (limits : IsWithinLimits g) (chunk : ℕ → ℕ)
     (have : HaveFewErased g erased chunk) (x y : Word) (first : IsCanonicalCodeword g x) (second : IsCanonicalCodeword g y)
     (cells : SameHeldCells g erased x y) where
   -- the first h virtual rows are the same in both
@@ -166,7 +175,7 @@ module _ (g : Geometry) (erased : CellSet) (limits : IsWithinLimits g) (inside :
   chunk_same : (h : ℕ) → SameTo h → h ≤ greatest_coverage g → (j i : ℕ) → j < g.n → count_in_slot erased j ≤ h
       → i < canonical_rows g → x i j ≡ y i j
   chunk_same h earlier h_in j i j_in few i_in =
-      chunk_from_held g erased j (λ t. x t j) (λ t. y t j) h i limits inside (first.chunks j (omega arith))
+      chunk_from_held g erased j (λ t. x t j) (λ t. y t j) h i limits (first.chunks j (omega arith))
       (second.chunks j (omega arith)) few h_in (λ t row kept. cells t j row j_in kept) (λ t t_in. earlier t j t_in (omega arith)) i_in
 
   -- and the next virtual row
@@ -203,14 +212,14 @@ module _ (g : Geometry) (erased : CellSet) (limits : IsWithinLimits g) (inside :
 -- ---- stripes
 
 -- codewords with the same held cells are the same
-pub restoring_determined : (g : Geometry) (erased : CellSet) (a b : Stripe) → IsWithinLimits g → IsInStripe g erased
+pub restoring_determined : (g : Geometry) (erased : CellSet) (a b : Stripe) → IsWithinLimits g
     → IsCovered g erased → IsStripeOf g a → IsWellFormed a → IsCodeword g a → IsStripeOf g b → IsWellFormed b → IsCodeword g b
     → SameHeld g erased a b → a ≡ b
-restoring_determined g erased a b limits inside covered a_of a_formed a_codeword b_of b_formed b_codeword same =
+restoring_determined g erased a b limits covered a_of a_formed a_codeword b_of b_formed b_codeword same =
     let chunks = few_erased g erased limits covered in
     codewords_from_canonical g a b limits a_of a_formed a_codeword b_of b_formed b_codeword
     (λ p x y p_in first second x_is y_is i j row chunk.
-    canonical_restored g erased limits inside chunks.0 chunks.1 x y first second
+    canonical_restored g erased limits chunks.0 chunks.1 x y first second
     (λ s c s_in c_in kept.
     x_is s c s_in c_in ∙ ap (λ (bytes : List ℕ). slice_index bytes p) (same s c s_in c_in kept) ∙ sym (y_is s c s_in c_in))
     i j (omega arith) (omega arith))

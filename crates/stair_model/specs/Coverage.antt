@@ -24,9 +24,11 @@ pub record AreWithinCoverage (g : Geometry) (c : List ℕ) : Type 0 where
   pub partial_chunks : (k : ℕ) → k < classes g → g.m + k < g.n → slice_index c (g.m + k) ≤ coverage g (classes g - 1 - k)
   pub intact_chunks : (p : ℕ) → g.m + classes g ≤ p → p < g.n → slice_index c p ≡ 0
 
--- the erased cells are covered
-abbrev pub IsCovered : Geometry → CellSet → Type 0
-IsCovered g erased = (c : List ℕ) × AreSortedCounts g erased c × AreWithinCoverage g c
+-- the erased cells are covered: their sorted counts are within coverage
+pub record IsCovered (g : Geometry) (erased : CellSet) : Type 0 where
+  pub counts : List ℕ
+  pub sorted : AreSortedCounts g erased counts
+  pub within : AreWithinCoverage g counts
 
 -- an order of the n chunks in which the erased cells fall and are within coverage: chunk number p of it for p < m may be
 -- erased whole, chunk m+k has at most e_{m'-1-k} erased cells, and later ones have none

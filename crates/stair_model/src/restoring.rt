@@ -2,7 +2,7 @@
 
 ghost use Rattle.std.specs.Prelude.{◌≡◌};
 ghost use Rattle.stair_model.specs.Geometry.{Geometry, IsWithinLimits};
-ghost use Rattle.stair_model.specs.CellSet.{CellSet, IsInStripe};
+ghost use Rattle.stair_model.specs.CellSet.{CellSet};
 ghost use Rattle.stair_model.specs.Coverage.{IsCovered};
 ghost use Rattle.stair_model.specs.Stripe.{Stripe, IsStripeOf, IsWellFormed};
 ghost use Rattle.stair_model.specs.Codeword.{IsCodeword};
@@ -16,7 +16,7 @@ ghost use Rattle.stair_model.specs.Restoring.{SameHeld};
 pub fn restoring_laws()
     // two codewords with the same held cells are one
     ensures determined { (g : Geometry) (erased : CellSet) (a b : Stripe) → IsWithinLimits g →
-        IsInStripe g erased → IsCovered g erased →
+        IsCovered g erased →
         IsStripeOf g a → IsWellFormed a → IsCodeword g a →
         IsStripeOf g b → IsWellFormed b → IsCodeword g b → SameHeld g erased a b → a ≡ b }
 {}
