@@ -1,7 +1,9 @@
 -- The places by which a row is solved, made class by class, and the row that is solved by them.
-use Rattle.std.proofs.Common.{◌≡◌, ℕ, ◌+◌, ◌-◌, ◌<◌, ◌≤◌, ◌⊎◌, List, length, take, slice_index, false, inl, inr, sym, subst, ap, ◌∙◌, arith}
+use Rattle.std.proofs.Common.{◌≡◌, ℕ, ◌+◌, ◌-◌, ◌<◌, ◌≤◌, ◌⊎◌, List, length, take, set, slice_index, false, inl, inr, sym, subst, ap, ◌∙◌, arith}
 use Rattle.std.specs.Prelude.{Contains}
 use Rattle.std.proofs.lemmas.Bool.{cases_eq, cases_lt}
+use Rattle.std.proofs.lemmas.Grind.{get_or-set_at}
+use Rattle.std.proofs.lemmas.List.{get_or-set_other, length-set}
 use Rattle.stair_model.specs.Canonical.{canonical_chunks, IsRowCodeword}
 use Rattle.stair_model.specs.CauchyCode.{AreKnownPlaces, Agree}
 use Rattle.stair_model.specs.Cell.{global_chunk, is_global, class_of}
@@ -26,6 +28,66 @@ pub record HasPairs (g : Geometry) (i : ℕ) (known wanted : List ℕ) (class : 
   pub done : (l : ℕ) → l < class → IsPairOfClass g i l (slice_index known (global_chunk g l)) (slice_index wanted (g.m + l))
   pub left : (l : ℕ) → class ≤ l → l < classes g
       → (slice_index known (global_chunk g l) ≡ global_chunk g l) × (slice_index wanted (g.m + l) ≡ g.n + l)
+
+module _ (g : Geometry) (i : ℕ) (known wanted : List ℕ) (class : ℕ) (within : class < classes g) (pairs : HasPairs g i known wanted class) where
+  -- a class more, in a row above its global parities
+  pub HasPairs-above : i < g.r - coverage g class → HasPairs g i known wanted (class + 1)
+  HasPairs-above above = record {
+    limits = pairs.limits;
+    known_room = pairs.known_room;
+    wanted_room = pairs.wanted_room;
+    first = pairs.first;
+    parities = pairs.parities;
+    done = λ l below.
+        elim (cases_eq l class) [
+          | inl last ↦
+              let at = pairs.left l (omega (arith, last)) (omega (arith, last)) in
+              let row : i < g.r - coverage g l = subst (λ (x : ℕ). i < g.r - coverage g x) (sym last) above in
+              record { above = λ is_above. at; below = λ is_below. absurd (omega (arith, row, is_below)) }
+          | inr earlier ↦ pairs.done l (omega (arith, earlier))
+        ];
+    left = λ l from l_in. pairs.left l (omega arith) l_in;
+  }
+
+  -- and in a row of these
+  pub HasPairs-below : (a x b y : ℕ) → a ≡ global_chunk g class → x ≡ g.n + class → b ≡ g.m + class → y ≡ global_chunk g class
+      → g.r - coverage g class ≤ i → HasPairs g i (set known a x) (set wanted b y) (class + 1)
+  HasPairs-below a x b y a_is x_is b_is y_is below = record {
+    limits = pairs.limits;
+    known_room = length-set known a x ∙ pairs.known_room;
+    wanted_room = length-set wanted b y ∙ pairs.wanted_room;
+    first = λ k k_in. get_or-set_other known a k x 0 (λ e. omega arith) ∙ pairs.first k k_in;
+    parities = λ k k_in. get_or-set_other wanted b k y 0 (λ e. omega arith) ∙ pairs.parities k k_in;
+    done = λ l l_in.
+        elim (cases_eq l class) [
+          | inl last ↦
+              let row : g.r - coverage g l ≤ i = subst (λ (z : ℕ). g.r - coverage g z ≤ i) (sym last) below in
+              let a_in : a < length known = omega (arith, pairs.known_room, pairs.limits.devices.1, pairs.limits.covered_chunks.1) in
+              let b_in : b < length wanted =
+              omega (arith, pairs.wanted_room, pairs.limits.devices.1, pairs.limits.majority, pairs.limits.covered_chunks.1) in
+              record {
+                above = λ is_above. absurd (omega (arith, row, is_above));
+                below = λ is_below. (
+                  get_or-set_at known a (global_chunk g l) x 0 (omega (arith, last, a_is)) a_in ∙ omega (arith, x_is, last),
+                  get_or-set_at wanted b (g.m + l) y 0 (omega (arith, last, b_is)) b_in ∙ omega (arith, y_is, last),
+                );
+              }
+          | inr earlier ↦
+              let same_known : slice_index (set known a x) (global_chunk g l) ≡ slice_index known (global_chunk g l) =
+              get_or-set_other known a (global_chunk g l) x 0 (λ e. earlier (omega (arith, e, a_is))) in
+              let same_wanted : slice_index (set wanted b y) (g.m + l) ≡ slice_index wanted (g.m + l) =
+              get_or-set_other wanted b (g.m + l) y 0 (λ e. earlier (omega (arith, e, b_is))) in
+              let before = pairs.done l (omega (arith, earlier)) in
+              record {
+                above = λ is_above. (same_known ∙ (before.above is_above).0, same_wanted ∙ (before.above is_above).1);
+                below = λ is_below. (same_known ∙ (before.below is_below).0, same_wanted ∙ (before.below is_below).1);
+              }
+        ];
+    left = λ l from l_in. (
+      get_or-set_other known a (global_chunk g l) x 0 (λ e. omega (arith, e, a_is)) ∙ (pairs.left l (omega arith) l_in).0,
+      get_or-set_other wanted b (g.m + l) y 0 (λ e. omega (arith, e, b_is)) ∙ (pairs.left l (omega arith) l_in).1,
+    );
+  }
 
 -- ---- what the lists are
 

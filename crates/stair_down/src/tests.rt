@@ -99,7 +99,7 @@ fn compare(
     Ok(())
 }
 
-// Worked by hand: 1/3 is F4, 1/4 is 47 and 1/5 is A7.
+// Worked outside, from the equations.
 #[test]
 fn known_stripes_of_four_devices(rt: HostRuntime) -> Result<(), Fail> {
     let geometry = Geometry::new(4, 1, 2, &[1], 3, [0; 16])?;
