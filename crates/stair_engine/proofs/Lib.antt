@@ -1,4 +1,7 @@
 pub mod StreamLaws
-pub mod Taking
-pub mod CheckLaws
 pub mod WordsLemmas
+pub mod IntakeLaws
+pub mod CellLaws
+pub mod MapLaws
+pub mod AnswerLaws
+pub mod RestoreLaws

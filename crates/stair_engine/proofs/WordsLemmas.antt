@@ -7,7 +7,9 @@ use Rattle.std.proofs.lemmas.Fmt.{decimal_digit, decimal_injective, decimal_none
 use Rattle.std.proofs.lemmas.Str.Parse.{IsNumeralModel, numerals_by_value, tells_digits, digit_at, parse_plain}
 use Rattle.std.proofs.lemmas.List.{get_or-map, length-map}
 use Rattle.std.proofs.lemmas.List.Elements.{All-get_or, All-head, All-tail}
-use Rattle.stair_engine.specs.Words.{AreNumbers, BeginsNumber, IsNumber, SpellsCheck}
+use Rattle.stair_engine.specs.declared.words.Command.{Command}
+use Rattle.stair_engine.specs.declared.words.Command.TheVariants.{Check, Restore}
+use Rattle.stair_engine.specs.Words.{AreNumbers, BeginsNumber, IsNumber, Job, Spells, word_of}
 
 -- std's own reading of digits
 numerals : IsNumeralModel (AllDigits 10) (digits_value 10)
@@ -90,16 +92,16 @@ no_numbers text words i word in_words at no_number numbers are =
     no_number (get_or numbers i 0) (number_of_word text words i word numbers in_words at are)
 
 -- the words of a command line, read part by part
-pub spells_check : {W : Type 0} (text : W → List ℕ) (words : List W) (command n_word m_word r_word : W) (e_words : List W) (n m r : ℕ) (e : List ℕ)
-    → 4 ≤ length words → command ≡ get_or words 0 command
+pub spells : {W : Type 0} (text : W → List ℕ) (words : List W) (command_word n_word m_word r_word : W) (e_words : List W) (command : Command) (n m r : ℕ) (e : List ℕ)
+    → 4 ≤ length words → command_word ≡ get_or words 0 command_word
     → n_word ≡ get_or words 1 n_word
     → m_word ≡ get_or words 2 m_word
     → r_word ≡ get_or words 3 r_word
-    → e_words ≡ drop 4 words → text command ≡ codes "check"
+    → e_words ≡ drop 4 words → text command_word ≡ word_of command
     → IsNumber (text n_word) n → IsNumber (text m_word) m → IsNumber (text r_word) r
     → 0 < length e_words → AreNumbers (map text e_words) e
-    → SpellsCheck (map text words) n m r e
-spells_check text (w0 ∷ w1 ∷ w2 ∷ w3 ∷ rest) command n_word m_word r_word e_words n m r e enough at_0 at_1 at_2 at_3 from_4 is_check n_is m_is r_is some e_are = record {
+    → Spells (map text words) (record { command = command; n = n; m = m; r = r; e = e })
+spells text (w0 ∷ w1 ∷ w2 ∷ w3 ∷ rest) command_word n_word m_word r_word e_words command n m r e enough at_0 at_1 at_2 at_3 from_4 is_command n_is m_is r_is some e_are = record {
   spelled = cc;
   some_e = omega (arith, length-map e_words text, length-map e decimal, ap length e_are.spelled);
   n_fits = n_is.fits;
@@ -107,7 +109,7 @@ spells_check text (w0 ∷ w1 ∷ w2 ∷ w3 ∷ rest) command n_word m_word r_wor
   r_fits = r_is.fits;
   e_fit = e_are.fit;
 }
-spells_check text _ command n_word m_word r_word e_words n m r e enough at_0 at_1 at_2 at_3 from_4 is_check n_is m_is r_is some e_are = absurd (omega (arith, enough))
+spells text _ command_word n_word m_word r_word e_words command n m r e enough at_0 at_1 at_2 at_3 from_4 is_command n_is m_is r_is some e_are = absurd (omega (arith, enough))
 
 -- a list of numbers has texts of its own
 map_decimal_injective : (xs ys : List ℕ) → All (λ x. x < 2 ^ 64) xs → All (λ y. y < 2 ^ 64) ys
@@ -126,17 +128,24 @@ map_decimal_injective (x ∷ xs) (y ∷ ys) xs_fit ys_fit same =
     (All-tail (λ n. n < 2 ^ 64) y ys ys_fit) tails in
     cc
 
--- words spell one check at most
-pub spells_check_once : (words : List (List ℕ)) (n m r : ℕ) (e : List ℕ) (n' m' r' : ℕ) (e' : List ℕ)
-    → SpellsCheck words n m r e → SpellsCheck words n' m' r' e'
-    → (n ≡ n') × (m ≡ m') × (r ≡ r') × (e ≡ e')
-spells_check_once words n m r e n' m' r' e' one two =
-    let n_texts : decimal n ≡ decimal n' = cc in
-    let m_texts : decimal m ≡ decimal m' = cc in
-    let r_texts : decimal r ≡ decimal r' = cc in
-    let e_texts : map decimal e ≡ map decimal e' = cc in (
-      decimal_injective n n' one.n_fits two.n_fits n_texts,
-      decimal_injective m m' one.m_fits two.m_fits m_texts,
-      decimal_injective r r' one.r_fits two.r_fits r_texts,
-      map_decimal_injective e e' one.e_fit two.e_fit e_texts,
-    )
+-- a command has a word of its own
+same_command : (a b : Command) → word_of a ≡ word_of b → a ≡ b
+same_command Check Check same = refl
+same_command Check Restore same = cc
+same_command Restore Check same = cc
+same_command Restore Restore same = refl
+
+-- words spell one job at most
+pub spells_once : (words : List (List ℕ)) (a b : Job) → Spells words a → Spells words b → a ≡ b
+spells_once words a b one two =
+    let command_words : word_of a.command ≡ word_of b.command = cc in
+    let n_texts : decimal a.n ≡ decimal b.n = cc in
+    let m_texts : decimal a.m ≡ decimal b.m = cc in
+    let r_texts : decimal a.r ≡ decimal b.r = cc in
+    let e_texts : map decimal a.e ≡ map decimal b.e = cc in
+    let command_is = same_command a.command b.command command_words in
+    let n_is = decimal_injective a.n b.n one.n_fits two.n_fits n_texts in
+    let m_is = decimal_injective a.m b.m one.m_fits two.m_fits m_texts in
+    let r_is = decimal_injective a.r b.r one.r_fits two.r_fits r_texts in
+    let e_is = map_decimal_injective a.e b.e one.e_fit two.e_fit e_texts in
+    λ i. record { command = command_is i; n = n_is i; m = m_is i; r = r_is i; e = e_is i }

@@ -1,32 +1,40 @@
 -- The number and the line of each status.
-use Rattle.std.specs.Prelude.{ℕ, List, [], ◌++◌, codes}
+use Rattle.std.specs.Prelude.{ℕ, List, [], ◌++◌, codes, take, flat_map}
 use Rattle.std.specs.Fmt.{decimal}
 use Rattle.stair_base.specs.declared.equations.Broken.{Broken}
 use Rattle.stair_base.specs.declared.equations.Broken.TheVariants.{Row, Global}
 use Rattle.stair_engine.specs.declared.status.Status.{Status}
-use Rattle.stair_engine.specs.declared.status.Status.TheVariants.{Done, NotCodeword, Usage, Limit, Input, InputFault, OutputFault, OutOfMemory}
+use Rattle.stair_engine.specs.declared.status.Status.TheVariants.{Done, NotCodeword, NoCodeword, Usage, Limit, Input, InputFault, OutputFault, Lost, OutOfMemory}
 
 abbrev pub code_of : Status → ℕ
 code_of Done = 0
 code_of (NotCodeword broken) = 1
+code_of NoCodeword = 1
 code_of Usage = 2
 code_of (Limit k) = 3
 code_of (Input needed took) = 4
 code_of InputFault = 5
 code_of OutputFault = 6
+code_of (Lost stripe counts n) = 10
 code_of OutOfMemory = 17
 
 abbrev pub equation_line : Broken → List ℕ
 equation_line (Row i k p) = codes "row " ++ decimal i ++ codes " parity " ++ decimal k ++ codes " byte " ++ decimal p
 equation_line (Global l h p) = codes "global " ++ decimal l ++ codes " " ++ decimal h ++ codes " byte " ++ decimal p
 
+-- a blank and a number, for each of the first n
+abbrev pub counts_text : List ℕ → ℕ → List ℕ
+counts_text counts n = flat_map (λ count. codes " " ++ decimal count) (take n counts)
+
 -- no line where all is well
 abbrev pub line_of : Status → List ℕ
 line_of Done = []
 line_of (NotCodeword broken) = codes "not a codeword: " ++ equation_line broken
-line_of Usage = codes "usage: stair FOLDER check"
+line_of NoCodeword = codes "no codeword holds these cells"
+line_of Usage = codes "usage: stair FOLDER check|restore"
 line_of (Limit k) = codes "geometry: limit " ++ decimal k
 line_of (Input needed took) = codes "input: needed " ++ decimal needed ++ codes ", took " ++ decimal took
 line_of InputFault = codes "input failed"
 line_of OutputFault = codes "output failed"
+line_of (Lost stripe counts n) = codes "lost: stripe " ++ decimal stripe ++ codes " counts" ++ counts_text counts n
 line_of OutOfMemory = codes "out of memory"

@@ -1,12 +1,18 @@
-ghost use Rattle.std.specs.Prelude.{◌≡◌, ◌≤◌, IfOk, IfErr, OnOk, IfSome, true, false};
+ghost use Rattle.std.specs.Prelude.{◌≡◌, ◌≤◌, IfErr, OnOk, IfSome, true, false};
 ghost use Rattle.stair_model.specs.Geometry.{IsWithinLimits};
-ghost use Rattle.stair_engine.specs.Check.{HasCause, IfNoCodeword, IfRefusedAtOnce, LimitsComeFirst, LooksForEnd, PutsOut, RefusesStripe, TakesCount, TakesInput, TookStripe, bytes_needed};
+ghost use Rattle.stair_model.specs.Stripe.{IsStripeOf, IsWellFormed};
+ghost use Rattle.stair_engine.specs.Answer.{HasBytes, bytes_needed};
+ghost use Rattle.stair_engine.specs.Cause.{HasCause, IfNothingIsPutOut, IfRefusedAtOnce, LimitsComeFirst, LooksForEnd, PutsOut, TakesCount, TakesInput};
+ghost use Rattle.stair_engine.specs.Taking.{RefusesInput, intake_of};
 ghost use Rattle.stair_rack.specs.Count.{Rose};
 
+use crate::cells::{cell_bytes, take_stripe};
+use crate::intake::{Intake, Refusal};
 use crate::status::Status;
-use crate::streams::{Filled, fill, put_all};
-use stair_base::{Geometry, SECTOR, Stripe, first_broken};
-use stair_rack::{Sink, Source, Taken};
+use crate::streams::{SinkFailed, put_all};
+use crate::words::Command;
+use stair_base::{Geometry, Stripe, first_broken};
+use stair_rack::{Sink, Source};
 use std::alloc::Global;
 
 /// Takes the cells of a stripe row by row, and tells whether they are a codeword.
@@ -16,75 +22,55 @@ pub(crate) fn check<S: Source, K: Sink>(
     input: &mut S,
     output: &mut K,
 ) -> Status
-    ensures limits { LimitsComeFirst geometry.now result }
-    ensures cause { IfSome (S.left input.old) (λ bytes. HasCause geometry.now bytes result) }
-    ensures output { PutsOut (K.held output.old) (K.held output.new) result }
+    ensures limits { LimitsComeFirst Command.Check geometry.now result }
+    ensures cause { IfSome (S.left input.old) (λ bytes.
+        HasCause Command.Check geometry.now bytes (K.held output.old) (K.held output.new) result) }
     ensures input_fault { result ≡ Status.InputFault → Rose (S.faults input.old) (S.faults input.new) }
     ensures output_fault { result ≡ Status.OutputFault → Rose (K.faults output.old) (K.faults output.new) }
-    ensures refused { IfRefusedAtOnce result ((input.new ≡ input.old) × (output.new ≡ output.old)) }
-    ensures ended { result ≡ Status.Done → (S.ended input.old ≡ false) × (S.ended input.new ≡ true) }
-    ensures taken { TakesInput geometry.now (S.left input.old) (S.left input.new) result }
-    ensures looked { LooksForEnd geometry.now (S.ended input.old) (S.ended input.new) result }
-    ensures untouched { IfNoCodeword result (output.new ≡ output.old) }
+    ensures taken { TakesInput Command.Check geometry.now (S.left input.old) (S.left input.new) result }
+    ensures looked { LooksForEnd Command.Check geometry.now (S.ended input.old) (S.ended input.new) result }
     ensures input_count { S.faults input.old ≤ S.faults input.new }
+    ensures output { PutsOut Command.Check geometry.now (K.held output.old) (K.held output.new) result }
+    ensures untouched { IfNothingIsPutOut result (output.new ≡ output.old) }
+    ensures refused { IfRefusedAtOnce result ((input.new ≡ input.old) × (output.new ≡ output.old)) }
     ensures output_count { K.faults output.old ≤ K.faults output.new }
 {
-    let stripe = match take_stripe(alloc, geometry, input) {
+    let mut stripe = match Stripe::new(alloc, geometry) {
         Ok(stripe) => stripe,
-        Err(refusal) => return refusal,
+        Err(_) => return Status::OutOfMemory,
     };
+    if let Err(refusal) = take_input(geometry, &mut stripe, input) {
+        return Status::from(refusal);
+    }
     if let Some(broken) = first_broken(geometry, &stripe) {
         return Status::NotCodeword(broken);
     }
     match put_all(output, b"codeword\n") {
         Ok(()) => Status::Done,
-        Err(_) => Status::OutputFault,
+        Err(SinkFailed) => Status::OutputFault,
     }
 }
 
-/// Takes exactly the cells of a stripe, row by row, and looks for one more byte.
-fn take_stripe<S: Source>(
-    alloc: Global,
+/// Takes exactly the cells of a stripe, and looks for the end behind them.
+fn take_input<S: Source>(
     geometry: &Geometry,
+    stripe: &mut Stripe,
     input: &mut S,
-) -> Result<Stripe, Status>
+) -> Result<(), Refusal>
+    requires of { IsStripeOf geometry.now stripe.old }
+    requires well_formed { IsWellFormed stripe.old }
     ensures limits { IsWithinLimits geometry.now }
-    ensures ok { IfOk result (TookStripe geometry.now (S.left input.old)) }
+    ensures ok { OnOk result (IfSome (S.left input.old) (HasBytes geometry.now stripe.new)) }
+    ensures taken { OnOk result
+        (TakesCount (S.left input.old) (S.left input.new) (bytes_needed Command.Check geometry.now)) }
     ensures ended { OnOk result ((S.ended input.old ≡ false) × (S.ended input.new ≡ true)) }
-    ensures err { IfErr result
-        (RefusesStripe geometry.now (S.left input.old) (Rose (S.faults input.old) (S.faults input.new))) }
-    ensures refused { IfErr result (λ status. IfRefusedAtOnce status (input.new ≡ input.old)) }
-    ensures taken { OnOk result (TakesCount (S.left input.old) (S.left input.new) (bytes_needed geometry.now)) }
-    ensures taken_at_refusal { IfErr result (TakesInput geometry.now (S.left input.old) (S.left input.new)) }
-    ensures looked { IfErr result (LooksForEnd geometry.now (S.ended input.old) (S.ended input.new)) }
+    ensures err { IfErr result (RefusesInput (intake_of (bytes_needed Command.Check geometry.now))
+        (S.left input.old) (S.left input.new) (S.ended input.new) (Rose (S.faults input.old) (S.faults input.new))) }
+    ensures of { IsStripeOf geometry.now stripe.new }
+    ensures well_formed { IsWellFormed stripe.new }
     ensures count { S.faults input.old ≤ S.faults input.new }
 {
-    let needed = u64::from(geometry.r()) * u64::from(geometry.n()) * SECTOR as u64;
-    let mut stripe = match Stripe::new(alloc, geometry) {
-        Ok(stripe) => stripe,
-        Err(_) => return Err(Status::OutOfMemory),
-    };
-    let mut took = 0;
-    let mut sector = [0; SECTOR];
-    for row in 0..geometry.r() {
-        for slot in 0..geometry.n() {
-            match fill(input, &mut sector) {
-                Filled::Whole => stripe.put(row, slot, &sector),
-                Filled::Short(count) => {
-                    let took = took + count as u64;
-                    return Err(Status::Input { needed, took });
-                }
-                Filled::Failed => return Err(Status::InputFault),
-            }
-            took += SECTOR as u64;
-        }
-    }
-    match input.take(&mut sector[..1]) {
-        Taken::End => Ok(stripe),
-        Taken::Bytes(_) => Err(Status::Input {
-            needed,
-            took: needed + 1,
-        }),
-        Taken::Failed => Err(Status::InputFault),
-    }
+    let mut intake = Intake::new(cell_bytes(geometry));
+    take_stripe(geometry, stripe, &mut intake, input)?;
+    intake.end(input)
 }

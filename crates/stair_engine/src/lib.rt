@@ -1,31 +1,47 @@
 //! The top call of the array program.
 #![tactic(auto)]
 
+mod cells;
 mod check;
+mod intake;
+pub mod laws;
+mod map;
+mod restore;
 mod status;
 mod streams;
 #[cfg(test)]
 mod tests;
 mod words;
 
-ghost use Rattle.std.specs.Prelude.{◌≡◌, ◌≢◌, ◌≤◌, ◌↔◌, ℕ, List, map, string_bytes, IfSome, true, false};
-ghost use Rattle.stair_engine.specs.Check.{HasCause, IfNoCodeword, IfRefusedAtOnce, IsStatusOfCheck, LimitsComeFirst, LooksForEnd, PutsOut, TakesInput, one_stripe};
-ghost use Rattle.stair_engine.specs.Words.{IsSpelled, SpellsCheck};
+ghost use Rattle.std.specs.Prelude.{◌≡◌, ◌≢◌, ◌≤◌, ◌↔◌, List, ℕ, map, string_bytes, IfSome};
+ghost use Rattle.std.specs.Io.KnownBytes.{Appends};
+ghost use Rattle.stair_engine.specs.Answer.{IsAnswer, one_stripe};
+ghost use Rattle.stair_engine.specs.Cause.{Answers, HasCause, IfNothingIsPutOut, IfRefusedAtOnce, LimitsComeFirst, LooksForEnd, PutsOut, TakesInput};
+ghost use Rattle.stair_engine.specs.Words.{IsSpelled, Job, Spells};
 ghost use Rattle.stair_rack.specs.Count.{Rose};
 
 use check::check;
+use restore::restore;
 use stair_base::Geometry;
 use stair_rack::{Sink, Source};
 pub use status::Status;
 use std::alloc::Global;
-use words::{WordsFault, read_check};
+use words::{Command, WordsFault, read_words};
 
 /// Does what the words say, over this input and output, and tells what came of it.
 ///
 /// `check N M R E..` takes the n·r cells of a stripe from the input, row by row, each of 512 bytes, and looks for one
 /// more byte. Where they are a codeword it puts out `codeword` and a newline; otherwise the status is the first equation
-/// that they break. The words are tested first, then the limits of the geometry, then the input: what is refused before
-/// the input is taken leaves input and output as they were, and nothing is put out before the answer is known.
+/// that they break.
+///
+/// `restore N M R E..` takes n·r bytes of a map, row by row, and then the n·r cells of a stripe, and looks for one more byte.
+/// A cell whose byte is 2E (`.`) is held, and every other is erased: what stands in its place isn't used. Where the erased
+/// cells are covered and a codeword has the held ones, it puts out the n·r cells of that codeword. `Lost`, with stripe 0,
+/// comes where the erased cells are not covered, and `NoCodeword` where they are and no codeword has the held ones.
+///
+/// The words are tested first, then the limits of the geometry, then the input: what is refused before the input is taken
+/// leaves input and output as they were, and nothing is put out before the answer is known. `InputFault` leaves the output
+/// as it was, and after `OutputFault` a part of the output stands.
 pub fn stair<S: Source, K: Sink>(
     alloc: Global,
     words: &[String],
@@ -34,43 +50,69 @@ pub fn stair<S: Source, K: Sink>(
 ) -> Status
     ensures usage { result ≢ Status.OutOfMemory → ((result ≡ Status.Usage) ↔ (IsSpelled (map string_bytes words.now) → ⊥)) }
     ensures spelled { result ≢ Status.OutOfMemory → result ≢ Status.Usage → IsSpelled (map string_bytes words.now) }
-    ensures limits { (n m r : ℕ) (e : List ℕ) → SpellsCheck (map string_bytes words.now) n m r e
-        → LimitsComeFirst (one_stripe n m r e) result }
+    ensures limits { (job : Job) → Spells (map string_bytes words.now) job
+        → LimitsComeFirst job.command (one_stripe job) result }
 
-    // Of a source that tells its bytes, without faults and want of memory: the status for these bytes.
-    ensures status { IfSome (S.left input.old) (λ bytes. (n m r : ℕ) (e : List ℕ)
-        → SpellsCheck (map string_bytes words.now) n m r e
+    // Of a source that tells its bytes, without faults and want of memory: the status and the output for these bytes.
+    ensures status { IfSome (S.left input.old) (λ bytes. (job : Job) → Spells (map string_bytes words.now) job
         → (Rose (S.faults input.old) (S.faults input.new) → ⊥) → (Rose (K.faults output.old) (K.faults output.new) → ⊥)
-        → result ≢ Status.OutOfMemory → IsStatusOfCheck (one_stripe n m r e) bytes result) }
+        → result ≢ Status.OutOfMemory
+        → Answers job.command (one_stripe job) bytes (K.held output.old) (K.held output.new) result) }
 
-    // Whatever came: each answer has its cause.
-    ensures cause { IfSome (S.left input.old) (λ bytes. (n m r : ℕ) (e : List ℕ)
-        → SpellsCheck (map string_bytes words.now) n m r e → HasCause (one_stripe n m r e) bytes result) }
+    // Of a source that tells its bytes, whatever came: each answer has its cause.
+    ensures cause { IfSome (S.left input.old) (λ bytes. (job : Job) → Spells (map string_bytes words.now) job
+        → HasCause job.command (one_stripe job) bytes (K.held output.old) (K.held output.new) result) }
     ensures input_fault { result ≡ Status.InputFault → Rose (S.faults input.old) (S.faults input.new) }
     ensures output_fault { result ≡ Status.OutputFault → Rose (K.faults output.old) (K.faults output.new) }
-    ensures ended { result ≡ Status.Done → (S.ended input.old ≡ false) × (S.ended input.new ≡ true) }
 
     // What is taken, and that the end is looked for.
-    ensures taken { (n m r : ℕ) (e : List ℕ) → SpellsCheck (map string_bytes words.now) n m r e
-        → TakesInput (one_stripe n m r e) (S.left input.old) (S.left input.new) result }
-    ensures looked { (n m r : ℕ) (e : List ℕ) → SpellsCheck (map string_bytes words.now) n m r e
-        → LooksForEnd (one_stripe n m r e) (S.ended input.old) (S.ended input.new) result }
+    ensures taken { (job : Job) → Spells (map string_bytes words.now) job
+        → TakesInput job.command (one_stripe job) (S.left input.old) (S.left input.new) result }
+    ensures looked { (job : Job) → Spells (map string_bytes words.now) job
+        → LooksForEnd job.command (one_stripe job) (S.ended input.old) (S.ended input.new) result }
     ensures input_count { S.faults input.old ≤ S.faults input.new }
 
-    // What is put out, and what a refusal leaves.
-    ensures output { PutsOut (K.held output.old) (K.held output.new) result }
-    ensures untouched { IfNoCodeword result (output.new ≡ output.old) }
+    // What is put out, whatever the source tells, and what a refusal leaves.
+    ensures output { (job : Job) → Spells (map string_bytes words.now) job
+        → PutsOut job.command (one_stripe job) (K.held output.old) (K.held output.new) result }
+    ensures untouched { IfNothingIsPutOut result (output.new ≡ output.old) }
     ensures refused { IfRefusedAtOnce result ((input.new ≡ input.old) × (output.new ≡ output.old)) }
     ensures output_count { K.faults output.old ≤ K.faults output.new }
 {
-    let numbers = match read_check(alloc, words) {
-        Ok(numbers) => numbers,
+    let read = match read_words(alloc, words) {
+        Ok(read) => read,
         Err(WordsFault::Usage) => return Status::Usage,
         Err(WordsFault::OutOfMemory) => return Status::OutOfMemory,
     };
-    let id = [0; 16];
-    match Geometry::new(numbers.n, numbers.m, numbers.r, &numbers.e, 1, id) {
-        Ok(geometry) => check(alloc, &geometry, input, output),
+    match Geometry::new(read.n, read.m, read.r, &read.e, 1, [0; 16]) {
+        Ok(geometry) => run(alloc, read.command, &geometry, input, output),
         Err(fault) => Status::Limit(fault.limit),
+    }
+}
+
+/// Does what the command says of a stripe of this geometry.
+fn run<S: Source, K: Sink>(
+    alloc: Global,
+    command: Command,
+    geometry: &Geometry,
+    input: &mut S,
+    output: &mut K,
+) -> Status
+    ensures limits { LimitsComeFirst command geometry.now result }
+    ensures cause { IfSome (S.left input.old) (λ bytes.
+        HasCause command geometry.now bytes (K.held output.old) (K.held output.new) result) }
+    ensures input_fault { result ≡ Status.InputFault → Rose (S.faults input.old) (S.faults input.new) }
+    ensures output_fault { result ≡ Status.OutputFault → Rose (K.faults output.old) (K.faults output.new) }
+    ensures taken { TakesInput command geometry.now (S.left input.old) (S.left input.new) result }
+    ensures looked { LooksForEnd command geometry.now (S.ended input.old) (S.ended input.new) result }
+    ensures input_count { S.faults input.old ≤ S.faults input.new }
+    ensures output { PutsOut command geometry.now (K.held output.old) (K.held output.new) result }
+    ensures untouched { IfNothingIsPutOut result (output.new ≡ output.old) }
+    ensures refused { IfRefusedAtOnce result ((input.new ≡ input.old) × (output.new ≡ output.old)) }
+    ensures output_count { K.faults output.old ≤ K.faults output.new }
+{
+    match command {
+        Command::Check => check(alloc, geometry, input, output),
+        Command::Restore => restore(alloc, geometry, input, output),
     }
 }

@@ -1,5 +1,6 @@
 ghost use Rattle.std.specs.Prelude.{◌≡◌, Some};
 
+use crate::intake::Refusal;
 use stair_base::Broken;
 use std::fmt;
 
@@ -10,18 +11,43 @@ pub enum Status {
     Done,
     /// The stripe breaks this equation, and none before it.
     NotCodeword(Broken),
+    /// The erased cells are covered, and no codeword has the cells that are held.
+    NoCodeword,
     /// The words spell no command.
     Usage,
     /// The geometry breaks this limit, and none before it.
     Limit(u8),
     /// The input had another length than the command needs, in bytes. At most one byte more than needed is taken.
-    Input { needed: u64, took: u64 },
+    Input {
+        needed: u64,
+        took: u64,
+    },
     /// The source failed.
     InputFault,
     /// The sink failed.
     OutputFault,
+    /// The erased cells of this stripe are not covered. For each of the `n` slots, `counts` has how many of its cells are
+    /// erased, and behind them zeros.
+    Lost {
+        stripe: u32,
+        counts: [u8; 32],
+        n: u8,
+    },
     /// There was no memory.
     OutOfMemory,
+}
+
+impl From<Refusal> for Status {
+    ghost use Rattle.stair_engine.specs.Taking.{status_of};
+
+    ghost from_gives = { λ refusal status. status ≡ status_of refusal };
+
+    fn from(refusal: Refusal) -> Status {
+        match refusal {
+            Refusal::OtherLength { needed, took } => Status::Input { needed, took },
+            Refusal::Fault => Status::InputFault,
+        }
+    }
 }
 
 impl Status {
@@ -33,12 +59,13 @@ impl Status {
     {
         match self {
             Status::Done => 0,
-            Status::NotCodeword(_) => 1,
+            Status::NotCodeword(_) | Status::NoCodeword => 1,
             Status::Usage => 2,
             Status::Limit(_) => 3,
             Status::Input { .. } => 4,
             Status::InputFault => 5,
             Status::OutputFault => 6,
+            Status::Lost { .. } => 10,
             Status::OutOfMemory => 17,
         }
     }
@@ -60,12 +87,40 @@ impl fmt::Display for Status {
             Status::NotCodeword(Broken::Global { l, h, byte }) => {
                 write!(f, "not a codeword: global {l} {h} byte {byte}")
             }
-            Status::Usage => write!(f, "usage: stair FOLDER check"),
+            Status::NoCodeword => write!(f, "no codeword holds these cells"),
+            Status::Usage => write!(f, "usage: stair FOLDER check|restore"),
             Status::Limit(limit) => write!(f, "geometry: limit {limit}"),
             Status::Input { needed, took } => { write!(f, "input: needed {needed}, took {took}") }
             Status::InputFault => write!(f, "input failed"),
             Status::OutputFault => write!(f, "output failed"),
+            Status::Lost { stripe, counts, n } => {
+                let listed = ListedCounts {
+                    counts: *counts,
+                    n: *n,
+                };
+                write!(f, "lost: stripe {stripe} counts{listed}")
+            }
             Status::OutOfMemory => write!(f, "out of memory"),
         }
+    }
+}
+
+/// A blank and a count, for each of the first `n` counts.
+#[derive(Drop)]
+struct ListedCounts {
+    counts: [u8; 32],
+    n: u8,
+}
+
+impl fmt::Display for ListedCounts {
+    ghost use Rattle.stair_engine.specs.Status.{counts_text};
+
+    ghost output = { λ listed. Some (counts_text listed.counts listed.n) };
+
+    fn fmt<W: fmt::Write>(&self, f: &mut fmt::Formatter<W>) -> fmt::Result {
+        for count in &self.counts[..usize::from(self.n).min(32)] {
+            write!(f, " {count}")?;
+        }
+        Ok(())
     }
 }

@@ -1,5 +1,5 @@
 ghost use Rattle.std.specs.Prelude.{◌≡◌, ◌<◌, ◌≤◌, ◌↔◌, IsTrue, OnErr, length, true};
-ghost use Rattle.stair_engine.specs.Input.{FillConsumes, PutsAll, is_short};
+ghost use Rattle.stair_engine.specs.Streams.{FillConsumes, PutsAll, is_short};
 ghost use Rattle.stair_rack.specs.Count.{Rose};
 
 use stair_rack::{Put, Sink, Source, Taken};

@@ -1,4 +1,4 @@
-//! Worked rows of `check`, over memory. The cells and the answers were computed by hand.
+//! Worked rows of `check` and `restore`, over memory. The cells and the answers were computed by hand.
 
 ghost use Rattle.std.specs.Prelude.{◌<◌};
 
@@ -211,7 +211,7 @@ fn counts_an_input_of_another_length(rt: HostRuntime) -> Result<(), Fail> {
 
 #[test]
 fn refuses_words_and_limits_before_the_input(rt: HostRuntime) -> Result<(), Fail> {
-    let rows: [(&[&str], Status); 24] = [
+    let rows: [(&[&str], Status); 28] = [
         (&["check", "2", "1", "2", "1"], Status::Limit(1)),
         (&["check", "33", "1", "2", "1"], Status::Limit(1)),
         (
@@ -249,6 +249,10 @@ fn refuses_words_and_limits_before_the_input(rt: HostRuntime) -> Result<(), Fail
             Status::Usage,
         ),
         (&["chek", "4", "1", "2", "1"], Status::Usage),
+        (&["restore", "4", "2", "2", "1"], Status::Limit(3)),
+        (&["restore", "5", "1", "2", "2", "1"], Status::Limit(6)),
+        (&["restore", "4", "1", "2"], Status::Usage),
+        (&["restored", "4", "1", "2", "1"], Status::Usage),
         (&["Check", "4", "1", "2", "1"], Status::Usage),
         (&[], Status::Usage),
     ];
@@ -322,7 +326,8 @@ fn each_status_has_its_code_and_line(rt: HostRuntime) -> Result<(), Fail> {
             1,
             "not a codeword: global 0 0 byte 0",
         ),
-        (Status::Usage, 2, "usage: stair FOLDER check"),
+        (Status::NoCodeword, 1, "no codeword holds these cells"),
+        (Status::Usage, 2, "usage: stair FOLDER check|restore"),
         (Status::Limit(3), 3, "geometry: limit 3"),
         (
             Status::Input {
@@ -334,12 +339,216 @@ fn each_status_has_its_code_and_line(rt: HostRuntime) -> Result<(), Fail> {
         ),
         (Status::InputFault, 5, "input failed"),
         (Status::OutputFault, 6, "output failed"),
+        (lost(&[2, 0, 1, 1]), 10, "lost: stripe 0 counts 2 0 1 1"),
         (Status::OutOfMemory, 17, "out of memory"),
     ];
     for (status, code, line) in rows {
         assert_eq!(rt; status.code(), code, "{status:?}");
         let shown = format!(in rt.alloc(); "{status}")?;
         assert_eq!(rt; shown.as_str(), line, "{status:?}");
+    }
+    Ok(())
+}
+
+const RESTORE_FOUR: [&str; 5] = ["restore", "4", "1", "2", "1"];
+
+const RESTORE_EIGHT: [&str; 7] = ["restore", "8", "2", "4", "1", "1", "2"];
+
+// Room for the cells of eight devices.
+const ROOMY: usize = 32 * SECTOR;
+
+// A map and the cells behind it: each has one byte in all of its places, and an erased one EE.
+fn map_and_cells(alloc: Global, map: &[u8], cells: &[u8]) -> Result<Vec<u8>, AllocError> {
+    let mut bytes = map.to_vec(alloc)?;
+    for (mark, cell) in map.iter().zip(cells) {
+        let byte = if *mark == b'.' { *cell } else { 0xEE };
+        bytes.extend_from_slice(&[byte; SECTOR])?;
+    }
+    Ok(bytes)
+}
+
+// Stripe 0 is lost, with these counts.
+fn lost(slots: &[u8]) -> Status {
+    let mut counts = [0; 32];
+    for (count, slot) in counts.iter_mut().zip(slots) {
+        *count = *slot;
+    }
+    Status::Lost {
+        stripe: 0,
+        counts,
+        n: slots.len().min(32) as u8,
+    }
+}
+
+// Each row is a map, the cells of which the erased ones are hidden, and the status. Where it is `Done` all the cells are put
+// out, and nothing elsewhere.
+#[test]
+fn restores_the_erased_cells(rt: HostRuntime) -> Result<(), Fail> {
+    let rows: [(&[&str], &[u8], &[u8], Status); 8] = [
+        (&RESTORE_FOUR, b"x...x.x.", &CODEWORD, Status::Done),
+        (&RESTORE_FOUR, b"........", &CODEWORD, Status::Done),
+        (&RESTORE_FOUR, b"x...x.xx", &CODEWORD, lost(&[2, 0, 1, 1])),
+        (
+            &RESTORE_FOUR,
+            b"........",
+            &[0x01, 0x00, 0x00, 0x00, 0x00, 0x00, 0x46, 0x46],
+            Status::NoCodeword,
+        ),
+        // every byte but 2E erases
+        (&RESTORE_FOUR, b"\0.../.\xFF.", &CODEWORD, Status::Done),
+        (
+            &RESTORE_EIGHT,
+            b"xx..x...xx......xxx.....xxxx....",
+            &EIGHT_CODEWORD,
+            Status::Done,
+        ),
+        (
+            &RESTORE_EIGHT,
+            b"...xx..x.x.xx..x...x..xx...x...x",
+            &EIGHT_CODEWORD,
+            Status::Done,
+        ),
+        (
+            &RESTORE_EIGHT,
+            b"xx.xx...xx......xxx.....xxxx....",
+            &EIGHT_CODEWORD,
+            lost(&[4, 4, 2, 2, 1, 0, 0, 0]),
+        ),
+    ];
+    for piece in [1, 7, 512] {
+        for (line, map, cells, status) in rows {
+            let bytes = map_and_cells(rt.alloc(), map, cells)?;
+            let ends = Ends {
+                piece,
+                fail_at: None,
+                room: ROOMY,
+            };
+            let came = run(rt.alloc(), line, &bytes, ends)?;
+            let put = if status == Status::Done {
+                cells_of(rt.alloc(), cells)?
+            } else {
+                Vec::new(rt.alloc())
+            };
+            assert_eq!(rt; came.status, status, "{piece} {map:?}");
+            assert!(rt; came.put.as_slice() == put.as_slice(), "{piece} {map:?}");
+            assert_eq!(rt; came.left, 0, "{piece} {map:?}");
+        }
+    }
+    Ok(())
+}
+
+// Four devices restore the cells of at most two, and not both whole.
+#[test]
+fn restores_exactly_the_covered_maps(rt: HostRuntime) -> Result<(), Fail> {
+    let put = cells_of(rt.alloc(), &CODEWORD)?;
+    let mut done = 0u16;
+    for marks in 0..256u16 {
+        let mut map = [b'.'; 8];
+        let mut touched = 0u8;
+        let mut whole = 0u8;
+        for slot in 0..4u8 {
+            let upper = (marks >> slot) & 1 == 1;
+            let lower = (marks >> (slot + 4)) & 1 == 1;
+            if upper {
+                map[usize::from(slot)] = b'x';
+            }
+            if lower {
+                map[usize::from(slot) + 4] = b'x';
+            }
+            touched += u8::from(upper || lower);
+            whole += u8::from(upper && lower);
+        }
+        let bytes = map_and_cells(rt.alloc(), &map, &CODEWORD)?;
+        let ends = Ends {
+            piece: 512,
+            fail_at: None,
+            room: ROOMY,
+        };
+        let came = run(rt.alloc(), &RESTORE_FOUR, &bytes, ends)?;
+        if touched <= 2 && whole <= 1 {
+            assert_eq!(rt; came.status, Status::Done, "{map:?}");
+            assert!(rt; came.put.as_slice() == put.as_slice(), "{map:?}");
+            done += 1;
+        } else {
+            assert_eq!(rt; came.status.code(), 10, "{map:?}");
+            assert!(rt; came.put.is_empty(), "{map:?}");
+        }
+    }
+    assert_eq!(rt; done, 61);
+    Ok(())
+}
+
+#[test]
+fn counts_a_map_and_cells_of_another_length(rt: HostRuntime) -> Result<(), Fail> {
+    let mut bytes = map_and_cells(rt.alloc(), b"x...x.x.", &CODEWORD)?;
+    bytes.extend_from_slice(&[0; 3])?;
+    let rows = [
+        (0, 0, 0),
+        (3, 3, 0),
+        (8, 8, 0),
+        (9, 9, 0),
+        (4103, 4103, 0),
+        (4105, 4105, 0),
+        (4107, 4105, 2),
+    ];
+    for piece in [1, 7, 512] {
+        for (length, took, left) in rows {
+            assert!(rt; length <= bytes.len());
+            let ends = Ends {
+                piece,
+                fail_at: None,
+                room: ROOMY,
+            };
+            let came = run(rt.alloc(), &RESTORE_FOUR, &bytes[..length], ends)?;
+            let needed = 4104;
+            assert_eq!(rt;
+                came.status,
+                Status::Input { needed, took },
+                "{piece} {length}"
+            );
+            assert_eq!(rt; came.left, left, "{piece} {length}");
+            assert!(rt; came.put.is_empty(), "{piece} {length}");
+        }
+    }
+    Ok(())
+}
+
+// A fault at byte 4,104 comes where the end is looked for. A sink that fails holds as many of the cells' bytes as it has
+// room for.
+#[test]
+fn hands_on_faults_where_cells_are_restored(rt: HostRuntime) -> Result<(), Fail> {
+    let rows: [(Option<u64>, usize, Status); 9] = [
+        (Some(0), ROOMY, Status::InputFault),
+        (Some(1), ROOMY, Status::InputFault),
+        (Some(8), ROOMY, Status::InputFault),
+        (Some(4103), ROOMY, Status::InputFault),
+        (Some(4104), ROOMY, Status::InputFault),
+        (None, 0, Status::OutputFault),
+        (None, 1, Status::OutputFault),
+        (None, 4095, Status::OutputFault),
+        (None, 4096, Status::Done),
+    ];
+    let bytes = map_and_cells(rt.alloc(), b"x...x.x.", &CODEWORD)?;
+    let cells = cells_of(rt.alloc(), &CODEWORD)?;
+    for piece in [1, 7, 512] {
+        for (fail_at, room, status) in rows {
+            let ends = Ends {
+                piece,
+                fail_at,
+                room,
+            };
+            let came = run(rt.alloc(), &RESTORE_FOUR, &bytes, ends)?;
+            let count = if fail_at.is_some() {
+                0
+            } else {
+                room.min(cells.len())
+            };
+            assert_eq!(rt; came.status, status, "{piece} {fail_at:?} {room}");
+            assert!(rt;
+                came.put.as_slice() == &cells[..count],
+                "{piece} {fail_at:?} {room}"
+            );
+        }
     }
     Ok(())
 }

@@ -1,16 +1,28 @@
-//! The words `check N M R E..` of a command line, read into numbers.
+//! The words `COMMAND N M R E..` of a command line, read into a command and numbers.
 
-ghost use Rattle.std.specs.Prelude.{◌≡◌, ℕ, ◌↔◌, List, map, string_bytes, IfOk, IsTrue};
-ghost use Rattle.stair_engine.specs.Words.{AreNumbers, BeginsNumber, IsNumber, SpellsCheck};
+ghost use Rattle.std.specs.Prelude.{◌≡◌, ℕ, ◌↔◌, List, map, string_bytes, IfOk, IsTrue, Some};
+ghost use Rattle.stair_engine.specs.Read.{job_of};
+ghost use Rattle.stair_engine.specs.Words.{AreNumbers, BeginsNumber, IsNumber, Job, Spells, word_of};
 ghost use Rattle.stair_engine.specs.declared.words.WordsFault.TheVariants.{OutOfMemory};
 
 use std::alloc::{AllocFailed, Global};
 
-/// The numbers of `check N M R E..`.
+/// What is to be done.
+#[derive(Clone, Copy, Debug, PartialEq, Eq)]
+pub enum Command {
+    /// Whether a stripe is a codeword.
+    Check,
+    /// The erased cells of a stripe, from those that are held.
+    Restore,
+}
+
+/// The command and the numbers of `COMMAND N M R E..`.
 ///
 /// They are as written: whether they are the shape of an array is not tested here.
 #[derive(Debug, Drop)]
-pub struct CheckWords {
+pub struct ReadWords {
+    /// The command of the first word.
+    pub command: Command,
     /// The first number, N.
     pub n: u64,
     /// The second number, M.
@@ -24,7 +36,7 @@ pub struct CheckWords {
 /// Why the words were not read.
 #[derive(Clone, Copy, Debug, PartialEq, Eq)]
 pub enum WordsFault {
-    /// They are not `check`, three numbers, and at least one more number.
+    /// They are not a command, three numbers, and at least one more number.
     Usage,
     /// There was no memory for the numbers E.
     OutOfMemory,
@@ -38,29 +50,39 @@ impl<T: Drop> From<AllocFailed<T>> for WordsFault {
     }
 }
 
-/// Reads the words `check N M R E..`, with at least one number E.
+/// Reads the words `COMMAND N M R E..`, with at least one number E. The command is `check` or `restore`.
 ///
 /// A number is decimal digits with no sign and no leading zero, below 2^64. Any other words are
 /// `Usage`, unless the memory for the numbers E runs out before the faulty word is reached.
-pub fn read_check(alloc: Global, words: &[String]) -> Result<CheckWords, WordsFault>
-    ensures ok { IfOk result (λ read.
-        SpellsCheck (map string_bytes words.now) read.n read.m read.r read.e.items) }
+pub fn read_words(alloc: Global, words: &[String]) -> Result<ReadWords, WordsFault>
+    ensures ok { IfOk result (λ read. Spells (map string_bytes words.now) (job_of read)) }
     ensures usage { result ≡ Err WordsFault.Usage
-        → (n m r : ℕ) (e : List ℕ)
-        → SpellsCheck (map string_bytes words.now) n m r e → ⊥ }
+        → (job : Job) → Spells (map string_bytes words.now) job → ⊥ }
 {
     let [command, n, m, r, e @ ..] = words else {
         return Err(WordsFault::Usage);
     };
-    if command.as_str() != "check" || e.is_empty() {
+    if e.is_empty() {
         return Err(WordsFault::Usage);
     }
-    Ok(CheckWords {
+    Ok(ReadWords {
+        command: read_command(command).ok_or(WordsFault::Usage)?,
         n: read_number(n).ok_or(WordsFault::Usage)?,
         m: read_number(m).ok_or(WordsFault::Usage)?,
         r: read_number(r).ok_or(WordsFault::Usage)?,
         e: read_numbers(alloc, e)?,
     })
+}
+
+// Reads the command, exactly where the word is its own.
+fn read_command(word: &str) -> Option<Command>
+    ensures { (command : Command) → (result ≡ Some command) ↔ (word.now ≡ word_of command) }
+{
+    match word {
+        "check" => Some(Command::Check),
+        "restore" => Some(Command::Restore),
+        _ => None,
+    }
 }
 
 // Reads each word as a number.
@@ -99,19 +121,34 @@ mod tests {
     use super::*;
     use std::test::Fail;
 
-    type Numbers = (u64, u64, u64, &'static [u64]);
+    type Read = (Command, u64, u64, u64, &'static [u64]);
 
-    // Each row is a command line and the numbers in it, or `None` where it is faulty.
-    const ROWS: [(&[&str], Option<Numbers>); 13] = [
-        (&["check", "4", "1", "2", "1"], Some((4, 1, 2, &[1]))),
+    // Each row is a command line and what it spells, or `None` where it is faulty.
+    const ROWS: [(&[&str], Option<Read>); 19] = [
+        (
+            &["check", "4", "1", "2", "1"],
+            Some((Command::Check, 4, 1, 2, &[1])),
+        ),
         (
             &["check", "8", "2", "4", "1", "1", "2"],
-            Some((8, 2, 4, &[1, 1, 2])),
+            Some((Command::Check, 8, 2, 4, &[1, 1, 2])),
         ),
         (
             &["check", "0", "0", "0", "18446744073709551615"],
-            Some((0, 0, 0, &[u64::MAX])),
+            Some((Command::Check, 0, 0, 0, &[u64::MAX])),
         ),
+        (
+            &["restore", "4", "1", "2", "1"],
+            Some((Command::Restore, 4, 1, 2, &[1])),
+        ),
+        (
+            &["restore", "8", "2", "4", "1", "1", "2"],
+            Some((Command::Restore, 8, 2, 4, &[1, 1, 2])),
+        ),
+        (&["restore", "4", "1", "2"], None),
+        (&["restor", "4", "1", "2", "1"], None),
+        (&["restore ", "4", "1", "2", "1"], None),
+        (&["Restore", "4", "1", "2", "1"], None),
         (&["check", "4", "1", "2"], None),
         (&["check", "4", "1", "2", "01"], None),
         (&["chek", "4", "1", "2", "1"], None),
@@ -125,15 +162,15 @@ mod tests {
     ];
 
     #[test]
-    fn reads_exactly_the_words_of_check(rt: HostRuntime) -> Result<(), Fail> {
+    fn reads_exactly_the_words_of_a_command(rt: HostRuntime) -> Result<(), Fail> {
         for (line, numbers) in ROWS {
             let mut words = Vec::new(rt.alloc());
             for word in line {
                 words.push(String::from_str(rt.alloc(), word)?)?;
             }
-            let answer = read_check(rt.alloc(), &words);
+            let answer = read_words(rt.alloc(), &words);
             let read = match &answer {
-                Ok(read) => Ok((read.n, read.m, read.r, read.e.as_slice())),
+                Ok(read) => Ok((read.command, read.n, read.m, read.r, read.e.as_slice())),
                 Err(fault) => Err(*fault),
             };
             assert_eq!(rt; read, numbers.ok_or(WordsFault::Usage), "{line:?}");

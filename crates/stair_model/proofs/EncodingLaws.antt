@@ -21,7 +21,7 @@ use Rattle.stair_model.proofs.VirtualRowLaws.{SameDataCells, canonical_determine
 -- ---- which cells are data
 
 -- a cell above the global parities of its chunk is a data cell
-above_is_data : (g : Geometry) (i j : ℕ) → j < data_chunks g → i < g.r - globals_of g j → cell_at g i j ≡ Data (data_before g i j)
+pub above_is_data : (g : Geometry) (i j : ℕ) → j < data_chunks g → i < g.r - globals_of g j → cell_at g i j ≡ Data (data_before g i j)
 above_is_data g i j chunk above =
     elim (is_global_tells g i j) [
       | inl among ↦
@@ -49,7 +49,7 @@ data_is_above g i j d row is =
 
 -- ---- stripes by their bytes
 
-cell-IsSector : (g : Geometry) (stripe : Stripe) (i j : ℕ) → IsStripeOf g stripe → IsWellFormed stripe → i < g.r → j < g.n
+pub cell-IsSector : (g : Geometry) (stripe : Stripe) (i j : ℕ) → IsStripeOf g stripe → IsWellFormed stripe → i < g.r → j < g.n
     → IsSector (cell stripe i j)
 cell-IsSector g stripe i j of formed row chunk =
     let place : i * stripe.chunks + j < stripe.chunks * stripe.rows =

@@ -20,3 +20,5 @@ pub mod CoverageLaws
 pub mod AgreementLaws
 pub mod RestoringLaws
 pub mod DeviceLaws
+pub mod LinearLaws
+pub mod GridLaws

@@ -1,0 +1,221 @@
+-- From what was taken to the answer.
+use Rattle.std.proofs.Common.{◌≡◌, ◌≢◌, ℕ, ◌+◌, ◌<◌, ◌≤◌, Bool, true, false, inl, inr, List, [], ◌++◌, None, Some, IfSome, Result, Ok, Err, length, take, drop, get_or, refl, sym, ap, ◌∙◌, subst, arith, length-append}
+use Rattle.std.specs.Prelude.{Option, MatchBool, IsTrue, IsOk, IsErr, IsNone, IsSome, IfOk, if◌then◌else◌}
+use Rattle.std.specs.List.{concat}
+use Rattle.std.specs.Io.KnownBytes.{Appends, Consumes}
+use Rattle.std.proofs.KnownBytes.{Appends-nil}
+use Rattle.std.proofs.lemmas.Bool.{cases_lt}
+use Rattle.std.proofs.lemmas.List.{get_or_past, take_all, take-append-le}
+use Rattle.std.proofs.lemmas.Option.{IfSome_then}
+use lib.Seq.{drop_at}
+use Rattle.stair_model.specs.Geometry.{Geometry, IsWithinLimits}
+use Rattle.stair_model.specs.Stripe.{Stripe, IsStripeOf, IsWellFormed}
+use Rattle.stair_model.specs.CellSet.{CellSet, HasCell, IsInStripe, count_in_slot, has_cell}
+use Rattle.stair_model.specs.Codeword.{IsCodeword}
+use Rattle.stair_model.specs.Coverage.{IsCovered}
+use Rattle.stair_model.specs.Equation.{IsFirstBroken}
+use Rattle.stair_model.proofs.CountLaws.{sum_below_zeros}
+use Rattle.stair_model.specs.Restoring.{IsRestored, SameHeld}
+use Rattle.stair_base.specs.declared.equations.Broken.{Broken}
+use Rattle.stair_base.specs.Equations.{equation_of}
+use Rattle.stair_engine.specs.declared.intake.Refusal.{Refusal}
+use Rattle.stair_engine.specs.declared.intake.Refusal.TheVariants.{OtherLength, Fault}
+use Rattle.stair_engine.specs.declared.status.Status.{Status}
+use Rattle.stair_engine.specs.declared.status.Status.TheVariants.{Done, NotCodeword, NoCodeword, Usage, Limit, Input, InputFault, OutputFault, Lost, OutOfMemory}
+use Rattle.stair_engine.specs.declared.words.Command.{Command}
+use Rattle.stair_engine.specs.declared.words.Command.TheVariants.{Check, Restore}
+use Rattle.stair_engine.specs.Answer.{HasBytes, IsAnswer, IsJudged, IsOtherLength, bytes_needed, map_bytes}
+use Rattle.stair_engine.specs.Cause.{Answers, HasCause, IsOutput, LimitsComeFirst, TakesInput}
+use Rattle.stair_engine.specs.Restore.{CountsErased, IsErasedBy, JudgesErased}
+use Rattle.stair_engine.specs.Streams.{PutsPart}
+use Rattle.stair_engine.specs.Taking.{RefusesInput, TookErased, intake_of, status_of}
+use Rattle.stair_engine.proofs.CellLaws.{length-cell_bytes}
+
+-- a fact of every told input
+pub if_told : (told : Option (List ℕ)) (P : List ℕ → Type 0) → ((input : List ℕ) → P input) → IfSome told P
+if_told None P always = tt
+if_told (Some input) P always = always input
+
+-- the stripe has these bytes
+pub HasBytes-cells : (g : Geometry) (stripe : Stripe) → IsStripeOf g stripe → IsWellFormed stripe → (bytes : List ℕ) → concat stripe.cells ≡ bytes
+    → HasBytes g stripe bytes
+HasBytes-cells g stripe of well bytes same = record {
+  of = of;
+  well_formed = well;
+  same_bytes = same;
+  count = sym (ap length same) ∙ length-cell_bytes g stripe of well;
+}
+
+-- the limits were tested before the input was refused
+pub limits_of_refusal : (command : Command) (g : Geometry) (refusal : Refusal) → IsWithinLimits g → LimitsComeFirst command g (status_of refusal)
+limits_of_refusal Check g (OtherLength needed took) limits = limits
+limits_of_refusal Check g Fault limits = limits
+limits_of_refusal Restore g (OtherLength needed took) limits = limits
+limits_of_refusal Restore g Fault limits = limits
+
+-- an input that was refused for its length has another one
+other_length : (bytes : ℕ) (told left : Option (List ℕ)) (ended : Bool) (needed took : ℕ) (taken : List ℕ) → needed ≡ bytes
+    → took ≡ 0 + length taken → Consumes told left taken → MatchBool ended ((took < needed) × IfSome told (λ all. taken ≡ all)) (took ≡ needed + 1)
+    → IfSome told (λ input. IsOtherLength bytes input needed took)
+other_length bytes None left ended needed took taken needs is gives ends = tt
+other_length bytes (Some xs) None ended needed took taken needs is gives ends = absurd gives
+other_length bytes (Some xs) (Some ys) true needed took taken needs is gives ends =
+    let all : length taken ≡ length xs = ap length ends.1 in
+    record { other = λ same. omega (arith, all, ends.0, needs, is, same); needs = needs; takes = omega (arith, all, ends.0, needs, is) }
+other_length bytes (Some xs) (Some ys) false needed took taken needs is gives ends =
+    let all : length xs ≡ length taken + length ys = ap length gives ∙ length-append taken ys in
+    record { other = λ same. omega (arith, all, ends, needs, is, same); needs = needs; takes = omega (arith, all, ends, needs, is) }
+
+-- a refusal of the input has its cause
+pub cause_of_refusal : (command : Command) (g : Geometry) (told left held : Option (List ℕ)) (ended : Bool) (rose : Type 0) (refusal : Refusal)
+    → IsWithinLimits g → RefusesInput (intake_of (bytes_needed command g)) told left ended rose refusal
+    → IfSome told (λ input. HasCause command g input held held (status_of refusal))
+cause_of_refusal command g told left held ended rose (OtherLength needed took) limits why =
+    IfSome_then told (other_length (bytes_needed command g) told left ended needed took why.1.0 why.0 why.1.1 why.1.2 why.1.3)
+    (λ input other. ([], (limits, other, refl), Appends-nil held))
+cause_of_refusal command g told left held ended rose Fault limits why = if_told told _ (λ input. limits)
+
+-- the first equation that a stripe breaks
+pub cause_of_broken : (g : Geometry) (told held : Option (List ℕ)) (stripe : Stripe) (b : Broken) → IsWithinLimits g → IfSome told (HasBytes g stripe)
+    → IsFirstBroken g stripe (equation_of b) → IfSome told (λ input. HasCause Check g input held held (NotCodeword b))
+cause_of_broken g told held stripe b limits taken broken =
+    IfSome_then told taken (λ input has.
+    ([], record { limits = limits; whole = has.count; judged = (stripe, has, (broken, refl)) }, Appends-nil held))
+
+-- a map and cells are all that was told
+pub TookErased-all : (g : Geometry) (told : Option (List ℕ)) (erased : CellSet) (stripe : Stripe) (map : List ℕ) → length map ≡ map_bytes g
+    → IsErasedBy g map erased → IsStripeOf g stripe → IsWellFormed stripe → IfSome told (λ input. map ++ concat stripe.cells ≡ input)
+    → TookErased g told erased stripe
+TookErased-all g told erased stripe map long by of well all = record {
+  within = by.within;
+  whole = IfSome_then told all (λ input same.
+      let parts : length input ≡ length map + length (concat stripe.cells) = sym (ap length same) ∙ length-append map (concat stripe.cells) in
+      omega (arith, parts, long, length-cell_bytes g stripe of well));
+  by_map = IfSome_then told all (λ input same.
+      let front : map ≡ take (map_bytes g) input =
+      sym (take_all (map_bytes g) map (omega (arith, long))) ∙ sym (take-append-le (map_bytes g) map (concat stripe.cells) (omega (arith, long)))
+      ∙ ap (take (map_bytes g)) same
+      in
+      subst (λ (m : List ℕ). IsErasedBy g m erased) front by);
+  by_cells = IfSome_then told all (λ input same.
+      let back : concat stripe.cells ≡ drop (map_bytes g) input =
+      sym (drop_at map (concat stripe.cells) (map_bytes g) long) ∙ ap (drop (map_bytes g)) same
+      in
+      HasBytes-cells g stripe of well (drop (map_bytes g) input) back);
+}
+
+-- what is judged of the erased cells and the stripe is judged of the input
+pub judged_of_erased : (g : Geometry) (told : Option (List ℕ)) (erased : CellSet) (stripe : Stripe) (status : Status) (output : List ℕ)
+    → IsWithinLimits g → TookErased g told erased stripe → JudgesErased g erased stripe status output
+    → IfSome told (λ input. IsJudged Restore g input status output)
+judged_of_erased g None erased stripe status output limits took judges = tt
+judged_of_erased g (Some input) erased stripe status output limits took judges = record {
+  limits = limits;
+  whole = took.whole;
+  judged = (erased, stripe, took.by_map, took.by_cells, judges);
+}
+
+-- what isn't marked counts nothing
+unmarked : (b : Bool) → ¬ IsTrue b → ◌≡◌ {A = ℕ} (if b then 1 else 0) 0
+unmarked true fails = absurd (fails refl)
+unmarked false fails = refl
+
+-- no cell of the slot is erased
+no_marks : (erased : CellSet) (j : ℕ) → ((i : ℕ) → ¬ HasCell erased i j) → count_in_slot erased j ≡ 0
+no_marks erased j none = sum_below_zeros 32 (λ i. if has_cell erased i j then 1 else 0) (λ i in_rows. unmarked (has_cell erased i j) (none i))
+
+pub CountsErased-counts : (g : Geometry) (erased : CellSet) (counts : List ℕ) → IsWithinLimits g → IsInStripe g erased → length counts ≡ 32
+    → ((j : ℕ) → j < 32 → get_or counts j 0 ≡ count_in_slot erased j) → CountsErased g erased counts
+CountsErased-counts g erased counts limits within long each = record {
+  count = long;
+  slots = λ j in_slots. each j (omega (arith, in_slots, limits.devices.1));
+  behind = λ j behind. elim (cases_lt j 32) as (λ _. get_or counts j 0 ≡ 0) [
+    | inl below ↦ each j below ∙ no_marks erased j (λ i has. omega (arith, behind, (within i j has).1))
+    | inr past ↦ get_or_past counts j 0 (omega (arith, past, long))
+  ];
+}
+
+-- the pattern is not covered
+pub JudgesErased-lost : (g : Geometry) (erased : CellSet) (stripe : Stripe) (counts : List ℕ) (n : ℕ) → ¬ IsCovered g erased
+    → CountsErased g erased counts → n ≡ g.n → JudgesErased g erased stripe (Lost 0 counts n) []
+JudgesErased-lost g erased stripe counts n uncovered counted is = (uncovered, refl, counted, is, refl)
+
+-- what was restored breaks an equation, so no codeword has the held cells
+pub JudgesErased-none : (g : Geometry) (erased : CellSet) (stripe restored : Stripe) → IsCovered g erased → IsRestored g erased stripe restored
+    → ¬ IsCodeword g restored → JudgesErased g erased stripe NoCodeword []
+JudgesErased-none g erased stripe restored covered is no_codeword = (
+  covered,
+  λ codeword holds.
+      let same : restored ≡ codeword = is codeword holds.of holds.well_formed holds.meets_equations holds.held in
+      no_codeword (subst (IsCodeword g) (sym same) holds.meets_equations),
+  refl,
+)
+
+-- what was restored is a codeword
+pub JudgesErased-done : (g : Geometry) (erased : CellSet) (stripe restored : Stripe) → IsCovered g erased → SameHeld g erased restored stripe
+    → IsStripeOf g restored → IsWellFormed restored → IsCodeword g restored → JudgesErased g erased stripe Done (concat restored.cells)
+JudgesErased-done g erased stripe restored covered held of well codeword = (
+  covered,
+  (restored, record { of = of; well_formed = well; meets_equations = codeword; held = held }, refl),
+)
+
+-- it is what `restore` puts out
+pub IsOutput-restored : (g : Geometry) (restored : Stripe) → IsStripeOf g restored → IsWellFormed restored → IsCodeword g restored
+    → IsOutput Restore g (concat restored.cells)
+IsOutput-restored g restored of well codeword = (restored, codeword, HasBytes-cells g restored of well (concat restored.cells) refl)
+
+-- where all was put out
+pub cause_of_done : (g : Geometry) (told held held' : Option (List ℕ)) (output : List ℕ) → IfSome told (λ input. IsJudged Restore g input Done output)
+    → Appends held held' output → IfSome told (λ input. HasCause Restore g input held held' Done)
+cause_of_done g told held held' output judged puts = IfSome_then told judged (λ input is. (output, is, puts))
+
+-- where the sink failed
+pub cause_of_output_fault : (g : Geometry) (told held held' : Option (List ℕ)) (output : List ℕ) → IfSome told (λ input. IsJudged Restore g input Done output)
+    → PutsPart held held' output → IfSome told (λ input. HasCause Restore g input held held' OutputFault)
+cause_of_output_fault g told held held' output judged puts = IfSome_then told judged (λ input is. (output, is, puts))
+
+-- a refusal of what was judged
+pub cause_of_judged : (g : Geometry) (told held : Option (List ℕ)) (status : Status) → IfSome told (λ input. IsJudged Restore g input status [])
+    → ((input : List ℕ) → IsJudged Restore g input status [] → IsAnswer Restore g input status [])
+    → IfSome told (λ input. Answers Restore g input held held status)
+cause_of_judged g told held status judged answers =
+    IfSome_then told judged (λ input is. ([], answers input is, Appends-nil held))
+
+-- without faults and want of memory, the cause is that the status is the one for the input
+pub status_of_cause : (command : Command) (g : Geometry) (input : List ℕ) (held held' : Option (List ℕ)) (input_rose output_rose : Type 0) (status : Status)
+    → HasCause command g input held held' status → (status ≡ InputFault → input_rose) → (status ≡ OutputFault → output_rose)
+    → (input_rose → ⊥) → (output_rose → ⊥) → status ≢ OutOfMemory → Answers command g input held held' status
+status_of_cause command g input held held' input_rose output_rose Done cause on_input on_output sound_input sound_output memory = cause
+status_of_cause command g input held held' input_rose output_rose (NotCodeword b) cause on_input on_output sound_input sound_output memory = cause
+status_of_cause command g input held held' input_rose output_rose NoCodeword cause on_input on_output sound_input sound_output memory = cause
+status_of_cause command g input held held' input_rose output_rose (Limit k) cause on_input on_output sound_input sound_output memory = cause
+status_of_cause command g input held held' input_rose output_rose (Input needed took) cause on_input on_output sound_input sound_output memory = cause
+status_of_cause command g input held held' input_rose output_rose (Lost stripe counts n) cause on_input on_output sound_input sound_output memory = cause
+status_of_cause command g input held held' input_rose output_rose Usage cause on_input on_output sound_input sound_output memory = absurd cause
+status_of_cause command g input held held' input_rose output_rose InputFault cause on_input on_output sound_input sound_output memory =
+    absurd (sound_input (on_input refl))
+status_of_cause command g input held held' input_rose output_rose OutputFault cause on_input on_output sound_input sound_output memory =
+    absurd (sound_output (on_output refl))
+status_of_cause command g input held held' input_rose output_rose OutOfMemory cause on_input on_output sound_input sound_output memory =
+    absurd (memory refl)
+
+-- a result is not of both kinds
+pub not_ok_and_err : {T E : Type 0} (r : Result T E) → IsOk r → IsErr r → ⊥
+not_ok_and_err (Ok x) ok err = cc
+not_ok_and_err (Err y) ok err = cc
+
+pub not_none_and_some : {T : Type 0} (o : Option T) → IsNone o → IsSome o → ⊥
+not_none_and_some None none some = cc
+not_none_and_some (Some x) none some = cc
+
+-- what holds where there is a value
+pub at_ok : {T E P : Type 0} (r : Result T E) → IsOk r → IfOk r (λ _. P) → P
+at_ok (Ok x) ok fact = fact
+at_ok (Err y) ok fact = cc
+
+-- what was taken when the input was refused
+pub taken_of_refusal : (command : Command) (g : Geometry) (left left' : Option (List ℕ)) (ended : Bool) (rose : Type 0) (refusal : Refusal)
+    → RefusesInput (intake_of (bytes_needed command g)) left left' ended rose refusal → TakesInput command g left left' (status_of refusal)
+taken_of_refusal command g left left' ended rose (OtherLength needed took) why =
+    (why.1.0, omega (arith, why.1.1), why.1.2)
+taken_of_refusal command g left left' ended rose Fault why = (why.1.0, omega (arith, why.1.1), why.1.2)

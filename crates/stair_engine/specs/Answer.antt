@@ -1,0 +1,83 @@
+-- What each command answers for an input, and what it puts out: the status and the output are determined by the words and the
+-- input alone.
+use Rattle.std.specs.Prelude.{◌≡◌, ◌≢◌, ℕ, ◌+◌, ◌*◌, List, [], ◌∷◌, ◌++◌, length, drop, min, replicate, take, codes}
+use Rattle.std.specs.List.{concat}
+use Rattle.stair_model.specs.Geometry.{Geometry, geometry_of, IsWithinLimits, IsFirstBrokenLimit}
+use Rattle.stair_model.specs.Stripe.{Stripe, SECTOR, IsStripeOf, IsWellFormed}
+use Rattle.stair_model.specs.CellSet.{CellSet}
+use Rattle.stair_model.specs.Codeword.{IsCodeword}
+use Rattle.stair_model.specs.Equation.{IsFirstBroken}
+use Rattle.stair_base.specs.Equations.{equation_of}
+use Rattle.stair_engine.specs.declared.status.Status.{Status}
+use Rattle.stair_engine.specs.declared.status.Status.TheVariants.{Done, NotCodeword, NoCodeword, Usage, Limit, Input, InputFault, OutputFault, Lost, OutOfMemory}
+use Rattle.stair_engine.specs.declared.words.Command.{Command}
+use Rattle.stair_engine.specs.declared.words.Command.TheVariants.{Check, Restore}
+use Rattle.stair_engine.specs.Restore.{IsErasedBy, JudgesErased}
+use Rattle.stair_engine.specs.Words.{Job}
+
+-- the geometry of one stripe, with a zero identity
+abbrev pub one_stripe : Job → Geometry
+one_stripe job = geometry_of job.n job.m job.r job.e 1 (replicate 16 0)
+
+-- the bytes of a map, one for each cell
+abbrev pub map_bytes : Geometry → ℕ
+map_bytes g = g.r * g.n
+
+-- the bytes of the cells of a stripe
+abbrev pub cell_bytes : Geometry → ℕ
+cell_bytes g = g.r * g.n * SECTOR
+
+-- the bytes of the input: `check` takes the cells of a stripe, and `restore` a map before them
+abbrev pub bytes_needed : Command → Geometry → ℕ
+bytes_needed Check g = cell_bytes g
+bytes_needed Restore g = map_bytes g + cell_bytes g
+
+-- the stripe of this geometry whose cells are these bytes, row by row
+pub record HasBytes (g : Geometry) (stripe : Stripe) (bytes : List ℕ) : Type 0 where
+  pub of : IsStripeOf g stripe
+  pub well_formed : IsWellFormed stripe
+  pub same_bytes : concat stripe.cells ≡ bytes
+  pub count : length bytes ≡ cell_bytes g
+
+-- the line for a codeword
+abbrev pub codeword_line : List ℕ
+codeword_line = codes "codeword" ++ 10 ∷ []
+
+-- the status and the output for a stripe that is checked
+abbrev pub JudgesStripe : Geometry → Stripe → Status → List ℕ → Type 0
+JudgesStripe g stripe Done output = IsCodeword g stripe × (output ≡ codeword_line)
+JudgesStripe g stripe (NotCodeword b) output = IsFirstBroken g stripe (equation_of b) × (output ≡ [])
+JudgesStripe g stripe _ output = ⊥
+
+-- the status and the output for an input of the length that the command needs
+abbrev pub Judges : Command → Geometry → List ℕ → Status → List ℕ → Type 0
+Judges Check g input status output = (stripe : Stripe) × HasBytes g stripe input × JudgesStripe g stripe status output
+Judges Restore g input status output =
+    (erased : CellSet) × (stripe : Stripe) × IsErasedBy g (take (map_bytes g) input) erased
+    × HasBytes g stripe (drop (map_bytes g) input) × JudgesErased g erased stripe status output
+
+-- the input has the length that the command needs, and is judged
+pub record IsJudged (command : Command) (g : Geometry) (input : List ℕ) (status : Status) (output : List ℕ) : Type 0 where
+  pub limits : IsWithinLimits g
+  pub whole : length input ≡ bytes_needed command g
+  pub judged : Judges command g input status output
+
+-- the input has another length than needed; of a longer one, one byte more than needed is taken
+pub record IsOtherLength (bytes : ℕ) (input : List ℕ) (needed took : ℕ) : Type 0 where
+  pub other : length input ≢ bytes
+  pub needs : needed ≡ bytes
+  pub takes : took ≡ min (length input) (bytes + 1)
+
+-- The status and the output for this input, of a geometry that may break a limit.
+abbrev pub IsAnswer : Command → Geometry → List ℕ → Status → List ℕ → Type 0
+IsAnswer command g input (Limit k) output = IsFirstBrokenLimit g k × (output ≡ [])
+IsAnswer command g input (Input needed took) output =
+    IsWithinLimits g × IsOtherLength (bytes_needed command g) input needed took × (output ≡ [])
+IsAnswer command g input Done output = IsJudged command g input Done output
+IsAnswer command g input (NotCodeword b) output = IsJudged command g input (NotCodeword b) output
+IsAnswer command g input NoCodeword output = IsJudged command g input NoCodeword output
+IsAnswer command g input (Lost stripe counts n) output = IsJudged command g input (Lost stripe counts n) output
+IsAnswer command g input Usage output = ⊥
+IsAnswer command g input InputFault output = ⊥
+IsAnswer command g input OutputFault output = ⊥
+IsAnswer command g input OutOfMemory output = ⊥

@@ -1,0 +1,100 @@
+-- Why each status comes, and what stands after it, whatever came.
+use Rattle.std.specs.Prelude.{◌≡◌, ℕ, ◌+◌, ◌<◌, ◌≤◌, Bool, true, false, MatchBool, List, length, Option, ⊤}
+use Rattle.std.specs.Io.KnownBytes.{Appends, Consumes, Keeps}
+use Rattle.stair_model.specs.Geometry.{Geometry, IsWithinLimits, IsFirstBrokenLimit}
+use Rattle.stair_model.specs.Stripe.{Stripe}
+use Rattle.stair_model.specs.Codeword.{IsCodeword}
+use Rattle.stair_engine.specs.declared.status.Status.{Status}
+use Rattle.stair_engine.specs.declared.status.Status.TheVariants.{Done, NotCodeword, NoCodeword, Usage, Limit, Input, InputFault, OutputFault, Lost, OutOfMemory}
+use Rattle.stair_engine.specs.declared.words.Command.{Command}
+use Rattle.stair_engine.specs.declared.words.Command.TheVariants.{Check, Restore}
+use Rattle.stair_engine.specs.Answer.{HasBytes, IsAnswer, bytes_needed, codeword_line}
+use Rattle.stair_engine.specs.Streams.{PutsPart}
+
+-- the status is the one for this input, and its output was put out
+abbrev pub Answers : Command → Geometry → List ℕ → Option (List ℕ) → Option (List ℕ) → Status → Type 0
+Answers command g input old new status = (output : List ℕ) × IsAnswer command g input status output × Appends old new output
+
+-- Why a status comes, beside faults and want of memory: it is the one for this input, or a fault came in its place. A fault
+-- of the source comes only within the limits, and one of the sink only where the output was being put out.
+abbrev pub HasCause : Command → Geometry → List ℕ → Option (List ℕ) → Option (List ℕ) → Status → Type 0
+HasCause command g input old new InputFault = IsWithinLimits g
+HasCause command g input old new OutputFault = (output : List ℕ) × IsAnswer command g input Done output × PutsPart old new output
+HasCause command g input old new OutOfMemory = ⊤
+HasCause command g input old new Done = Answers command g input old new Done
+HasCause command g input old new (NotCodeword b) = Answers command g input old new (NotCodeword b)
+HasCause command g input old new NoCodeword = Answers command g input old new NoCodeword
+HasCause command g input old new (Limit k) = Answers command g input old new (Limit k)
+HasCause command g input old new (Input needed took) = Answers command g input old new (Input needed took)
+HasCause command g input old new (Lost stripe counts n) = Answers command g input old new (Lost stripe counts n)
+HasCause command g input old new Usage = ⊥
+
+-- the limits are tested before the input, whatever the source tells; no equation is told by `restore`, and no erased cells
+-- or held ones by `check`
+abbrev pub LimitsComeFirst : Command → Geometry → Status → Type 0
+LimitsComeFirst command g (Limit k) = IsFirstBrokenLimit g k
+LimitsComeFirst command g Usage = ⊥
+LimitsComeFirst command g OutOfMemory = ⊤
+LimitsComeFirst Check g (NotCodeword b) = IsWithinLimits g
+LimitsComeFirst Restore g (NotCodeword b) = ⊥
+LimitsComeFirst Check g NoCodeword = ⊥
+LimitsComeFirst Restore g NoCodeword = IsWithinLimits g
+LimitsComeFirst Check g (Lost stripe counts n) = ⊥
+LimitsComeFirst Restore g (Lost stripe counts n) = IsWithinLimits g
+LimitsComeFirst command g Done = IsWithinLimits g
+LimitsComeFirst command g (Input needed took) = IsWithinLimits g
+LimitsComeFirst command g InputFault = IsWithinLimits g
+LimitsComeFirst command g OutputFault = IsWithinLimits g
+
+-- what holds after a refusal that comes before the input is taken
+abbrev pub IfRefusedAtOnce : Status → Type 0 → Type 0
+IfRefusedAtOnce Usage fact = fact
+IfRefusedAtOnce (Limit k) fact = fact
+IfRefusedAtOnce OutOfMemory fact = fact
+IfRefusedAtOnce _ fact = ⊤
+
+-- what holds of every status at which nothing is put out
+abbrev pub IfNothingIsPutOut : Status → Type 0 → Type 0
+IfNothingIsPutOut Done fact = ⊤
+IfNothingIsPutOut OutputFault fact = ⊤
+IfNothingIsPutOut _ fact = fact
+
+-- told bytes lose the first `count`
+abbrev pub TakesCount : Option (List ℕ) → Option (List ℕ) → ℕ → Type 0
+TakesCount old new count = (taken : List ℕ) × (length taken ≡ count) × Consumes old new taken
+
+-- told bytes lose at most `most`, from the front
+abbrev pub TakesAtMost : Option (List ℕ) → Option (List ℕ) → ℕ → Type 0
+TakesAtMost old new most = (taken : List ℕ) × (length taken ≤ most) × Consumes old new taken
+
+-- Exactly the bytes that the command needs are taken, and one more only to tell that it came.
+abbrev pub TakesInput : Command → Geometry → Option (List ℕ) → Option (List ℕ) → Status → Type 0
+TakesInput command g old new Usage = Keeps old new
+TakesInput command g old new (Limit k) = Keeps old new
+TakesInput command g old new OutOfMemory = Keeps old new
+TakesInput command g old new (Input needed took) = TakesCount old new took
+TakesInput command g old new InputFault = TakesAtMost old new (bytes_needed command g)
+TakesInput command g old new _ = TakesCount old new (bytes_needed command g)
+
+-- Of every source, also one that doesn't tell its bytes, by whether it had ended before and has ended now: an input is judged
+-- only after the end was seen behind it, and one of another length ended before the bytes that are needed, or did not end
+-- behind them.
+abbrev pub LooksForEnd : Command → Geometry → Bool → Bool → Status → Type 0
+LooksForEnd command g old new Usage = ⊤
+LooksForEnd command g old new (Limit k) = ⊤
+LooksForEnd command g old new OutOfMemory = ⊤
+LooksForEnd command g old new (Input needed took) =
+    (needed ≡ bytes_needed command g) × MatchBool new (took < needed) (took ≡ needed + 1)
+LooksForEnd command g old new InputFault = ⊤
+LooksForEnd command g old new _ = (old ≡ false) × (new ≡ true)
+
+-- what a command puts out where all was done: a line, or the cells of a codeword
+abbrev pub IsOutput : Command → Geometry → List ℕ → Type 0
+IsOutput Check g output = output ≡ codeword_line
+IsOutput Restore g output = (codeword : Stripe) × IsCodeword g codeword × HasBytes g codeword output
+
+-- the output is put out where all was done, a part of it where the sink failed, and nothing else ever
+abbrev pub PutsOut : Command → Geometry → Option (List ℕ) → Option (List ℕ) → Status → Type 0
+PutsOut command g old new Done = (output : List ℕ) × IsOutput command g output × Appends old new output
+PutsOut command g old new OutputFault = (output : List ℕ) × IsOutput command g output × PutsPart old new output
+PutsOut command g old new _ = Keeps old new

@@ -1,0 +1,50 @@
+-- What is taken from a source on the way to an answer.
+use Rattle.std.specs.Prelude.{◌≡◌, ℕ, ◌+◌, ◌<◌, ◌≤◌, Bool, MatchBool, List, drop, length, take, Option, IfSome}
+use Rattle.std.specs.Io.KnownBytes.{Consumes}
+use Rattle.stair_model.specs.CellSet.{CellSet, IsInStripe}
+use Rattle.stair_model.specs.Geometry.{Geometry}
+use Rattle.stair_model.specs.Stripe.{Stripe}
+use Rattle.stair_engine.specs.declared.intake.Intake.{Intake}
+use Rattle.stair_engine.specs.declared.intake.Refusal.{Refusal}
+use Rattle.stair_engine.specs.declared.intake.Refusal.TheVariants.{OtherLength, Fault}
+use Rattle.stair_engine.specs.declared.status.Status.{Status}
+use Rattle.stair_engine.specs.declared.status.Status.TheVariants.{Input, InputFault}
+use Rattle.stair_engine.specs.declared.words.Command.TheVariants.{Restore}
+use Rattle.stair_engine.specs.Answer.{HasBytes, bytes_needed, map_bytes}
+use Rattle.stair_engine.specs.Restore.{IsErasedBy}
+
+-- the status of a refusal
+abbrev pub status_of : Refusal → Status
+status_of (OtherLength needed took) = Input needed took
+status_of Fault = InputFault
+
+-- the intake before anything was taken
+abbrev pub intake_of : ℕ → Intake
+intake_of needed = record { needed = needed; took = 0 }
+
+-- exactly these bytes were taken, and counted
+pub record TakesBytes (old new : Intake) (left left' : Option (List ℕ)) (bytes : List ℕ) : Type 0 where
+  pub consumed : Consumes left left' bytes
+  pub counted : new ≡ record old { took = old.took + length bytes }
+
+-- a map was taken, and these cells are erased by it
+abbrev pub TakesMap : Geometry → Intake → Intake → Option (List ℕ) → Option (List ℕ) → CellSet → Type 0
+TakesMap g old new left left' erased =
+    (map : List ℕ) × (length map ≡ map_bytes g) × IsErasedBy g map erased × TakesBytes old new left left' map
+
+-- Why not exactly the bytes that are needed came, of which the intake had counted some before: the source ended before all
+-- had come, or had one more behind them, or failed.
+abbrev pub RefusesInput : Intake → Option (List ℕ) → Option (List ℕ) → Bool → Type 0 → Refusal → Type 0
+RefusesInput intake left left' ended rose (OtherLength needed took) =
+    (needed ≡ intake.needed)
+    × ((taken : List ℕ) × (took ≡ intake.took + length taken) × Consumes left left' taken
+    × MatchBool ended ((took < needed) × IfSome left (λ all. taken ≡ all)) (took ≡ needed + 1))
+RefusesInput intake left left' ended rose Fault =
+    rose × ((taken : List ℕ) × (intake.took + length taken ≤ intake.needed) × Consumes left left' taken)
+
+-- the erased cells, which are cells of the stripe, and the cells of the stripe are all that the source told
+pub record TookErased (g : Geometry) (told : Option (List ℕ)) (erased : CellSet) (stripe : Stripe) : Type 0 where
+  pub within : IsInStripe g erased
+  pub whole : IfSome told (λ input. length input ≡ bytes_needed Restore g)
+  pub by_map : IfSome told (λ input. IsErasedBy g (take (map_bytes g) input) erased)
+  pub by_cells : IfSome told (λ input. HasBytes g stripe (drop (map_bytes g) input))

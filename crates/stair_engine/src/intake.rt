@@ -1,0 +1,75 @@
+ghost use Rattle.std.specs.Prelude.{◌≡◌, ◌+◌, ◌^◌, ◌<◌, ◌≤◌, length, OnOk, IfErr, true, false};
+ghost use Rattle.std.specs.Io.KnownBytes.{IsAtEnd, Keeps};
+ghost use Rattle.stair_engine.specs.Taking.{RefusesInput, TakesBytes, intake_of};
+ghost use Rattle.stair_rack.specs.Count.{Rose};
+
+use crate::streams::{Filled, fill};
+use stair_rack::{Source, Taken};
+
+/// Why an input was refused.
+#[derive(Clone, Copy, Debug, PartialEq, Eq)]
+pub(crate) enum Refusal {
+    /// It had another length, in bytes, than the command needs.
+    OtherLength { needed: u64, took: u64 },
+    /// The source failed.
+    Fault,
+}
+
+/// How many bytes a command needs from its source, and how many of them were taken.
+#[derive(Clone, Copy, Debug, PartialEq, Eq)]
+pub(crate) struct Intake {
+    needed: u64,
+    took: u64,
+}
+
+impl Intake {
+    /// No byte of those needed was taken yet.
+    pub(crate) fn new(needed: u64) -> Intake
+        ensures { result ≡ intake_of needed }
+    {
+        Intake { needed, took: 0 }
+    }
+
+    /// Fills the piece from the source.
+    pub(crate) fn fill<S: Source>(&mut self, input: &mut S, into: &mut [u8]) -> Result<(), Refusal>
+        requires piece { 0 < length into.old }
+        requires room { self.old.took + length into.old ≤ self.old.needed }
+        ensures ok { OnOk result (TakesBytes self.old self.new (S.left input.old) (S.left input.new) into.new) }
+        ensures running { OnOk result ((S.ended input.old ≡ false) × (S.ended input.new ≡ false)) }
+        ensures err { IfErr result (RefusesInput self.old (S.left input.old) (S.left input.new) (S.ended input.new)
+            (Rose (S.faults input.old) (S.faults input.new))) }
+        ensures count { S.faults input.old ≤ S.faults input.new }
+    {
+        match fill(input, into) {
+            Filled::Whole => {
+                self.took += into.len() as u64;
+                Ok(())
+            }
+            Filled::Short(count) => Err(Refusal::OtherLength {
+                needed: self.needed,
+                took: self.took + count as u64,
+            }),
+            Filled::Failed => Err(Refusal::Fault),
+        }
+    }
+
+    /// Looks for the end behind all the bytes that are needed.
+    pub(crate) fn end<S: Source>(&self, input: &mut S) -> Result<(), Refusal>
+        requires all { self.now.took ≡ self.now.needed }
+        requires fits { self.now.needed < 2 ^ 63 }
+        ensures ok { OnOk result (IsAtEnd (S.left input.old) × Keeps (S.left input.old) (S.left input.new)) }
+        ensures ended { OnOk result (S.ended input.new ≡ true) }
+        ensures err { IfErr result (RefusesInput self.now (S.left input.old) (S.left input.new) (S.ended input.new)
+            (Rose (S.faults input.old) (S.faults input.new))) }
+        ensures count { S.faults input.old ≤ S.faults input.new }
+    {
+        match input.take(&mut [0]) {
+            Taken::End => Ok(()),
+            Taken::Bytes(_) => Err(Refusal::OtherLength {
+                needed: self.needed,
+                took: self.needed + 1,
+            }),
+            Taken::Failed => Err(Refusal::Fault),
+        }
+    }
+}

@@ -1,0 +1,95 @@
+ghost use Rattle.std.specs.Prelude.{◌≡◌, ◌≤◌, ◌↔◌, IsOk, IfOk, IfErr, OnOk, OnErr, IfSome, true, false, ℕ, ◌<◌};
+ghost use Rattle.stair_model.specs.CellSet.{IsInStripe};
+ghost use Rattle.stair_model.specs.Geometry.{IsWithinLimits};
+ghost use Rattle.stair_model.specs.Stripe.{IsStripeOf, IsWellFormed};
+ghost use Rattle.stair_engine.specs.Answer.{bytes_needed};
+ghost use Rattle.stair_engine.specs.Cause.{HasCause, IfNothingIsPutOut, IfRefusedAtOnce, LimitsComeFirst, LooksForEnd, PutsOut, TakesCount, TakesInput};
+ghost use Rattle.stair_engine.specs.Taking.{RefusesInput, TookErased, intake_of};
+ghost use Rattle.stair_rack.specs.Count.{Rose};
+
+use crate::cells::{cell_bytes, put_stripe, take_stripe};
+use crate::intake::{Intake, Refusal};
+use crate::map::take_map;
+use crate::status::Status;
+use crate::streams::SinkFailed;
+use crate::words::Command;
+use stair_base::{CellSet, Geometry, Stripe, first_broken};
+use stair_canon::Canon;
+use stair_rack::{Sink, Source};
+use stair_up::decode_upstairs;
+use std::alloc::Global;
+
+/// Takes a map and the cells of a stripe row by row, and puts out the codeword that has those cells of it that are held.
+pub(crate) fn restore<S: Source, K: Sink>(
+    alloc: Global,
+    geometry: &Geometry,
+    input: &mut S,
+    output: &mut K,
+) -> Status
+    ensures limits { LimitsComeFirst Command.Restore geometry.now result }
+    ensures cause { IfSome (S.left input.old) (λ bytes.
+        HasCause Command.Restore geometry.now bytes (K.held output.old) (K.held output.new) result) }
+    ensures input_fault { result ≡ Status.InputFault → Rose (S.faults input.old) (S.faults input.new) }
+    ensures output_fault { result ≡ Status.OutputFault → Rose (K.faults output.old) (K.faults output.new) }
+    ensures taken { TakesInput Command.Restore geometry.now (S.left input.old) (S.left input.new) result }
+    ensures looked { LooksForEnd Command.Restore geometry.now (S.ended input.old) (S.ended input.new) result }
+    ensures input_count { S.faults input.old ≤ S.faults input.new }
+    ensures output { PutsOut Command.Restore geometry.now (K.held output.old) (K.held output.new) result }
+    ensures untouched { IfNothingIsPutOut result (output.new ≡ output.old) }
+    ensures refused { IfRefusedAtOnce result ((input.new ≡ input.old) × (output.new ≡ output.old)) }
+    ensures output_count { K.faults output.old ≤ K.faults output.new }
+{
+    let mut stripe = match Stripe::new(alloc, geometry) {
+        Ok(stripe) => stripe,
+        Err(_) => return Status::OutOfMemory,
+    };
+    let mut canon = match Canon::new(alloc, geometry) {
+        Ok(canon) => canon,
+        Err(_) => return Status::OutOfMemory,
+    };
+    let erased = match take_input(geometry, &mut stripe, input) {
+        Ok(erased) => erased,
+        Err(refusal) => return Status::from(refusal),
+    };
+    if decode_upstairs(&mut canon, &mut stripe, &erased).is_err() {
+        return Status::Lost {
+            stripe: 0,
+            counts: erased.counts(),
+            n: geometry.n(),
+        };
+    }
+    if first_broken(geometry, &stripe).is_some() {
+        return Status::NoCodeword;
+    }
+    match put_stripe(geometry, &stripe, output) {
+        Ok(()) => Status::Done,
+        Err(SinkFailed) => Status::OutputFault,
+    }
+}
+
+/// Takes exactly a map and the cells of a stripe, looks for the end behind them, and gives the cells that are erased.
+fn take_input<S: Source>(
+    geometry: &Geometry,
+    stripe: &mut Stripe,
+    input: &mut S,
+) -> Result<CellSet, Refusal>
+    requires of { IsStripeOf geometry.now stripe.old }
+    requires well_formed { IsWellFormed stripe.old }
+    ensures limits { IsWithinLimits geometry.now }
+    ensures ok { IfOk result (λ erased. TookErased geometry.now (S.left input.old) erased stripe.new) }
+    ensures taken { OnOk result
+        (TakesCount (S.left input.old) (S.left input.new) (bytes_needed Command.Restore geometry.now)) }
+    ensures ended { OnOk result ((S.ended input.old ≡ false) × (S.ended input.new ≡ true)) }
+    ensures err { IfErr result (RefusesInput (intake_of (bytes_needed Command.Restore geometry.now))
+        (S.left input.old) (S.left input.new) (S.ended input.new) (Rose (S.faults input.old) (S.faults input.new))) }
+    ensures of { IsStripeOf geometry.now stripe.new }
+    ensures well_formed { IsWellFormed stripe.new }
+    ensures count { S.faults input.old ≤ S.faults input.new }
+{
+    let cells = u64::from(geometry.r()) * u64::from(geometry.n());
+    let mut intake = Intake::new(cells + cell_bytes(geometry));
+    let erased = take_map(geometry, &mut intake, input)?;
+    take_stripe(geometry, stripe, &mut intake, input)?;
+    intake.end(input)?;
+    Ok(erased)
+}

@@ -1,0 +1,98 @@
+-- A parity of the blocks of the cells so far, and its steps.
+use Rattle.std.proofs.Common.{◌≡◌, ◌≢◌, ℕ, ◌+◌, ◌<◌, true, false, if◌then◌else◌, List, slice_index, refl, sym, ◌∙◌, ap, ap₂, arith, add-zero, add-one}
+use Rattle.std.specs.Prelude.{not, bit_xor}
+use Rattle.std.specs.Int.Bits.{xor_zero_r}
+use Rattle.std.proofs.lemmas.Bool.{cond-true, cond-false, ne_eqb}
+use Rattle.stair_model.specs.Field.{product}
+use Rattle.stair_model.specs.Sum.{field_sum, sum_below}
+use Rattle.stair_model.specs.Cell.{Data, cell_at}
+use Rattle.stair_model.specs.Costs.{is_parity}
+use Rattle.stair_model.specs.Stripe.{Stripe, IsStripeOf, cell}
+use Rattle.stair_model.proofs.FieldLaws.{product-zero_left, product-zero_right}
+use Rattle.stair_model.proofs.SumLaws.{field_sum_more}
+use Rattle.stair_model.proofs.CountLaws.{sum_below_none, sum_below_next}
+use Rattle.stair_gf.specs.AddsMultiple.{AddsMultiple}
+use Rattle.stair_gf.proofs.SectorSums.{IsSumOf, IsSumOf-more}
+use Rattle.stair_std.specs.Cells.{is_parity_number, blocks_before, byte_of_number}
+use Rattle.stair_std.specs.Coefficients.{Coefficients}
+use Rattle.stair_std.specs.Standard.{coefficient_of, block_byte, step_of, step_at}
+use Rattle.stair_std.proofs.Numbers.{IsNumberOf, bytes_at, cell_at-number, block_number, is_block}
+
+-- what the cell of number t adds to byte p of a parity
+abbrev pub term : Coefficients → ℕ → Stripe → ℕ → ℕ → ℕ
+term c parity stripe p t = product (coefficient_of c parity (blocks_before c.geometry t)) (block_byte c.geometry stripe p t)
+
+pub record HasSummed (c : Coefficients) (parity : ℕ) (stripe : Stripe) (start number steps : ℕ) (sum : List ℕ) : Type 0 where
+  pub summed : IsSumOf sum number (term c parity stripe)
+  pub counted : steps ≡ start + sum_below number (step_at c parity)
+
+pub HasSummed-none : (c : Coefficients) (parity : ℕ) (stripe : Stripe) (start : ℕ) (sum : List ℕ)
+    → IsSumOf sum 0 (term c parity stripe) → HasSummed c parity stripe start 0 start sum
+HasSummed-none c parity stripe start sum none = record {
+  summed = none;
+  counted = omega (arith, sum_below_none (step_at c parity));
+}
+
+-- a term that is zero
+IsSumOf-still : (sum : List ℕ) (n : ℕ) (f : ℕ → ℕ → ℕ) → IsSumOf sum n f → ((p : ℕ) → p < 512 → f p n ≡ 0) → IsSumOf sum (n + 1) f
+IsSumOf-still sum n f old zero = record {
+  long = old.long;
+  so_far = λ p h.
+      old.so_far p h ∙ sym (xor_zero_r (field_sum n (f p))) ∙ ap (bit_xor (field_sum n (f p))) (sym (zero p h))
+      ∙ sym (field_sum_more n (f p)) ∙ ap (λ k. field_sum k (f p)) (sym (add-one n));
+}
+
+more_steps : (start number steps more : ℕ) (f : ℕ → ℕ) → steps ≡ start + sum_below number f → more ≡ f number
+    → steps + more ≡ start + sum_below (number + 1) f
+more_steps start number steps more f so_far is = omega (arith, sum_below_next number (sum_below number f) more f refl is)
+
+module _ (c : Coefficients) (parity : ℕ) (stripe : Stripe) (start number steps row slot : ℕ) (sum : List ℕ)
+    (at : IsNumberOf c.geometry number row slot) (so_far : HasSummed c parity stripe start number steps sum) where
+  -- a parity adds nothing
+  pub HasSummed-parity : is_parity (cell_at c.geometry row slot) ≡ true → HasSummed c parity stripe start (number + 1) steps sum
+  HasSummed-parity is = record {
+    summed = IsSumOf-still sum number (term c parity stripe) so_far.summed
+        (λ p h. ap (product (coefficient_of c parity (blocks_before c.geometry number)))
+        (cond-true (is_parity_number c.geometry number) 0 (byte_of_number stripe p number) here)
+        ∙ product-zero_right (coefficient_of c parity (blocks_before c.geometry number)));
+    counted = sym (add-zero steps)
+        ∙ more_steps start number steps 0 (step_at c parity) so_far.counted (sym (cond-true (is_parity_number c.geometry number) 0 _ here));
+  }
+    where
+      here : is_parity_number c.geometry number ≡ true
+      here = ap is_parity (sym (cell_at-number c.geometry number row slot at.row_is at.slot_is)) ∙ is
+
+  module _ (d by : ℕ) (is : cell_at c.geometry row slot ≡ Data d) (by_is : by ≡ coefficient_of c parity d) where
+    here_block : is_parity_number c.geometry number ≡ false
+    here_block = is_block c.geometry number d (sym (cell_at-number c.geometry number row slot at.row_is at.slot_is) ∙ is)
+
+    coefficient_here : by ≡ coefficient_of c parity (blocks_before c.geometry number)
+    coefficient_here =
+        by_is
+        ∙ ap (coefficient_of c parity)
+        (block_number c.geometry number d (sym (cell_at-number c.geometry number row slot at.row_is at.slot_is) ∙ is))
+
+    step_here : step_of by ≡ step_at c parity number
+    step_here = ap step_of coefficient_here ∙ sym (cond-false (is_parity_number c.geometry number) 0 _ here_block)
+
+    -- a data cell over which the coefficient is zero adds nothing
+    pub HasSummed-zero : by ≡ 0 → HasSummed c parity stripe start (number + 1) steps sum
+    HasSummed-zero zero = record {
+      summed = IsSumOf-still sum number (term c parity stripe) so_far.summed
+          (λ p h. ap (λ (a : ℕ). product a (block_byte c.geometry stripe p number)) (sym coefficient_here ∙ zero)
+          ∙ product-zero_left (block_byte c.geometry stripe p number));
+      counted = sym (add-zero steps)
+          ∙ more_steps start number steps 0 (step_at c parity) so_far.counted (ap step_of (sym zero) ∙ step_here);
+    }
+
+    -- each other one adds its multiple, in a step
+    pub HasSummed-block : (new : List ℕ) → IsStripeOf c.geometry stripe → by ≢ 0 → AddsMultiple sum new (cell stripe row slot) by
+        → HasSummed c parity stripe start (number + 1) (steps + 1) new
+    HasSummed-block new of nonzero adds = record {
+      summed = IsSumOf-more sum new (cell stripe row slot) by number (term c parity stripe) so_far.summed adds
+          (λ p h. ap₂ product coefficient_here
+          (ap (λ (b : List ℕ). slice_index b p) (bytes_at c.geometry stripe number row slot of at.row_is at.slot_is)
+          ∙ sym (cond-false (is_parity_number c.geometry number) 0 (byte_of_number stripe p number) here_block)));
+      counted = more_steps start number steps 1 (step_at c parity) so_far.counted
+          (sym (ap (λ b. if not b then 1 else 0) (ne_eqb by 0 nonzero)) ∙ step_here);
+    }

@@ -1,0 +1,29 @@
+-- The cells of a stripe in one row of numbers: cell (i, j) is number i·n + j.
+use Rattle.std.specs.Prelude.{ℕ, ◌/◌, ◌%◌, Bool, List, [], slice_index, slice_index_or, if◌then◌else◌}
+use Rattle.stair_model.specs.Geometry.{Geometry}
+use Rattle.stair_model.specs.Cell.{Cell, cell_at}
+use Rattle.stair_model.specs.Costs.{is_parity}
+use Rattle.stair_model.specs.Stripe.{Stripe}
+use Rattle.stair_model.specs.Sum.{sum_below}
+
+-- what the cell of this number holds
+abbrev pub cell_of_number : Geometry → ℕ → Cell
+cell_of_number g c = cell_at g (c / g.n) (c % g.n)
+
+-- whether it is a row parity or a global parity
+abbrev pub is_parity_number : Geometry → ℕ → Bool
+is_parity_number g c = is_parity (cell_of_number g c)
+
+-- the parities and the data cells among the first c cells
+abbrev pub parities_before : Geometry → ℕ → ℕ
+parities_before g c = sum_below c (λ t. if is_parity_number g t then 1 else 0)
+
+abbrev pub blocks_before : Geometry → ℕ → ℕ
+blocks_before g c = sum_below c (λ t. if is_parity_number g t then 0 else 1)
+
+-- the bytes of the cell of this number, and byte p of them
+abbrev pub bytes_of : Stripe → ℕ → List ℕ
+bytes_of stripe c = slice_index_or stripe.cells c []
+
+abbrev pub byte_of_number : Stripe → ℕ → ℕ → ℕ
+byte_of_number stripe p c = slice_index (bytes_of stripe c) p

@@ -1,0 +1,16 @@
+pub mod Stretches
+pub mod Finds
+pub mod Columns
+pub mod VirtualRow
+pub mod Chunk
+pub mod FirstCells
+pub mod Exchanging
+pub mod Sorting
+pub mod Ordering
+pub mod LastChunks
+pub mod Costs
+pub mod Stripes
+pub mod Restored
+pub mod Parities
+pub mod Encoded
+pub mod ParityCells

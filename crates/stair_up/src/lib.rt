@@ -1,0 +1,15 @@
+//! Restores the erased cells of a stripe, and encodes a stripe, by upstairs decoding.
+//!
+//! The code and the way are those of Li and Lee, STAIR Codes (FAST 2014). No call takes memory.
+#![tactic(auto)]
+
+pub use decode::decode_upstairs;
+pub use encode::encode_upstairs;
+
+mod decode;
+mod encode;
+mod order;
+mod rows;
+mod solve;
+#[cfg(test)]
+mod tests;

@@ -1,0 +1,180 @@
+ghost use Rattle.std.specs.Prelude.{◌≡◌, ℕ, ◌+◌, ◌-◌, ◌*◌, ◌<◌, ◌≤◌, List, slice_index};
+ghost use Rattle.stair_model.specs.CellSet.{HasCell, IsInStripe, cell_count, count_in_slot};
+ghost use Rattle.stair_model.specs.Coverage.{AreSortedCounts, IsCovered};
+ghost use Rattle.stair_model.specs.Geometry.{IsWithinLimits, data_chunks, greatest_coverage};
+ghost use Rattle.stair_model.specs.Stripe.{IsStripeOf, IsWellFormed, cell};
+ghost use Rattle.stair_up.specs.Order.{IsOrderOf, count_at, erased_in_last, erased_in_row};
+ghost use Rattle.stair_up.specs.Finding.{FindsChunk, FindsLastChunks, FindsRow, FindsStripe, FindsVirtualRow, FindsVirtualRows, Keeps};
+
+use crate::order::Order;
+use crate::rows::rows_by_need;
+use stair_base::{CellSet, Stripe};
+use stair_canon::Canon;
+use stair_gf::Steps;
+use std::sync::ledger::Ledger;
+
+/// Solves the erased cells of a stripe from all others.
+///
+/// It takes n-m steps for each erased cell, and r(n-m) for each virtual symbol of a chunk: of these each of n-m chunks has
+/// as many as the m+1st chunk by falling numbers has erased cells.
+pub(crate) fn solve_erased<L: Ledger>(
+    canon: &mut Canon,
+    stripe: &mut Stripe,
+    erased: &CellSet,
+    steps: &mut Steps<L>,
+)
+    requires stripe { IsStripeOf canon.old.geometry stripe.old }
+    requires cells { IsInStripe canon.old.geometry erased.now }
+    requires covered { IsCovered canon.old.geometry erased.now }
+    ensures found { FindsStripe canon.old.geometry erased.now stripe.old stripe.new }
+    ensures held { (i j : ℕ) → i < canon.old.geometry.r → j < canon.old.geometry.n → ¬ HasCell erased.now i j →
+        cell stripe.new i j ≡ cell stripe.old i j }
+    ensures shape { IsStripeOf canon.old.geometry stripe.new }
+    ensures well_formed { IsWellFormed stripe.new }
+    ensures geometry { canon.new.geometry ≡ canon.old.geometry }
+    ensures limits { IsWithinLimits canon.old.geometry }
+    ensures cost { (c : List ℕ) → AreSortedCounts canon.old.geometry erased.now c →
+        steps.new ≡ steps.old + data_chunks canon.old.geometry
+        * (canon.old.geometry.r * slice_index c canon.old.geometry.m + cell_count erased.now) }
+{
+    let geometry = canon.geometry();
+    let order = Order::new(&geometry, erased);
+    canon.load(stripe);
+    solve_last_chunks(canon, &order, steps);
+    for row in 0..geometry.r() {
+        solve_first_cells(canon, &order, row, steps);
+    }
+    canon.store(stripe);
+}
+
+/// Solves all chunks of the order but the first m, with as many virtual symbols as one of them has erased cells at most.
+///
+/// It goes from the chunk with the fewest erased cells up: each is solved from its other cells and its first virtual
+/// symbols, one for each erased cell, and these from the chunks that were solved before it.
+fn solve_last_chunks<L: Ledger>(canon: &mut Canon, order: &Order, steps: &mut Steps<L>)
+    requires order { IsOrderOf canon.old.geometry order.now }
+    requires covered { IsCovered canon.old.geometry order.now.erased }
+    ensures kept { Keeps order.now.erased canon.old canon.new }
+    ensures found { FindsLastChunks order.now.erased order.now.columns canon.old canon.new }
+    ensures cost { let g = canon.old.geometry in steps.new ≡ steps.old
+        + data_chunks g * (g.r * count_at order.now g.m + erased_in_last order.now g.n (data_chunks g)) }
+{
+    let geometry = canon.geometry();
+    let m = usize::from(geometry.m());
+    let n = usize::from(geometry.n());
+    let height = order.count_at(&geometry, m);
+    let mut solved = 0;
+    for passed in 0..n - m {
+        let place = n - 1 - passed;
+        let count = order.count_at(&geometry, place);
+        solve_virtual_rows(canon, order, place, solved, count, steps);
+        solved = count;
+        solve_chunk(
+            canon,
+            &order.erased,
+            order.slot_at(&geometry, place),
+            height,
+            steps,
+        );
+    }
+}
+
+/// Solves the virtual symbols from `from` on and below `to` of the chunks from place m of the order up to this one.
+fn solve_virtual_rows<L: Ledger>(
+    canon: &mut Canon,
+    order: &Order,
+    place: usize,
+    from: u8,
+    to: u8,
+    steps: &mut Steps<L>,
+)
+    requires order { IsOrderOf canon.old.geometry order.now }
+    requires covered { IsCovered canon.old.geometry order.now.erased }
+    requires place_from { canon.old.geometry.m ≤ place }
+    requires place_in { place < canon.old.geometry.n }
+    requires from { from ≤ to }
+    requires to { to ≤ count_at order.now place }
+    ensures kept { Keeps order.now.erased canon.old canon.new }
+    ensures found { FindsVirtualRows order.now.erased order.now.columns place from to to canon.old canon.new }
+    ensures cost { steps.new ≡ steps.old + data_chunks canon.old.geometry * (place + 1 - canon.old.geometry.m) * (to - from) }
+{
+    for h in from..to {
+        solve_virtual_row(canon, order, place, h, steps);
+    }
+}
+
+/// Solves virtual symbol h of the chunks from place m of the order up to this one, from those of all later chunks and the
+/// zeros of the intermediate chunks.
+fn solve_virtual_row<L: Ledger>(
+    canon: &mut Canon,
+    order: &Order,
+    place: usize,
+    h: u8,
+    steps: &mut Steps<L>,
+)
+    requires order { IsOrderOf canon.old.geometry order.now }
+    requires covered { IsCovered canon.old.geometry order.now.erased }
+    requires place_from { canon.old.geometry.m ≤ place }
+    requires place_in { place < canon.old.geometry.n }
+    requires symbol { h < count_at order.now place }
+    ensures kept { Keeps order.now.erased canon.old canon.new }
+    ensures found { FindsVirtualRow order.now.erased order.now.columns place h canon.old canon.new }
+    ensures cost { steps.new ≡ steps.old + data_chunks canon.old.geometry * (place + 1 - canon.old.geometry.m) }
+{
+    let geometry = canon.geometry();
+    let m = usize::from(geometry.m());
+    let next = place + 1;
+    let end = next + (usize::from(geometry.n()) - m);
+    let row = u16::from(geometry.r()) + u16::from(h);
+    canon.solve_row(
+        row,
+        &order.columns[next..end],
+        &order.columns[m..next],
+        steps,
+    );
+}
+
+/// Solves the erased cells of a chunk and its virtual symbols below `height`, from its other cells and its first virtual
+/// symbols.
+fn solve_chunk<L: Ledger>(
+    canon: &mut Canon,
+    erased: &CellSet,
+    slot: u8,
+    height: u8,
+    steps: &mut Steps<L>,
+)
+    requires cells { IsInStripe canon.old.geometry erased.now }
+    requires slot { slot < canon.old.geometry.n }
+    requires count { count_in_slot erased.now slot ≤ height }
+    requires height { height ≤ greatest_coverage canon.old.geometry }
+    ensures kept { Keeps erased.now canon.old canon.new }
+    ensures found { FindsChunk erased.now slot height canon.old canon.new }
+    ensures cost { steps.new ≡ steps.old + canon.old.geometry.r * height }
+{
+    let r = canon.geometry().r();
+    let rows = rows_by_need(erased, slot, r);
+    let known = usize::from(r);
+    let end = known + usize::from(height);
+    canon.solve_chunk(u16::from(slot), &rows[..known], &rows[known..end], steps);
+}
+
+/// Solves the erased cells in this row of the first m chunks of the order, from all other chunks.
+fn solve_first_cells<L: Ledger>(canon: &mut Canon, order: &Order, row: u8, steps: &mut Steps<L>)
+    requires order { IsOrderOf canon.old.geometry order.now }
+    requires row { row < canon.old.geometry.r }
+    ensures kept { Keeps order.now.erased canon.old canon.new }
+    ensures found { FindsRow order.now.erased order.now.columns row canon.old canon.new }
+    ensures cost { steps.new ≡ steps.old
+        + data_chunks canon.old.geometry * erased_in_row order.now canon.old.geometry.m row }
+{
+    let geometry = canon.geometry();
+    let m = usize::from(geometry.m());
+    let n = usize::from(geometry.n());
+    for place in 0..m {
+        if order.erased.has(row, order.slot_at(&geometry, place)) {
+            let known = &order.columns[m..n];
+            let wanted = &order.columns[place..place + 1];
+            canon.solve_row(u16::from(row), known, wanted, steps);
+        }
+    }
+}
