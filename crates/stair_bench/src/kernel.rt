@@ -1,5 +1,8 @@
 ghost use Rattle.std.specs.Prelude.{◌*◌, ◌<◌, ◌≤◌};
 
+use crate::layout::Layout;
+use std::fmt;
+
 /// A code with n devices, m row parities and one more parity in each row, all of which are worked out.
 #[derive(Clone, Copy)]
 pub(crate) struct Code {
@@ -10,44 +13,117 @@ pub(crate) struct Code {
     ghost majority: { 2 * m < n },
 }
 
-impl Code {
-    pub(crate) const EIGHT_TWO: Code = Code { n: 8, m: 2 };
+/// A row whose symbols are solved.
+#[derive(Clone, Copy)]
+pub(crate) enum Row {
+    /// Of 8 devices, with 2 row parities.
+    EightTwo,
+    /// Of 32 devices, with 3 row parities.
+    ThirtyTwoThree,
+}
 
-    pub(crate) const THIRTY_TWO_THREE: Code = Code { n: 32, m: 3 };
+impl Row {
+    fn name(self) -> &'static str {
+        match self {
+            Row::EightTwo => "8-2",
+            Row::ThirtyTwoThree => "32-3",
+        }
+    }
+
+    /// The code of the row.
+    pub(crate) fn code(self) -> Code {
+        match self {
+            Row::EightTwo => Code { n: 8, m: 2 },
+            Row::ThirtyTwoThree => Code { n: 32, m: 3 },
+        }
+    }
+}
+
+/// A way to encode a stripe.
+#[derive(Clone, Copy)]
+pub(crate) enum Encoder {
+    Downstairs,
+    Upstairs,
+    Standard,
+}
+
+impl Encoder {
+    fn name(self) -> &'static str {
+        match self {
+            Encoder::Downstairs => "downstairs",
+            Encoder::Upstairs => "upstairs",
+            Encoder::Standard => "standard",
+        }
+    }
 }
 
 /// What is run and timed.
 #[derive(Clone, Copy)]
 pub(crate) enum Kernel {
-    /// All parities of the code with 8 devices and 2 parities.
-    SolveEightTwo,
+    /// All parities of a row, from its held symbols.
+    Solve(Row),
     /// A copy of the symbols that those are solved from.
-    CopyEightTwo,
-    /// All parities of the code with 32 devices and 3 parities.
-    SolveThirtyTwoThree,
-    /// A copy of the symbols that those are solved from.
-    CopyThirtyTwoThree,
+    CopySymbols(Row),
+    /// All parities of a stripe, from its data cells.
+    Encode(Encoder, Layout),
+    /// A copy of the data cells that those are encoded from.
+    CopyCells(Layout),
 }
 
 impl Kernel {
-    pub(crate) const ALL: [Kernel; 4] = [
-        Kernel::SolveEightTwo,
-        Kernel::CopyEightTwo,
-        Kernel::SolveThirtyTwoThree,
-        Kernel::CopyThirtyTwoThree,
+    pub(crate) const ALL: [Kernel; 20] = [
+        Kernel::Solve(Row::EightTwo),
+        Kernel::CopySymbols(Row::EightTwo),
+        Kernel::Solve(Row::ThirtyTwoThree),
+        Kernel::CopySymbols(Row::ThirtyTwoThree),
+        Kernel::Encode(Encoder::Downstairs, Layout::FourDevices),
+        Kernel::Encode(Encoder::Upstairs, Layout::FourDevices),
+        Kernel::Encode(Encoder::Standard, Layout::FourDevices),
+        Kernel::CopyCells(Layout::FourDevices),
+        Kernel::Encode(Encoder::Downstairs, Layout::EightDevices),
+        Kernel::Encode(Encoder::Upstairs, Layout::EightDevices),
+        Kernel::Encode(Encoder::Standard, Layout::EightDevices),
+        Kernel::CopyCells(Layout::EightDevices),
+        Kernel::Encode(Encoder::Downstairs, Layout::SixteenDevices),
+        Kernel::Encode(Encoder::Upstairs, Layout::SixteenDevices),
+        Kernel::Encode(Encoder::Standard, Layout::SixteenDevices),
+        Kernel::CopyCells(Layout::SixteenDevices),
+        Kernel::Encode(Encoder::Downstairs, Layout::ThirtyTwoDevices),
+        Kernel::Encode(Encoder::Upstairs, Layout::ThirtyTwoDevices),
+        Kernel::Encode(Encoder::Standard, Layout::ThirtyTwoDevices),
+        Kernel::CopyCells(Layout::ThirtyTwoDevices),
     ];
 
-    pub(crate) fn name(self) -> &'static str {
+    /// What it does, and the numbers that it does it for.
+    fn words(self) -> (&'static str, &'static str) {
         match self {
-            Kernel::SolveEightTwo => "solve-8-2",
-            Kernel::CopyEightTwo => "copy-8-2",
-            Kernel::SolveThirtyTwoThree => "solve-32-3",
-            Kernel::CopyThirtyTwoThree => "copy-32-3",
+            Kernel::Solve(row) => ("solve", row.name()),
+            Kernel::CopySymbols(row) => ("copy", row.name()),
+            Kernel::Encode(encoder, layout) => (encoder.name(), layout.name()),
+            Kernel::CopyCells(layout) => ("copy-cells", layout.name()),
         }
     }
 
     /// The kernel of this name.
     pub(crate) fn named(name: &str) -> Option<Kernel> {
-        Kernel::ALL.into_iter().find(|kernel| kernel.name() == name)
+        Kernel::ALL
+            .into_iter()
+            .find(|kernel| is_pair(name, kernel.words()))
+    }
+}
+
+/// Whether the name is these words, with a hyphen between them.
+fn is_pair(name: &str, words: (&str, &str)) -> bool {
+    let (first, second) = words;
+    match name.strip_prefix(first) {
+        Some(rest) => rest.strip_prefix('-') == Some(second),
+        None => false,
+    }
+}
+
+impl fmt::Display for Kernel {
+    fn fmt<W: fmt::Write>(&self, f: &mut fmt::Formatter<W>) -> fmt::Result {
+        let (first, second) = self.words();
+        write!(f, "{first}-{second}")
     }
 }

@@ -2,8 +2,11 @@
 #![tactic(auto)]
 
 mod check;
+mod encoding;
 mod kernel;
+mod layout;
 mod rounds;
+mod varied;
 
 use kernel::Kernel;
 use rounds::check_of_rounds;
@@ -36,10 +39,7 @@ impl Fault {
 impl fmt::Display for Fault {
     fn fmt<W: fmt::Write>(&self, f: &mut fmt::Formatter<W>) -> fmt::Result {
         match self {
-            Fault::Usage => write!(
-                f,
-                "usage: stair_bench [solve-8-2|copy-8-2|solve-32-3|copy-32-3 ROUNDS]"
-            ),
+            Fault::Usage => write!(f, "usage: stair_bench [KERNEL ROUNDS]"),
             Fault::Output => write!(f, "output failed"),
             Fault::OutOfMemory => write!(f, "out of memory"),
         }
@@ -82,8 +82,7 @@ fn read_request(rt: &HostRuntime) -> Result<Request, Fault> {
 /// Runs the rounds of a kernel, and prints its name and the check of what it made.
 fn print_check(rt: &HostRuntime, kernel: Kernel, rounds: u32) -> Result<(), Fault> {
     let check = check_of_rounds(rt.alloc(), kernel, rounds)?;
-    let name = kernel.name();
-    println!(rt; "{name} {check:016x}").map_err(|_| Fault::Output)
+    println!(rt; "{kernel} {check:016x}").map_err(|_| Fault::Output)
 }
 
 fn run(rt: &HostRuntime) -> Result<(), Fault> {

@@ -2,14 +2,16 @@ ghost use Rattle.std.specs.Prelude.{◌≡◌, ◌-◌, ◌<◌, ◌≤◌, IfOk
 ghost use Rattle.std.specs.List.{range_with_len};
 
 use crate::check::check_of;
+use crate::encoding::{check_of_copying_cells, check_of_encoding};
 use crate::kernel::{Code, Kernel};
+use crate::varied::varied;
 use stair_gf::Steps;
-use stair_mds::{Mds, SYMBOL, Symbols};
+use stair_mds::{Mds, Symbols};
 use std::alloc::{AllocError, Global};
 use std::marker::Brand;
 use std::sync::ledger::{Blank, Ledger};
 
-/// Runs so many rounds of the kernel, and gives a check of the symbols that it made.
+/// Runs so many rounds of the kernel, and gives a check of what it made.
 pub(crate) fn check_of_rounds(
     alloc: Global,
     kernel: Kernel,
@@ -17,12 +19,12 @@ pub(crate) fn check_of_rounds(
 ) -> Result<u64, AllocError> {
     let steps = Blank::new(1);
     match kernel {
-        Kernel::SolveEightTwo => check_of_solving::<Brand>(alloc, Code::EIGHT_TWO, rounds, steps),
-        Kernel::CopyEightTwo => check_of_copying(alloc, Code::EIGHT_TWO, rounds),
-        Kernel::SolveThirtyTwoThree => {
-            check_of_solving::<Brand>(alloc, Code::THIRTY_TWO_THREE, rounds, steps)
+        Kernel::Solve(row) => check_of_solving::<Brand>(alloc, row.code(), rounds, steps),
+        Kernel::CopySymbols(row) => check_of_copying(alloc, row.code(), rounds),
+        Kernel::Encode(encoder, layout) => {
+            check_of_encoding::<Brand>(alloc, encoder, &layout.geometry(), rounds, steps)
         }
-        Kernel::CopyThirtyTwoThree => check_of_copying(alloc, Code::THIRTY_TWO_THREE, rounds),
+        Kernel::CopyCells(layout) => check_of_copying_cells(alloc, &layout.geometry(), rounds),
     }
 }
 
@@ -71,7 +73,7 @@ fn places(alloc: Global, first: u16, end: u16) -> Result<Vec<u16>, AllocError>
     (first..end).collect(alloc)
 }
 
-/// The symbols of a code: byte q of held symbol p is (31·p + 7·q + 1) mod 251, and all others are zero.
+/// The symbols of a code: the bytes of held symbol p are those that vary with number p, and all others are zero.
 fn symbols_of(alloc: Global, held: u16, total: u16) -> Result<Symbols, AllocError>
     requires within { held ≤ total }
     requires few { total ≤ 256 }
@@ -79,17 +81,7 @@ fn symbols_of(alloc: Global, held: u16, total: u16) -> Result<Symbols, AllocErro
 {
     let mut symbols = Symbols::new(alloc, total)?;
     for place in 0..held {
-        symbols.put(place, &held_symbol(place));
+        symbols.put(place, &varied(place));
     }
     Ok(symbols)
-}
-
-fn held_symbol(place: u16) -> [u8; SYMBOL]
-    requires { place < 256 }
-{
-    let mut bytes = [0; SYMBOL];
-    for (q, byte) in bytes.iter_mut().enumerate() {
-        *byte = ((31 * usize::from(place) + 7 * q + 1) % 251) as u8;
-    }
-    bytes
 }

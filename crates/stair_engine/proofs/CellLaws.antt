@@ -6,9 +6,9 @@ use Rattle.std.specs.Io.KnownBytes.{Appends}
 use Rattle.std.proofs.KnownBytes.{Appends-trans}
 use Rattle.std.proofs.Math.Nat.{mul_comm}
 use Rattle.std.proofs.lemmas.Nat.{mul-add-lt}
-use Rattle.std.proofs.lemmas.List.{take_more, take_more_set, take_all, length-take-le}
+use Rattle.std.proofs.lemmas.List.{take_more, take_more_set, take_all}
 use Rattle.std.proofs.lemmas.List.{take-append-le}
-use Rattle.std.proofs.lemmas.List.Elements.{All-head, All-tail, All-take}
+use Rattle.std.proofs.lemmas.List.Elements.{All-head, All-tail}
 use Rattle.std.proofs.lemmas.List.Folds.{concat-append}
 use lib.Seq.{drop_at, take-add}
 use Rattle.stair_model.specs.Geometry.{Geometry}

@@ -1,8 +1,8 @@
 -- Bytes that were taken and counted, piece by piece.
-use Rattle.std.proofs.Common.{◌≡◌, ℕ, ◌+◌, ◌*◌, ◌<◌, ◌≤◌, Bool, true, false, List, [], ◌∷◌, ◌++◌, None, Some, IfSome, Result, Ok, Err, length, take, sym, ap, ◌∙◌, refl, subst, arith, length-append, append-nil, add-zero}
-use Rattle.std.specs.Prelude.{Option, MatchBool, IsErr, IfErr, OnOk}
+use Rattle.std.proofs.Common.{◌≡◌, ℕ, ◌+◌, ◌<◌, ◌≤◌, Bool, true, false, List, [], ◌++◌, None, Some, IfSome, Result, Ok, Err, length, sym, ap, ◌∙◌, subst, arith, length-append, append-nil, add-zero}
+use Rattle.std.specs.Prelude.{Option, MatchBool, IsErr, IfErr}
 use Rattle.std.specs.Result.{IsErrAnd}
-use Rattle.std.specs.Io.KnownBytes.{Appends, Consumes, IsAtEnd, Keeps}
+use Rattle.std.specs.Io.KnownBytes.{Consumes, IsAtEnd, Keeps}
 use Rattle.std.proofs.KnownBytes.{Consumes-kept, Consumes-nil, Consumes-trans}
 use Rattle.stair_engine.specs.declared.intake.Intake.{Intake}
 use Rattle.stair_engine.specs.declared.intake.Refusal.{Refusal}

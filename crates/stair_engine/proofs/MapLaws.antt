@@ -1,12 +1,11 @@
 -- The erased cells of a map, row by row.
-use Rattle.std.proofs.Common.{◌≡◌, ◌≢◌, ℕ, ◌+◌, ◌*◌, ◌<◌, ◌≤◌, ◌⊎◌, ◌↔◌, inl, inr, List, [], ◌++◌, length, get_or, refl, sym, ap, ap₂, ◌∙◌, subst, arith, length-append}
+use Rattle.std.proofs.Common.{◌≡◌, ◌≢◌, ℕ, ◌+◌, ◌*◌, ◌<◌, ◌⊎◌, ◌↔◌, inl, inr, List, [], ◌++◌, length, get_or, refl, sym, ap, ◌∙◌, arith, length-append}
 use Rattle.std.specs.Prelude.{Option}
 use Rattle.std.proofs.lemmas.Bool.{cases_lt}
 use Rattle.std.proofs.lemmas.List.{get_or_append_left, get_or-append-add}
 use Rattle.stair_model.specs.Geometry.{Geometry}
 use Rattle.stair_model.specs.CellSet.{CellSet, HasCell}
 use Rattle.stair_engine.specs.declared.intake.Intake.{Intake}
-use Rattle.stair_engine.specs.Restore.{IsErasedBy}
 use Rattle.stair_engine.specs.Taking.{TakesBytes, TakesMap}
 use Rattle.stair_engine.proofs.CellLaws.{cell_in}
 use Rattle.stair_engine.proofs.IntakeLaws.{TakesBytes-none, TakesBytes-more}

@@ -441,23 +441,15 @@ fn restores_the_erased_cells(rt: HostRuntime) -> Result<(), Fail> {
 #[test]
 fn restores_exactly_the_covered_maps(rt: HostRuntime) -> Result<(), Fail> {
     let put = cells_of(rt.alloc(), &CODEWORD)?;
-    let mut done = 0u16;
-    for marks in 0..256u16 {
+    for marks in 0..=255u8 {
         let mut map = [b'.'; 8];
-        let mut touched = 0u8;
-        let mut whole = 0u8;
-        for slot in 0..4u8 {
-            let upper = (marks >> slot) & 1 == 1;
-            let lower = (marks >> (slot + 4)) & 1 == 1;
-            if upper {
-                map[usize::from(slot)] = b'x';
+        for place in 0..8usize {
+            if (marks >> place) & 1 == 1 {
+                map[place] = b'x';
             }
-            if lower {
-                map[usize::from(slot) + 4] = b'x';
-            }
-            touched += u8::from(upper || lower);
-            whole += u8::from(upper && lower);
         }
+        let touched = ((marks & 0x0F) | (marks >> 4)).count_ones();
+        let whole = (marks & 0x0F & (marks >> 4)).count_ones();
         let bytes = map_and_cells(rt.alloc(), &map, &CODEWORD)?;
         let ends = Ends {
             piece: 512,
@@ -468,13 +460,11 @@ fn restores_exactly_the_covered_maps(rt: HostRuntime) -> Result<(), Fail> {
         if touched <= 2 && whole <= 1 {
             assert_eq!(rt; came.status, Status::Done, "{map:?}");
             assert!(rt; came.put.as_slice() == put.as_slice(), "{map:?}");
-            done += 1;
         } else {
             assert_eq!(rt; came.status.code(), 10, "{map:?}");
             assert!(rt; came.put.is_empty(), "{map:?}");
         }
     }
-    assert_eq!(rt; done, 61);
     Ok(())
 }
 

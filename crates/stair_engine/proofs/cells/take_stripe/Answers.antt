@@ -2,7 +2,7 @@
 use Rattle.std.proofs.Common.{◌≡◌, ◌+◌, ◌*◌, ◌<◌, false, inl, inr, sym, ◌∙◌, arith}
 use Rattle.std.proofs.lemmas.Bool.{cases_lt}
 use Rattle.stair_rack.specs.Count.{kept-Rose}
-use Rattle.stair_engine.proofs.CellLaws.{HasTaken-more, cell_in}
+use Rattle.stair_engine.proofs.CellLaws.{HasTaken-more}
 use Rattle.stair_engine.proofs.IntakeLaws.{RefusesInput-later, if_err_of}
 use Rattle.stair_engine.proofs.cells.take_stripe.Goals as goal
 

@@ -1,5 +1,5 @@
 -- The cells of the rows so far, and of the row so far, were taken from the source, which has not ended.
-use Rattle.std.proofs.Common.{◌≡◌, ◌+◌, ◌*◌, ◌<◌, ◌≤◌, false, length}
+use Rattle.std.proofs.Common.{◌≡◌, ◌+◌, ◌*◌, ◌<◌, ◌≤◌, false}
 use Rattle.stair_engine.proofs.CellLaws.{HasTaken}
 use Rattle.stair_engine.proofs.cells.take_stripe.Given as goal
 

@@ -1,6 +1,4 @@
 -- All cells were taken, and then the end was looked for.
-use Rattle.std.proofs.Common.{◌≡◌, ap, length}
-use Rattle.std.specs.List.{concat}
 use Rattle.std.proofs.lemmas.Option.{IfSome_then}
 use Rattle.std.proofs.lemmas.Result.{IfErr-weaker, on_ok_weaker}
 use Rattle.stair_rack.specs.Count.{kept-Rose}

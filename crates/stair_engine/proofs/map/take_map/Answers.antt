@@ -1,5 +1,5 @@
 -- One row more; a refusal behind the rows so far; and all rows.
-use Rattle.std.proofs.Common.{◌≡◌, ◌<◌, ◌≤◌, false, inl, inr, sym, ◌∙◌, arith, rules, length}
+use Rattle.std.proofs.Common.{◌≡◌, false, inl, inr, sym, ◌∙◌, arith, rules, length}
 use Rattle.std.proofs.lemmas.Bool.{cases_lt}
 use Rattle.stair_rack.specs.Count.{kept-Rose}
 use Rattle.stair_engine.proofs.IntakeLaws.{RefusesInput-later, if_err_of}

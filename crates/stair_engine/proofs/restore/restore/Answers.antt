@@ -3,13 +3,11 @@ use Rattle.std.proofs.Common.{◌≡◌, [], ◌↔◌, length, rules, sym, subs
 use Rattle.std.specs.Prelude.{IsErr, IsNone, IsOk, IsSome}
 use Rattle.std.specs.List.{concat}
 use Rattle.stair_model.specs.CellSet.{IsInStripe}
-use Rattle.stair_model.specs.Codeword.{IsCodeword}
 use Rattle.stair_model.specs.Coverage.{IsCovered}
 use Rattle.stair_model.specs.Geometry.{Geometry}
 use Rattle.stair_model.specs.Restoring.{IsRestored, SameHeld}
 use Rattle.stair_engine.specs.declared.status.Status.TheVariants.{Done, Lost, NoCodeword}
 use Rattle.stair_engine.specs.declared.words.Command.TheVariants.{Restore}
-use Rattle.stair_engine.specs.Cause.{HasCause, TakesInput}
 use Rattle.stair_engine.proofs.AnswerLaws.{CountsErased-counts, IsOutput-restored, JudgesErased-done, JudgesErased-lost, JudgesErased-none, at_ok, cause_of_done, cause_of_judged, cause_of_output_fault, cause_of_refusal, judged_of_erased, not_none_and_some, not_ok_and_err, taken_of_refusal}
 use Rattle.stair_engine.proofs.restore.restore.Goals as goal
 

@@ -1,5 +1,5 @@
 -- A map and all cells were taken, and then the end was looked for.
-use Rattle.std.proofs.Common.{◌≡◌, ℕ, ◌+◌, ◌*◌, ◌≤◌, ◌++◌, length, length-append, ap, ap₂, ◌∙◌, arith, subst}
+use Rattle.std.proofs.Common.{◌≡◌, ℕ, ◌+◌, ◌*◌, ◌++◌, length, length-append, ap, ap₂, ◌∙◌, arith, subst}
 use Rattle.std.specs.List.{concat}
 use Rattle.stair_rack.specs.Count.{kept-Rose}
 use Rattle.stair_engine.specs.declared.intake.Intake.{Intake}

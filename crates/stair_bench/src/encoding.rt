@@ -1,0 +1,107 @@
+ghost use Rattle.std.specs.Prelude.{◌≡◌, ◌<◌, IfOk};
+ghost use Rattle.stair_model.specs.Stripe.{IsStripeOf};
+
+use crate::check::{check_of_blocks, check_of_stripe};
+use crate::kernel::Encoder;
+use crate::varied::varied;
+use stair_base::{Geometry, Kind, SECTOR, Stripe};
+use stair_canon::Canon;
+use stair_down::encode_downstairs;
+use stair_gf::Steps;
+use stair_std::{Generator, encode_standard};
+use stair_up::encode_upstairs;
+use std::alloc::{AllocError, Global};
+use std::sync::ledger::{Blank, Ledger};
+
+/// What stands in each parity before the first round.
+const BEFORE: [u8; SECTOR] = [0xA5; SECTOR];
+
+/// Encodes a stripe so many times, and gives a check of all its cells.
+pub(crate) fn check_of_encoding<L: Ledger>(
+    alloc: Global,
+    encoder: Encoder,
+    geometry: &Geometry,
+    rounds: u32,
+    blank: Blank,
+) -> Result<u64, AllocError>
+    requires name { blank.name ≡ L.name }
+    requires parts { blank.parts ≡ L.parts }
+    requires some { 0 < L.parts }
+{
+    let mut stripe = varied_stripe(alloc, geometry)?;
+    let mut steps = Steps::<L>::new(blank);
+    match encoder {
+        Encoder::Downstairs => {
+            let mut canon = Canon::new(alloc, geometry)?;
+            for _round in 0..rounds {
+                encode_downstairs(&mut canon, &mut stripe, &mut steps);
+            }
+        }
+        Encoder::Upstairs => {
+            let mut canon = Canon::new(alloc, geometry)?;
+            for _round in 0..rounds {
+                encode_upstairs(&mut canon, &mut stripe, &mut steps);
+            }
+        }
+        Encoder::Standard => {
+            let generator = Generator::new(alloc, geometry)?;
+            for _round in 0..rounds {
+                encode_standard(&generator, &mut stripe, &mut steps);
+            }
+        }
+    }
+    Ok(check_of_stripe(geometry, &stripe))
+}
+
+/// Copies all data cells of a stripe, so many times, and gives a check of the copies.
+pub(crate) fn check_of_copying_cells(
+    alloc: Global,
+    geometry: &Geometry,
+    rounds: u32,
+) -> Result<u64, AllocError> {
+    let blocks = varied_blocks(alloc, geometry)?;
+    let mut copies = vec![in alloc; [0; SECTOR]; blocks.len()]?;
+    for _round in 0..rounds {
+        copies.copy_from_slice(&blocks);
+    }
+    Ok(check_of_blocks(&copies))
+}
+
+/// A stripe whose data cells vary, each with its number, row by row through all cells.
+fn varied_stripe(alloc: Global, geometry: &Geometry) -> Result<Stripe, AllocError>
+    ensures { IfOk result (λ stripe. IsStripeOf geometry.now stripe) }
+{
+    let mut stripe = Stripe::new(alloc, geometry)?;
+    for row in 0..geometry.r() {
+        for slot in 0..geometry.n() {
+            let bytes = match geometry.kind(row, slot) {
+                Kind::Block(_) => varied(cell_number(geometry, row, slot)),
+                Kind::Global { .. } | Kind::Parity(_) => BEFORE,
+            };
+            stripe.put(row, slot, &bytes);
+        }
+    }
+    Ok(stripe)
+}
+
+/// The data cells of that stripe, row by row.
+fn varied_blocks(alloc: Global, geometry: &Geometry) -> Result<Vec<[u8; SECTOR]>, AllocError> {
+    let mut blocks = Vec::with_capacity(alloc, usize::from(geometry.u()))?;
+    for row in 0..geometry.r() {
+        for slot in 0..geometry.n() {
+            if let Kind::Block(_) = geometry.kind(row, slot) {
+                blocks.push(varied(cell_number(geometry, row, slot)))?;
+            }
+        }
+    }
+    Ok(blocks)
+}
+
+/// The number of a cell among all cells of a stripe, row by row.
+fn cell_number(geometry: &Geometry, row: u8, slot: u8) -> u16
+    requires row_in { row < geometry.now.r }
+    requires slot_in { slot < geometry.now.n }
+    ensures { result < 1024 }
+{
+    u16::from(row) * u16::from(geometry.n()) + u16::from(slot)
+}
