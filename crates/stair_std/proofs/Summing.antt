@@ -1,5 +1,5 @@
 -- A parity of the blocks of the cells so far, and its steps.
-use Rattle.std.proofs.Common.{◌≡◌, ◌≢◌, ℕ, ◌+◌, ◌<◌, true, false, if◌then◌else◌, List, slice_index, refl, sym, ◌∙◌, ap, ap₂, arith, add-zero, add-one}
+use Rattle.std.proofs.Common.{◌≡◌, ◌≢◌, ℕ, ◌+◌, ◌*◌, ◌<◌, true, false, if◌then◌else◌, List, slice_index, refl, sym, ◌∙◌, ap, ap₂, arith, add-zero, add-one}
 use Rattle.std.specs.Prelude.{not, bit_xor}
 use Rattle.std.specs.Int.Bits.{xor_zero_r}
 use Rattle.std.proofs.lemmas.Bool.{cond-true, cond-false, ne_eqb}
@@ -15,7 +15,7 @@ use Rattle.stair_gf.specs.AddsMultiple.{AddsMultiple}
 use Rattle.stair_gf.proofs.SectorSums.{IsSumOf, IsSumOf-more}
 use Rattle.stair_std.specs.Cells.{is_parity_number, blocks_before, byte_of_number}
 use Rattle.stair_std.specs.Coefficients.{Coefficients}
-use Rattle.stair_std.specs.Standard.{coefficient_of, block_byte, step_of, step_at}
+use Rattle.stair_std.specs.Standard.{coefficient_of, block_byte, parity_byte, step_of, step_at, parity_steps}
 use Rattle.stair_std.proofs.Numbers.{IsNumberOf, bytes_at, cell_at-number, block_number, is_block}
 
 -- what the cell of number t adds to byte p of a parity
@@ -96,3 +96,16 @@ module _ (c : Coefficients) (parity : ℕ) (stripe : Stripe) (start number steps
       counted = more_steps start number steps 1 (step_at c parity) so_far.counted
           (sym (ap (λ b. if not b then 1 else 0) (ne_eqb by 0 nonzero)) ∙ step_here);
     }
+
+-- all cells
+pub parity_byte-all : (c : Coefficients) (parity : ℕ) (stripe : Stripe) (start number steps : ℕ) (sum : List ℕ)
+    → number ≡ c.geometry.r * c.geometry.n → HasSummed c parity stripe start number steps sum
+    → (p : ℕ) → p < 512 → slice_index sum p ≡ parity_byte c stripe p parity
+parity_byte-all c parity stripe start number steps sum all so_far p p_in =
+    so_far.summed.so_far p p_in ∙ ap (λ (n : ℕ). field_sum n (term c parity stripe p)) all
+
+pub parity_steps-all : (c : Coefficients) (parity : ℕ) (stripe : Stripe) (start number steps : ℕ) (sum : List ℕ)
+    → number ≡ c.geometry.r * c.geometry.n → HasSummed c parity stripe start number steps sum
+    → steps ≡ start + parity_steps c parity
+parity_steps-all c parity stripe start number steps sum all so_far =
+    so_far.counted ∙ ap (λ (n : ℕ). start + sum_below n (step_at c parity)) all

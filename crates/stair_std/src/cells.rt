@@ -1,6 +1,6 @@
 //! The cells of a stripe in one row of numbers: cell (i, j) is number i·n + j.
 
-ghost use Rattle.std.specs.Prelude.{◌≡◌, ◌*◌, ◌/◌, ◌%◌, ◌-◌, ◌<◌, ◌≤◌, MatchOption, true};
+ghost use Rattle.std.specs.Prelude.{◌≡◌, ◌*◌, ◌/◌, ◌%◌, ◌<◌, ◌≤◌, MatchOption, true};
 ghost use Rattle.stair_model.specs.Cell.{Data, cell_at};
 ghost use Rattle.stair_model.specs.Costs.{is_parity};
 ghost use Rattle.stair_model.specs.Geometry.{IsWithinLimits};

@@ -1,6 +1,6 @@
 //! Stripes of which, at each byte position, one data cell is 1 and all others are zero.
 
-ghost use Rattle.std.specs.Prelude.{◌≡◌, ℕ, ◌<◌, ◌++◌, OnOk, length, slice_index};
+ghost use Rattle.std.specs.Prelude.{◌≡◌, ℕ, ◌<◌, OnOk, length, slice_index};
 ghost use Rattle.stair_model.specs.Encoding.{IsEncodedFrom};
 ghost use Rattle.stair_model.specs.Geometry.{IsWithinLimits};
 ghost use Rattle.stair_model.specs.Stripe.{IsStripeOf};

@@ -1,15 +1,13 @@
 -- A parity, a data cell with a coefficient that is zero, and one with another.
-use Rattle.std.proofs.Common.{◌≡◌, ℕ, ◌+◌, ◌<◌, ◌*◌, true, ◌∙◌, ap, subst, arith}
+use Rattle.std.proofs.Common.{◌≡◌, ◌<◌, ◌*◌, true, ◌∙◌, ap, subst, arith}
 use Rattle.stair_model.specs.Cell.{Data, cell_at}
 use Rattle.stair_model.specs.Costs.{is_parity}
 use Rattle.stair_model.specs.Geometry.{data_cells}
 use Rattle.stair_model.proofs.DataLaws.{data_in_range}
-use Rattle.stair_model.specs.Sum.{field_sum, sum_below}
 use Rattle.stair_gf.specs.AddsMultiple.{AddsMultiple}
 use Rattle.stair_gf.proofs.SectorSums.{IsSumOf-none}
-use Rattle.stair_std.specs.Standard.{step_at}
 use Rattle.stair_std.proofs.Numbers.{IsNumberOf-found}
-use Rattle.stair_std.proofs.Summing.{term, HasSummed-none, HasSummed-parity, HasSummed-zero, HasSummed-block}
+use Rattle.stair_std.proofs.Summing.{HasSummed-none, HasSummed-parity, HasSummed-zero, HasSummed-block, parity_byte-all, parity_steps-all}
 use Rattle.stair_std.proofs.generator.Generator.parity.Goals as goal
 use Rattle.stair_std.proofs.generator.Generator.parity.Goals.{in-Some+then-by-ne0, in-Some+else-by-ne0, in_default}
 
@@ -54,14 +52,11 @@ returns-clause-sum g c =
     let cells : c.cell_count-number-end.result ≡ c.args.self.now.geometry.r * c.args.self.now.geometry.n =
     c.cell_count-number-end.ensures.value ∙ ap (λ x. x.geometry.r * x.geometry.n) c.self.view_is in
     let all : c.loop-number.number ≡ c.args.self.now.geometry.r * c.args.self.now.geometry.n = omega (arith, cells) in
-    λ p p_in.
-    c.loop-number.invariant.summed.so_far p p_in
-    ∙ ap (λ (n : ℕ). field_sum n (term c.args.self.now c.args.parity c.args.stripe.now p)) all
+    parity_byte-all c.args.self.now c.args.parity c.args.stripe.now c.args.steps.now _ _ _ all c.loop-number.invariant
 
 pub returns-clause-cost : goal.returns-clause-cost
 returns-clause-cost g c =
     let cells : c.cell_count-number-end.result ≡ c.args.self.now.geometry.r * c.args.self.now.geometry.n =
     c.cell_count-number-end.ensures.value ∙ ap (λ x. x.geometry.r * x.geometry.n) c.self.view_is in
     let all : c.loop-number.number ≡ c.args.self.now.geometry.r * c.args.self.now.geometry.n = omega (arith, cells) in
-    c.loop-number.invariant.counted
-    ∙ ap (λ (n : ℕ). c.args.steps.now + sum_below n (step_at c.args.self.now c.args.parity)) all
+    parity_steps-all c.args.self.now c.args.parity c.args.stripe.now c.args.steps.now _ _ _ all c.loop-number.invariant
