@@ -360,3 +360,25 @@ fn tallest_stripe_is_encoded_and_restored(rt: HostRuntime) -> Result<(), Fail> {
     assert_eq!(rt; got, Outcome::Restored);
     Ok(())
 }
+
+// As many chunks and rows as there may be. Three whole chunks are lost, and four, two and one cell of three others.
+#[test]
+fn largest_stripe_is_encoded_and_restored(rt: HostRuntime) -> Result<(), Fail> {
+    let geometry = Geometry::new(32, 3, 32, &[1, 2, 4], 1, [0; 16])?;
+    let mut canon = Canon::new(rt.alloc(), &geometry)?;
+    let mut codeword = Stripe::new(rt.alloc(), &geometry)?;
+    let mut work = Stripe::new(rt.alloc(), &geometry)?;
+    put_blocks(&geometry, &mut codeword);
+    encode::<Brand>(Blank::new(1), &mut canon, &mut codeword);
+    assert!(rt; is_encoded(&geometry, &codeword));
+    // whole chunks in slots 1, 16 and 31, and the others in slots 0, 20 and 30
+    let mut rows = [0b1000_0000_0000_0001_0000_0000_0000_0010; 32];
+    rows[3] = 0b1100_0000_0001_0001_0000_0000_0000_0010;
+    rows[9] = 0b1100_0000_0001_0001_0000_0000_0000_0010;
+    rows[17] = 0b1100_0000_0000_0001_0000_0000_0000_0010;
+    rows[31] = 0b1100_0000_0000_0001_0000_0000_0000_0011;
+    let erased = marked(&geometry, &rows);
+    let got = decoded(&geometry, &mut canon, &codeword, &erased, &mut work);
+    assert_eq!(rt; got, Outcome::Restored);
+    Ok(())
+}
