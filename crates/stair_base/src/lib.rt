@@ -3,6 +3,7 @@
 //! The code is that of Li and Lee, STAIR Codes (FAST 2014). [`Stripe::new`] alone takes memory.
 #![tactic(auto)]
 
+pub use code::StripeCode;
 pub use coverage::{NotCovered, covered};
 pub use equations::{Broken, first_broken};
 pub use geometry::{Geometry, GeometryFault};
@@ -11,6 +12,7 @@ pub use place::Place;
 pub use sets::{CellSet, Slots};
 pub use stripe::{SECTOR, Stripe};
 
+mod code;
 mod coverage;
 mod device;
 mod equations;

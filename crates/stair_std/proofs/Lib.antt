@@ -1,6 +1,6 @@
 mod Numbers
 mod Blocks
-mod UnitStripes
+pub mod UnitStripes
 mod Columns
 mod Summing
 mod Encoding

@@ -52,6 +52,7 @@ impl Generator {
     pub fn new(alloc: Global, geometry: &Geometry) -> Result<Generator, AllocError>
         ensures geometry { IfOk result (λ generator. generator.geometry ≡ geometry.now) }
         ensures coefficients { IfOk result IsGenerator }
+        ensures standard { IfOk result (λ generator. IsStandardCost geometry.now (nonzero_coefficients generator)) }
     {
         let blocks = geometry.u();
         let count = usize::from(blocks) * usize::from(parity_count(geometry));

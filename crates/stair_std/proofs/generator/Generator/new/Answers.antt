@@ -1,6 +1,7 @@
 -- A data cell more; after the last of a pass the next one begins.
 use Rattle.std.proofs.Common.{◌≡◌, ℕ, ◌-◌, ◌%◌, ap, ◌∙◌, sym, subst, arith}
 use Rattle.stair_std.specs.Units.{AreUnits}
+use Rattle.stair_std.proofs.Counting.{IsStandardCost-nonzero}
 use Rattle.stair_std.proofs.Columns.{HasColumns-more, IsGenerator-all, same_pass, in_pass}
 use Rattle.stair_std.proofs.generator.Generator.new.Goals as goal
 use Rattle.stair_std.proofs.generator.Generator.new.Goals.{then-byte-eq0, else-byte-eq0}
@@ -33,3 +34,7 @@ invariant_of-result c = IsGenerator-all _ _ _ c.u-blocks.ensures.limits (omega (
 
 pub returns-clause-coefficients : goal.returns-clause-coefficients
 returns-clause-coefficients c = IsGenerator-all _ _ _ c.u-blocks.ensures.limits (omega (arith, c.u-blocks.ensures.value)) c.loop-block.invariant.columns
+
+pub returns-clause-standard : goal.returns-clause-standard
+returns-clause-standard c =
+    IsStandardCost-nonzero _ (IsGenerator-all _ _ _ c.u-blocks.ensures.limits (omega (arith, c.u-blocks.ensures.value)) c.loop-block.invariant.columns)

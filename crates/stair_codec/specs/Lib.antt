@@ -1,0 +1,3 @@
+-- Which encoder a code takes, and in how many steps.
+pub mod Choice
+pub mod Kept
