@@ -73,6 +73,18 @@ impl Codec {
             Way::Downstairs => Encoder::Downstairs,
         }
     }
+
+    /// The steps in which it encodes a stripe. Those of the standard encoder are counted at each call.
+    pub fn cost(&self) -> u64
+        ensures value { result ≡ self.now.cost }
+        ensures of_encoder { IsCostOf self.now.encoder self.now.geometry result }
+    {
+        match &self.way {
+            Way::Standard(generator) => generator.cost(),
+            Way::Upstairs => upstairs_steps(&self.canon.geometry()),
+            Way::Downstairs => downstairs_steps(&self.canon.geometry()),
+        }
+    }
 }
 
 impl StripeCode for Codec {

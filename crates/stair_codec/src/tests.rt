@@ -54,18 +54,20 @@ fn stripe_of_blocks(alloc: Global, geometry: &Geometry, fill: &[u8]) -> Result<S
     Ok(stripe)
 }
 
-// Worked by hand: 1/3 is F4; the global parity g meets (1/3)(1/6)·g = (1/2)(1/4), so g = 46.
+// Worked by hand: 1/3 is F4; the global parity g meets (1/3)(1/6)·g = (1/2)(1/4), so g = 46. Upstairs takes
+// 3·(2+1) + 2·3·1 steps, downstairs 3·2·2 + 2·1; of the 15 coefficients two are zero.
 #[test]
 fn each_encoder_gives_the_known_stripe(rt: HostRuntime) -> Result<(), Fail> {
     let geometry = Geometry::new(4, 1, 2, &[1], 1, [0; 16])?;
-    for (by, encoder) in [
-        (By::Standard, Encoder::Standard),
-        (By::Upstairs, Encoder::Upstairs),
-        (By::Downstairs, Encoder::Downstairs),
-        (By::Fewest, Encoder::Standard),
+    for (by, encoder, cost) in [
+        (By::Standard, Encoder::Standard, 13),
+        (By::Upstairs, Encoder::Upstairs, 15),
+        (By::Downstairs, Encoder::Downstairs, 14),
+        (By::Fewest, Encoder::Standard, 13),
     ] {
         let mut codec = Codec::new(rt.alloc(), &geometry, by)?;
         assert_eq!(rt; codec.encoder(), encoder);
+        assert_eq!(rt; codec.cost(), cost);
         assert!(rt; codec.geometry() == geometry);
         let mut stripe = stripe_of_blocks(rt.alloc(), &geometry, &[1])?;
         encode(&mut codec, &mut stripe);
@@ -80,8 +82,20 @@ fn each_encoder_gives_the_known_stripe(rt: HostRuntime) -> Result<(), Fail> {
     Ok(())
 }
 
-// The steps, counted by hand. On 4 1 2 1: upstairs 3·(2+1) + 2·3·1 = 15, downstairs 3·2·2 + 2 = 14. On 8 2 4 1 1 2: upstairs
-// 6·(8+4) + 4·6·2 = 120, downstairs 6·5·4 + 4·4 = 136.
+// Counted by hand: upstairs takes 6·(8+4) + 4·6·2 steps, downstairs 6·5·4 + 4·4.
+#[test]
+fn steps_of_eight_devices(rt: HostRuntime) -> Result<(), Fail> {
+    let geometry = Geometry::new(8, 2, 4, &[1, 1, 2], 1, [0; 16])?;
+    let upstairs = Codec::new(rt.alloc(), &geometry, By::Upstairs)?.cost();
+    let downstairs = Codec::new(rt.alloc(), &geometry, By::Downstairs)?.cost();
+    let standard = Codec::new(rt.alloc(), &geometry, By::Standard)?.cost();
+    let fewest = Codec::new(rt.alloc(), &geometry, By::Fewest)?.cost();
+    assert_eq!(rt; upstairs, 120);
+    assert_eq!(rt; downstairs, 136);
+    assert_eq!(rt; fewest, upstairs.min(standard));
+    Ok(())
+}
+
 #[test]
 fn fewest_takes_the_least_and_upstairs_first(rt: HostRuntime) {
     for (standard, upstairs, downstairs, encoder) in [

@@ -1,5 +1,5 @@
 -- From what was taken to the answer.
-use Rattle.std.proofs.Common.{◌≡◌, ◌≢◌, ℕ, ◌+◌, ◌<◌, Bool, true, false, inl, inr, List, [], ◌++◌, None, Some, IfSome, Result, Ok, Err, length, take, drop, get_or, refl, sym, ap, ◌∙◌, subst, arith, length-append}
+use Rattle.std.proofs.Common.{◌≡◌, ◌≢◌, ℕ, ◌+◌, ◌*◌, ◌<◌, Bool, true, false, inl, inr, List, [], ◌++◌, None, Some, IfSome, Result, Ok, Err, length, take, drop, get_or, refl, sym, ap, ◌∙◌, subst, arith, length-append}
 use Rattle.std.specs.Prelude.{Option, MatchBool, IsTrue, IsOk, IsErr, IsNone, IsSome, IfOk, if◌then◌else◌}
 use Rattle.std.specs.List.{concat}
 use Rattle.std.specs.Io.KnownBytes.{Appends, Consumes}
@@ -13,23 +13,27 @@ use Rattle.stair_model.specs.Stripe.{Stripe, IsStripeOf, IsWellFormed}
 use Rattle.stair_model.specs.CellSet.{CellSet, HasCell, IsInStripe, count_in_slot, has_cell}
 use Rattle.stair_model.specs.Codeword.{IsCodeword}
 use Rattle.stair_model.specs.Coverage.{IsCovered}
+use Rattle.stair_model.specs.Encoding.{IsEncodedFrom}
 use Rattle.stair_model.specs.Equation.{IsFirstBroken}
 use Rattle.stair_model.proofs.CountLaws.{sum_below_zeros}
 use Rattle.stair_model.specs.Restoring.{IsRestored, SameHeld}
 use Rattle.stair_base.specs.declared.equations.Broken.{Broken}
 use Rattle.stair_base.specs.Equations.{equation_of}
+use Rattle.stair_conf.specs.declared.job.Method.{Method}
 use Rattle.stair_engine.specs.declared.intake.Refusal.{Refusal}
 use Rattle.stair_engine.specs.declared.intake.Refusal.TheVariants.{OtherLength, Fault}
 use Rattle.stair_engine.specs.declared.status.Status.{Status}
 use Rattle.stair_engine.specs.declared.status.Status.TheVariants.{Done, NotCodeword, NoCodeword, Usage, Limit, Input, InputFault, OutputFault, Lost, OutOfMemory}
-use Rattle.stair_engine.specs.declared.words.Command.{Command}
-use Rattle.stair_engine.specs.declared.words.Command.TheVariants.{Check, Restore}
+use Rattle.stair_engine.specs.declared.task.Command.{Command}
+use Rattle.stair_engine.specs.declared.task.Command.TheVariants.{Check, Encode, Restore}
 use Rattle.stair_engine.specs.Answer.{HasBytes, IsAnswer, IsJudged, IsOtherLength, bytes_needed, map_bytes}
-use Rattle.stair_engine.specs.Cause.{Answers, HasCause, IsOutput, LimitsComeFirst, TakesInput}
+use Rattle.stair_engine.specs.Cause.{Answers, HasCause, IsCodewordBytes, LimitsComeFirst, TakesInput}
+use Rattle.stair_engine.specs.Encode.{TookBlocks}
 use Rattle.stair_engine.specs.Restore.{CountsErased, IsErasedBy, JudgesErased}
 use Rattle.stair_engine.specs.Streams.{PutsPart}
 use Rattle.stair_engine.specs.Taking.{RefusesInput, TookErased, intake_of, status_of}
-use Rattle.stair_engine.proofs.CellLaws.{length-cell_bytes}
+use Rattle.stair_engine.proofs.BlockLaws.{IsEncodingOf-held}
+use Rattle.stair_engine.proofs.CellLaws.{length-cell_bytes, length-concat}
 
 -- a fact of every told input
 pub if_told : (told : Option (List ℕ)) (P : List ℕ → Type 0) → ((input : List ℕ) → P input) → IfSome told P
@@ -50,6 +54,8 @@ HasBytes-cells g stripe of well bytes same = record {
 pub limits_of_refusal : (command : Command) (g : Geometry) (refusal : Refusal) → IsWithinLimits g → LimitsComeFirst command g (status_of refusal)
 limits_of_refusal Check g (OtherLength needed took) limits = limits
 limits_of_refusal Check g Fault limits = limits
+limits_of_refusal (Encode method) g (OtherLength needed took) limits = limits
+limits_of_refusal (Encode method) g Fault limits = limits
 limits_of_refusal Restore g (OtherLength needed took) limits = limits
 limits_of_refusal Restore g Fault limits = limits
 
@@ -159,20 +165,33 @@ JudgesErased-done g erased stripe restored covered held of well codeword = (
   (restored, record { of = of; well_formed = well; meets_equations = codeword; held = held }, refl),
 )
 
--- it is what `restore` puts out
-pub IsOutput-restored : (g : Geometry) (restored : Stripe) → IsStripeOf g restored → IsWellFormed restored → IsCodeword g restored
-    → IsOutput Restore g (concat restored.cells)
-IsOutput-restored g restored of well codeword = (restored, codeword, HasBytes-cells g restored of well (concat restored.cells) refl)
+-- its bytes are those of a codeword
+pub IsCodewordBytes-cells : (g : Geometry) (codeword : Stripe) → IsStripeOf g codeword → IsWellFormed codeword → IsCodeword g codeword
+    → IsCodewordBytes g (concat codeword.cells)
+IsCodewordBytes-cells g codeword of well is = (codeword, is, HasBytes-cells g codeword of well (concat codeword.cells) refl)
+
+-- what is judged of the encoded stripe is judged of the input
+pub judged_of_blocks : (method : Method) (g : Geometry) (told : Option (List ℕ)) (before after : Stripe) → IsWithinLimits g
+    → TookBlocks g told before → IsEncodedFrom g before after → IfSome told (λ input. IsJudged (Encode method) g input Done (concat after.cells))
+judged_of_blocks method g told before after limits took encoded =
+    IfSome_then told took (λ input has.
+    record {
+      limits = limits;
+      whole = sym (ap length has.1.same_bytes) ∙ length-concat has.0 has.1.sectors ∙ ap (λ (n : ℕ). n * 512) has.1.count;
+      judged = (has.0, has.1, (after, IsEncodingOf-held g has.0 before after limits has.2 encoded, refl));
+    })
 
 -- where all was put out
-pub cause_of_done : (g : Geometry) (told held held' : Option (List ℕ)) (output : List ℕ) → IfSome told (λ input. IsJudged Restore g input Done output)
-    → Appends held held' output → IfSome told (λ input. HasCause Restore g input held held' Done)
-cause_of_done g told held held' output judged puts = IfSome_then told judged (λ input is. (output, is, puts))
+pub cause_of_done : (command : Command) (g : Geometry) (told held held' : Option (List ℕ)) (output : List ℕ)
+    → IfSome told (λ input. IsJudged command g input Done output)
+    → Appends held held' output → IfSome told (λ input. HasCause command g input held held' Done)
+cause_of_done command g told held held' output judged puts = IfSome_then told judged (λ input is. (output, is, puts))
 
 -- where the sink failed
-pub cause_of_output_fault : (g : Geometry) (told held held' : Option (List ℕ)) (output : List ℕ) → IfSome told (λ input. IsJudged Restore g input Done output)
-    → PutsPart held held' output → IfSome told (λ input. HasCause Restore g input held held' OutputFault)
-cause_of_output_fault g told held held' output judged puts = IfSome_then told judged (λ input is. (output, is, puts))
+pub cause_of_output_fault : (command : Command) (g : Geometry) (told held held' : Option (List ℕ)) (output : List ℕ)
+    → IfSome told (λ input. IsJudged command g input Done output)
+    → PutsPart held held' output → IfSome told (λ input. HasCause command g input held held' OutputFault)
+cause_of_output_fault command g told held held' output judged puts = IfSome_then told judged (λ input is. (output, is, puts))
 
 -- a refusal of what was judged
 pub cause_of_judged : (g : Geometry) (told held : Option (List ℕ)) (status : Status) → IfSome told (λ input. IsJudged Restore g input status [])

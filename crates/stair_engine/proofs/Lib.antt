@@ -1,7 +1,8 @@
 pub mod StreamLaws
-pub mod WordsLemmas
 pub mod IntakeLaws
 pub mod CellLaws
+pub mod BlockLaws
 pub mod MapLaws
 pub mod AnswerLaws
 pub mod RestoreLaws
+pub mod StepLaws

@@ -1,8 +1,8 @@
 -- What each command answers for an input, and what it puts out: the status and the output are determined by the words and the
 -- input alone.
-use Rattle.std.specs.Prelude.{◌≡◌, ◌≢◌, ℕ, ◌+◌, ◌*◌, List, [], ◌∷◌, ◌++◌, length, drop, min, replicate, take, codes}
+use Rattle.std.specs.Prelude.{◌≡◌, ◌≢◌, ℕ, ◌+◌, ◌*◌, List, [], ◌∷◌, ◌++◌, length, drop, min, take, codes}
 use Rattle.std.specs.List.{concat}
-use Rattle.stair_model.specs.Geometry.{Geometry, geometry_of, IsWithinLimits, IsFirstBrokenLimit}
+use Rattle.stair_model.specs.Geometry.{Geometry, IsWithinLimits, IsFirstBrokenLimit, data_cells}
 use Rattle.stair_model.specs.Stripe.{Stripe, SECTOR, IsStripeOf, IsWellFormed}
 use Rattle.stair_model.specs.CellSet.{CellSet}
 use Rattle.stair_model.specs.Codeword.{IsCodeword}
@@ -10,14 +10,10 @@ use Rattle.stair_model.specs.Equation.{IsFirstBroken}
 use Rattle.stair_base.specs.Equations.{equation_of}
 use Rattle.stair_engine.specs.declared.status.Status.{Status}
 use Rattle.stair_engine.specs.declared.status.Status.TheVariants.{Done, NotCodeword, NoCodeword, Usage, Limit, Input, InputFault, OutputFault, Lost, OutOfMemory}
-use Rattle.stair_engine.specs.declared.words.Command.{Command}
-use Rattle.stair_engine.specs.declared.words.Command.TheVariants.{Check, Restore}
+use Rattle.stair_engine.specs.declared.task.Command.{Command}
+use Rattle.stair_engine.specs.declared.task.Command.TheVariants.{Check, Encode, Restore}
+use Rattle.stair_engine.specs.Encode.{HasBlocks, JudgesBlocks}
 use Rattle.stair_engine.specs.Restore.{IsErasedBy, JudgesErased}
-use Rattle.stair_engine.specs.Words.{Job}
-
--- the geometry of one stripe, with a zero identity
-abbrev pub one_stripe : Job → Geometry
-one_stripe job = geometry_of job.n job.m job.r job.e 1 (replicate 16 0)
 
 -- the bytes of a map, one for each cell
 abbrev pub map_bytes : Geometry → ℕ
@@ -27,9 +23,14 @@ map_bytes g = g.r * g.n
 abbrev pub cell_bytes : Geometry → ℕ
 cell_bytes g = g.r * g.n * SECTOR
 
--- the bytes of the input: `check` takes the cells of a stripe, and `restore` a map before them
+-- the bytes of the blocks of a stripe
+abbrev pub block_bytes : Geometry → ℕ
+block_bytes g = data_cells g * SECTOR
+
+-- the bytes of the input: `check` takes the cells of a stripe, `stripe` its blocks, and `restore` a map before the cells
 abbrev pub bytes_needed : Command → Geometry → ℕ
 bytes_needed Check g = cell_bytes g
+bytes_needed (Encode method) g = block_bytes g
 bytes_needed Restore g = map_bytes g + cell_bytes g
 
 -- the stripe of this geometry whose cells are these bytes, row by row
@@ -52,6 +53,8 @@ JudgesStripe g stripe _ output = ⊥
 -- the status and the output for an input of the length that the command needs
 abbrev pub Judges : Command → Geometry → List ℕ → Status → List ℕ → Type 0
 Judges Check g input status output = (stripe : Stripe) × HasBytes g stripe input × JudgesStripe g stripe status output
+Judges (Encode method) g input status output =
+    (blocks : List (List ℕ)) × HasBlocks g blocks input × JudgesBlocks g blocks status output
 Judges Restore g input status output =
     (erased : CellSet) × (stripe : Stripe) × IsErasedBy g (take (map_bytes g) input) erased
     × HasBytes g stripe (drop (map_bytes g) input) × JudgesErased g erased stripe status output

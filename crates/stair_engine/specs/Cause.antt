@@ -6,8 +6,8 @@ use Rattle.stair_model.specs.Stripe.{Stripe}
 use Rattle.stair_model.specs.Codeword.{IsCodeword}
 use Rattle.stair_engine.specs.declared.status.Status.{Status}
 use Rattle.stair_engine.specs.declared.status.Status.TheVariants.{Done, NotCodeword, NoCodeword, Usage, Limit, Input, InputFault, OutputFault, Lost, OutOfMemory}
-use Rattle.stair_engine.specs.declared.words.Command.{Command}
-use Rattle.stair_engine.specs.declared.words.Command.TheVariants.{Check, Restore}
+use Rattle.stair_engine.specs.declared.task.Command.{Command}
+use Rattle.stair_engine.specs.declared.task.Command.TheVariants.{Check, Encode, Restore}
 use Rattle.stair_engine.specs.Answer.{HasBytes, IsAnswer, bytes_needed, codeword_line}
 use Rattle.stair_engine.specs.Streams.{PutsPart}
 
@@ -29,17 +29,20 @@ HasCause command g input old new (Input needed took) = Answers command g input o
 HasCause command g input old new (Lost stripe counts n) = Answers command g input old new (Lost stripe counts n)
 HasCause command g input old new Usage = ⊥
 
--- the limits are tested before the input, whatever the source tells; no equation is told by `restore`, and no erased cells
--- or held ones by `check`
+-- the limits are tested before the input, whatever the source tells; an equation is told by `check` alone, and erased cells
+-- and held ones by `restore` alone
 abbrev pub LimitsComeFirst : Command → Geometry → Status → Type 0
 LimitsComeFirst command g (Limit k) = IsFirstBrokenLimit g k
 LimitsComeFirst command g Usage = ⊥
 LimitsComeFirst command g OutOfMemory = ⊤
 LimitsComeFirst Check g (NotCodeword b) = IsWithinLimits g
+LimitsComeFirst (Encode method) g (NotCodeword b) = ⊥
 LimitsComeFirst Restore g (NotCodeword b) = ⊥
 LimitsComeFirst Check g NoCodeword = ⊥
+LimitsComeFirst (Encode method) g NoCodeword = ⊥
 LimitsComeFirst Restore g NoCodeword = IsWithinLimits g
 LimitsComeFirst Check g (Lost stripe counts n) = ⊥
+LimitsComeFirst (Encode method) g (Lost stripe counts n) = ⊥
 LimitsComeFirst Restore g (Lost stripe counts n) = IsWithinLimits g
 LimitsComeFirst command g Done = IsWithinLimits g
 LimitsComeFirst command g (Input needed took) = IsWithinLimits g
@@ -88,10 +91,15 @@ LooksForEnd command g old new (Input needed took) =
 LooksForEnd command g old new InputFault = ⊤
 LooksForEnd command g old new _ = (old ≡ false) × (new ≡ true)
 
+-- these are the cells of a codeword
+abbrev pub IsCodewordBytes : Geometry → List ℕ → Type 0
+IsCodewordBytes g output = (codeword : Stripe) × IsCodeword g codeword × HasBytes g codeword output
+
 -- what a command puts out where all was done: a line, or the cells of a codeword
 abbrev pub IsOutput : Command → Geometry → List ℕ → Type 0
 IsOutput Check g output = output ≡ codeword_line
-IsOutput Restore g output = (codeword : Stripe) × IsCodeword g codeword × HasBytes g codeword output
+IsOutput (Encode method) g output = IsCodewordBytes g output
+IsOutput Restore g output = IsCodewordBytes g output
 
 -- the output is put out where all was done, a part of it where the sink failed, and nothing else ever
 abbrev pub PutsOut : Command → Geometry → Option (List ℕ) → Option (List ℕ) → Status → Type 0

@@ -1,10 +1,11 @@
 -- What the top call answers.
-pub mod Words
-pub mod Read
+pub mod Task
 pub mod Status
 pub mod Streams
 pub mod Restore
+pub mod Encode
 pub mod Answer
 pub mod Cause
 pub mod Taking
 pub mod Laws
+pub mod Examples

@@ -31,7 +31,7 @@ abbrev pub line_of : Status → List ℕ
 line_of Done = []
 line_of (NotCodeword broken) = codes "not a codeword: " ++ equation_line broken
 line_of NoCodeword = codes "no codeword holds these cells"
-line_of Usage = codes "usage: stair FOLDER check|restore"
+line_of Usage = codes "usage: stair FOLDER check|stripe|restore"
 line_of (Limit k) = codes "geometry: limit " ++ decimal k
 line_of (Input needed took) = codes "input: needed " ++ decimal needed ++ codes ", took " ++ decimal took
 line_of InputFault = codes "input failed"

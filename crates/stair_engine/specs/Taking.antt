@@ -1,16 +1,18 @@
 -- What is taken from a source on the way to an answer.
-use Rattle.std.specs.Prelude.{◌≡◌, ℕ, ◌+◌, ◌<◌, ◌≤◌, Bool, MatchBool, List, drop, length, take, Option, IfSome}
+use Rattle.std.specs.Prelude.{◌≡◌, ℕ, ◌+◌, ◌<◌, ◌≤◌, Bool, MatchBool, List, All, drop, length, take, Option, IfSome}
+use Rattle.std.specs.List.{concat}
 use Rattle.std.specs.Io.KnownBytes.{Consumes}
 use Rattle.stair_model.specs.CellSet.{CellSet, IsInStripe}
-use Rattle.stair_model.specs.Geometry.{Geometry}
-use Rattle.stair_model.specs.Stripe.{Stripe}
+use Rattle.stair_model.specs.Geometry.{Geometry, data_cells}
+use Rattle.stair_model.specs.Stripe.{Stripe, IsSector}
 use Rattle.stair_engine.specs.declared.intake.Intake.{Intake}
 use Rattle.stair_engine.specs.declared.intake.Refusal.{Refusal}
 use Rattle.stair_engine.specs.declared.intake.Refusal.TheVariants.{OtherLength, Fault}
 use Rattle.stair_engine.specs.declared.status.Status.{Status}
 use Rattle.stair_engine.specs.declared.status.Status.TheVariants.{Input, InputFault}
-use Rattle.stair_engine.specs.declared.words.Command.TheVariants.{Restore}
+use Rattle.stair_engine.specs.declared.task.Command.TheVariants.{Restore}
 use Rattle.stair_engine.specs.Answer.{HasBytes, bytes_needed, map_bytes}
+use Rattle.stair_engine.specs.Encode.{HoldsBlocks}
 use Rattle.stair_engine.specs.Restore.{IsErasedBy}
 
 -- the status of a refusal
@@ -31,6 +33,18 @@ pub record TakesBytes (old new : Intake) (left left' : Option (List ℕ)) (bytes
 abbrev pub TakesMap : Geometry → Intake → Intake → Option (List ℕ) → Option (List ℕ) → CellSet → Type 0
 TakesMap g old new left left' erased =
     (map : List ℕ) × (length map ≡ map_bytes g) × IsErasedBy g map erased × TakesBytes old new left left' map
+
+-- blocks of sectors were taken, and the first `count` data cells of the stripe hold them
+pub record TakesBlocksTo (g : Geometry) (count : ℕ) (old new : Intake) (left left' : Option (List ℕ)) (stripe : Stripe) : Type 0 where
+  pub blocks : List (List ℕ)
+  pub as_many : length blocks ≡ count
+  pub sectors : All IsSector blocks
+  pub held : HoldsBlocks g count blocks stripe
+  pub taken : TakesBytes old new left left' (concat blocks)
+
+-- all blocks of a stripe were taken
+abbrev pub TakesBlocks : Geometry → Intake → Intake → Option (List ℕ) → Option (List ℕ) → Stripe → Type 0
+TakesBlocks g old new left left' stripe = TakesBlocksTo g (data_cells g) old new left left' stripe
 
 -- Why not exactly the bytes that are needed came, of which the intake had counted some before: the source ended before all
 -- had come, or had one more behind them, or failed.

@@ -10,7 +10,7 @@ use crate::cells::{cell_bytes, take_stripe};
 use crate::intake::{Intake, Refusal};
 use crate::status::Status;
 use crate::streams::{SinkFailed, put_all};
-use crate::words::Command;
+use crate::task::Command;
 use stair_base::{Geometry, Stripe, first_broken};
 use stair_rack::{Sink, Source};
 use std::alloc::Global;

@@ -1,17 +1,11 @@
-//! The laws of the words, and of what is answered for an input.
+//! The law of what is answered for an input.
 
-ghost use Rattle.std.specs.Prelude.{◌≡◌, ℕ, ◌↔◌, List};
+ghost use Rattle.std.specs.Prelude.{ℕ, ◌↔◌, List};
 ghost use Rattle.stair_model.specs.Geometry.{Geometry};
 ghost use Rattle.stair_engine.specs.Answer.{IsAnswer};
 ghost use Rattle.stair_engine.specs.Laws.{DifferAtErased};
-ghost use Rattle.stair_engine.specs.Words.{Job, Spells};
 ghost use Rattle.stair_engine.specs.declared.status.Status.{Status};
-ghost use Rattle.stair_engine.specs.declared.words.Command.TheVariants.{Restore};
-
-/// Words spell one job at most. It does nothing.
-pub fn words_laws()
-    ensures one_job { (words : List (List ℕ)) (a b : Job) → Spells words a → Spells words b → a ≡ b }
-{}
+ghost use Rattle.stair_engine.specs.declared.task.Command.TheVariants.{Restore};
 
 /// What stands in the place of an erased cell makes no difference. It does nothing.
 pub fn restore_laws()

@@ -12,11 +12,10 @@ use crate::intake::{Intake, Refusal};
 use crate::map::take_map;
 use crate::status::Status;
 use crate::streams::SinkFailed;
-use crate::words::Command;
-use stair_base::{CellSet, Geometry, Stripe, first_broken};
-use stair_canon::Canon;
+use crate::task::Command;
+use stair_base::{CellSet, Geometry, Stripe, StripeCode, first_broken};
+use stair_codec::{By, Codec};
 use stair_rack::{Sink, Source};
-use stair_up::decode_upstairs;
 use std::alloc::Global;
 
 /// Takes a map and the cells of a stripe row by row, and puts out the codeword that has those cells of it that are held.
@@ -43,25 +42,53 @@ pub(crate) fn restore<S: Source, K: Sink>(
         Ok(stripe) => stripe,
         Err(_) => return Status::OutOfMemory,
     };
-    let mut canon = match Canon::new(alloc, geometry) {
-        Ok(canon) => canon,
+    let mut codec = match Codec::new(alloc, geometry, By::Upstairs) {
+        Ok(codec) => codec,
         Err(_) => return Status::OutOfMemory,
     };
-    let erased = match take_input(geometry, &mut stripe, input) {
+    restore_by(&mut codec, geometry, &mut stripe, input, output)
+}
+
+/// Takes a map and the cells of a stripe of this geometry, restores it by this code, and puts out the codeword that has the
+/// cells that are held.
+fn restore_by<C: StripeCode, S: Source, K: Sink>(
+    code: &mut C,
+    geometry: &Geometry,
+    stripe: &mut Stripe,
+    input: &mut S,
+    output: &mut K,
+) -> Status
+    requires shape { C.shape code.old ≡ geometry.now }
+    requires of { IsStripeOf geometry.now stripe.old }
+    requires well_formed { IsWellFormed stripe.old }
+    ensures limits { LimitsComeFirst Command.Restore geometry.now result }
+    ensures cause { IfSome (S.left input.old) (λ bytes.
+        HasCause Command.Restore geometry.now bytes (K.held output.old) (K.held output.new) result) }
+    ensures input_fault { result ≡ Status.InputFault → Rose (S.faults input.old) (S.faults input.new) }
+    ensures output_fault { result ≡ Status.OutputFault → Rose (K.faults output.old) (K.faults output.new) }
+    ensures taken { TakesInput Command.Restore geometry.now (S.left input.old) (S.left input.new) result }
+    ensures looked { LooksForEnd Command.Restore geometry.now (S.ended input.old) (S.ended input.new) result }
+    ensures input_count { S.faults input.old ≤ S.faults input.new }
+    ensures output { PutsOut Command.Restore geometry.now (K.held output.old) (K.held output.new) result }
+    ensures untouched { IfNothingIsPutOut result (output.new ≡ output.old) }
+    ensures refused { IfRefusedAtOnce result ((input.new ≡ input.old) × (output.new ≡ output.old)) }
+    ensures output_count { K.faults output.old ≤ K.faults output.new }
+{
+    let erased = match take_input(geometry, stripe, input) {
         Ok(erased) => erased,
         Err(refusal) => return Status::from(refusal),
     };
-    if decode_upstairs(&mut canon, &mut stripe, &erased).is_err() {
+    if code.restore(stripe, &erased).is_err() {
         return Status::Lost {
             stripe: 0,
             counts: erased.counts(),
             n: geometry.n(),
         };
     }
-    if first_broken(geometry, &stripe).is_some() {
+    if first_broken(geometry, stripe).is_some() {
         return Status::NoCodeword;
     }
-    match put_stripe(geometry, &stripe, output) {
+    match put_stripe(geometry, stripe, output) {
         Ok(()) => Status::Done,
         Err(SinkFailed) => Status::OutputFault,
     }

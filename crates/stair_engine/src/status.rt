@@ -88,7 +88,7 @@ impl fmt::Display for Status {
                 write!(f, "not a codeword: global {l} {h} byte {byte}")
             }
             Status::NoCodeword => write!(f, "no codeword holds these cells"),
-            Status::Usage => write!(f, "usage: stair FOLDER check|restore"),
+            Status::Usage => write!(f, "usage: stair FOLDER check|stripe|restore"),
             Status::Limit(limit) => write!(f, "geometry: limit {limit}"),
             Status::Input { needed, took } => { write!(f, "input: needed {needed}, took {took}") }
             Status::InputFault => write!(f, "input failed"),

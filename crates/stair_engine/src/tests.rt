@@ -1,12 +1,16 @@
-//! Worked rows of `check` and `restore`, over memory. The cells and the answers were computed by hand.
+//! Worked rows of the commands, over memory. The cells and the answers were computed by hand.
 
-ghost use Rattle.std.specs.Prelude.{◌<◌};
+ghost use Rattle.std.specs.Prelude.{◌≡◌, ◌<◌};
 
 use super::*;
 use stair_base::{Broken, SECTOR};
 use stair_rack::{MemSink, MemSource};
 use std::alloc::{AllocError, Global};
+use std::marker::Brand;
+use std::sync::ledger::Blank;
 use std::test::Fail;
+
+mod stripe;
 
 // Four devices with one row parity, two rows, and one global parity.
 const FOUR: [&str; 5] = ["check", "4", "1", "2", "1"];
@@ -44,16 +48,38 @@ struct Ends {
     room: usize,
 }
 
-fn run(alloc: Global, line: &[&str], bytes: &[u8], ends: Ends) -> Result<Outcome, AllocError>
-    requires { 0 < ends.piece }
-{
+fn words_of(alloc: Global, line: &[&str]) -> Result<Vec<String>, AllocError> {
     let mut words = Vec::new(alloc);
     for word in line {
         words.push(String::from_str(alloc, word)?)?;
     }
+    Ok(words)
+}
+
+fn run(alloc: Global, line: &[&str], bytes: &[u8], ends: Ends) -> Result<Outcome, AllocError>
+    requires { 0 < ends.piece }
+{
+    run_on::<Brand>(Blank::new(1), alloc, line, bytes, ends)
+}
+
+// The same, with the counter on a ledger of its own.
+fn run_on<L: Ledger>(
+    blank: Blank,
+    alloc: Global,
+    line: &[&str],
+    bytes: &[u8],
+    ends: Ends,
+) -> Result<Outcome, AllocError>
+    requires name { blank.name ≡ L.name }
+    requires parts { blank.parts ≡ L.parts }
+    requires some { 0 < L.parts }
+    requires piece { 0 < ends.piece }
+{
+    let mut steps = Steps::<L>::new(blank);
+    let words = words_of(alloc, line)?;
     let mut input = MemSource::new(alloc, bytes, ends.piece, ends.fail_at)?;
     let mut output = MemSink::new(alloc, ends.room)?;
-    let status = stair(alloc, &words, &mut input, &mut output);
+    let status = stair(alloc, &words, &mut input, &mut output, &mut steps);
     Ok(Outcome {
         status,
         left: input.left().len(),
@@ -211,7 +237,7 @@ fn counts_an_input_of_another_length(rt: HostRuntime) -> Result<(), Fail> {
 
 #[test]
 fn refuses_words_and_limits_before_the_input(rt: HostRuntime) -> Result<(), Fail> {
-    let rows: [(&[&str], Status); 28] = [
+    let rows: [(&[&str], Status); 34] = [
         (&["check", "2", "1", "2", "1"], Status::Limit(1)),
         (&["check", "33", "1", "2", "1"], Status::Limit(1)),
         (
@@ -254,6 +280,12 @@ fn refuses_words_and_limits_before_the_input(rt: HostRuntime) -> Result<(), Fail
         (&["restore", "4", "1", "2"], Status::Usage),
         (&["restored", "4", "1", "2", "1"], Status::Usage),
         (&["Check", "4", "1", "2", "1"], Status::Usage),
+        (&["stripe", "side", "4", "1", "2", "1"], Status::Usage),
+        (&["stripe", "up", "4", "1", "2"], Status::Usage),
+        (&["stripe", "4", "1", "2", "1"], Status::Usage),
+        (&["stripe", "fewest", "4", "2", "2", "1"], Status::Limit(3)),
+        (&["check", "--", "4", "1", "2", "1"], Status::Usage),
+        (&["--help"], Status::Usage),
         (&[], Status::Usage),
     ];
     let bytes = cells_of(rt.alloc(), &CODEWORD)?;
@@ -327,7 +359,7 @@ fn each_status_has_its_code_and_line(rt: HostRuntime) -> Result<(), Fail> {
             "not a codeword: global 0 0 byte 0",
         ),
         (Status::NoCodeword, 1, "no codeword holds these cells"),
-        (Status::Usage, 2, "usage: stair FOLDER check|restore"),
+        (Status::Usage, 2, "usage: stair FOLDER check|stripe|restore"),
         (Status::Limit(3), 3, "geometry: limit 3"),
         (
             Status::Input {

@@ -1,0 +1,5 @@
+-- The ledger is the blank's.
+use Rattle.stair_cli.proofs.main.Given as goal
+
+abbrev pub ghosts-run : goal.ghosts-run
+ghosts-run a = record { name = a.blank.name; parts = a.blank.parts }

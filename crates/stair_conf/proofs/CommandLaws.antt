@@ -1,0 +1,207 @@
+-- What clap makes of the words of each command.
+use Rattle.std.proofs.Common.{◌≡◌, ◌∙◌, ◌≤◌, ◌+◌, ◌&&◌, ℕ, Bool, true, false, List, [], ◌∷◌, Some, None, length, map, refl, sym, ap, ap₂, subst, arith}
+use Rattle.std.proofs.lemmas.List.{length-append, length-map}
+use Rattle.std.specs.Prelude.{codes, is_some}
+use Rattle.std.specs.List.{list_all}
+use Rattle.std.specs.Fmt.{decimal}
+use Rattle.std.proofs.lemmas.Bool.{le-leb}
+use Rattle.clap.specs.Lexer.{usize_max}
+use Rattle.clap.specs.Values.{reading_of}
+use Rattle.clap.specs.ValueTests.{accepts}
+use Rattle.clap.specs.Walk.{Row, Rule, Text, Walk, all_of, finished, first_of, nothing_held, rows_after, rows_of, walk_from}
+use Rattle.clap.specs.Matches.{found_of}
+use Rattle.clap.specs.Simple.{App, HasMatchesOf, Shape, built, entered, is_simple, matches_of}
+use Rattle.clap.specs.Takes.{built_takes, default_passes, entered_passes, is_valid, settle_passes}
+use Rattle.clap.specs.declared.builder.value_parser.ValueParser.TheVariants as vp
+use Rattle.clap.specs.declared.parser.matches.ValueSource.TheVariants.{CommandLine}
+use Rattle.clap.specs.declared.parser.matches.ArgMatches.{ArgMatches}
+use Rattle.stair_conf.specs.declared.job.Method.{Method}
+use Rattle.stair_conf.specs.Commands.{HasNoOption, geometry_app, stripe_app}
+use Rattle.stair_conf.specs.Rows.{HasGeometry, HasMethod}
+use Rattle.stair_conf.specs.Words.{SpellsGeometry, method_word}
+use Rattle.stair_conf.proofs.RowLemmas.{HoldsGeometry, geometry_held, geometry_spelled}
+use Rattle.stair_conf.proofs.WordsLemmas.{behind, in_front}
+use Rattle.stair_conf.proofs.WalkLaws.{IsPlainWalk, all_placed, all_placed-last, at_last, has_no_tail, places_pass, places_pass-last, walk-placed, walk_passes-placed}
+
+-- ---- a command of positionals alone
+
+-- the walk before the first word
+abbrev start : Walk
+start = walk_from nothing_held
+
+start_plain : IsPlainWalk start
+start_plain = record { going_on = refl; not_trailing = refl; no_option = tt }
+
+rows_after-placed : (c : List Rule) → has_no_tail c ≡ true → (words : List Text) → HasNoOption words
+    → rows_after c [] words ≡ finished c (all_placed c start words).held
+rows_after-placed c no_tail words none = ap (λ (w : Walk). finished c w.held) (walk-placed c no_tail words none start start_plain)
+
+-- whether clap takes the words with which the walk ends so
+abbrev level_takes : Shape → Walk → Bool → Bool
+level_takes s end passes =
+    let a : App = record { top = s; subs = [] } in
+    entered_passes a end.stopped && (passes && (settle_passes s.rules s.args_override_self end.held
+    && (list_all default_passes s.rules && is_valid s (finished s.rules end.held) (is_some (entered a end.stopped)))))
+
+built_takes-placed : (s : Shape) → has_no_tail s.rules ≡ true → (words : List Text) → HasNoOption words
+    → built_takes (record { top = s; subs = [] }) nothing_held words ≡ level_takes s (all_placed s.rules start words) (places_pass s start words)
+built_takes-placed s no_tail words none =
+    ap₂ (level_takes s) (walk-placed s.rules no_tail words none start start_plain)
+    (walk_passes-placed s no_tail words none start start_plain)
+
+-- ---- the rows of the words
+
+-- the row of a positional with these words
+abbrev row : Text → List Text → Row
+row id words = record { id = id; values = words; count = None; source = Some CommandLine; reading = reading_of vp.String }
+
+abbrev geometry_rules : List Rule
+geometry_rules = (built geometry_app).top.rules
+
+geometry_placed : (a b c d : Text) (rest : List Text)
+    → all_placed geometry_rules start (a ∷ b ∷ c ∷ d ∷ rest)
+    ≡ at_last (row (codes "N") (a ∷ []) ∷ row (codes "M") (b ∷ []) ∷ row (codes "R") (c ∷ []) ∷ []) (codes "E") (d ∷ rest) 4
+geometry_placed a b c d rest = all_placed-last geometry_rules (codes "E") 4 refl _ (d ∷ []) rest
+
+geometry_rows : (a b c d : Text) (rest : List Text) → HasNoOption (a ∷ b ∷ c ∷ d ∷ rest)
+    → rows_after geometry_rules [] (a ∷ b ∷ c ∷ d ∷ rest)
+    ≡ row (codes "N") (a ∷ []) ∷ row (codes "M") (b ∷ []) ∷ row (codes "R") (c ∷ []) ∷ row (codes "E") (d ∷ rest) ∷ []
+geometry_rows a b c d rest none =
+    rows_after-placed geometry_rules refl (a ∷ b ∷ c ∷ d ∷ rest) none
+    ∙ ap (λ (w : Walk). finished geometry_rules w.held) (geometry_placed a b c d rest)
+
+geometry_holds : (a b c d : Text) (rest : List Text) → HasNoOption (a ∷ b ∷ c ∷ d ∷ rest)
+    → HoldsGeometry (rows_after geometry_rules [] (a ∷ b ∷ c ∷ d ∷ rest)) a b c (d ∷ rest)
+geometry_holds a b c d rest none =
+    let rows = geometry_rows a b c d rest none in
+    record {
+      n_row = ap (first_of (codes "N")) rows;
+      m_row = ap (first_of (codes "M")) rows;
+      r_row = ap (first_of (codes "R")) rows;
+      e_row = ap (all_of (codes "E")) rows;
+    }
+
+abbrev stripe_rules : List Rule
+stripe_rules = (built stripe_app).top.rules
+
+stripe_placed : (method a b c d : Text) (rest : List Text)
+    → all_placed stripe_rules start (method ∷ a ∷ b ∷ c ∷ d ∷ rest)
+    ≡ at_last (row (codes "METHOD") (method ∷ []) ∷ row (codes "N") (a ∷ []) ∷ row (codes "M") (b ∷ []) ∷ row (codes "R") (c ∷ []) ∷ []) (codes "E") (d ∷ rest) 5
+stripe_placed method a b c d rest = all_placed-last stripe_rules (codes "E") 5 refl _ (d ∷ []) rest
+
+stripe_rows : (method a b c d : Text) (rest : List Text) → HasNoOption (method ∷ a ∷ b ∷ c ∷ d ∷ rest)
+    → rows_after stripe_rules [] (method ∷ a ∷ b ∷ c ∷ d ∷ rest)
+    ≡ row (codes "METHOD") (method ∷ []) ∷ row (codes "N") (a ∷ []) ∷ row (codes "M") (b ∷ []) ∷ row (codes "R") (c ∷ []) ∷ row (codes "E") (d ∷ rest) ∷ []
+stripe_rows method a b c d rest none =
+    rows_after-placed stripe_rules refl (method ∷ a ∷ b ∷ c ∷ d ∷ rest) none
+    ∙ ap (λ (w : Walk). finished stripe_rules w.held) (stripe_placed method a b c d rest)
+
+stripe_holds : (method a b c d : Text) (rest : List Text) → HasNoOption (method ∷ a ∷ b ∷ c ∷ d ∷ rest)
+    → (first_of (codes "METHOD") (rows_after stripe_rules [] (method ∷ a ∷ b ∷ c ∷ d ∷ rest)) ≡ Some method)
+    × HoldsGeometry (rows_after stripe_rules [] (method ∷ a ∷ b ∷ c ∷ d ∷ rest)) a b c (d ∷ rest)
+stripe_holds method a b c d rest none =
+    let rows = stripe_rows method a b c d rest none in (
+      ap (first_of (codes "METHOD")) rows,
+      record {
+        n_row = ap (first_of (codes "N")) rows;
+        m_row = ap (first_of (codes "M")) rows;
+        r_row = ap (first_of (codes "R")) rows;
+        e_row = ap (all_of (codes "E")) rows;
+      },
+    )
+
+-- ---- the words are taken
+
+strings_pass : (words : List Text) → list_all (accepts false vp.String) words ≡ true
+strings_pass [] = refl
+strings_pass (word ∷ words) = strings_pass words
+
+pub geometry_takes : (a b c d : Text) (rest : List Text) → HasNoOption (a ∷ b ∷ c ∷ d ∷ rest) → length (d ∷ rest) ≤ usize_max
+    → built_takes (built geometry_app) nothing_held (a ∷ b ∷ c ∷ d ∷ rest) ≡ true
+geometry_takes a b c d rest none few =
+    built_takes-placed (built geometry_app).top refl (a ∷ b ∷ c ∷ d ∷ rest) none
+    ∙ ap₂ (level_takes (built geometry_app).top) (geometry_placed a b c d rest)
+    (places_pass-last (built geometry_app).top (codes "E") 4 refl
+    (row (codes "N") (a ∷ []) ∷ row (codes "M") (b ∷ []) ∷ row (codes "R") (c ∷ []) ∷ []) (d ∷ []) rest)
+    ∙ rw (le-leb 1 (length (d ∷ rest)) (omega arith), le-leb (length (d ∷ rest)) usize_max few, strings_pass rest) refl
+
+pub stripe_takes : (method a b c d : Text) (rest : List Text) → HasNoOption (method ∷ a ∷ b ∷ c ∷ d ∷ rest) → length (d ∷ rest) ≤ usize_max
+    → built_takes (built stripe_app) nothing_held (method ∷ a ∷ b ∷ c ∷ d ∷ rest) ≡ true
+stripe_takes method a b c d rest none few =
+    built_takes-placed (built stripe_app).top refl (method ∷ a ∷ b ∷ c ∷ d ∷ rest) none
+    ∙ ap₂ (level_takes (built stripe_app).top) (stripe_placed method a b c d rest)
+    (places_pass-last (built stripe_app).top (codes "E") 5 refl
+    (row (codes "METHOD") (method ∷ []) ∷ row (codes "N") (a ∷ []) ∷ row (codes "M") (b ∷ []) ∷ row (codes "R") (c ∷ []) ∷ []) (d ∷ []) rest)
+    ∙ rw (le-leb 1 (length (d ∷ rest)) (omega arith), le-leb (length (d ∷ rest)) usize_max few, strings_pass rest) refl
+
+-- ---- the rows tell what the words spell
+
+-- a geometry has at least four words
+enough : (before words : List Text) (n m r : ℕ) (e : List ℕ) → SpellsGeometry before words n m r e → length before + 4 ≤ length words
+enough before words n m r e spells =
+    omega (arith, ap length spells.spelled, length-append before (decimal n ∷ decimal m ∷ decimal r ∷ map decimal e), length-map e decimal, spells.some_e)
+
+-- where no row E stands no geometry is told
+no_row : (rows placed : List Row) (n m r : ℕ) (e : List ℕ) → rows ≡ placed → all_of (codes "E") placed ≡ None → HasGeometry rows n m r e → ⊥
+no_row rows placed n m r e same none has = let numbers = has.e_words.all in let rows_none = ap (all_of (codes "E")) same in cc
+
+pub geometry_told : (words : List Text) → HasNoOption words → (n m r : ℕ) (e : List ℕ)
+    → HasGeometry (rows_after geometry_rules [] words) n m r e → SpellsGeometry [] words n m r e
+geometry_told [] none n m r e has = absurd (no_row _ _ n m r e (rows_after-placed geometry_rules refl [] none) refl has)
+geometry_told (a ∷ []) none n m r e has = absurd (no_row _ _ n m r e (rows_after-placed geometry_rules refl (a ∷ []) none) refl has)
+geometry_told (a ∷ b ∷ []) none n m r e has = absurd (no_row _ _ n m r e (rows_after-placed geometry_rules refl (a ∷ b ∷ []) none) refl has)
+geometry_told (a ∷ b ∷ c ∷ []) none n m r e has = absurd (no_row _ _ n m r e (rows_after-placed geometry_rules refl (a ∷ b ∷ c ∷ []) none) refl has)
+geometry_told (a ∷ b ∷ c ∷ d ∷ rest) none n m r e has =
+    geometry_spelled _ a b c (d ∷ rest) n m r e (geometry_holds a b c d rest none) (omega arith) has
+
+pub geometry_tells : (words : List Text) → HasNoOption words → (n m r : ℕ) (e : List ℕ)
+    → SpellsGeometry [] words n m r e → HasGeometry (rows_after geometry_rules [] words) n m r e
+geometry_tells (a ∷ b ∷ c ∷ d ∷ rest) none n m r e spells =
+    geometry_held _ a b c (d ∷ rest) n m r e (geometry_holds a b c d rest none) spells
+geometry_tells words none n m r e spells = absurd (omega (arith, enough [] words n m r e spells))
+
+pub geometry_taken : (words : List Text) → HasNoOption words → length words ≤ usize_max → (n m r : ℕ) (e : List ℕ)
+    → SpellsGeometry [] words n m r e → built_takes (built geometry_app) nothing_held words ≡ true
+geometry_taken (a ∷ b ∷ c ∷ d ∷ rest) none few n m r e spells = geometry_takes a b c d rest none (omega arith)
+geometry_taken words none few n m r e spells = absurd (omega (arith, enough [] words n m r e spells))
+
+pub stripe_told : (words : List Text) → HasNoOption words → (method : Method) (n m r : ℕ) (e : List ℕ)
+    → HasMethod (rows_after stripe_rules [] words) (codes "METHOD") method → HasGeometry (rows_after stripe_rules [] words) n m r e
+    → SpellsGeometry (method_word method ∷ []) words n m r e
+stripe_told [] none method n m r e is has = absurd (no_row _ _ n m r e (rows_after-placed stripe_rules refl [] none) refl has)
+stripe_told (w ∷ []) none method n m r e is has = absurd (no_row _ _ n m r e (rows_after-placed stripe_rules refl (w ∷ []) none) refl has)
+stripe_told (w ∷ a ∷ []) none method n m r e is has = absurd (no_row _ _ n m r e (rows_after-placed stripe_rules refl (w ∷ a ∷ []) none) refl has)
+stripe_told (w ∷ a ∷ b ∷ []) none method n m r e is has =
+    absurd (no_row _ _ n m r e (rows_after-placed stripe_rules refl (w ∷ a ∷ b ∷ []) none) refl has)
+stripe_told (w ∷ a ∷ b ∷ c ∷ []) none method n m r e is has =
+    absurd (no_row _ _ n m r e (rows_after-placed stripe_rules refl (w ∷ a ∷ b ∷ c ∷ []) none) refl has)
+stripe_told (w ∷ a ∷ b ∷ c ∷ d ∷ rest) none method n m r e is has =
+    let holds = stripe_holds w a b c d rest none in
+    let firsts : Some w ≡ Some (method_word method) = sym holds.0 ∙ is.first in
+    let w_is : w ≡ method_word method = cc in
+    let numbers = geometry_spelled _ a b c (d ∷ rest) n m r e holds.1 (omega arith) has in
+    subst (λ (first : Text). SpellsGeometry (first ∷ []) (w ∷ a ∷ b ∷ c ∷ d ∷ rest) n m r e) w_is
+    (in_front w [] (a ∷ b ∷ c ∷ d ∷ rest) n m r e numbers)
+
+pub stripe_tells : (words : List Text) → HasNoOption words → (method : Method) (n m r : ℕ) (e : List ℕ)
+    → SpellsGeometry (method_word method ∷ []) words n m r e
+    → HasMethod (rows_after stripe_rules [] words) (codes "METHOD") method × HasGeometry (rows_after stripe_rules [] words) n m r e
+stripe_tells (w ∷ a ∷ b ∷ c ∷ d ∷ rest) none method n m r e spells =
+    let holds = stripe_holds w a b c d rest none in
+    let words_are = spells.spelled in
+    let w_is : w ≡ method_word method = cc in (
+      record { first = holds.0 ∙ ap Some w_is },
+      geometry_held _ a b c (d ∷ rest) n m r e holds.1 (behind (method_word method) [] (w ∷ a ∷ b ∷ c ∷ d ∷ rest) n m r e spells),
+    )
+stripe_tells words none method n m r e spells = absurd (omega (arith, enough (method_word method ∷ []) words n m r e spells))
+
+pub stripe_taken : (words : List Text) → HasNoOption words → length words ≤ usize_max → (method : Method) (n m r : ℕ) (e : List ℕ)
+    → SpellsGeometry (method_word method ∷ []) words n m r e → built_takes (built stripe_app) nothing_held words ≡ true
+stripe_taken (w ∷ a ∷ b ∷ c ∷ d ∷ rest) none few method n m r e spells = stripe_takes w a b c d rest none (omega arith)
+stripe_taken words none few method n m r e spells = absurd (omega (arith, enough (method_word method ∷ []) words n m r e spells))
+
+-- ---- a command that clap was given
+
+pub rows_of-matches : (given app : App) (words : List Text) (m : ArgMatches) → given ≡ app → is_simple app ≡ true → HasMatchesOf given words m
+    → rows_of (found_of m) ≡ matches_of app words
+rows_of-matches given app words m same simple matched = (matched (ap is_simple same ∙ simple)).0 ∙ ap (λ (a : App). matches_of a words) same

@@ -1,0 +1,90 @@
+-- What the rows of clap's matches say of a job.
+use Rattle.std.proofs.Common.{◌≡◌, ◌∙◌, ◌<◌, ◌↔◌, ℕ, List, [], ◌∷◌, Option, Some, None, length, map, sym, ap, arith}
+use Rattle.std.specs.Prelude.{codes, option_map}
+use Rattle.std.specs.Fmt.{decimal}
+use Rattle.std.proofs.lemmas.List.{length-map}
+use Rattle.clap.specs.Words.{Text, Row, all_of, first_of, first_value, matched_of, raw_values, rows_of}
+use Rattle.clap.specs.declared.parser.matches.Found.{Found}
+use Rattle.clap.proofs.WalkLemmas.{first_value-rows, raw_values-rows}
+use Rattle.stair_conf.specs.declared.job.Method.{Method}
+use Rattle.stair_conf.specs.Rows.{HasGeometry, HasMethod, HasNumber}
+use Rattle.stair_conf.specs.Words.{IsNumber, SpellsGeometry, method_word}
+
+-- ---- what the getters tell
+
+first_at : (f : Found) (id word : Text) → Some word ≡ first_value f id → first_of id (rows_of f) ≡ Some word
+first_at f id word at = sym (first_value-rows f id) ∙ sym at
+
+-- a number is read where its word is the first of its id
+pub number_at : (f : Found) (id word : Text) (read : Option ℕ) → Some word ≡ first_value f id → ((n : ℕ) → (read ≡ Some n) ↔ IsNumber word n)
+    → (n : ℕ) → (read ≡ Some n) ↔ HasNumber (rows_of f) id n
+number_at f id word read at exact n =
+    let first = first_at f id word at in (
+      (λ is. let number = (exact n).0 is in record { first = first ∙ ap Some number.spelled; fits = number.fits }),
+      (λ has.
+          let same : word ≡ decimal n = let h = has.first in cc in
+          (exact n).1 (record { spelled = same; fits = has.fits })),
+    )
+
+-- the same for a method
+pub method_at : (f : Found) (id word : Text) (read : Option Method) → Some word ≡ first_value f id
+    → ((method : Method) → (read ≡ Some method) ↔ (word ≡ method_word method))
+    → (method : Method) → (read ≡ Some method) ↔ HasMethod (rows_of f) id method
+method_at f id word read at exact method =
+    let first = first_at f id word at in (
+      (λ is. record { first = first ∙ ap Some ((exact method).0 is) }),
+      (λ has.
+          let same : word ≡ method_word method = let h = has.first in cc in
+          (exact method).1 same),
+    )
+
+-- an id with no word has no number, and no method
+pub none_at : {X : Type 0} (f : Found) (id : Text) (text : X → Text) (x : X) → None ≡ first_value f id → first_of id (rows_of f) ≡ Some (text x) → ⊥
+none_at f id text x none first = let rows = first_value-rows f id in cc
+
+pub all_at : (f : Found) (id : Text) (words : List Text) → Some words ≡ option_map raw_values (matched_of f id) → all_of id (rows_of f) ≡ Some words
+all_at f id words at = sym (raw_values-rows f id) ∙ sym at
+
+pub no_words_at : (f : Found) (id : Text) (words : List Text) → None ≡ option_map raw_values (matched_of f id) → all_of id (rows_of f) ≡ Some words → ⊥
+no_words_at f id words none all = let rows = raw_values-rows f id in cc
+
+-- ---- the words of a geometry
+
+-- these words stand in the rows of a geometry
+pub record HoldsGeometry (rows : List Row) (a b c : Text) (d : List Text) : Type 0 where
+  pub n_row : first_of (codes "N") rows ≡ Some a
+  pub m_row : first_of (codes "M") rows ≡ Some b
+  pub r_row : first_of (codes "R") rows ≡ Some c
+  pub e_row : all_of (codes "E") rows ≡ Some d
+
+pub geometry_spelled : (rows : List Row) (a b c : Text) (d : List Text) (n m r : ℕ) (e : List ℕ) → HoldsGeometry rows a b c d → 0 < length d
+    → HasGeometry rows n m r e → SpellsGeometry [] (a ∷ b ∷ c ∷ d) n m r e
+geometry_spelled rows a b c d n m r e holds some has =
+    let n_is : Some a ≡ Some (decimal n) = sym holds.n_row ∙ has.n_word.first in
+    let m_is : Some b ≡ Some (decimal m) = sym holds.m_row ∙ has.m_word.first in
+    let r_is : Some c ≡ Some (decimal r) = sym holds.r_row ∙ has.r_word.first in
+    let e_are : Some d ≡ Some (map decimal e) = sym holds.e_row ∙ has.e_words.all in
+    let d_is : d ≡ map decimal e = cc in
+    record {
+      spelled = cc;
+      some_e = omega (arith, ap length d_is, length-map e decimal);
+      n_fits = has.n_word.fits;
+      m_fits = has.m_word.fits;
+      r_fits = has.r_word.fits;
+      e_fit = has.e_words.fit;
+    }
+
+pub geometry_held : (rows : List Row) (a b c : Text) (d : List Text) (n m r : ℕ) (e : List ℕ) → HoldsGeometry rows a b c d
+    → SpellsGeometry [] (a ∷ b ∷ c ∷ d) n m r e → HasGeometry rows n m r e
+geometry_held rows a b c d n m r e holds spells =
+    let words = spells.spelled in
+    let n_is : a ≡ decimal n = cc in
+    let m_is : b ≡ decimal m = cc in
+    let r_is : c ≡ decimal r = cc in
+    let e_are : d ≡ map decimal e = cc in
+    record {
+      n_word = record { first = holds.n_row ∙ ap Some n_is; fits = spells.n_fits };
+      m_word = record { first = holds.m_row ∙ ap Some m_is; fits = spells.m_fits };
+      r_word = record { first = holds.r_row ∙ ap Some r_is; fits = spells.r_fits };
+      e_words = record { all = holds.e_row ∙ ap Some e_are; fit = spells.e_fit };
+    }

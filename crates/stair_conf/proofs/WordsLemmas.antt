@@ -1,0 +1,128 @@
+-- What the words of a job are.
+use Rattle.std.proofs.Common.{◌≡◌, ◌∙◌, ◌<◌, ◌^◌, ℕ, List, [], ◌∷◌, map, drop, get_or, refl, sym, ap, arith}
+use Rattle.std.specs.Prelude.{codes}
+use Rattle.std.specs.Fmt.{decimal}
+use Rattle.std.proofs.lemmas.Fmt.{decimal_injective}
+use Rattle.std.proofs.lemmas.List.{append_cancel_left}
+use Rattle.std.proofs.lemmas.List.Elements.{All-append, All-cons, All-map, All-nil, All-weaker}
+use Rattle.stair_conf.specs.declared.job.Method.{Method}
+use Rattle.stair_conf.specs.declared.job.Method.TheVariants.{Standard, Up, Down, Fewest}
+use Rattle.stair_conf.specs.declared.job.Job.{Job}
+use Rattle.stair_conf.specs.declared.job.Job.TheVariants.{Check, Stripe, Restore}
+use Rattle.stair_conf.specs.Commands.{HasNoOption, IsPlainWord}
+use Rattle.stair_conf.specs.Words.{Spells, SpellsGeometry, method_word}
+use Rattle.stair_conf.proofs.NumberLemmas.{begins-decimal, map_decimal_injective}
+
+-- ---- the first words
+
+-- without the first word
+pub behind : (first : List ℕ) (before words : List (List ℕ)) (n m r : ℕ) (e : List ℕ) → SpellsGeometry (first ∷ before) words n m r e
+    → SpellsGeometry before (drop 1 words) n m r e
+behind first before words n m r e spells = record {
+  spelled = ap (drop 1) spells.spelled;
+  some_e = spells.some_e;
+  n_fits = spells.n_fits;
+  m_fits = spells.m_fits;
+  r_fits = spells.r_fits;
+  e_fit = spells.e_fit;
+}
+
+-- with one more word first
+pub in_front : (first : List ℕ) (before words : List (List ℕ)) (n m r : ℕ) (e : List ℕ) → SpellsGeometry before words n m r e
+    → SpellsGeometry (first ∷ before) (first ∷ words) n m r e
+in_front first before words n m r e spells = record {
+  spelled = ap (λ ws. first ∷ ws) spells.spelled;
+  some_e = spells.some_e;
+  n_fits = spells.n_fits;
+  m_fits = spells.m_fits;
+  r_fits = spells.r_fits;
+  e_fit = spells.e_fit;
+}
+
+-- the command's word
+abbrev pub word_of : Job → List ℕ
+word_of (Check n m r e) = codes "check"
+word_of (Stripe method n m r e) = codes "stripe"
+word_of (Restore n m r e) = codes "restore"
+
+-- the words of a job begin with the command's
+pub first_word : (words : List (List ℕ)) (job : Job) → Spells words job → get_or words 0 [] ≡ word_of job
+first_word words (Check n m r e) spells = ap (λ ws. get_or ws 0 []) spells.spelled
+first_word words (Stripe method n m r e) spells = ap (λ ws. get_or ws 0 []) spells.spelled
+first_word words (Restore n m r e) spells = ap (λ ws. get_or ws 0 []) spells.spelled
+
+-- ---- no word of a job begins with a hyphen
+
+decimal_plain : (n : ℕ) → n < 2 ^ 64 → IsPlainWord (decimal n)
+decimal_plain n fits = λ hyphen. let digit = (begins-decimal n fits).digit in absurd (omega arith)
+
+geometry_plain : (before words : List (List ℕ)) (n m r : ℕ) (e : List ℕ) → HasNoOption before → SpellsGeometry before words n m r e → HasNoOption words
+geometry_plain before words n m r e plain spells =
+    let numbers : HasNoOption (map decimal e) =
+    All-map IsPlainWord decimal e (All-weaker (λ x. x < 2 ^ 64) (λ x. IsPlainWord (decimal x)) decimal_plain e spells.e_fit) in
+    let r_on : HasNoOption (decimal r ∷ map decimal e) = All-cons IsPlainWord (decimal r) (map decimal e) (decimal_plain r spells.r_fits) numbers in
+    let m_on : HasNoOption (decimal m ∷ decimal r ∷ map decimal e) =
+    All-cons IsPlainWord (decimal m) (decimal r ∷ map decimal e) (decimal_plain m spells.m_fits) r_on in
+    let n_on : HasNoOption (decimal n ∷ decimal m ∷ decimal r ∷ map decimal e) =
+    All-cons IsPlainWord (decimal n) (decimal m ∷ decimal r ∷ map decimal e) (decimal_plain n spells.n_fits) m_on in
+    rw spells.spelled (All-append IsPlainWord before (decimal n ∷ decimal m ∷ decimal r ∷ map decimal e) plain n_on)
+
+method_plain : (method : Method) → IsPlainWord (method_word method)
+method_plain Standard = omega arith
+method_plain Up = omega arith
+method_plain Down = omega arith
+method_plain Fewest = omega arith
+
+one_plain : (word : List ℕ) → IsPlainWord word → HasNoOption (word ∷ [])
+one_plain word plain = All-cons IsPlainWord word [] plain (All-nil IsPlainWord)
+
+pub job_plain : (words : List (List ℕ)) (job : Job) → Spells words job → HasNoOption words
+job_plain words (Check n m r e) spells = geometry_plain _ words n m r e (one_plain (codes "check") (omega arith)) spells
+job_plain words (Stripe method n m r e) spells =
+    geometry_plain _ words n m r e
+    (All-cons IsPlainWord (codes "stripe") (method_word method ∷ []) (omega arith) (one_plain (method_word method) (method_plain method))) spells
+job_plain words (Restore n m r e) spells = geometry_plain _ words n m r e (one_plain (codes "restore") (omega arith)) spells
+
+-- ---- words spell one job at most
+
+-- words with the same words before spell one geometry
+geometry_once : (before words : List (List ℕ)) (n m r : ℕ) (e : List ℕ) (n' m' r' : ℕ) (e' : List ℕ)
+    → SpellsGeometry before words n m r e → SpellsGeometry before words n' m' r' e' → (n ≡ n') × (m ≡ m') × (r ≡ r') × (e ≡ e')
+geometry_once before words n m r e n' m' r' e' one two =
+    let same = append_cancel_left before _ _ (sym one.spelled ∙ two.spelled) in
+    let n_texts : decimal n ≡ decimal n' = cc in
+    let m_texts : decimal m ≡ decimal m' = cc in
+    let r_texts : decimal r ≡ decimal r' = cc in
+    let e_texts : map decimal e ≡ map decimal e' = cc in (
+      decimal_injective n n' one.n_fits two.n_fits n_texts,
+      decimal_injective m m' one.m_fits two.m_fits m_texts,
+      decimal_injective r r' one.r_fits two.r_fits r_texts,
+      map_decimal_injective e e' one.e_fit two.e_fit e_texts,
+    )
+
+-- a method has a word of its own
+same_method : (a b : Method) → method_word a ≡ method_word b → a ≡ b
+same_method Standard Standard same = refl
+same_method Up Up same = refl
+same_method Down Down same = refl
+same_method Fewest Fewest same = refl
+same_method _ _ same = cc
+
+pub spells_once : (words : List (List ℕ)) (a b : Job) → Spells words a → Spells words b → a ≡ b
+spells_once words (Check n m r e) (Check n' m' r' e') one two =
+    let same = geometry_once (codes "check" ∷ []) words n m r e n' m' r' e' one two in
+    λ i. Check (same.0 i) (same.1 i) (same.2 i) (same.3 i)
+spells_once words (Stripe method n m r e) (Stripe method' n' m' r' e') one two =
+    let words_are = sym one.spelled ∙ two.spelled in
+    let method_words : method_word method ≡ method_word method' = cc in
+    let method_is = same_method method method' method_words in
+    let moved : SpellsGeometry (codes "stripe" ∷ method_word method ∷ []) words n' m' r' e' =
+    rw method_words two in
+    let same = geometry_once (codes "stripe" ∷ method_word method ∷ []) words n m r e n' m' r' e' one moved in
+    λ i. Stripe (method_is i) (same.0 i) (same.1 i) (same.2 i) (same.3 i)
+spells_once words (Restore n m r e) (Restore n' m' r' e') one two =
+    let same = geometry_once (codes "restore" ∷ []) words n m r e n' m' r' e' one two in
+    λ i. Restore (same.0 i) (same.1 i) (same.2 i) (same.3 i)
+spells_once words a b one two =
+    let first = sym (first_word words a one) ∙ first_word words b two in
+    cc

@@ -1,0 +1,27 @@
+-- The rows of clap's matches that have words of a job.
+use Rattle.std.specs.Prelude.{◌≡◌, ℕ, ◌^◌, ◌<◌, List, Some, All, codes, map}
+use Rattle.std.specs.Fmt.{decimal}
+use Rattle.clap.specs.Words.{Row, Text, all_of, first_of}
+use Rattle.stair_conf.specs.declared.job.Method.{Method}
+use Rattle.stair_conf.specs.Words.{method_word}
+
+-- the first word of this id is the number's
+pub record HasNumber (rows : List Row) (id : Text) (n : ℕ) : Type 0 where
+  pub first : first_of id rows ≡ Some (decimal n)
+  pub fits : n < 2 ^ 64
+
+-- the words of this id are the numbers'
+pub record HasNumbers (rows : List Row) (id : Text) (numbers : List ℕ) : Type 0 where
+  pub all : all_of id rows ≡ Some (map decimal numbers)
+  pub fit : All (λ n. n < 2 ^ 64) numbers
+
+-- the first word of this id is the method's
+pub record HasMethod (rows : List Row) (id : Text) (method : Method) : Type 0 where
+  pub first : first_of id rows ≡ Some (method_word method)
+
+-- the rows N, M, R and E have the numbers of a geometry
+pub record HasGeometry (rows : List Row) (n m r : ℕ) (e : List ℕ) : Type 0 where
+  pub n_word : HasNumber rows (codes "N") n
+  pub m_word : HasNumber rows (codes "M") m
+  pub r_word : HasNumber rows (codes "R") r
+  pub e_words : HasNumbers rows (codes "E") e

@@ -1,0 +1,49 @@
+-- The jobs that words spell.
+use Rattle.std.specs.Prelude.{◌≡◌, ℕ, ◌^◌, ◌<◌, List, [], ◌∷◌, ◌++◌, All, codes, length, map, slice_index}
+use Rattle.std.specs.Fmt.{decimal}
+use Rattle.std.specs.Int.{IsInRange}
+use Rattle.stair_conf.specs.declared.job.Method.{Method}
+use Rattle.stair_conf.specs.declared.job.Method.TheVariants.{Standard, Up, Down, Fewest}
+use Rattle.stair_conf.specs.declared.job.Job.{Job}
+use Rattle.stair_conf.specs.declared.job.Job.TheVariants.{Check, Stripe, Restore}
+
+-- the word is this number's decimal text
+pub record IsNumber (word : List ℕ) (n : ℕ) : Type 0 where
+  pub spelled : word ≡ decimal n
+  pub fits : n < 2 ^ 64
+
+-- the words are these numbers' decimal texts, one for one
+pub record AreNumbers (words : List (List ℕ)) (numbers : List ℕ) : Type 0 where
+  pub spelled : words ≡ map decimal numbers
+  pub fit : All (λ n. n < 2 ^ 64) numbers
+
+-- a digit comes first, and a zero only alone
+pub record BeginsNumber (word : List ℕ) : Type 0 where
+  pub digit : IsInRange 48 57 (slice_index word 0)
+  pub zero_alone : slice_index word 0 ≡ 48 → length word ≡ 1
+
+-- the word METHOD
+abbrev pub method_word : Method → List ℕ
+method_word Standard = codes "standard"
+method_word Up = codes "up"
+method_word Down = codes "down"
+method_word Fewest = codes "fewest"
+
+-- the words are those before, and then the decimal texts of N, M, R and of the numbers E, of which there is at least one
+pub record SpellsGeometry (before words : List (List ℕ)) (n m r : ℕ) (e : List ℕ) : Type 0 where
+  pub spelled : words ≡ before ++ decimal n ∷ decimal m ∷ decimal r ∷ map decimal e
+  pub some_e : 0 < length e
+  pub n_fits : n < 2 ^ 64
+  pub m_fits : m < 2 ^ 64
+  pub r_fits : r < 2 ^ 64
+  pub e_fit : All (λ x. x < 2 ^ 64) e
+
+-- the words are those of the job
+abbrev pub Spells : List (List ℕ) → Job → Type 0
+Spells words (Check n m r e) = SpellsGeometry (codes "check" ∷ []) words n m r e
+Spells words (Stripe method n m r e) = SpellsGeometry (codes "stripe" ∷ method_word method ∷ []) words n m r e
+Spells words (Restore n m r e) = SpellsGeometry (codes "restore" ∷ []) words n m r e
+
+-- the words spell a job
+abbrev pub IsSpelled : List (List ℕ) → Type 0
+IsSpelled words = (job : Job) × Spells words job

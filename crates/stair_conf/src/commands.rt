@@ -1,0 +1,92 @@
+//! The commands as clap has them: required positional values alone, with neither help nor version.
+//!
+//! The first of the words stands for the program's name, which clap drops.
+
+ghost use Rattle.std.specs.Prelude.{◌≡◌, ℕ, ◌∷◌, [], List, codes, drop, false, true, map, string_bytes, IfOk};
+ghost use Rattle.clap.specs.Words.{HasMatchesOf, app_of, rule_of, takes};
+ghost use Rattle.stair_conf.specs.Commands.{HasNoOption, bare_app, geometry_app, one_word, stripe_app, with_geometry};
+ghost use Rattle.stair_conf.specs.Words.{SpellsGeometry, method_word};
+ghost use Rattle.stair_conf.specs.declared.job.Method.{Method};
+
+use crate::matches::{GeometryNumbers, geometry_of, method_of};
+use crate::{Method, WordsFault};
+use clap::{Arg, ArgMatches, Command};
+use std::alloc::{AllocError, Global};
+
+// Reads `N M R E..` behind the first word.
+pub(crate) fn read_geometry(alloc: Global, words: &[String]) -> Result<GeometryNumbers, WordsFault>
+    requires { HasNoOption (map string_bytes words.now) }
+    ensures ok { IfOk result (λ g. SpellsGeometry [] (drop 1 (map string_bytes words.now)) g.n g.m g.r g.e) }
+    ensures usage { result ≡ Err WordsFault.Usage → (n m r : ℕ) (e : List ℕ)
+        → SpellsGeometry [] (drop 1 (map string_bytes words.now)) n m r e → ⊥ }
+{
+    let matches = parse(geometry_command(alloc)?, words)?;
+    geometry_of(alloc, &matches)
+}
+
+// Reads `METHOD N M R E..` behind the first word.
+pub(crate) fn read_stripe(
+    alloc: Global,
+    words: &[String],
+) -> Result<(Method, GeometryNumbers), WordsFault>
+    requires { HasNoOption (map string_bytes words.now) }
+    ensures ok { IfOk result (λ read. SpellsGeometry (method_word read.0 ∷ []) (drop 1 (map string_bytes words.now))
+        read.1.n read.1.m read.1.r read.1.e) }
+    ensures usage { result ≡ Err WordsFault.Usage → (method : Method) (n m r : ℕ) (e : List ℕ)
+        → SpellsGeometry (method_word method ∷ []) (drop 1 (map string_bytes words.now)) n m r e → ⊥ }
+{
+    let matches = parse(stripe_command(alloc)?, words)?;
+    let method = method_of(&matches, "METHOD").ok_or(WordsFault::Usage)?;
+    Ok((method, geometry_of(alloc, &matches)?))
+}
+
+// Matches the words to the values of the command.
+fn parse<'a>(command: Command<'a>, words: &'a [String]) -> Result<ArgMatches<'a>, WordsFault>
+    ensures ok { IfOk result (HasMatchesOf (app_of command.entry) (map string_bytes words.entry.now)) }
+    ensures usage { result ≡ Err WordsFault.Usage
+        → takes (app_of command.entry) (map string_bytes words.entry.now) ≡ true → ⊥ }
+{
+    Ok(command.try_get_matches_from(words)?)
+}
+
+// `N M R E..`
+fn geometry_command<'a>(alloc: Global) -> Result<Command<'a>, AllocError>
+    ensures { IfOk result (λ command. app_of command ≡ geometry_app) }
+{
+    with_geometry(alloc, bare(alloc))
+}
+
+// `METHOD N M R E..`
+fn stripe_command<'a>(alloc: Global) -> Result<Command<'a>, AllocError>
+    ensures { IfOk result (λ command. app_of command ≡ stripe_app) }
+{
+    with_geometry(alloc, bare(alloc).arg(one_word(alloc, "METHOD"))?)
+}
+
+// The command with the words of a geometry behind those that it has.
+fn with_geometry<'a>(alloc: Global, command: Command<'a>) -> Result<Command<'a>, AllocError>
+    ensures { IfOk result (λ whole. app_of whole ≡ with_geometry (app_of command.entry)) }
+{
+    command
+        .arg(one_word(alloc, "N"))?
+        .arg(one_word(alloc, "M"))?
+        .arg(one_word(alloc, "R"))?
+        .arg(one_word(alloc, "E").num_args(1..))
+}
+
+// A command with no words.
+fn bare<'a>(alloc: Global) -> Command<'a>
+    ensures { app_of result ≡ bare_app (codes "stair") }
+{
+    Command::new(alloc, "stair")
+        .disable_help_flag(true)
+        .disable_version_flag(true)
+}
+
+// A required positional of one word.
+fn one_word<'a>(alloc: Global, id: &'a str) -> Arg<'a>
+    ensures rule { rule_of result ≡ one_word id.entry.now }
+    ensures local { result.global ≡ false }
+{
+    Arg::new(alloc, id).required(true)
+}

@@ -1,0 +1,57 @@
+use crate::Numbers;
+
+/// How a stripe is encoded: the word METHOD of `stripe`.
+#[derive(Clone, Copy, Debug, PartialEq, Eq)]
+pub enum Method {
+    /// `standard`: by the coefficients of the parities over the data cells.
+    Standard,
+    /// `up`: upstairs.
+    Up,
+    /// `down`: downstairs.
+    Down,
+    /// `fewest`: by the one of the three that takes the fewest steps.
+    Fewest,
+}
+
+/// What the words ask for.
+///
+/// The numbers are as written: whether they are the shape of an array is not tested here. The letters are those of Li and
+/// Lee, STAIR Codes (FAST 2014): N devices, M of which may fail, R sectors in a chunk, and the coverage E.. of the others.
+#[derive(Debug, Drop)]
+pub enum Job {
+    /// `check N M R E..`: whether a stripe is a codeword.
+    Check {
+        /// The number N.
+        n: u64,
+        /// The number M.
+        m: u64,
+        /// The number R.
+        r: u64,
+        /// The numbers E in the order of the words, at least one.
+        e: Numbers,
+    },
+    /// `stripe METHOD N M R E..`: the encoded stripe of some blocks.
+    Stripe {
+        /// The word METHOD.
+        method: Method,
+        /// The number N.
+        n: u64,
+        /// The number M.
+        m: u64,
+        /// The number R.
+        r: u64,
+        /// The numbers E in the order of the words, at least one.
+        e: Numbers,
+    },
+    /// `restore N M R E..`: the erased cells of a stripe, from those that are held.
+    Restore {
+        /// The number N.
+        n: u64,
+        /// The number M.
+        m: u64,
+        /// The number R.
+        r: u64,
+        /// The numbers E in the order of the words, at least one.
+        e: Numbers,
+    },
+}

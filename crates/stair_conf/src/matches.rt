@@ -1,0 +1,105 @@
+//! Reads the words that clap matched.
+
+ghost use Rattle.std.specs.Prelude.{◌≡◌, ℕ, ◌↔◌, List, map, IfOk, IsTrue, Some};
+ghost use Rattle.clap.specs.Words.{found_of, rows_of};
+ghost use Rattle.stair_conf.specs.Rows.{HasGeometry, HasMethod, HasNumber, HasNumbers};
+ghost use Rattle.stair_conf.specs.Words.{AreNumbers, BeginsNumber, IsNumber, method_word};
+ghost use Rattle.stair_conf.specs.declared.job.Method.{Method};
+
+use crate::{Method, Numbers, WordsFault};
+use clap::ArgMatches;
+use std::alloc::Global;
+
+// The numbers of a geometry's words.
+#[derive(Drop)]
+pub(crate) struct GeometryNumbers {
+    pub(crate) n: u64,
+    pub(crate) m: u64,
+    pub(crate) r: u64,
+    pub(crate) e: Numbers,
+}
+
+// Reads the numbers N, M, R and E.
+pub(crate) fn geometry_of(
+    alloc: Global,
+    matches: &ArgMatches<'_>,
+) -> Result<GeometryNumbers, WordsFault>
+    ensures ok { IfOk result (λ g. HasGeometry (rows_of (found_of matches.now)) g.n g.m g.r g.e) }
+    ensures usage { result ≡ Err WordsFault.Usage → (n m r : ℕ) (e : List ℕ)
+        → HasGeometry (rows_of (found_of matches.now)) n m r e → ⊥ }
+{
+    Ok(GeometryNumbers {
+        n: number_of(matches, "N").ok_or(WordsFault::Usage)?,
+        m: number_of(matches, "M").ok_or(WordsFault::Usage)?,
+        r: number_of(matches, "R").ok_or(WordsFault::Usage)?,
+        e: numbers_of(alloc, matches, "E")?,
+    })
+}
+
+// Reads the method, exactly where the first word of this id is its own.
+pub(crate) fn method_of(matches: &ArgMatches<'_>, id: &str) -> Option<Method>
+    ensures { (method : Method) → (result ≡ Some method)
+        ↔ HasMethod (rows_of (found_of matches.now)) id.now method }
+{
+    read_method(matches.get_str(id)?)
+}
+
+// Reads the number, exactly where the first word of this id is its own.
+fn number_of(matches: &ArgMatches<'_>, id: &str) -> Option<u64>
+    ensures { (n : ℕ) → (result ≡ Some n) ↔ HasNumber (rows_of (found_of matches.now)) id.now n }
+{
+    read_number(matches.get_str(id)?)
+}
+
+// Reads each word of this id as a number.
+fn numbers_of(alloc: Global, matches: &ArgMatches<'_>, id: &str) -> Result<Numbers, WordsFault>
+    ensures ok { IfOk result (HasNumbers (rows_of (found_of matches.now)) id.now) }
+    ensures usage { result ≡ Err WordsFault.Usage → (numbers : List ℕ)
+        → HasNumbers (rows_of (found_of matches.now)) id.now numbers → ⊥ }
+{
+    read_numbers(alloc, matches.get_raw(id).ok_or(WordsFault::Usage)?)
+}
+
+// Reads the word METHOD.
+fn read_method(word: &str) -> Option<Method>
+    ensures { (method : Method) → (result ≡ Some method) ↔ (word.now ≡ method_word method) }
+{
+    match word {
+        "standard" => Some(Method::Standard),
+        "up" => Some(Method::Up),
+        "down" => Some(Method::Down),
+        "fewest" => Some(Method::Fewest),
+        _ => None,
+    }
+}
+
+// Reads each word as a number.
+fn read_numbers(alloc: Global, words: &[&str]) -> Result<Numbers, WordsFault>
+    ensures ok { IfOk result (AreNumbers (map (λ word. word.now) words.now)) }
+    ensures usage { result ≡ Err WordsFault.Usage
+        → (numbers : List ℕ) → AreNumbers (map (λ word. word.now) words.now) numbers → ⊥ }
+{
+    let mut numbers = Vec::new(alloc);
+    for word in words {
+        numbers.push(read_number(word).ok_or(WordsFault::Usage)?)?;
+    }
+    Ok(Numbers::new(numbers))
+}
+
+// Reads one number, exactly where the word is its decimal text.
+fn read_number(word: &str) -> Option<u64>
+    ensures { (n : ℕ) → (result ≡ Some n) ↔ IsNumber word.now n }
+{
+    if begins_number(word.as_bytes()) {
+        word.parse().ok()
+    } else {
+        None
+    }
+}
+
+// Whether a digit comes first, and a zero only alone.
+fn begins_number(word: &[u8]) -> bool
+    ensures { IsTrue result ↔ BeginsNumber word.now }
+{
+    matches!(word, [b'0'] | [b'1'..=b'9', ..])
+}

@@ -1,0 +1,126 @@
+ghost use Rattle.std.specs.Prelude.{◌≡◌, ◌≤◌, IfErr, OnOk, OnErr, IfSome, true, false};
+ghost use Rattle.stair_model.specs.Geometry.{IsWithinLimits};
+ghost use Rattle.stair_model.specs.Stripe.{IsStripeOf, IsWellFormed};
+ghost use Rattle.stair_engine.specs.Answer.{block_bytes as block_bytes_of};
+ghost use Rattle.stair_engine.specs.Cause.{HasCause, IfNothingIsPutOut, IfRefusedAtOnce, LimitsComeFirst, LooksForEnd, PutsOut, TakesCount, TakesInput};
+ghost use Rattle.stair_engine.specs.Encode.{CountsSteps, IsCostOfMethod, TookBlocks};
+ghost use Rattle.stair_engine.specs.Taking.{RefusesInput, intake_of};
+ghost use Rattle.stair_rack.specs.Count.{Rose};
+
+use crate::blocks::{block_bytes, take_blocks};
+use crate::cells::put_stripe;
+use crate::intake::{Intake, Refusal};
+use crate::status::Status;
+use crate::streams::SinkFailed;
+use crate::task::{Command, by_of};
+use stair_base::{Geometry, Stripe, StripeCode};
+use stair_codec::Codec;
+use stair_conf::Method;
+use stair_gf::Steps;
+use stair_rack::{Sink, Source};
+use std::alloc::Global;
+use std::sync::ledger::Ledger;
+
+/// Takes the blocks of a stripe in their order, and puts out the cells of the encoded stripe row by row.
+pub(crate) fn encode<S: Source, K: Sink, L: Ledger>(
+    alloc: Global,
+    method: Method,
+    geometry: &Geometry,
+    input: &mut S,
+    output: &mut K,
+    steps: &mut Steps<L>,
+) -> Status
+    ensures limits { LimitsComeFirst (Command.Encode method) geometry.now result }
+    ensures cause { IfSome (S.left input.old) (λ bytes.
+        HasCause (Command.Encode method) geometry.now bytes (K.held output.old) (K.held output.new) result) }
+    ensures input_fault { result ≡ Status.InputFault → Rose (S.faults input.old) (S.faults input.new) }
+    ensures output_fault { result ≡ Status.OutputFault → Rose (K.faults output.old) (K.faults output.new) }
+    ensures taken { TakesInput (Command.Encode method) geometry.now (S.left input.old) (S.left input.new) result }
+    ensures looked { LooksForEnd (Command.Encode method) geometry.now (S.ended input.old) (S.ended input.new) result }
+    ensures input_count { S.faults input.old ≤ S.faults input.new }
+    ensures output { PutsOut (Command.Encode method) geometry.now (K.held output.old) (K.held output.new) result }
+    ensures untouched { IfNothingIsPutOut result (output.new ≡ output.old) }
+    ensures refused { IfRefusedAtOnce result ((input.new ≡ input.old) × (output.new ≡ output.old)) }
+    ensures output_count { K.faults output.old ≤ K.faults output.new }
+    ensures steps { CountsSteps (Command.Encode method) geometry.now result steps.old steps.new }
+{
+    let mut stripe = match Stripe::new(alloc, geometry) {
+        Ok(stripe) => stripe,
+        Err(_) => return Status::OutOfMemory,
+    };
+    let mut codec = match Codec::new(alloc, geometry, by_of(method)) {
+        Ok(codec) => codec,
+        Err(_) => return Status::OutOfMemory,
+    };
+    encode_by(
+        &mut codec,
+        method,
+        geometry,
+        &mut stripe,
+        input,
+        output,
+        steps,
+    )
+}
+
+/// Takes the blocks of a stripe into a stripe of this geometry, encodes it by this code, and puts out its cells.
+fn encode_by<C: StripeCode, S: Source, K: Sink, L: Ledger>(
+    code: &mut C,
+    method: Method,
+    geometry: &Geometry,
+    stripe: &mut Stripe,
+    input: &mut S,
+    output: &mut K,
+    steps: &mut Steps<L>,
+) -> Status
+    requires shape { C.shape code.old ≡ geometry.now }
+    requires cost { IsCostOfMethod method geometry.now (C.cost code.old) }
+    requires of { IsStripeOf geometry.now stripe.old }
+    requires well_formed { IsWellFormed stripe.old }
+    ensures limits { LimitsComeFirst (Command.Encode method) geometry.now result }
+    ensures cause { IfSome (S.left input.old) (λ bytes.
+        HasCause (Command.Encode method) geometry.now bytes (K.held output.old) (K.held output.new) result) }
+    ensures input_fault { result ≡ Status.InputFault → Rose (S.faults input.old) (S.faults input.new) }
+    ensures output_fault { result ≡ Status.OutputFault → Rose (K.faults output.old) (K.faults output.new) }
+    ensures taken { TakesInput (Command.Encode method) geometry.now (S.left input.old) (S.left input.new) result }
+    ensures looked { LooksForEnd (Command.Encode method) geometry.now (S.ended input.old) (S.ended input.new) result }
+    ensures input_count { S.faults input.old ≤ S.faults input.new }
+    ensures output { PutsOut (Command.Encode method) geometry.now (K.held output.old) (K.held output.new) result }
+    ensures untouched { IfNothingIsPutOut result (output.new ≡ output.old) }
+    ensures refused { IfRefusedAtOnce result ((input.new ≡ input.old) × (output.new ≡ output.old)) }
+    ensures output_count { K.faults output.old ≤ K.faults output.new }
+    ensures steps { CountsSteps (Command.Encode method) geometry.now result steps.old steps.new }
+{
+    if let Err(refusal) = take_input(geometry, stripe, input) {
+        return Status::from(refusal);
+    }
+    code.encode(stripe, steps);
+    match put_stripe(geometry, stripe, output) {
+        Ok(()) => Status::Done,
+        Err(SinkFailed) => Status::OutputFault,
+    }
+}
+
+/// Takes exactly the blocks of a stripe, and looks for the end behind them.
+fn take_input<S: Source>(
+    geometry: &Geometry,
+    stripe: &mut Stripe,
+    input: &mut S,
+) -> Result<(), Refusal>
+    requires of { IsStripeOf geometry.now stripe.old }
+    requires well_formed { IsWellFormed stripe.old }
+    ensures limits { IsWithinLimits geometry.now }
+    ensures ok { OnOk result (TookBlocks geometry.now (S.left input.old) stripe.new) }
+    ensures taken { OnOk result
+        (TakesCount (S.left input.old) (S.left input.new) (block_bytes_of geometry.now)) }
+    ensures ended { OnOk result ((S.ended input.old ≡ false) × (S.ended input.new ≡ true)) }
+    ensures err { IfErr result (RefusesInput (intake_of (block_bytes_of geometry.now))
+        (S.left input.old) (S.left input.new) (S.ended input.new) (Rose (S.faults input.old) (S.faults input.new))) }
+    ensures of { IsStripeOf geometry.now stripe.new }
+    ensures well_formed { IsWellFormed stripe.new }
+    ensures count { S.faults input.old ≤ S.faults input.new }
+{
+    let mut intake = Intake::new(block_bytes(geometry));
+    take_blocks(geometry, stripe, &mut intake, input)?;
+    intake.end(input)
+}
