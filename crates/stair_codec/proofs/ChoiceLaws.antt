@@ -1,5 +1,5 @@
 -- One encoder is chosen, and it takes one number of steps.
-use Rattle.std.proofs.Common.{◌≡◌, ℕ, ◌<◌, ◌≤◌, ◌∙◌, sym, refl, subst, arith}
+use Rattle.std.proofs.Common.{◌≡◌, ℕ, ◌≤◌, ◌∙◌, sym, refl, subst, arith}
 use Rattle.stair_model.specs.Costs.{downstairs_cost, upstairs_cost, IsStandardCost}
 use Rattle.stair_model.specs.Geometry.{Geometry, IsWithinLimits}
 use Rattle.stair_std.proofs.UnitStripes.{unit_encoding}

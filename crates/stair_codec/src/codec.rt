@@ -1,9 +1,4 @@
-ghost use Rattle.std.specs.Prelude.{◌≡◌, ◌+◌, ◌↔◌, IfErr, IfOk, IsOk};
-ghost use Rattle.stair_model.specs.CellSet.{IsInStripe};
-ghost use Rattle.stair_model.specs.Coverage.{IsCovered};
-ghost use Rattle.stair_model.specs.Encoding.{IsEncodedFrom};
-ghost use Rattle.stair_model.specs.Restoring.{IsRestored, SameHeld};
-ghost use Rattle.stair_model.specs.Stripe.{IsStripeOf, IsWellFormed};
+ghost use Rattle.std.specs.Prelude.{◌≡◌, IfOk};
 ghost use Rattle.stair_codec.specs.Choice.{IsChosen, IsCostOf, IsFewest};
 ghost use Rattle.stair_codec.specs.Kept.{encoder_of, steps_of, IsWayOf};
 

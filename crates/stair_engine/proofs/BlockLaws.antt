@@ -1,8 +1,8 @@
 -- The blocks of a stripe, as bytes, one after the other.
-use Rattle.std.proofs.Common.{◌≡◌, ℕ, ◌+◌, ◌*◌, ◌<◌, ◌≤◌, inl, inr, List, [], ◌∷◌, ◌++◌, length, get_or, refl, sym, ap, ◌∙◌, subst, arith}
-use Rattle.std.specs.Prelude.{Option, All, IfSome}
+use Rattle.std.proofs.Common.{◌≡◌, ℕ, ◌+◌, ◌*◌, ◌<◌, inl, inr, List, [], ◌∷◌, ◌++◌, length, refl, sym, ap, ◌∙◌, subst, arith}
+use Rattle.std.specs.Prelude.{Option}
 use Rattle.std.specs.List.{concat}
-use Rattle.std.specs.Io.KnownBytes.{Appends, IsAtEnd}
+use Rattle.std.specs.Io.KnownBytes.{IsAtEnd}
 use Rattle.std.proofs.lemmas.Bool.{cases_lt}
 use Rattle.std.proofs.lemmas.List.{get_or_append_left, get_or_push, length_push}
 use Rattle.std.proofs.lemmas.List.Elements.{All-append, All-nil, All-cons}
@@ -14,7 +14,7 @@ use Rattle.stair_model.specs.Stripe.{Stripe, IsSector, IsStripeOf, IsWellFormed,
 use Rattle.stair_model.proofs.DataLaws.{data_in_range, data_once}
 use Rattle.stair_model.proofs.EncodingLaws.{cell-IsSector}
 use Rattle.stair_model.proofs.StripeLaws.{cell-with_cell_other, cell-with_cell_same}
-use Rattle.stair_engine.specs.Encode.{HasBlocks, HoldsBlocks, TookBlocks}
+use Rattle.stair_engine.specs.Encode.{HoldsBlocks, TookBlocks}
 use Rattle.stair_engine.specs.Taking.{TakesBlocks, TakesBlocksTo, TakesBytes}
 use Rattle.stair_engine.specs.declared.intake.Intake.{Intake}
 use Rattle.stair_engine.proofs.CellLaws.{concat-push, length-concat}

@@ -1,5 +1,5 @@
 -- The steps of encoding a stripe of four devices, counted by hand.
-use Rattle.std.proofs.Common.{◌≡◌, ℕ, ◌+◌, ◌<◌, ◌≤◌, refl, subst, arith}
+use Rattle.std.proofs.Common.{◌≡◌, ℕ, refl, subst, arith}
 use Rattle.stair_model.specs.Costs.{downstairs_cost, upstairs_cost, IsStandardCost}
 use Rattle.stair_model.specs.Geometry.{Geometry, IsWithinLimits}
 use Rattle.stair_codec.specs.Choice.{IsCostOf, IsLeast}

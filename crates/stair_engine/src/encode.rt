@@ -1,4 +1,4 @@
-ghost use Rattle.std.specs.Prelude.{◌≡◌, ◌≤◌, IfErr, OnOk, OnErr, IfSome, true, false};
+ghost use Rattle.std.specs.Prelude.{◌≡◌, ◌≤◌, IfErr, OnOk, IfSome, true, false};
 ghost use Rattle.stair_model.specs.Geometry.{IsWithinLimits};
 ghost use Rattle.stair_model.specs.Stripe.{IsStripeOf, IsWellFormed};
 ghost use Rattle.stair_engine.specs.Answer.{block_bytes as block_bytes_of};

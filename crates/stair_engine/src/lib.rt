@@ -15,11 +15,9 @@ mod task;
 #[cfg(test)]
 mod tests;
 
-ghost use Rattle.std.specs.Prelude.{◌≡◌, ◌≢◌, ◌≤◌, ◌↔◌, List, ℕ, map, string_bytes, IfSome};
-ghost use Rattle.std.specs.Io.KnownBytes.{Appends};
+ghost use Rattle.std.specs.Prelude.{◌≡◌, ◌≢◌, ◌≤◌, ◌↔◌, map, string_bytes, IfSome};
 ghost use Rattle.stair_conf.specs.Words.{IsSpelled, Spells};
 ghost use Rattle.stair_conf.specs.declared.job.Job.{Job};
-ghost use Rattle.stair_engine.specs.Answer.{IsAnswer};
 ghost use Rattle.stair_engine.specs.Cause.{Answers, HasCause, IfNothingIsPutOut, IfRefusedAtOnce, LimitsComeFirst, LooksForEnd, PutsOut, TakesInput};
 ghost use Rattle.stair_engine.specs.Encode.{CountsSteps};
 ghost use Rattle.stair_engine.specs.Task.{command_of, one_stripe};

@@ -1,5 +1,4 @@
-ghost use Rattle.std.specs.Prelude.{◌≡◌, ◌≤◌, ◌↔◌, IsOk, IfOk, IfErr, OnOk, OnErr, IfSome, true, false, ℕ, ◌<◌};
-ghost use Rattle.stair_model.specs.CellSet.{IsInStripe};
+ghost use Rattle.std.specs.Prelude.{◌≡◌, ◌≤◌, IfOk, IfErr, OnOk, IfSome, true, false, ◌<◌};
 ghost use Rattle.stair_model.specs.Geometry.{IsWithinLimits};
 ghost use Rattle.stair_model.specs.Stripe.{IsStripeOf, IsWellFormed};
 ghost use Rattle.stair_engine.specs.Answer.{bytes_needed};

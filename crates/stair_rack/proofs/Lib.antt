@@ -1,1 +1,12 @@
 pub mod Copied
+pub mod StepLemmas
+pub mod MomentLemmas
+pub mod KeptLemmas
+pub mod OfflineLemmas
+pub mod TurnLemmas
+pub mod TidyLemmas
+pub mod CrashLemmas
+pub mod CallLemmas
+pub mod PassLemmas
+pub mod PassCounts
+pub mod PlacedLemmas

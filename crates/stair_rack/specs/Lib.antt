@@ -5,3 +5,14 @@ pub mod MemSource
 pub mod MemSink
 pub mod FromRead
 pub mod FromWrite
+pub mod Sector
+pub mod Media
+pub mod History
+pub mod Crash
+pub mod Outside
+pub mod Answers
+pub mod Moments
+pub mod Offline
+pub mod RackCounts
+pub mod Passes
+pub mod Placed

@@ -1,20 +1,26 @@
-//! Where bytes come from and go to: sources and sinks that may fail, over memory and over std's
-//! readers and writers.
+//! Where bytes come from and go to: racks of devices, sources and sinks, each of which may fail.
 #![tactic(auto)]
 
 mod count;
 mod from_read;
 mod from_write;
+pub mod laws;
 mod mem_sink;
 mod mem_source;
+mod rack;
 mod sink;
 mod source;
+mod sync;
 #[cfg(test)]
 mod tests;
+mod write;
 
 pub use from_read::FromRead;
 pub use from_write::FromWrite;
 pub use mem_sink::MemSink;
 pub use mem_source::MemSource;
+pub use rack::{Got, Rack, Reply};
 pub use sink::{Put, Sink};
 pub use source::{Source, Taken};
+pub use sync::sync_all;
+pub use write::write_all;

@@ -1,3 +1,5 @@
+mod passes;
+
 use super::*;
 use std::alloc::{AllocError, Global};
 use std::io;

@@ -1,5 +1,5 @@
 -- What was done is what the job asks for, of the geometry that was tested.
-use Rattle.std.proofs.Common.{◌≡◌, ◌∙◌, IfSome, replicate, ap, subst}
+use Rattle.std.proofs.Common.{◌≡◌, ◌∙◌, replicate, ap, subst}
 use Rattle.std.proofs.lemmas.Option.{IfSome_then}
 use Rattle.stair_model.specs.Geometry.{Geometry, geometry_of}
 use Rattle.stair_conf.specs.declared.job.Job.{Job}

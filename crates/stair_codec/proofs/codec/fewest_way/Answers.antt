@@ -1,5 +1,5 @@
 -- The standard cost beside which the encoder's is the least.
-use Rattle.std.proofs.Common.{subst, ℕ, ◌∙◌, ap, sym}
+use Rattle.std.proofs.Common.{subst, ℕ}
 use Rattle.stair_model.specs.Costs.{IsStandardCost, upstairs_cost}
 use Rattle.stair_codec.specs.Choice.{IsLeast}
 use Rattle.stair_codec.specs.declared.choice.Encoder.TheVariants.{Upstairs, Downstairs}

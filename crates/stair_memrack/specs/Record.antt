@@ -1,0 +1,120 @@
+-- A rack in memory, as contracts see it: what it was made over, its script, and the record of its calls.
+use Rattle.std.specs.Prelude.{ℕ, ◌+◌, Bool, true, false, List, [], ◌∷◌, length, None, Some, if◌then◌else◌, nat_lt, slice_index, slice_set}
+use Rattle.stair_rack.specs.Count.{one_more}
+use Rattle.stair_rack.specs.Sector.{Damaged}
+use Rattle.stair_rack.specs.Media.{Image}
+use Rattle.stair_rack.specs.History.{SlotCall, Event, Made, Stopped, Called}
+use Rattle.stair_rack.specs.History as slot
+use Rattle.stair_rack.specs.declared.rack.Reply.{Reply}
+use Rattle.stair_rack.specs.declared.rack.Reply.TheVariants as reply
+use Rattle.stair_rack.specs.declared.rack.Got.{Got}
+use Rattle.stair_rack.specs.declared.rack.Got.TheVariants as got
+use Rattle.stair_memrack.specs.declared.act.Act.{Act}
+use Rattle.stair_memrack.specs.declared.record.Call.{Call}
+use Rattle.stair_memrack.specs.declared.record.Call.TheVariants.{Attach, Sectors, Read, Write, Sync}
+use Rattle.stair_memrack.specs.declared.record.Recorded.{Recorded}
+use Rattle.stair_memrack.specs.Script.{after_acts}
+
+pub record MemRackState : Type 0 where
+  -- in how many slots it was made with a blank medium, and of how many sectors
+  pub media : ℕ
+  pub sectors : ℕ
+  pub script : List Act
+  -- for how many calls the record has room, and those that it holds, the newest first
+  pub room : ℕ
+  pub calls : List Recorded
+  -- a call came after the record was spent
+  pub spent : Bool
+  -- the counts of bad sectors, of gone slots and of reads
+  pub bads : ℕ
+  pub gones : List ℕ
+  pub reads : ℕ
+
+-- blank media in the first slots, and none in the others
+abbrev pub blank_image : ℕ → ℕ → Image
+blank_image media sectors j = record { size = if nat_lt j media then Some sectors else None; cell = λ k. Damaged; removed = [] }
+
+abbrev pub slot_call : Call → SlotCall
+slot_call (Attach answer) = slot.Attach answer
+slot_call (Sectors size) = slot.Sectors size
+slot_call (Read k answer) = slot.Read k answer
+slot_call (Write k bytes answer) = slot.Write k bytes answer
+slot_call (Sync answer) = slot.Sync answer
+
+-- the history of a rack with this script that was made so, after these calls, before each of which its acts were done
+abbrev pub after_calls : List Act → Event → List Recorded → List Event
+after_calls script made [] = made ∷ []
+after_calls script made (c ∷ calls) = Called c.slot (slot_call c.call) ∷ after_acts (length calls) script (after_calls script made calls)
+
+-- the history up to the last call that was recorded
+abbrev pub recorded : MemRackState → List Event
+recorded s = after_calls s.script (Made (blank_image s.media s.sectors)) s.calls
+
+abbrev pub history_of : MemRackState → List Event
+history_of s = if s.spent then Stopped ∷ recorded s else recorded s
+
+-- the record has room for a call
+abbrev pub has_room : MemRackState → Bool
+has_room s = nat_lt (length s.calls) s.room
+
+-- The history up to the answer of the next call. The acts before it were done; where the record is spent the rack was
+-- stopped.
+abbrev pub moment : MemRackState → List Event
+moment s = if has_room s then after_acts (length s.calls) s.script (recorded s) else Stopped ∷ recorded s
+
+-- THE COUNTS
+
+abbrev pub is_gone : Reply → Bool
+is_gone reply.Done = false
+is_gone reply.Gone = true
+
+abbrev pub is_gone_got : Got → Bool
+is_gone_got got.Good = false
+is_gone_got got.Bad = false
+is_gone_got got.Gone = true
+
+abbrev pub is_bad : Got → Bool
+is_bad got.Good = false
+is_bad got.Bad = true
+is_bad got.Gone = false
+
+-- the call was answered as gone
+abbrev pub call_is_gone : Call → Bool
+call_is_gone (Attach answer) = is_gone answer
+call_is_gone (Sectors size) = false
+call_is_gone (Read k answer) = is_gone_got answer
+call_is_gone (Write k bytes answer) = is_gone answer
+call_is_gone (Sync answer) = is_gone answer
+
+-- the call was answered as bad
+abbrev pub call_is_bad : Call → Bool
+call_is_bad (Attach answer) = false
+call_is_bad (Sectors size) = false
+call_is_bad (Read k answer) = is_bad answer
+call_is_bad (Write k bytes answer) = false
+call_is_bad (Sync answer) = false
+
+abbrev pub call_is_read : Call → Bool
+call_is_read (Attach answer) = false
+call_is_read (Sectors size) = false
+call_is_read (Read k answer) = true
+call_is_read (Write k bytes answer) = false
+call_is_read (Sync answer) = false
+
+-- a call with this answer raises the counts
+abbrev pub counted : ℕ → Call → MemRackState → MemRackState
+counted j call s = record s {
+  bads = if call_is_bad call then one_more s.bads else s.bads;
+  gones = if call_is_gone call then slice_set s.gones j (one_more (slice_index s.gones j)) else s.gones;
+}
+
+-- it is recorded
+abbrev pub with_call : ℕ → Call → MemRackState → MemRackState
+with_call j call s = record s {
+  calls = record { slot = j; call = call } ∷ s.calls;
+  reads = if call_is_read call then s.reads + 1 else s.reads;
+}
+
+-- The rack after a call of slot j with its answer. The record takes it where there is room, and else the rack is stopped.
+abbrev pub after_call : ℕ → Call → MemRackState → MemRackState
+after_call j call s = counted j call (if has_room s then with_call j call s else record s { spent = true })

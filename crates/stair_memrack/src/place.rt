@@ -1,0 +1,172 @@
+// A slot of the rack.
+ghost use Rattle.std.specs.Prelude.{◌≡◌, ◌≢◌, ◌<◌, length, [], false, IfOk};
+ghost use Rattle.stair_memrack.specs.Disk.{stored_in};
+ghost use Rattle.stair_memrack.specs.Place.{pulled, inserted, inserted_old, damaged_at, attach_reply, attached_as, read_got, write_reply, written_as, sync_reply, synced_as};
+
+use crate::disk::{Disk, StoredCell};
+use stair_rack::{Got, Reply};
+use std::alloc::{AllocError, Global};
+use std::marker::Model;
+
+/// A slot: the medium that it holds, its drawer, and what its last attach found.
+#[derive(Debug, Drop)]
+pub(crate) struct Place {
+    medium: Option<Disk>,
+    // The media that were pulled from it and aren't back in it, the first of them first.
+    removed: Vec<Disk>,
+    attached: bool,
+    found: u32,
+}
+
+impl Model for Place {
+    ghost use Rattle.std.specs.Prelude.{vec_capacity};
+    ghost use Rattle.stair_memrack.specs.Place.{PlaceState};
+
+    ghost Value = { PlaceState };
+
+    ghost view = { λ p. record {
+      medium = p.medium;
+      removed = p.removed.items;
+      attached = p.attached;
+      found = p.found;
+      room = vec_capacity p.removed;
+    } };
+}
+
+impl Place {
+    /// A slot that holds this medium, with a drawer for so many media.
+    pub(crate) fn new(alloc: Global, medium: Option<Disk>, room: usize) -> Result<Place, AllocError>
+        ensures { IfOk result (λ p. p ≡ record {
+          medium = medium;
+          removed = [];
+          attached = false;
+          found = 0;
+          room = room;
+        }) }
+    {
+        Ok(Place {
+            medium,
+            removed: Vec::with_capacity(alloc, room)?,
+            attached: false,
+            found: 0,
+        })
+    }
+
+    /// Pulls the medium, where there is one.
+    pub(crate) fn pull(&mut self)
+        requires { length self.old.removed < self.old.room }
+        ensures { self.new ≡ pulled self.old }
+    {
+        if let Some(disk) = self.medium.take() {
+            self.removed.push_reserved(disk);
+            self.attached = false;
+        }
+    }
+
+    /// Puts this medium in, where the slot holds none.
+    pub(crate) fn insert(&mut self, medium: &mut Option<Disk>)
+        ensures { self.new ≡ inserted medium.old self.old }
+    {
+        if self.medium.is_none() {
+            self.medium = medium.take();
+        }
+    }
+
+    /// Puts a medium of the drawer back, where the slot holds none and the drawer has it. It settled as what reads find.
+    pub(crate) fn insert_old(&mut self, index: u32)
+        ensures { self.new ≡ inserted_old index self.old }
+    {
+        if self.medium.is_none() && (index as usize) < self.removed.len() {
+            let mut disk = self.removed.remove(index as usize);
+            disk.settle();
+            self.medium = Some(disk);
+        }
+    }
+
+    /// Damages the sector, where there is one.
+    pub(crate) fn damage(&mut self, sector: u32)
+        ensures { self.new ≡ damaged_at sector self.old }
+    {
+        if let Some(disk) = &mut self.medium {
+            disk.damage(sector);
+        }
+    }
+
+    /// Looks at the slot anew.
+    pub(crate) fn attach(&mut self, stopped: bool) -> Reply
+        ensures answer { result ≡ attach_reply stopped self.old }
+        ensures after { self.new ≡ attached_as result self.old }
+    {
+        match &self.medium {
+            Some(disk) if !stopped => {
+                self.found = disk.size();
+                self.attached = true;
+                Reply::Done
+            }
+            _ => {
+                self.found = 0;
+                self.attached = false;
+                Reply::Gone
+            }
+        }
+    }
+
+    /// The number of sectors that the last attach found.
+    pub(crate) fn found(&self) -> u32
+        ensures { result ≡ self.now.found }
+    {
+        self.found
+    }
+
+    /// Reads a sector into `into`, which is unchanged where the answer isn't `Good`.
+    pub(crate) fn read(&self, stopped: bool, sector: u32, into: &mut [u8; 512]) -> Got
+        ensures answer { result ≡ read_got stopped sector self.now }
+        ensures good { result ≡ Got.Good → (stored_in self.now.medium sector).now ≡ StoredCell.Good into.new }
+        ensures unread { result ≢ Got.Good → into.new ≡ into.old }
+    {
+        if stopped || !self.attached {
+            return Got::Gone;
+        }
+        match &self.medium {
+            Some(disk) => match disk.read(sector) {
+                StoredCell::Good(bytes) => {
+                    *into = bytes;
+                    Got::Good
+                }
+                StoredCell::Damaged => Got::Bad,
+            },
+            None => Got::Bad,
+        }
+    }
+
+    /// Writes a sector.
+    pub(crate) fn write(&mut self, stopped: bool, sector: u32, from: &[u8; 512]) -> Reply
+        ensures answer { result ≡ write_reply stopped sector self.old }
+        ensures after { self.new ≡ written_as sector from.now result self.old }
+    {
+        if stopped || !self.attached {
+            return Reply::Gone;
+        }
+        match &mut self.medium {
+            Some(disk) if sector < disk.size() => {
+                disk.write(sector, from);
+                Reply::Done
+            }
+            _ => Reply::Gone,
+        }
+    }
+
+    /// Settles the medium as what reads find.
+    pub(crate) fn sync(&mut self, stopped: bool) -> Reply
+        ensures answer { result ≡ sync_reply stopped self.old }
+        ensures after { self.new ≡ synced_as result self.old }
+    {
+        if stopped || !self.attached {
+            return Reply::Gone;
+        }
+        if let Some(disk) = &mut self.medium {
+            disk.settle();
+        }
+        Reply::Done
+    }
+}

@@ -1,0 +1,353 @@
+// A rack in memory.
+ghost use Rattle.std.specs.Prelude.{◌≡◌, ◌≢◌, ◌<◌, ◌≤◌, true, false, [], ◌∷◌, Some, length, map, replicate, IfOk, vec_len, slice_index, slice_set, if◌then◌else◌};
+ghost use Rattle.stair_rack.specs.Count.{Rose, one_more};
+ghost use Rattle.stair_rack.specs.Sector.{Good, content};
+ghost use Rattle.stair_rack.specs.History.{Made, Attach, Sectors, Read, Write, Sync, slot_state};
+ghost use Rattle.stair_rack.specs.Answers.{Calls, attach_answer, read_answer, write_answer, sync_answer};
+ghost use Rattle.stair_rack.specs.RackCounts.{NoneFalls, CountsRead};
+ghost use Rattle.stair_memrack.specs.declared.record.Call.TheVariants as Call;
+ghost use Rattle.stair_memrack.specs.Shelf.{blank_for, ArePlaces};
+ghost use Rattle.stair_memrack.specs.Record.{blank_image, history_of, moment, is_gone, is_gone_got, is_bad, after_call};
+
+use crate::act::{Act, What};
+use crate::disk::Disk;
+use crate::place::Place;
+use crate::record::{Call, Recorded};
+use crate::script::act_before;
+use stair_rack::{Got, Rack, Reply};
+use std::alloc::{AllocError, Global};
+use std::marker::Model;
+
+/// A rack in memory, which plays a script of what the outside does to it.
+///
+/// All five calls are numbered, `sectors` too, from 0 on. Before the call numbered `at` the acts of the script with that
+/// number are done, in the order of the list; an act that doesn't apply does nothing. A medium that is pulled settles as
+/// reads find it.
+///
+/// It records its calls, and has room for as many as it was made for. A call that finds no room stops it for good.
+#[derive(Drop)]
+pub struct MemRack {
+    // In how many slots it was made with a blank medium, and of how many sectors.
+    media: u8,
+    sectors: u32,
+    script: Vec<Act>,
+    // The medium that an act of the script puts in, by the act's index, until it is done.
+    blanks: Vec<Option<Disk>>,
+    places: Vec<Place>,
+    // The script stopped the rack.
+    stopped: bool,
+    // For how many calls the record has room, and the calls that it holds.
+    room: u32,
+    log: Vec<Recorded>,
+    // A call came after the record was spent.
+    spent: bool,
+    bads: u64,
+    gones: Vec<u64>,
+    reads: u32,
+}
+
+impl Model for MemRack {
+    ghost use Rattle.stair_memrack.specs.declared.record.Call.TheVariants as Call;
+    ghost use Rattle.stair_memrack.specs.Shelf.{blank_for, ArePlaces};
+    ghost use Rattle.stair_memrack.specs.Record.{MemRackState};
+
+    ghost Value = { MemRackState };
+
+    ghost use Rattle.stair_memrack.specs.Sound.{state_of, IsSound};
+
+    ghost view = { state_of };
+
+    ghost invariant = { IsSound };
+}
+
+impl MemRack {
+    /// A rack with blank media of so many sectors in its first `media` slots, and none in the others.
+    ///
+    /// It takes all memory here, and none later: the record of so many calls, every medium that the script puts in, and
+    /// the drawers.
+    pub fn new(
+        alloc: Global,
+        media: u8,
+        sectors: u32,
+        script: &[Act],
+        calls: u32,
+    ) -> Result<MemRack, AllocError>
+        requires { media ≤ 32 }
+        ensures made { IfOk result (λ s. history_of s ≡ Made (blank_image media sectors) ∷ []) }
+        ensures state { IfOk result (λ s. s ≡ record {
+          media = media;
+          sectors = sectors;
+          script = script.now;
+          room = calls;
+          calls = [];
+          spent = false;
+          bads = 0;
+          gones = replicate 32 0;
+          reads = 0;
+        }) }
+    {
+        Ok(MemRack {
+            media,
+            sectors,
+            script: script.to_vec(alloc)?,
+            blanks: blanks(alloc, script)?,
+            places: places(alloc, media, sectors, script.len())?,
+            stopped: false,
+            room: calls,
+            log: Vec::with_capacity(alloc, calls as usize)?,
+            spent: false,
+            bads: 0,
+            gones: vec![in alloc; 0; 32]?,
+            reads: 0,
+        })
+    }
+
+    /// The number of calls so far, at most the number that it was made for.
+    pub fn made(&self) -> u32
+        ensures made { result ≡ length self.now.calls }
+        ensures within { result ≤ self.now.room }
+    {
+        let made = self.log.len();
+        made as u32
+    }
+}
+
+impl Rack for MemRack {
+    ghost is_honest = { true };
+
+    ghost history = { history_of };
+
+    ghost bads = { λ s. s.bads };
+
+    ghost gones = { λ s. slice_index s.gones };
+
+    ghost reads = { λ s. Some s.reads };
+
+    fn attach(&mut self, slot: u8) -> Reply
+        requires { slot < 32 }
+        ensures told { Calls (history_of self.old) (history_of self.new) slot (Attach result) }
+        ensures counts { NoneFalls self.old.bads self.new.bads (slice_index self.old.gones) (slice_index self.new.gones) }
+        ensures gone { result ≡ Reply.Gone →
+            Rose (slice_index self.old.gones slot) (slice_index self.new.gones slot) }
+        ensures reads { Some self.new.reads ≡ Some self.old.reads }
+
+        // Exactly which answer comes, and what the rack is afterwards.
+        ensures answer { result ≡ attach_answer (moment self.old) slot }
+        ensures after { self.new ≡ after_call slot (Call.Attach result) self.old }
+    {
+        if self.log.len() >= self.room as usize {
+            self.spent = true;
+            count_reply(&mut self.gones, slot, Reply::Gone);
+            return Reply::Gone;
+        }
+        act_before(
+            self.log.len() as u32,
+            &self.script,
+            &mut self.blanks,
+            &mut self.places,
+            &mut self.stopped,
+        );
+        let reply = self.places[slot as usize].attach(self.stopped);
+        self.log.push_reserved(Recorded {
+            slot,
+            call: Call::Attach(reply),
+        });
+        count_reply(&mut self.gones, slot, reply);
+        reply
+    }
+
+    fn sectors(&mut self, slot: u8) -> u32
+        requires { slot < 32 }
+        ensures told { Calls (history_of self.old) (history_of self.new) slot (Sectors result) }
+        ensures counts { NoneFalls self.old.bads self.new.bads (slice_index self.old.gones) (slice_index self.new.gones) }
+        ensures reads { Some self.new.reads ≡ Some self.old.reads }
+
+        // Exactly which answer comes, and what the rack is afterwards.
+        ensures answer { result ≡ (slot_state (moment self.old) slot).found }
+        ensures after { self.new ≡ after_call slot (Call.Sectors result) self.old }
+    {
+        if self.log.len() >= self.room as usize {
+            self.spent = true;
+            return self.places[slot as usize].found();
+        }
+        act_before(
+            self.log.len() as u32,
+            &self.script,
+            &mut self.blanks,
+            &mut self.places,
+            &mut self.stopped,
+        );
+        let size = self.places[slot as usize].found();
+        self.log.push_reserved(Recorded {
+            slot,
+            call: Call::Sectors(size),
+        });
+        size
+    }
+
+    fn read(&mut self, slot: u8, sector: u32, into: &mut [u8; 512]) -> Got
+        requires { slot < 32 }
+        ensures told { Calls (history_of self.old) (history_of self.new) slot (Read sector result) }
+        ensures good { result ≡ Got.Good →
+            content ((slot_state (history_of self.new) slot).sector sector) ≡ Good into.new }
+        ensures unread { result ≢ Got.Good → into.new ≡ into.old }
+        ensures counts { NoneFalls self.old.bads self.new.bads (slice_index self.old.gones) (slice_index self.new.gones) }
+        ensures bad { result ≡ Got.Bad → Rose self.old.bads self.new.bads }
+        ensures gone { result ≡ Got.Gone →
+            Rose (slice_index self.old.gones slot) (slice_index self.new.gones slot) }
+        ensures reads { CountsRead result (Some self.old.reads) (Some self.new.reads) }
+
+        // Exactly which answer comes, and what the rack is afterwards.
+        ensures answer { result ≡ read_answer (moment self.old) slot sector }
+        ensures after { self.new ≡ after_call slot (Call.Read sector result) self.old }
+    {
+        if self.log.len() >= self.room as usize {
+            self.spent = true;
+            count_reply(&mut self.gones, slot, Reply::Gone);
+            return Got::Gone;
+        }
+        act_before(
+            self.log.len() as u32,
+            &self.script,
+            &mut self.blanks,
+            &mut self.places,
+            &mut self.stopped,
+        );
+        let answer = self.places[slot as usize].read(self.stopped, sector, into);
+        self.log.push_reserved(Recorded {
+            slot,
+            call: Call::Read(sector, answer),
+        });
+        self.reads += 1;
+        count_got(&mut self.bads, &mut self.gones, slot, answer);
+        answer
+    }
+
+    fn write(&mut self, slot: u8, sector: u32, from: &[u8; 512]) -> Reply
+        requires { slot < 32 }
+        ensures told { Calls (history_of self.old) (history_of self.new) slot (Write sector from.now result) }
+        ensures counts { NoneFalls self.old.bads self.new.bads (slice_index self.old.gones) (slice_index self.new.gones) }
+        ensures gone { result ≡ Reply.Gone →
+            Rose (slice_index self.old.gones slot) (slice_index self.new.gones slot) }
+        ensures reads { Some self.new.reads ≡ Some self.old.reads }
+
+        // Exactly which answer comes, and what the rack is afterwards.
+        ensures answer { result ≡ write_answer (moment self.old) slot sector }
+        ensures after { self.new ≡ after_call slot (Call.Write sector from.now result) self.old }
+    {
+        if self.log.len() >= self.room as usize {
+            self.spent = true;
+            count_reply(&mut self.gones, slot, Reply::Gone);
+            return Reply::Gone;
+        }
+        act_before(
+            self.log.len() as u32,
+            &self.script,
+            &mut self.blanks,
+            &mut self.places,
+            &mut self.stopped,
+        );
+        let reply = self.places[slot as usize].write(self.stopped, sector, from);
+        self.log.push_reserved(Recorded {
+            slot,
+            call: Call::Write(sector, *from, reply),
+        });
+        count_reply(&mut self.gones, slot, reply);
+        reply
+    }
+
+    fn sync(&mut self, slot: u8) -> Reply
+        requires { slot < 32 }
+        ensures told { Calls (history_of self.old) (history_of self.new) slot (Sync result) }
+        ensures counts { NoneFalls self.old.bads self.new.bads (slice_index self.old.gones) (slice_index self.new.gones) }
+        ensures gone { result ≡ Reply.Gone →
+            Rose (slice_index self.old.gones slot) (slice_index self.new.gones slot) }
+        ensures reads { Some self.new.reads ≡ Some self.old.reads }
+
+        // Exactly which answer comes, and what the rack is afterwards.
+        ensures answer { result ≡ sync_answer (moment self.old) slot }
+        ensures after { self.new ≡ after_call slot (Call.Sync result) self.old }
+    {
+        if self.log.len() >= self.room as usize {
+            self.spent = true;
+            count_reply(&mut self.gones, slot, Reply::Gone);
+            return Reply::Gone;
+        }
+        act_before(
+            self.log.len() as u32,
+            &self.script,
+            &mut self.blanks,
+            &mut self.places,
+            &mut self.stopped,
+        );
+        let reply = self.places[slot as usize].sync(self.stopped);
+        self.log.push_reserved(Recorded {
+            slot,
+            call: Call::Sync(reply),
+        });
+        count_reply(&mut self.gones, slot, reply);
+        reply
+    }
+}
+
+// The media that the acts of a script put in, by index.
+fn blanks(alloc: Global, script: &[Act]) -> Result<Vec<Option<Disk>>, AllocError>
+    ensures { IfOk result (λ v. v.items ≡ map (λ act. blank_for act.what) script.now) }
+{
+    let mut blanks = Vec::with_capacity(alloc, script.len())?;
+    for act in script {
+        blanks.push(blank_for(alloc, act.what)?)?;
+    }
+    Ok(blanks)
+}
+
+// The medium that an act puts in.
+fn blank_for(alloc: Global, what: What) -> Result<Option<Disk>, AllocError>
+    ensures { IfOk result (λ medium. medium ≡ blank_for what) }
+{
+    match what {
+        What::InsertBlank { sectors, .. } => Ok(Some(Disk::blank(alloc, sectors)?)),
+        _ => Ok(None),
+    }
+}
+
+// The 32 slots, with blank media in the first ones, and drawers for so many media.
+fn places(alloc: Global, media: u8, sectors: u32, room: usize) -> Result<Vec<Place>, AllocError>
+    ensures { IfOk result (λ v. ArePlaces 32 media sectors room v.items) }
+{
+    let mut places = Vec::with_capacity(alloc, 32)?;
+    for slot in 0..32u8 {
+        let medium = if slot < media {
+            Some(Disk::blank(alloc, sectors)?)
+        } else {
+            None
+        };
+        places.push(Place::new(alloc, medium, room)?)?;
+    }
+    Ok(places)
+}
+
+// Counts the slot where this answer says that it is gone.
+fn count_reply(gones: &mut Vec<u64>, slot: u8, reply: Reply)
+    requires { slot < vec_len gones.old }
+    ensures { gones.new.items ≡ (if is_gone reply
+        then slice_set gones.old.items slot (one_more (slice_index gones.old.items slot)) else gones.old.items) }
+{
+    if reply == Reply::Gone {
+        gones[slot as usize] = gones[slot as usize].saturating_add(1);
+    }
+}
+
+// Counts what this answer says.
+fn count_got(bads: &mut u64, gones: &mut Vec<u64>, slot: u8, got: Got)
+    requires { slot < vec_len gones.old }
+    ensures bads { bads.new ≡ (if is_bad got then one_more bads.old else bads.old) }
+    ensures gones { gones.new.items ≡ (if is_gone_got got
+        then slice_set gones.old.items slot (one_more (slice_index gones.old.items slot)) else gones.old.items) }
+{
+    match got {
+        Got::Good => {}
+        Got::Bad => *bads = bads.saturating_add(1),
+        Got::Gone => count_reply(gones, slot, Reply::Gone),
+    }
+}

@@ -1,0 +1,458 @@
+-- A phase, built from its writes and its syncs.
+use Rattle.std.proofs.Common.{◌≡◌, ℕ, true, List, ◌⊎◌, inl, inr, refl, sym, ap, ◌∙◌, subst, None, Some, slice_get}
+use Rattle.std.specs.Prelude.{◌↔◌, IsTrue, IsSome}
+use Rattle.std.proofs.lemmas.Bool.{cases_Bool, cases_eq, false≢true}
+use Rattle.stair_model.specs.Slots.{Slots, has_slot, HasSlot}
+use Rattle.stair_rack.specs.Sector.{Cell, Good, Damaged, Sector, settled, damaged, content, wrote, synced, torn, Leaves}
+use Rattle.stair_rack.specs.Media.{has_sector}
+use Rattle.stair_rack.specs.History.{SlotAct, Pulled, InsertedBlank, InsertedOld, SectorDamaged, SlotCall, Attach, Sectors, Read, Write, Sync, Event, SlotState, after_act, after_call, slot_state, stopped}
+use Rattle.stair_rack.specs.Outside.{MayHappen}
+use Rattle.stair_rack.specs.Answers.{Calls, Ran}
+use Rattle.stair_rack.specs.Moments.{AtEveryMoment}
+use Rattle.stair_rack.specs.Offline.{IsKept, Lost, ButForOutside, IsHeld, IsOfflineUntilAttached}
+use Rattle.stair_rack.specs.Passes.{IsOn, IsDone, Wrote, Settled}
+use Rattle.stair_rack.specs.Placed.{Writes, IsWriteOf, IsSyncOf, IsOver, MayLeaveIn, AsBefore, ByOutside, Cut, MayBeUnder, Before, Placed}
+use Rattle.stair_rack.specs.Answers.{any_call, IsBesideAttach}
+use Rattle.stair_rack.proofs.MomentLemmas.{ran_any}
+use Rattle.stair_rack.specs.declared.rack.Reply.{Reply}
+use Rattle.stair_rack.specs.declared.rack.Reply.TheVariants as reply
+use Rattle.stair_rack.proofs.StepLemmas.{keeps_slot, kept, kept_throughout}
+use Rattle.stair_rack.proofs.MomentLemmas.{ran_none, ran_join, ran_weakened, calls_ran, IsThis, at_every_join, at_every_mapped, at_every_from, at_moment, at_last}
+use Rattle.stair_rack.proofs.KeptLemmas.{with_old_cases, IsKept-onward, IsKept-since, IsKept-mapped, IsKept-now, SectorKeeps, keeps_sector}
+use Rattle.stair_rack.proofs.OfflineLemmas.{pulls_on, held_on, offline_on}
+use Rattle.stair_rack.proofs.CrashLemmas.{content_left, Leaves-settled, Leaves-wrote, Leaves-mapped, KeepsLeaving, leaves_throughout}
+use Rattle.stair_rack.proofs.CallLemmas.{write_done, write_gone, write_others}
+
+-- ONE STEP OF THE WRITES
+
+-- these bytes are written to sector k, on one of these slots
+pub record IsWriteTo (on : ℕ → Type 0) (k : ℕ) (bytes : List ℕ) (j : ℕ) (c : SlotCall) : Type 0 where
+  pub slot : on j
+  pub answer : Reply
+  pub is : c ≡ Write k bytes answer
+
+-- Sector k was written on some slots, in one call or in a pass.
+pub record WriteStep (on gone : ℕ → Type 0) (k : ℕ) (bytes : List ℕ) (now next : List Event) : Type 0 where
+  pub ran : Ran (IsWriteTo on k bytes) now next
+  pub known_on : (j : ℕ) → on j ⊎ (¬ on j)
+  pub known : (j : ℕ) → gone j ⊎ (¬ gone j)
+  pub answered : (j : ℕ) → gone j → on j
+  pub written : (j : ℕ) → on j → (¬ gone j) → ButForOutside now next j k (λ s. content s ≡ Good bytes)
+  pub others : (j l : ℕ) → IsSome (slot_state now j).size → (¬ (on j × (l ≡ k)))
+      → ButForOutside now next j l (λ s. s ≡ (slot_state now j).sector l)
+  pub shut : (before : List Event) (j : ℕ) → gone j → IsHeld before now j
+      → ((slot_state now j).attached ≡ true → IsTrue (has_sector (slot_state now j).size k)) → IsOfflineUntilAttached before next j
+
+known_slot : (set : Slots) (j : ℕ) → HasSlot set j ⊎ (¬ HasSlot set j)
+known_slot set j = elim (cases_Bool (has_slot set j)) [ inl has ↦ inl has | inr none ↦ inr (λ has. false≢true (sym none ∙ has)) ]
+
+pub WriteStep-pass : (to gone : Slots) (k : ℕ) (bytes : List ℕ) (now next : List Event) → Wrote to gone k bytes now next
+    → WriteStep (HasSlot to) (HasSlot gone) k bytes now next
+WriteStep-pass to gone k bytes now next w = record {
+  ran =
+      ran_weakened {allowed = IsOn to (Write k bytes)} {more = IsWriteTo (HasSlot to) k bytes}
+      (λ j c is. record { slot = is.0; answer = is.1.0; is = is.1.1 }) w.ran;
+  known_on = known_slot to;
+  known = known_slot gone;
+  answered = w.answered;
+  written = λ j on fine. IsKept-mapped (λ s is. is.bytes_are) (w.written j (on, fine));
+  others = λ j l some not_this. w.others j l some (λ done. not_this (done.0.0, done.1));
+  shut = w.shut;
+}
+
+known_reply : (j i : ℕ) (answer : Reply) → ((i ≡ j) × (answer ≡ reply.Gone)) ⊎ (¬ ((i ≡ j) × (answer ≡ reply.Gone)))
+known_reply j i reply.Done = inr (λ is. let e : reply.Done ≡ reply.Gone = is.1 in absurd (cc))
+known_reply j i reply.Gone = elim (cases_eq i j) [ inl same ↦ inl (same, refl) | inr other ↦ inr (λ is. other is.0) ]
+
+pub WriteStep-call : (j k : ℕ) (bytes : List ℕ) (answer : Reply) (now next : List Event) → Calls now next j (Write k bytes answer)
+    → WriteStep (λ i. i ≡ j) (λ i. (i ≡ j) × (answer ≡ reply.Gone)) k bytes now next
+WriteStep-call j k bytes answer now next called = record {
+  ran =
+      ran_weakened {allowed = IsThis j (Write k bytes answer)} {more = IsWriteTo (λ i. i ≡ j) k bytes}
+      (λ i c this. record { slot = this.0; answer = answer; is = this.1 }) (calls_ran called);
+  known_on = λ i. cases_eq i j;
+  known = λ i. known_reply j i answer;
+  answered = λ i gone. gone.0;
+  written = λ i same fine. written answer called i same fine;
+  others = λ i l some not_this. write_others now next j k bytes answer i l called some (λ this. not_this (this.0, this.1));
+  shut = λ before i gone held reach.
+      let gone_call : Calls now next j (Write k bytes reply.Gone) = subst (λ r. Calls now next j (Write k bytes r)) gone.1 called in
+      let here : IsOfflineUntilAttached before next j =
+      write_gone now next j k bytes before gone_call (subst (λ n. IsHeld before now n) gone.0 held)
+      (subst (λ n. (slot_state now n).attached ≡ true → IsTrue (has_sector (slot_state now n).size k)) gone.0 reach) in
+      subst (λ n. IsOfflineUntilAttached before next n) (sym gone.0) here;
+}
+  where
+    written : (answer : Reply) → Calls now next j (Write k bytes answer) → (i : ℕ) → i ≡ j → (¬ ((i ≡ j) × (answer ≡ reply.Gone)))
+        → ButForOutside now next i k (λ s. content s ≡ Good bytes)
+    written reply.Done called i same fine =
+        subst (λ n. ButForOutside now next n k (λ s. content s ≡ Good bytes)) (sym same)
+        (IsKept-mapped (λ s is. is.bytes_are) (write_done now next j k bytes called))
+    written reply.Gone called i same fine = absurd (fine (same, refl))
+
+-- THE WRITES SO FAR
+
+-- an attached slot has the sector
+abbrev pub Reach : ℕ → SlotState → Type 0
+Reach k b = b.attached ≡ true → IsTrue (has_sector b.size k)
+
+reach_act : (k : ℕ) (b : SlotState) (a : SlotAct) → MayHappen b a → Reach k b → Reach k (after_act a b)
+reach_act k b (Pulled m) may reach = λ attached. absurd (false≢true attached)
+reach_act k b (InsertedBlank size) may reach = λ attached. absurd (false≢true (ap (λ s. has_sector s k) (sym may) ∙ reach attached))
+reach_act k b (InsertedOld i) may reach =
+    with_old_cases (Reach k) i (slice_get b.removed i) b reach
+    (λ m attached. absurd (false≢true (ap (λ s. has_sector s k) (sym may.0) ∙ reach attached)))
+reach_act k b (SectorDamaged l) may reach = reach
+
+reach_call : (k : ℕ) (b : SlotState) (c : SlotCall) → IsBesideAttach c → Reach k b → Reach k (after_call c b)
+reach_call k b (Attach answer) is reach = absurd is
+reach_call k b (Sectors size) is reach = reach
+reach_call k b (Read l answer) is reach = reach
+reach_call k b (Write l bytes reply.Done) is reach = reach
+reach_call k b (Write l bytes reply.Gone) is reach = reach
+reach_call k b (Sync reply.Done) is reach = reach
+reach_call k b (Sync reply.Gone) is reach = reach
+
+-- it has it until it is attached anew
+pub reach_on : {allowed : ℕ → SlotCall → Type 0} {old new : List Event} (j k : ℕ) → ((c : SlotCall) → allowed j c → IsBesideAttach c)
+    → Ran allowed old new → Reach k (slot_state old j) → Reach k (slot_state new j)
+reach_on {allowed} j k beside ran start =
+    kept {allowed = allowed} {P = λ h. Reach k (slot_state h j)}
+    (keeps_slot {allowed = allowed} {j = j} {R = Reach k} (record {
+      act = reach_act k;
+      call = λ h c may is reach. reach_call k (slot_state h j) c (beside c may) reach;
+    })) ran start
+
+beside_writes : (what : Writes) (to : ℕ → Type 0) (j : ℕ) (c : SlotCall) → IsWriteOf what to j c → IsBesideAttach c
+beside_writes what to j c is = subst IsBesideAttach (sym is.is) tt
+
+beside_syncs : (to : ℕ → Type 0) (j : ℕ) (c : SlotCall) → IsSyncOf to j c → IsBesideAttach c
+beside_syncs to j c is = subst IsBesideAttach (sym is.is) tt
+
+-- Of a phase's writes those of `so_far`, by slot and sector, were made.
+pub record Writing (what : Writes) (to gone : ℕ → Type 0) (so_far : ℕ → ℕ → Type 0) (old now : List Event) : Type 0 where
+  pub ran : Ran (IsWriteOf what to) old now
+  pub known : (j : ℕ) → gone j ⊎ (¬ gone j)
+  pub done : (j k : ℕ) (bytes : List ℕ) → so_far j k → (¬ gone j) → what j k ≡ Some bytes
+      → ButForOutside old now j k (λ s. content s ≡ Good bytes)
+  pub shut : (before : List Event) (j : ℕ) → gone j → IsHeld before old j
+      → ((slot_state old j).attached ≡ true → (k : ℕ) (bytes : List ℕ) → what j k ≡ Some bytes → IsTrue (has_sector (slot_state old j).size k))
+      → IsOfflineUntilAttached before now j
+
+-- none of them yet
+pub writing_none : (what : Writes) (to : ℕ → Type 0) (old : List Event) → Writing what to (λ j. ⊥) (λ j k. ⊥) old old
+writing_none what to old = record {
+  ran = ran_none old;
+  known = λ j. inr (λ gone. gone);
+  done = λ j k bytes made fine is. absurd made;
+  shut = λ before j gone held reach. absurd gone;
+}
+
+module _ (what : Writes) (to gone gone' on : ℕ → Type 0) (so_far : ℕ → ℕ → Type 0) (k : ℕ) (bytes : List ℕ) (old now next : List Event)
+    (w : Writing what to gone so_far old now) (step : WriteStep on gone' k bytes now next) (within : (j : ℕ) → on j → to j × (what j k ≡ Some bytes)) where
+  -- one step more
+  pub writing_more : Writing what to (λ j. gone j ⊎ gone' j) (λ j l. so_far j l ⊎ (on j × (l ≡ k))) old next
+  writing_more = record {
+    ran = ran_join w.ran step_ran;
+    known = λ j.
+        elim (w.known j) [
+          | inl was ↦ inl (inl was)
+          | inr fine ↦
+              elim (step.known j) [ inl is ↦ inl (inr is) | inr fine' ↦ inr (λ gone. elim gone [ inl was ↦ fine was | inr is ↦ fine' is ]) ]
+        ];
+    done = λ j l bytes' made fine is. done j l bytes' made (λ was. fine (inl was)) (λ now_gone. fine (inr now_gone)) is;
+    shut = λ before j is_gone held reach.
+        elim is_gone [
+          | inl was ↦ offline_on {allowed = IsWriteOf what to} j (beside_writes what to j) step_ran (w.shut before j was held reach)
+          | inr is ↦ shut_now before j is held reach
+        ];
+  }
+    where
+      step_ran : Ran (IsWriteOf what to) now next
+      step_ran =
+          ran_weakened {allowed = IsWriteTo on k bytes} {more = IsWriteOf what to}
+          (λ j c is. record {
+            on = (within j is.slot).0;
+            sector = k;
+            bytes = bytes;
+            answer = is.answer;
+            is_one = (within j is.slot).1;
+            is = is.is;
+          }) step.ran
+
+      earlier : (j l : ℕ) (bytes' : List ℕ) → so_far j l → (¬ gone j) → what j l ≡ Some bytes' → (¬ (on j × (l ≡ k)))
+          → ButForOutside old next j l (λ s. content s ≡ Good bytes')
+      earlier j l bytes' made fine is not_this =
+          IsKept-onward {P = λ s. content s ≡ Good bytes'} {Q = λ s. s ≡ (slot_state now j).sector l} {R = λ s. content s ≡ Good bytes'}
+          (pulls_on {allowed = IsWriteOf what to} j step_ran) (w.done j l bytes' made fine is) (λ some. step.others j l some not_this)
+          (λ s before same. elim before [ inl was ↦ inl (same ∙ was) | inr was ↦ inr (ap content same ∙ was) ])
+
+      just_now : (j l : ℕ) (bytes' : List ℕ) → on j → l ≡ k → (¬ gone' j) → what j l ≡ Some bytes' → ButForOutside old next j l (λ s. content s ≡ Good bytes')
+      just_now j l bytes' is_on at fine is =
+          let both : Some bytes ≡ Some bytes' = sym (within j is_on).1 ∙ ap (what j) (sym at) ∙ is in
+          let same : bytes ≡ bytes' = cc in
+          subst (λ n. ButForOutside old next j n (λ s. content s ≡ Good bytes')) (sym at)
+          (IsKept-since (pulls_on {allowed = IsWriteOf what to} j w.ran)
+          (IsKept-mapped (λ s reads. reads ∙ ap Good same) (step.written j is_on fine)))
+
+      done : (j l : ℕ) (bytes' : List ℕ) → so_far j l ⊎ (on j × (l ≡ k)) → (¬ gone j) → (¬ gone' j) → what j l ≡ Some bytes'
+          → ButForOutside old next j l (λ s. content s ≡ Good bytes')
+      done j l bytes' (inr this) fine fine' is = just_now j l bytes' this.0 this.1 fine' is
+      done j l bytes' (inl made) fine fine' is =
+          elim (cases_eq l k) [
+            | inl at ↦
+                elim (step.known_on j) [
+                  | inl is_on ↦ just_now j l bytes' is_on at fine' is
+                  | inr off ↦ earlier j l bytes' made fine is (λ this. off this.0)
+                ]
+            | inr other ↦ earlier j l bytes' made fine is (λ this. other this.1)
+          ]
+
+      shut_now : (before : List Event) (j : ℕ) → gone' j → IsHeld before old j
+          → ((slot_state old j).attached ≡ true → (l : ℕ) (bytes' : List ℕ) → what j l ≡ Some bytes' → IsTrue (has_sector (slot_state old j).size l))
+          → IsOfflineUntilAttached before next j
+      shut_now before j is held reach =
+          let is_on = step.answered j is in
+          step.shut before j is (held_on {allowed = IsWriteOf what to} j w.ran held)
+          (reach_on {allowed = IsWriteOf what to} j k (beside_writes what to j) w.ran (λ attached. reach attached k bytes (within j is_on).1))
+
+-- the same slots were gone, and no more writes are asked for
+pub Writing-same : {what : Writes} {to gone gone' : ℕ → Type 0} {so_far so_far' : ℕ → ℕ → Type 0} {old now : List Event}
+    → ((j : ℕ) → gone j ↔ gone' j) → ((j k : ℕ) → so_far' j k → so_far j k) → Writing what to gone so_far old now
+    → Writing what to gone' so_far' old now
+Writing-same same fewer w = record {
+  ran = w.ran;
+  known = λ j. elim (w.known j) [ inl was ↦ inl ((same j).0 was) | inr fine ↦ inr (λ is. fine ((same j).1 is)) ];
+  done = λ j k bytes made fine is. w.done j k bytes (fewer j k made) (λ was. fine ((same j).0 was)) is;
+  shut = λ before j is held reach. w.shut before j ((same j).1 is) held reach;
+}
+
+-- THE PHASE
+
+-- what a read finds in a sector, in the phase
+data ReadsIn (what : Writes) (to : ℕ → Type 0) (j k : ℕ) (was : Sector) (cell : Cell) : Type 0 where
+  AsWas : cell ≡ content was → ReadsIn what to j k was cell
+  DamagedIn : cell ≡ Damaged → ReadsIn what to j k was cell
+  WrittenIn : (bytes : List ℕ) → to j → what j k ≡ Some bytes → cell ≡ Good bytes → ReadsIn what to j k was cell
+
+module _ (what : Writes) (to : ℕ → Type 0) (j k : ℕ) (was : Sector) where
+  -- a sector in the stretch of writes
+  record InWrites (s : Sector) : Type 0 where
+    pub leaves : Leaves (MayLeaveIn what to j k was) (IsOver was) s
+    pub reads : ReadsIn what to j k was (content s)
+
+  -- and in the stretch of syncs
+  record InSyncs (s : Sector) : Type 0 where
+    pub leaves : Leaves (MayLeaveIn what to j k was) (MayBeUnder what to j k was) s
+    pub reads : ReadsIn what to j k was (content s)
+
+  in_writes_first : InWrites was
+  in_writes_first = record { leaves = record { each = λ cell left. AsBefore left; base = inl refl }; reads = AsWas refl }
+
+  in_writes_damaged : InWrites damaged
+  in_writes_damaged = record { leaves = Leaves-settled Damaged (ByOutside refl) (inr refl); reads = DamagedIn refl }
+
+  keeps_in_writes : SectorKeeps (IsWriteOf what to) j k InWrites
+  keeps_in_writes = record {
+    write = λ bytes s may before.
+        let same : Write k bytes reply.Done ≡ Write may.sector may.bytes may.answer = may.is in
+        let is : what j k ≡ Some bytes = cc in
+        written bytes s may.on is (elim before [ inl at ↦ subst InWrites (sym at) in_writes_damaged | inr holds ↦ holds ]);
+    sync = λ s may before. let same : Sync reply.Done ≡ Write may.sector may.bytes may.answer = may.is in absurd (cc);
+  }
+    where
+      written : (bytes : List ℕ) (s : Sector) → to j → what j k ≡ Some bytes → InWrites s → InWrites (wrote bytes s)
+      written bytes s on is before = record {
+        leaves = Leaves-wrote bytes (MayLeaveIn.New bytes on is refl) (λ cell over. Cut bytes cell on is over refl) before.leaves;
+        reads = WrittenIn bytes on is refl;
+      }
+
+  under_read : to j → (cell : Cell) → ReadsIn what to j k was cell → MayBeUnder what to j k was cell
+  under_read on cell (AsWas is) = MayBeUnder.Content on is
+  under_read on cell (DamagedIn is) = Before (inr is)
+  under_read on cell (WrittenIn bytes on' one is) = MayBeUnder.New bytes on' one is
+
+  keeps_in_syncs : SectorKeeps (IsSyncOf to) j k InSyncs
+  keeps_in_syncs = record {
+    write = λ bytes s may before. let same : Write k bytes reply.Done ≡ Sync may.answer = may.is in absurd (cc);
+    sync = λ s may before. record {
+      leaves = Leaves-settled (content s) (before.leaves.each (content s) (content_left s)) (under_read may.on (content s) before.reads);
+      reads = before.reads;
+    };
+  }
+
+  in_syncs_first : (s : Sector) → InWrites s → InSyncs s
+  in_syncs_first s before = record {
+    leaves = Leaves-mapped (λ cell is. is) (λ cell over. Before over) before.leaves;
+    reads = before.reads;
+  }
+
+module _ (what : Writes) (to gone : ℕ → Type 0) (so_far : ℕ → ℕ → Type 0) (synced_slots gone' : Slots) (old mid new : List Event)
+    (w : Writing what to gone so_far old mid) (all : (j k : ℕ) (bytes : List ℕ) → to j → what j k ≡ Some bytes → so_far j k)
+    (s : Settled synced_slots gone' mid new) (within : (j : ℕ) → HasSlot synced_slots j → to j)
+    (enough : (j : ℕ) → to j → (¬ gone j) → HasSlot synced_slots j) where
+  phase_syncs : Ran (IsSyncOf to) mid new
+  phase_syncs =
+      ran_weakened {allowed = IsOn synced_slots Sync} {more = IsSyncOf to}
+      (λ j c is. record { on = within j is.0; answer = is.1.0; is = is.1.1 }) s.ran
+
+  phase_done : (j k : ℕ) (bytes : List ℕ) → to j → (¬ (gone j ⊎ HasSlot gone' j)) → what j k ≡ Some bytes
+      → ButForOutside old new j k (λ x. x ≡ settled (Good bytes))
+  phase_done j k bytes on fine is =
+      let is_done : IsDone synced_slots gone' j = (enough j on (λ was. fine (inl was)), λ now_gone. fine (inr now_gone)) in
+      IsKept-onward {P = λ x. content x ≡ Good bytes} {Q = λ x. x ≡ synced ((slot_state mid j).sector k)} {R = λ x. x ≡ settled (Good bytes)}
+      (pulls_on {allowed = IsSyncOf to} j phase_syncs) (w.done j k bytes (all j k bytes on is) (λ was. fine (inl was)) is)
+      (λ some. s.settled j k is_done some)
+      (λ x before same. elim before [ inl was ↦ inl (same ∙ ap synced was) | inr was ↦ inr (same ∙ ap settled was) ])
+
+  phase_others : (j k : ℕ) → IsSome (slot_state old j).size → (to j → what j k ≡ None)
+      → ButForOutside old new j k (λ x. (x ≡ (slot_state old j).sector k) ⊎ (x ≡ synced ((slot_state old j).sector k)))
+  phase_others j k some none =
+      let P : Sector → Type 0 = λ x. (x ≡ (slot_state old j).sector k) ⊎ (x ≡ synced ((slot_state old j).sector k)) in
+      let pulls = (slot_state old j).pulls in
+      let start : IsKept pulls k P (slot_state old j) =
+      IsKept-mapped {P = λ x. x ≡ (slot_state old j).sector k} {Q = P} (λ x is. inl is) (IsKept-now old j k some) in
+      let half : IsKept pulls k P (slot_state mid j) =
+      kept {allowed = IsWriteOf what to} {P = λ h. IsKept pulls k P (slot_state h j)}
+      (keeps_sector {allowed = IsWriteOf what to} {j = j} {k = k} {P = P} pulls (record {
+        write = λ bytes x may before.
+            let same : Write k bytes reply.Done ≡ Write may.sector may.bytes may.answer = may.is in
+            let is : what j k ≡ Some bytes = cc in
+            let not_some : None ≡ Some bytes = sym (none may.on) ∙ is in
+            absurd (cc);
+        sync = λ x may before. let same : Sync reply.Done ≡ Write may.sector may.bytes may.answer = may.is in absurd (cc);
+      })) w.ran start in
+      kept {allowed = IsSyncOf to} {P = λ h. IsKept pulls k P (slot_state h j)}
+      (keeps_sector {allowed = IsSyncOf to} {j = j} {k = k} {P = P} pulls (record {
+        write = λ bytes x may before. let same : Write k bytes reply.Done ≡ Sync may.answer = may.is in absurd (cc);
+        sync = λ x may before. elim before [ inl is ↦ inr (ap synced is) | inr is ↦ inr (ap synced is) ];
+      })) phase_syncs half
+
+  phase_meanwhile_at : (j k : ℕ) → IsSome (slot_state old j).size
+      → AtEveryMoment (λ h. ButForOutside old h j k (Leaves (MayLeaveIn what to j k ((slot_state old j).sector k))
+      (MayBeUnder what to j k ((slot_state old j).sector k)))) old new
+  phase_meanwhile_at j k some =
+      let was = (slot_state old j).sector k in
+      let pulls = (slot_state old j).pulls in
+      let start : IsKept pulls k (InWrites what to j k was) (slot_state old j) =
+      IsKept-mapped {P = λ x. x ≡ was} (λ x is. subst (InWrites what to j k was) (sym is) (in_writes_first what to j k was)) (IsKept-now old j k some) in
+      let first : AtEveryMoment (λ h. IsKept pulls k (InWrites what to j k was) (slot_state h j)) old mid =
+      kept_throughout {allowed = IsWriteOf what to} {P = λ h. IsKept pulls k (InWrites what to j k was) (slot_state h j)}
+      (keeps_sector {allowed = IsWriteOf what to} {j = j} {k = k} {P = InWrites what to j k was} pulls (keeps_in_writes what to j k was)) w.ran start in
+      let half : IsKept pulls k (InSyncs what to j k was) (slot_state mid j) =
+      IsKept-mapped (in_syncs_first what to j k was) (at_last {P = λ h. IsKept pulls k (InWrites what to j k was) (slot_state h j)} first) in
+      let second : AtEveryMoment (λ h. IsKept pulls k (InSyncs what to j k was) (slot_state h j)) mid new =
+      kept_throughout {allowed = IsSyncOf to} {P = λ h. IsKept pulls k (InSyncs what to j k was) (slot_state h j)}
+      (keeps_sector {allowed = IsSyncOf to} {j = j} {k = k} {P = InSyncs what to j k was} pulls (keeps_in_syncs what to j k was)) phase_syncs half in
+      at_every_join
+      (at_every_mapped {P = λ h. IsKept pulls k (InWrites what to j k was) (slot_state h j)}
+      (λ h kept. IsKept-mapped (λ x is. (in_syncs_first what to j k was x is).leaves) kept) first)
+      (at_every_mapped {P = λ h. IsKept pulls k (InSyncs what to j k was) (slot_state h j)} (λ h kept. IsKept-mapped (λ x is. is.leaves) kept) second)
+
+  phase_shut : (before : List Event) (j : ℕ) → gone j ⊎ HasSlot gone' j → IsHeld before old j
+      → ((slot_state old j).attached ≡ true → (k : ℕ) (bytes : List ℕ) → what j k ≡ Some bytes → IsTrue (has_sector (slot_state old j).size k))
+      → IsOfflineUntilAttached before new j
+  phase_shut before j (inl was) held reach =
+      offline_on {allowed = IsSyncOf to} j (beside_syncs to j) phase_syncs (w.shut before j was held reach)
+  phase_shut before j (inr is) held reach = s.shut before j is (held_on {allowed = IsWriteOf what to} j w.ran held)
+
+  -- all the writes, and then a pass of syncs over the slots that weren't gone
+  pub Placed-from : Placed what to (λ j. gone j ⊎ HasSlot gone' j) old new
+  Placed-from =
+      let upto = ran_join (ran_any w.ran) (ran_any phase_syncs) in
+      record {
+        mid = mid;
+        writes = w.ran;
+        syncs = phase_syncs;
+        known = λ j.
+            elim (w.known j) [
+              | inl was ↦ inl (inl was)
+              | inr fine ↦
+                  elim (known_slot gone' j) [
+                    | inl is ↦ inl (inr is)
+                    | inr fine' ↦ inr (λ is_gone. elim is_gone [ inl was ↦ fine was | inr is ↦ fine' is ])
+                  ]
+            ];
+        done = phase_done;
+        others = phase_others;
+        meanwhile =
+            at_every_from
+            {P = λ h. (j k : ℕ) → IsSome (slot_state old j).size
+            → ButForOutside old h j k (Leaves (MayLeaveIn what to j k ((slot_state old j).sector k))
+            (MayBeUnder what to j k ((slot_state old j).sector k)))}
+            upto.more upto.is
+            (λ h moment j k some.
+            at_moment
+            {P = λ g. ButForOutside old g j k (Leaves (MayLeaveIn what to j k ((slot_state old j).sector k))
+            (MayBeUnder what to j k ((slot_state old j).sector k)))}
+            (phase_meanwhile_at j k some) moment);
+        shut = phase_shut;
+      }
+
+pub Placed-same : {what : Writes} {to gone gone' : ℕ → Type 0} {old new : List Event} → ((j : ℕ) → gone j ↔ gone' j)
+    → Placed what to gone old new → Placed what to gone' old new
+Placed-same same p = record {
+  mid = p.mid;
+  writes = p.writes;
+  syncs = p.syncs;
+  known = λ j. elim (p.known j) [ inl was ↦ inl ((same j).0 was) | inr fine ↦ inr (λ is. fine ((same j).1 is)) ];
+  done = λ j k bytes on fine is. p.done j k bytes on (λ was. fine ((same j).0 was)) is;
+  others = p.others;
+  meanwhile = p.meanwhile;
+  shut = λ before j is held reach. p.shut before j ((same j).1 is) held reach;
+}
+
+-- WHAT A PHASE KEEPS
+
+-- What the outside and a phase do to a sector keeps `Leaves Q Base`.
+pub record PhaseKeeps (what : Writes) (to : ℕ → Type 0) (j k : ℕ) (Q Base : Cell → Type 0) : Type 0 where
+  pub damage : Q Damaged
+  pub under_damage : Base Damaged
+  pub write : (bytes : List ℕ) → to j → what j k ≡ Some bytes → Q (Good bytes)
+  pub cut : (bytes : List ℕ) (cell : Cell) → to j → what j k ≡ Some bytes → Base cell → Q (torn cell)
+  pub sync : (cell : Cell) → to j → Q cell → Base cell
+
+pub phase_leaves : {what : Writes} {to gone : ℕ → Type 0} {old new : List Event} {Q Base : Cell → Type 0} (pulls j k : ℕ)
+    → PhaseKeeps what to j k Q Base → Placed what to gone old new → IsKept pulls k (Leaves Q Base) (slot_state old j)
+    → AtEveryMoment (λ h. IsKept pulls k (Leaves Q Base) (slot_state h j)) old new
+phase_leaves {what} {to} {Q = Q} {Base = Base} pulls j k keeps phase start =
+    let in_writes : KeepsLeaving (IsWriteOf what to) j k Q Base = record {
+      damage = keeps.damage;
+      under_damage = keeps.under_damage;
+      write = λ bytes may. keeps.write bytes may.on (this_one bytes may);
+      cut = λ bytes cell may under. keeps.cut bytes cell may.on (this_one bytes may) under;
+      sync = λ cell may holds. let same : Sync reply.Done ≡ Write may.sector may.bytes may.answer = may.is in absurd (cc);
+    } in
+    let in_syncs : KeepsLeaving (IsSyncOf to) j k Q Base = record {
+      damage = keeps.damage;
+      under_damage = keeps.under_damage;
+      write = λ bytes may. let same : Write k bytes reply.Done ≡ Sync may.answer = may.is in absurd (cc);
+      cut = λ bytes cell may under. let same : Write k bytes reply.Done ≡ Sync may.answer = may.is in absurd (cc);
+      sync = λ cell may holds. keeps.sync cell may.on holds;
+    } in
+    let first = leaves_throughout {allowed = IsWriteOf what to} {Q = Q} {Base = Base} pulls j k in_writes phase.writes start in
+    let half = at_last {P = λ h. IsKept pulls k (Leaves Q Base) (slot_state h j)} first in
+    at_every_join first (leaves_throughout {allowed = IsSyncOf to} {Q = Q} {Base = Base} pulls j k in_syncs phase.syncs half)
+  where
+    this_one : (bytes : List ℕ) → IsWriteOf what to j (Write k bytes reply.Done) → what j k ≡ Some bytes
+    this_one bytes may = let same : Write k bytes reply.Done ≡ Write may.sector may.bytes may.answer = may.is in cc
+
+-- a phase is a stretch of these writes and syncs
+pub phase_ran : {what : Writes} {to gone : ℕ → Type 0} {old new : List Event} → Placed what to gone old new → Ran any_call old new
+phase_ran {what} {to} phase = ran_join (ran_any {allowed = IsWriteOf what to} phase.writes) (ran_any {allowed = IsSyncOf to} phase.syncs)
+
+-- At its end a slot that the session holds has its bytes on the disk, but for the outside since the session began, or the
+-- rack is stopped: a slot that was gone lost its medium.
+pub phase_ends : {what : Writes} {to gone : ℕ → Type 0} {before old new : List Event} (j k : ℕ) (bytes : List ℕ) → Placed what to gone old new
+    → Ran any_call before old → to j → what j k ≡ Some bytes → IsHeld before old j
+    → ((slot_state old j).attached ≡ true → (l : ℕ) (bytes' : List ℕ) → what j l ≡ Some bytes' → IsTrue (has_sector (slot_state old j).size l))
+    → IsTrue (stopped new) ⊎ ButForOutside before new j k (λ s. s ≡ settled (Good bytes))
+phase_ends {before = before} {old = old} {new = new} j k bytes phase ran on is held reach =
+    elim (phase.known j) [
+      | inl is_gone ↦
+          elim (phase.shut before j is_gone held reach) [
+            | IsOfflineUntilAttached.Unattached not_attached pulled ↦ inr (Lost pulled)
+            | IsOfflineUntilAttached.RackStopped is_stopped ↦ inl is_stopped
+          ]
+      | inr fine ↦ inr (IsKept-since (pulls_on {allowed = any_call} j ran) (phase.done j k bytes on fine is))
+    ]
