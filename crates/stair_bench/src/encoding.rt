@@ -2,14 +2,10 @@ ghost use Rattle.std.specs.Prelude.{◌≡◌, ◌<◌, IfOk};
 ghost use Rattle.stair_model.specs.Stripe.{IsStripeOf};
 
 use crate::check::{check_of_blocks, check_of_stripe};
-use crate::kernel::Encoder;
 use crate::varied::varied;
-use stair_base::{Geometry, Kind, SECTOR, Stripe};
-use stair_canon::Canon;
-use stair_down::encode_downstairs;
+use stair_base::{Geometry, Kind, SECTOR, Stripe, StripeCode};
+use stair_codec::{By, Codec};
 use stair_gf::Steps;
-use stair_std::{Generator, encode_standard};
-use stair_up::encode_upstairs;
 use std::alloc::{AllocError, Global};
 use std::sync::ledger::{Blank, Ledger};
 
@@ -19,7 +15,7 @@ const BEFORE: [u8; SECTOR] = [0xA5; SECTOR];
 /// Encodes a stripe so many times, and gives a check of all its cells.
 pub(crate) fn check_of_encoding<L: Ledger>(
     alloc: Global,
-    encoder: Encoder,
+    by: By,
     geometry: &Geometry,
     rounds: u32,
     blank: Blank,
@@ -29,26 +25,10 @@ pub(crate) fn check_of_encoding<L: Ledger>(
     requires some { 0 < L.parts }
 {
     let mut stripe = varied_stripe(alloc, geometry)?;
+    let mut codec = Codec::new(alloc, geometry, by)?;
     let mut steps = Steps::<L>::new(blank);
-    match encoder {
-        Encoder::Downstairs => {
-            let mut canon = Canon::new(alloc, geometry)?;
-            for _round in 0..rounds {
-                encode_downstairs(&mut canon, &mut stripe, &mut steps);
-            }
-        }
-        Encoder::Upstairs => {
-            let mut canon = Canon::new(alloc, geometry)?;
-            for _round in 0..rounds {
-                encode_upstairs(&mut canon, &mut stripe, &mut steps);
-            }
-        }
-        Encoder::Standard => {
-            let generator = Generator::new(alloc, geometry)?;
-            for _round in 0..rounds {
-                encode_standard(&generator, &mut stripe, &mut steps);
-            }
-        }
+    for _round in 0..rounds {
+        codec.encode(&mut stripe, &mut steps);
     }
     Ok(check_of_stripe(geometry, &stripe))
 }

@@ -1,6 +1,7 @@
 ghost use Rattle.std.specs.Prelude.{◌*◌, ◌<◌, ◌≤◌};
 
 use crate::layout::Layout;
+use stair_codec::By;
 use std::fmt;
 
 /// A code with n devices, m row parities and one more parity in each row, all of which are worked out.
@@ -39,24 +40,6 @@ impl Row {
     }
 }
 
-/// A way to encode a stripe.
-#[derive(Clone, Copy)]
-pub(crate) enum Encoder {
-    Downstairs,
-    Upstairs,
-    Standard,
-}
-
-impl Encoder {
-    fn name(self) -> &'static str {
-        match self {
-            Encoder::Downstairs => "downstairs",
-            Encoder::Upstairs => "upstairs",
-            Encoder::Standard => "standard",
-        }
-    }
-}
-
 /// What is run and timed.
 #[derive(Clone, Copy)]
 pub(crate) enum Kernel {
@@ -65,7 +48,7 @@ pub(crate) enum Kernel {
     /// A copy of the symbols that those are solved from.
     CopySymbols(Row),
     /// All parities of a stripe, from its data cells.
-    Encode(Encoder, Layout),
+    Encode(By, Layout),
     /// A copy of the data cells that those are encoded from.
     CopyCells(Layout),
 }
@@ -76,21 +59,21 @@ impl Kernel {
         Kernel::CopySymbols(Row::EightTwo),
         Kernel::Solve(Row::ThirtyTwoThree),
         Kernel::CopySymbols(Row::ThirtyTwoThree),
-        Kernel::Encode(Encoder::Downstairs, Layout::FourDevices),
-        Kernel::Encode(Encoder::Upstairs, Layout::FourDevices),
-        Kernel::Encode(Encoder::Standard, Layout::FourDevices),
+        Kernel::Encode(By::Downstairs, Layout::FourDevices),
+        Kernel::Encode(By::Upstairs, Layout::FourDevices),
+        Kernel::Encode(By::Standard, Layout::FourDevices),
         Kernel::CopyCells(Layout::FourDevices),
-        Kernel::Encode(Encoder::Downstairs, Layout::EightDevices),
-        Kernel::Encode(Encoder::Upstairs, Layout::EightDevices),
-        Kernel::Encode(Encoder::Standard, Layout::EightDevices),
+        Kernel::Encode(By::Downstairs, Layout::EightDevices),
+        Kernel::Encode(By::Upstairs, Layout::EightDevices),
+        Kernel::Encode(By::Standard, Layout::EightDevices),
         Kernel::CopyCells(Layout::EightDevices),
-        Kernel::Encode(Encoder::Downstairs, Layout::SixteenDevices),
-        Kernel::Encode(Encoder::Upstairs, Layout::SixteenDevices),
-        Kernel::Encode(Encoder::Standard, Layout::SixteenDevices),
+        Kernel::Encode(By::Downstairs, Layout::SixteenDevices),
+        Kernel::Encode(By::Upstairs, Layout::SixteenDevices),
+        Kernel::Encode(By::Standard, Layout::SixteenDevices),
         Kernel::CopyCells(Layout::SixteenDevices),
-        Kernel::Encode(Encoder::Downstairs, Layout::ThirtyTwoDevices),
-        Kernel::Encode(Encoder::Upstairs, Layout::ThirtyTwoDevices),
-        Kernel::Encode(Encoder::Standard, Layout::ThirtyTwoDevices),
+        Kernel::Encode(By::Downstairs, Layout::ThirtyTwoDevices),
+        Kernel::Encode(By::Upstairs, Layout::ThirtyTwoDevices),
+        Kernel::Encode(By::Standard, Layout::ThirtyTwoDevices),
         Kernel::CopyCells(Layout::ThirtyTwoDevices),
     ];
 
@@ -99,7 +82,7 @@ impl Kernel {
         match self {
             Kernel::Solve(row) => ("solve", row.name()),
             Kernel::CopySymbols(row) => ("copy", row.name()),
-            Kernel::Encode(encoder, layout) => (encoder.name(), layout.name()),
+            Kernel::Encode(by, layout) => (name_of(by), layout.name()),
             Kernel::CopyCells(layout) => ("copy-cells", layout.name()),
         }
     }
@@ -109,6 +92,16 @@ impl Kernel {
         Kernel::ALL
             .into_iter()
             .find(|kernel| is_pair(name, kernel.words()))
+    }
+}
+
+/// How the encoder is called.
+fn name_of(by: By) -> &'static str {
+    match by {
+        By::Standard => "standard",
+        By::Upstairs => "upstairs",
+        By::Downstairs => "downstairs",
+        By::Fewest => "fewest",
     }
 }
 

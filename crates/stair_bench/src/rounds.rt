@@ -21,8 +21,8 @@ pub(crate) fn check_of_rounds(
     match kernel {
         Kernel::Solve(row) => check_of_solving::<Brand>(alloc, row.code(), rounds, steps),
         Kernel::CopySymbols(row) => check_of_copying(alloc, row.code(), rounds),
-        Kernel::Encode(encoder, layout) => {
-            check_of_encoding::<Brand>(alloc, encoder, &layout.geometry(), rounds, steps)
+        Kernel::Encode(by, layout) => {
+            check_of_encoding::<Brand>(alloc, by, &layout.geometry(), rounds, steps)
         }
         Kernel::CopyCells(layout) => check_of_copying_cells(alloc, &layout.geometry(), rounds),
     }
