@@ -51,10 +51,15 @@ pub(crate) enum Kernel {
     Encode(By, Layout),
     /// A copy of the data cells that those are encoded from.
     CopyCells(Layout),
+    /// Sectors of an image file, written and then synced.
+    WriteSectors,
+    /// The same sectors, read.
+    ReadSectors,
 }
 
 impl Kernel {
-    pub(crate) const ALL: [Kernel; 20] = [
+    /// Those that need no file.
+    pub(crate) const IN_MEMORY: [Kernel; 20] = [
         Kernel::Solve(Row::EightTwo),
         Kernel::CopySymbols(Row::EightTwo),
         Kernel::Solve(Row::ThirtyTwoThree),
@@ -77,6 +82,9 @@ impl Kernel {
         Kernel::CopyCells(Layout::ThirtyTwoDevices),
     ];
 
+    /// Those over an image file.
+    const OVER_A_FILE: [Kernel; 2] = [Kernel::WriteSectors, Kernel::ReadSectors];
+
     /// What it does, and the numbers that it does it for.
     fn words(self) -> (&'static str, &'static str) {
         match self {
@@ -84,13 +92,16 @@ impl Kernel {
             Kernel::CopySymbols(row) => ("copy", row.name()),
             Kernel::Encode(by, layout) => (name_of(by), layout.name()),
             Kernel::CopyCells(layout) => ("copy-cells", layout.name()),
+            Kernel::WriteSectors => ("write", "sectors"),
+            Kernel::ReadSectors => ("read", "sectors"),
         }
     }
 
     /// The kernel of this name.
     pub(crate) fn named(name: &str) -> Option<Kernel> {
-        Kernel::ALL
+        Kernel::IN_MEMORY
             .into_iter()
+            .chain(Kernel::OVER_A_FILE)
             .find(|kernel| is_pair(name, kernel.words()))
     }
 }

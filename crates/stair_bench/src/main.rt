@@ -3,54 +3,18 @@
 
 mod check;
 mod encoding;
+mod fault;
 mod kernel;
 mod layout;
 mod rounds;
+mod sectors;
 mod varied;
 
+use fault::Fault;
 use kernel::Kernel;
 use rounds::check_of_rounds;
-use std::alloc::AllocError;
 use std::process::ExitCode;
-use std::{env, fmt, io};
-
-/// Why nothing, or not all, was printed.
-#[derive(Clone, Copy)]
-enum Fault {
-    /// The words name no kernel and number of rounds.
-    Usage,
-    /// Standard output failed.
-    Output,
-    /// There was no memory.
-    OutOfMemory,
-}
-
-impl Fault {
-    /// The exit status of the program.
-    fn code(self) -> u8 {
-        match self {
-            Fault::Usage => 2,
-            Fault::Output => 6,
-            Fault::OutOfMemory => 17,
-        }
-    }
-}
-
-impl fmt::Display for Fault {
-    fn fmt<W: fmt::Write>(&self, f: &mut fmt::Formatter<W>) -> fmt::Result {
-        match self {
-            Fault::Usage => write!(f, "usage: stair_bench [KERNEL ROUNDS]"),
-            Fault::Output => write!(f, "output failed"),
-            Fault::OutOfMemory => write!(f, "out of memory"),
-        }
-    }
-}
-
-impl From<AllocError> for Fault {
-    fn from(_: AllocError) -> Fault {
-        Fault::OutOfMemory
-    }
-}
+use std::{env, io};
 
 /// What the words ask for.
 #[derive(Clone, Copy)]
@@ -81,14 +45,14 @@ fn read_request(rt: &HostRuntime) -> Result<Request, Fault> {
 
 /// Runs the rounds of a kernel, and prints its name and the check of what it made.
 fn print_check(rt: &HostRuntime, kernel: Kernel, rounds: u32) -> Result<(), Fault> {
-    let check = check_of_rounds(rt.alloc(), kernel, rounds)?;
+    let check = check_of_rounds(rt, rt.alloc(), kernel, rounds)?;
     println!(rt; "{kernel} {check:016x}").map_err(|_| Fault::Output)
 }
 
 fn run(rt: &HostRuntime) -> Result<(), Fault> {
     match read_request(rt)? {
         Request::OneRoundOfEach => {
-            for kernel in Kernel::ALL {
+            for kernel in Kernel::IN_MEMORY {
                 print_check(rt, kernel, 1)?;
             }
             Ok(())

@@ -3,29 +3,35 @@ ghost use Rattle.std.specs.List.{range_with_len};
 
 use crate::check::check_of;
 use crate::encoding::{check_of_copying_cells, check_of_encoding};
+use crate::fault::Fault;
 use crate::kernel::{Code, Kernel};
+use crate::sectors::{check_of_reading, check_of_writing};
 use crate::varied::varied;
 use stair_gf::Steps;
 use stair_mds::{Mds, Symbols};
 use std::alloc::{AllocError, Global};
+use std::fs::Files;
 use std::marker::Brand;
 use std::sync::ledger::{Blank, Ledger};
 
 /// Runs so many rounds of the kernel, and gives a check of what it made.
-pub(crate) fn check_of_rounds(
+pub(crate) fn check_of_rounds<F: Files + Drop>(
+    rt: F,
     alloc: Global,
     kernel: Kernel,
     rounds: u32,
-) -> Result<u64, AllocError> {
+) -> Result<u64, Fault> {
     let steps = Blank::new(1);
-    match kernel {
-        Kernel::Solve(row) => check_of_solving::<Brand>(alloc, row.code(), rounds, steps),
-        Kernel::CopySymbols(row) => check_of_copying(alloc, row.code(), rounds),
+    Ok(match kernel {
+        Kernel::Solve(row) => check_of_solving::<Brand>(alloc, row.code(), rounds, steps)?,
+        Kernel::CopySymbols(row) => check_of_copying(alloc, row.code(), rounds)?,
         Kernel::Encode(by, layout) => {
-            check_of_encoding::<Brand>(alloc, by, &layout.geometry(), rounds, steps)
+            check_of_encoding::<Brand>(alloc, by, &layout.geometry(), rounds, steps)?
         }
-        Kernel::CopyCells(layout) => check_of_copying_cells(alloc, &layout.geometry(), rounds),
-    }
+        Kernel::CopyCells(layout) => check_of_copying_cells(alloc, &layout.geometry(), rounds)?,
+        Kernel::WriteSectors => check_of_writing(rt, alloc, rounds)?,
+        Kernel::ReadSectors => check_of_reading(rt, alloc, rounds)?,
+    })
 }
 
 /// Solves every parity from all held symbols, so many times.

@@ -1,7 +1,7 @@
 use Rattle.stair_bench.proofs.rounds.check_of_rounds.Given as goal
 
 abbrev pub ghosts-check_of_solving : goal.ghosts-check_of_solving
-ghosts-check_of_solving a = record { name = a.blank.name; parts = a.blank.parts }
+ghosts-check_of_solving g a = record { name = a.blank.name; parts = a.blank.parts }
 
 abbrev pub ghosts-check_of_encoding : goal.ghosts-check_of_encoding
-ghosts-check_of_encoding a = record { name = a.blank.name; parts = a.blank.parts }
+ghosts-check_of_encoding g a = record { name = a.blank.name; parts = a.blank.parts }

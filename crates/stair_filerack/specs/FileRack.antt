@@ -1,0 +1,30 @@
+-- A rack over files, as contracts see it.
+use Rattle.std.specs.Prelude.{ℕ, List, [], slice_index_or, slice_set}
+use Rattle.stair_rack.specs.Count.{one_more}
+use Rattle.stair_rack.specs.declared.rack.Got.{Got}
+use Rattle.stair_rack.specs.declared.rack.Got.TheVariants as got
+use Rattle.stair_filerack.specs.Slot.{SlotState, untouched}
+
+pub record FileRackState : Type 0 where
+  -- how often a sector read as bad
+  pub bads : ℕ
+  -- the 32 slots
+  pub slots : List SlotState
+
+-- a slot of the rack
+abbrev pub slot_at : FileRackState → ℕ → SlotState
+slot_at rack j = slice_index_or rack.slots j (untouched [])
+
+-- how often a slot was gone
+abbrev pub gones_of : FileRackState → ℕ → ℕ
+gones_of rack j = (slot_at rack j).gones
+
+-- the rack after a call that left this of the slot, and changed nothing else
+abbrev pub with_slot : ℕ → SlotState → FileRackState → FileRackState
+with_slot j slot rack = record rack { slots = slice_set rack.slots j slot }
+
+-- the count of bad sectors after a read with this answer
+abbrev pub bads_after : Got → ℕ → ℕ
+bads_after got.Good bads = bads
+bads_after got.Bad bads = one_more bads
+bads_after got.Gone bads = bads
