@@ -4,7 +4,6 @@ use crate::FileRack;
 use faulty::{Fault, Faulty};
 use stair_rack::{Got, Rack, Reply};
 use std::fs;
-use std::fs::Files;
 use std::process::Abort;
 use std::test::Fail;
 
@@ -22,7 +21,7 @@ enum Call {
 }
 
 // Makes these calls.
-fn play<F: Files + Drop>(rt: &impl Abort, rack: &mut FileRack<F>, calls: &[Call]) {
+fn play(rt: &impl Abort, rack: &mut impl Rack, calls: &[Call]) {
     for call in calls {
         let mut into = [0xEE; 512];
         match *call {
