@@ -1,0 +1,5 @@
+pub mod PageLemmas
+pub mod Parts
+pub mod Fields
+pub mod Written
+pub mod Once

@@ -1,0 +1,21 @@
+//! The superblock of a device: which array the device belongs to, its slot, and what the array's slots were when it was
+//! written.
+//!
+//! No call takes memory.
+#![tactic(auto)]
+
+pub use block::Super;
+pub use mark::Mark;
+pub use newer::newer_of;
+pub use reading::read_super;
+pub use writing::write_super;
+
+mod block;
+pub mod laws;
+mod mark;
+mod newer;
+mod page;
+mod reading;
+#[cfg(test)]
+mod tests;
+mod writing;

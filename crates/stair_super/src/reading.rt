@@ -1,0 +1,216 @@
+ghost use Rattle.std.specs.Prelude.{◌≡◌, ℕ, ◌+◌, ◌<◌, ◌≤◌, ◌↔◌, IsTrue, IfSome, length, take, drop, slice_index, slice_index_or};
+ghost use Rattle.std.specs.Int.{w32, w64, from_be_bytes};
+ghost use Rattle.stair_super.specs.Superblock.{Superblock, superblock_of, IsWellFormed, IsJoined, mark_at, joined_at};
+ghost use Rattle.stair_super.specs.Spelling.{code, Spells};
+ghost use Rattle.stair_super.specs.declared.mark.Mark.TheVariants.{Down};
+
+use crate::block::Super;
+use crate::mark::Mark;
+use crate::writing::write_super;
+use stair_base::Geometry;
+
+fn u32_at(bytes: &[u8; 512], at: usize) -> u32
+    requires { at + 4 ≤ 512 }
+    ensures { result ≡ from_be_bytes w32 (take 4 (drop at bytes.now)) }
+{
+    u32::from_be_bytes([bytes[at], bytes[at + 1], bytes[at + 2], bytes[at + 3]])
+}
+
+fn u64_at(bytes: &[u8; 512], at: usize) -> u64
+    requires { at + 8 ≤ 512 }
+    ensures { result ≡ from_be_bytes w64 (take 8 (drop at bytes.now)) }
+{
+    let mut number = [0; 8];
+    number.copy_from_slice(&bytes[at..at + 8]);
+    u64::from_be_bytes(number)
+}
+
+fn id_of(bytes: &[u8; 512]) -> [u8; 16]
+    ensures { result ≡ take 16 (drop 8 bytes.now) }
+{
+    let mut id = [0; 16];
+    id.copy_from_slice(&bytes[8..24]);
+    id
+}
+
+/// The 32 bytes from byte 28 on.
+fn coverage_of(bytes: &[u8; 512]) -> [u64; 32]
+    ensures { result ≡ take 32 (drop 28 bytes.now) }
+{
+    widened(&bytes[28..60])
+}
+
+fn widened(bytes: &[u8]) -> [u64; 32]
+    requires { length bytes.now ≡ 32 }
+    ensures { result ≡ bytes.now }
+{
+    let mut e = [0; 32];
+    for (l, byte) in bytes.iter().enumerate() {
+        e[l] = u64::from(*byte);
+    }
+    e
+}
+
+fn geometry_of(bytes: &[u8; 512]) -> Option<Geometry>
+    ensures { (s : Superblock) → Spells bytes.now s → result ≡ Some s.geometry }
+{
+    let classes = usize::from(bytes[27]);
+    if classes > 32 {
+        return None;
+    }
+    Geometry::new(
+        u64::from(bytes[24]),
+        u64::from(bytes[25]),
+        u64::from(bytes[26]),
+        &coverage_of(bytes)[..classes],
+        u64::from(u32_at(bytes, 60)),
+        id_of(bytes),
+    )
+    .ok()
+}
+
+fn mark_of(byte: u8) -> Option<Mark>
+    ensures { (mark : Mark) → byte ≡ code mark → result ≡ Some mark }
+{
+    match byte {
+        1 => Some(Mark::Live),
+        2 => Some(Mark::Rebuilding),
+        3 => Some(Mark::Down),
+        _ => None,
+    }
+}
+
+/// The mark of a slot below 32 in an array of n slots.
+fn mark_in(bytes: &[u8; 512], n: usize, slot: usize) -> Option<Mark>
+    requires { slot < 32 }
+    ensures { (s : Superblock) → Spells bytes.now s → n ≡ s.geometry.n → result ≡ Some (mark_at s slot) }
+{
+    if slot < n {
+        mark_of(bytes[96 + 9 * slot])
+    } else {
+        Some(Mark::Down)
+    }
+}
+
+fn joined_in(bytes: &[u8; 512], n: usize, slot: usize) -> u64
+    requires { slot < 32 }
+    ensures { (s : Superblock) → Spells bytes.now s → n ≡ s.geometry.n → result ≡ joined_at s slot }
+{
+    if slot < n {
+        u64_at(bytes, 97 + 9 * slot)
+    } else {
+        0
+    }
+}
+
+fn marks_of(bytes: &[u8; 512], n: usize) -> Option<[Mark; 32]>
+    ensures { (s : Superblock) → Spells bytes.now s → n ≡ s.geometry.n → result ≡ Some s.marks }
+{
+    let mut marks = [Mark::Down; 32];
+    for slot in 0..32 {
+        marks[slot] = mark_in(bytes, n, slot)?;
+    }
+    Some(marks)
+}
+
+fn joins_of(bytes: &[u8; 512], n: usize) -> [u64; 32]
+    ensures { (s : Superblock) → Spells bytes.now s → n ≡ s.geometry.n → result ≡ s.joins }
+{
+    let mut joins = [0; 32];
+    for slot in 0..32 {
+        joins[slot] = joined_in(bytes, n, slot);
+    }
+    joins
+}
+
+fn is_joined(mark: Mark, joined: u64, epoch: u64) -> bool
+    ensures { IsTrue result ↔ IsJoined mark joined epoch }
+{
+    match mark {
+        Mark::Live | Mark::Rebuilding => joined >= 1 && joined <= epoch,
+        Mark::Down => joined == 0,
+    }
+}
+
+fn are_joined(marks: &[Mark; 32], joins: &[u64; 32], epoch: u64) -> bool
+    ensures { IsTrue result ↔ ((j : ℕ) → j < 32 → IsJoined (slice_index_or marks.now j Down) (slice_index joins.now j) epoch) }
+{
+    for j in 0..32 {
+        if !is_joined(marks[j], joins[j], epoch) {
+            return false;
+        }
+    }
+    true
+}
+
+fn are_down_from(marks: &[Mark; 32], n: usize) -> bool
+    ensures { IsTrue result ↔ ((j : ℕ) → n ≤ j → j < 32 → slice_index_or marks.now j Down ≡ Down) }
+{
+    for j in n..32 {
+        if marks[j] != Mark::Down {
+            return false;
+        }
+    }
+    true
+}
+
+/// Whether these are the fields of a well-formed superblock.
+fn is_well_formed(
+    geometry: &Geometry,
+    slot: u8,
+    joined: u64,
+    draw: u64,
+    epoch: u64,
+    marks: &[Mark; 32],
+    joins: &[u64; 32],
+) -> bool
+    ensures { IsTrue result ↔ IsWellFormed (superblock_of geometry.now slot joined draw epoch marks.now joins.now) }
+{
+    let n = usize::from(geometry.n());
+    let here = usize::from(slot);
+    if here >= n {
+        return false;
+    }
+    if epoch < 1 || epoch > draw {
+        return false;
+    }
+    if !are_joined(marks, joins, epoch) || !are_down_from(marks, n) {
+        return false;
+    }
+    marks[here] != Mark::Down && joined == joins[here]
+}
+
+/// The well-formed superblock whose fields stand at their places, where there is one. The bytes between them aren't
+/// looked at.
+fn fields_of(bytes: &[u8; 512]) -> Option<Super>
+    ensures { (s : Superblock) → Spells bytes.now s → result ≡ Some s }
+{
+    let geometry = geometry_of(bytes)?;
+    let n = usize::from(geometry.n());
+    let slot = bytes[64];
+    let joined = u64_at(bytes, 72);
+    let draw = u64_at(bytes, 80);
+    let epoch = u64_at(bytes, 88);
+    let marks = marks_of(bytes, n)?;
+    let joins = joins_of(bytes, n);
+    if is_well_formed(&geometry, slot, joined, draw, epoch, &marks, &joins) {
+        Some(Super::new(geometry, slot, joined, draw, epoch, marks, joins))
+    } else {
+        None
+    }
+}
+
+/// The superblock that these bytes are, or None where they aren't those of a well-formed one.
+///
+/// [`write_super`] gives the table of the bytes, and [`Super`] says when a superblock is well formed.
+pub fn read_super(bytes: &[u8; 512]) -> Option<Super>
+    ensures ok { IfSome result (λ s. Spells bytes.now s) }
+    ensures read { (s : Superblock) → Spells bytes.now s → result ≡ Some s }
+    ensures none { result ≡ None → (s : Superblock) → ¬ Spells bytes.now s }
+{
+    let block = fields_of(bytes)?;
+    if write_super(&block) != *bytes {
+        return None;
+    }
+    Some(block)
+}
