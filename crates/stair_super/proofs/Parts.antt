@@ -6,6 +6,7 @@ use Rattle.std.proofs.lemmas.List.{take_at, drop_at, drop-drop, length-append, l
 use Rattle.stair_base.specs.Padding.{padded}
 use Rattle.stair_super.specs.Superblock.{Superblock, IsSuperblock, mark_at, joined_at}
 use Rattle.stair_super.specs.Spelling.{zeros, number32, number64, code, entry, entries, counts, geometry_part, numbers_part, fields}
+use Rattle.stair_super.proofs.PageLemmas.{length-zeros}
 
 -- what stands there is the field, and behind it the rest
 field_at : (bytes field rest : List ℕ) (at size : ℕ) → drop at bytes ≡ field ++ rest → length field ≡ size → take size (drop at bytes) ≡ field
@@ -25,10 +26,6 @@ length-number32 n = refl
 pub length-number64 : (n : ℕ) → length (number64 n) ≡ 8
 unfolding number64
 length-number64 n = refl
-
-pub length-zeros : (n : ℕ) → length (zeros n) ≡ n
-unfolding zeros
-length-zeros n = length-replicate n 0
 
 pub length-padded : (e : List ℕ) → length e ≤ 32 → length (padded e) ≡ 32
 length-padded e few = omega (arith, length-append e (replicate (32 - length e) 0), length-replicate {A = ℕ} (32 - length e) 0)
