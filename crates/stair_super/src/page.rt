@@ -23,6 +23,7 @@ impl Model for Page {
 }
 
 impl Page {
+    /// A page of which nothing is written.
     pub fn new() -> Page
         ensures text { result ≡ [] }
         ensures len { length result ≡ 0 }
@@ -77,6 +78,7 @@ impl Page {
         self.len += count;
     }
 
+    /// The 512 bytes of the page.
     pub fn bytes(self) -> [u8; 512]
         ensures { result ≡ self ++ zeros (512 - length self) }
     {
