@@ -3,3 +3,9 @@ pub mod WordsLemmas
 pub mod RowLemmas
 pub mod WalkLaws
 pub mod CommandLaws
+pub mod MapLemmas
+pub mod ConfigLemmas
+pub mod TableLemmas
+pub mod FirstLemmas
+pub mod LimitLemmas
+pub mod ConfigLaws

@@ -6,9 +6,10 @@ use Rattle.std.specs.Str.Parse.{AllDigits, digits_value, ParsesUnsigned}
 use Rattle.std.specs.Result.{result_ok}
 use Rattle.std.proofs.lemmas.Fmt.{decimal_digit, decimal_injective, decimal_nonempty, decimal-digits_value, digits_decimal, first_decimal, parse-decimal}
 use Rattle.std.proofs.lemmas.Str.Parse.{IsNumeralModel, numerals_by_value, tells_digits, digit_at, parse_plain}
-use Rattle.std.proofs.lemmas.List.{get_or-map, length-map}
+use Rattle.std.proofs.lemmas.List.{length-map}
 use Rattle.std.proofs.lemmas.List.Elements.{All-get_or, All-head, All-tail}
 use Rattle.stair_conf.specs.Words.{AreNumbers, BeginsNumber, IsNumber}
+use Rattle.stair_conf.proofs.MapLemmas.{mapped_at}
 
 -- std's own reading of digits
 numerals : IsNumeralModel (AllDigits 10) (digits_value 10)
@@ -70,10 +71,7 @@ number_of_word text words i d numbers in_words are =
     sym (length-map words text) ∙ ap length are.spelled ∙ length-map numbers decimal in
     let in_numbers : i < length numbers = omega arith in
     record {
-      spelled =
-          sym (get_or-map text words i d [] in_words)
-          ∙ ap (λ texts. get_or texts i []) are.spelled
-          ∙ get_or-map decimal numbers i 0 [] in_numbers;
+      spelled = mapped_at text decimal words numbers i d 0 in_words are.spelled;
       fits = All-get_or (λ n. n < 2 ^ 64) numbers i 0 in_numbers are.fit;
     }
 

@@ -1,10 +1,14 @@
 ghost use Rattle.std.specs.Prelude.{◌≡◌};
 ghost use Rattle.clap.specs.Words.{kind_of};
 ghost use Rattle.clap.specs.declared.error.kind.ErrorKind.TheVariants.{OutOfMemory};
+ghost use Rattle.stair_conf.specs.declared.fault.ConfigFault.TheVariants as config;
 ghost use Rattle.stair_conf.specs.declared.fault.WordsFault.TheVariants.{Memory};
+ghost use Rattle.toml.specs.Errors.{IsMemory};
 
+use crate::Key;
 use clap::Error;
 use clap::error::ErrorKind;
+use stair_base::GeometryFault;
 use std::alloc::{AllocError, AllocFailed};
 
 /// Why the words were not read.
@@ -41,5 +45,56 @@ impl From<Error> for WordsFault {
             ErrorKind::OutOfMemory => WordsFault::Memory,
             _ => WordsFault::Usage,
         }
+    }
+}
+
+/// Why a geometry text was not read.
+#[derive(Clone, Copy, Debug, PartialEq, Eq)]
+pub enum ConfigFault {
+    /// It isn't TOML.
+    NotToml,
+    /// The first key that is missing or has another kind of value.
+    Key(Key),
+    /// The number of the first limit that is broken, 1 to 8: see [`stair_base::Geometry::new`].
+    Limit(u8),
+    /// There was no memory to read it.
+    Memory,
+}
+
+impl From<AllocError> for ConfigFault {
+    ghost from_gives = { λ _ fault. fault ≡ config.Memory };
+
+    fn from(_error: AllocError) -> ConfigFault {
+        ConfigFault::Memory
+    }
+}
+
+impl<T: Drop> From<AllocFailed<T>> for ConfigFault {
+    ghost from_gives = { λ _ fault. fault ≡ config.Memory };
+
+    fn from(_failed: AllocFailed<T>) -> ConfigFault {
+        ConfigFault::Memory
+    }
+}
+
+// A text that was refused for another reason than memory isn't TOML.
+impl From<toml::de::Error> for ConfigFault {
+    ghost from_gives = { λ error fault.
+        (IsMemory error → fault ≡ config.Memory) × (¬ IsMemory error → fault ≡ config.NotToml) };
+
+    fn from(error: toml::de::Error) -> ConfigFault {
+        if error.is_memory() {
+            ConfigFault::Memory
+        } else {
+            ConfigFault::NotToml
+        }
+    }
+}
+
+impl From<GeometryFault> for ConfigFault {
+    ghost from_gives = { λ broken fault. fault ≡ config.Limit broken.limit };
+
+    fn from(broken: GeometryFault) -> ConfigFault {
+        ConfigFault::Limit(broken.limit)
     }
 }

@@ -1,11 +1,13 @@
-//! What the words of a command line say.
+//! What the words of a command line say, and what a geometry text says.
 //!
-//! [`read_words`] reads a command and its numbers, or refuses the words.
+//! [`read_words`] reads a command and its numbers, or refuses the words. [`read_config`] reads the geometry of an array.
 #![tactic(auto)]
 
 mod commands;
+mod config;
 mod fault;
 mod job;
+mod key;
 pub mod laws;
 mod matches;
 mod numbers;
@@ -13,7 +15,9 @@ mod numbers;
 mod tests;
 mod words;
 
-pub use fault::WordsFault;
+pub use config::read_config;
+pub use fault::{ConfigFault, WordsFault};
 pub use job::{Job, Method};
+pub use key::Key;
 pub use numbers::Numbers;
 pub use words::read_words;

@@ -1,0 +1,89 @@
+ghost use Rattle.std.specs.Prelude.{◌≡◌, ◌≢◌, ℕ, List, ◌↔◌, IfOk, IfErr, None, Some};
+ghost use Rattle.stair_conf.specs.Config.{HasIdentity, HasNumber, HasNumbers, TableReadsAs, TextReadsAs, name_of, number};
+ghost use Rattle.toml.specs.Data.{get_member};
+ghost use Rattle.toml.specs.View.{table_view, view};
+
+use crate::{ConfigFault, Key};
+use hex::FromHex;
+use stair_base::Geometry;
+use std::alloc::Global;
+use toml::{Table, Value};
+
+/// Reads the geometry of an array: a TOML table with the keys `n`, `m`, `r`, `e`, `stripes` and `id`.
+///
+/// `n`, `m`, `r` and `stripes` are whole numbers and `e` is an array of such; none is negative. `id` is a string of 32
+/// hexadecimal digits, in either case. Other keys are ignored. The faults come in this order, unless memory runs out before
+/// one is known:
+///
+/// 1. `NotToml`: the bytes are no text in UTF-8, or toml refuses the text. It refuses a whole number of 2^63 or more.
+/// 2. `Key`: the first key, in the order above, that is missing or has another kind of value.
+/// 3. `Limit`: the first limit of [`Geometry::new`] that is broken. An empty array for `e` breaks limit 4.
+pub fn read_config(alloc: Global, text: &[u8]) -> Result<Geometry, ConfigFault>
+    ensures { result ≢ Err ConfigFault.Memory → TextReadsAs text.now result }
+{
+    read_table(alloc, &toml::table_from_slice(alloc, text)?)
+}
+
+// Reads the geometry that a table has.
+fn read_table(alloc: Global, table: &Table) -> Result<Geometry, ConfigFault>
+    ensures { result ≢ Err ConfigFault.Memory → TableReadsAs (table_view table.now) result }
+{
+    let n = number_at(table, Key::N)?;
+    let m = number_at(table, Key::M)?;
+    let r = number_at(table, Key::R)?;
+    let e = numbers_at(alloc, table, Key::E)?;
+    let stripes = number_at(table, Key::Stripes)?;
+    let id = identity_at(table, Key::Id)?;
+    Ok(Geometry::new(n, m, r, e.as_slice(), stripes, id)?)
+}
+
+// The whole number at a key.
+fn number_at(table: &Table, key: Key) -> Result<u64, ConfigFault>
+    ensures ok { IfOk result (HasNumber (table_view table.now) key) }
+    ensures faulty { IfErr result (λ fault. (fault ≡ ConfigFault.Key key)
+        × ((n : ℕ) → ¬ HasNumber (table_view table.now) key n)) }
+{
+    number_of(value_at(table, key)?).ok_or(ConfigFault::Key(key))
+}
+
+// The whole numbers of the array at a key.
+fn numbers_at(alloc: Global, table: &Table, key: Key) -> Result<Vec<u64>, ConfigFault>
+    ensures ok { IfOk result (λ numbers. HasNumbers (table_view table.now) key numbers.items) }
+    ensures faulty { IfErr result (λ fault. fault ≢ ConfigFault.Memory → (fault ≡ ConfigFault.Key key)
+        × ((numbers : List ℕ) → ¬ HasNumbers (table_view table.now) key numbers)) }
+{
+    let values = value_at(table, key)?
+        .as_array()
+        .ok_or(ConfigFault::Key(key))?;
+    let mut numbers = Vec::new(alloc);
+    for value in values {
+        numbers.push(number_of(value).ok_or(ConfigFault::Key(key))?)?;
+    }
+    Ok(numbers)
+}
+
+// The sixteen bytes that the digits at a key spell.
+fn identity_at(table: &Table, key: Key) -> Result<[u8; 16], ConfigFault>
+    ensures ok { IfOk result (HasIdentity (table_view table.now) key) }
+    ensures faulty { IfErr result (λ fault. (fault ≡ ConfigFault.Key key)
+        × ((id : List ℕ) → ¬ HasIdentity (table_view table.now) key id)) }
+{
+    let digits = value_at(table, key)?.as_str().ok_or(ConfigFault::Key(key))?;
+    <[u8; 16]>::from_hex(digits).map_err(|_| ConfigFault::Key(key))
+}
+
+// The value at a key.
+fn value_at(table: &Table, key: Key) -> Result<&Value, ConfigFault>
+    ensures ok { IfOk result (λ value. get_member (name_of key) (table_view table.now) ≡ Some (view value.now)) }
+    ensures faulty { IfErr result (λ fault. (fault ≡ ConfigFault.Key key)
+        × (get_member (name_of key) (table_view table.now) ≡ None)) }
+{
+    table.get(key.name()).ok_or(ConfigFault::Key(key))
+}
+
+// The number, exactly where the value is a whole number that isn't negative.
+fn number_of(value: &Value) -> Option<u64>
+    ensures { (n : ℕ) → (result ≡ Some n) ↔ (view value.now ≡ number n) }
+{
+    u64::try_from(value.as_integer()?).ok()
+}
