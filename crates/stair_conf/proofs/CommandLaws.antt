@@ -17,7 +17,7 @@ use Rattle.clap.specs.declared.parser.matches.ValueSource.TheVariants.{CommandLi
 use Rattle.clap.specs.declared.parser.matches.ArgMatches.{ArgMatches}
 use Rattle.stair_conf.specs.declared.job.Method.{Method}
 use Rattle.stair_conf.specs.Commands.{HasNoOption, geometry_app, stripe_app}
-use Rattle.stair_conf.specs.Rows.{HasGeometry, HasMethod}
+use Rattle.stair_conf.specs.Rows.{HasGeometry, HasMethodWord}
 use Rattle.stair_conf.specs.Words.{SpellsGeometry, method_word}
 use Rattle.stair_conf.proofs.RowLemmas.{HoldsGeometry, geometry_held, geometry_spelled}
 use Rattle.stair_conf.proofs.WordsLemmas.{behind, in_front}
@@ -166,7 +166,7 @@ geometry_taken (a ∷ b ∷ c ∷ d ∷ rest) none few n m r e spells = geometry
 geometry_taken words none few n m r e spells = absurd (omega (arith, enough [] words n m r e spells))
 
 pub stripe_told : (words : List Text) → HasNoOption words → (method : Method) (n m r : ℕ) (e : List ℕ)
-    → HasMethod (rows_after stripe_rules [] words) (codes "METHOD") method → HasGeometry (rows_after stripe_rules [] words) n m r e
+    → HasMethodWord (rows_after stripe_rules [] words) (codes "METHOD") method → HasGeometry (rows_after stripe_rules [] words) n m r e
     → SpellsGeometry (method_word method ∷ []) words n m r e
 stripe_told [] none method n m r e is has = absurd (no_row _ _ n m r e (rows_after-placed stripe_rules refl [] none) refl has)
 stripe_told (w ∷ []) none method n m r e is has = absurd (no_row _ _ n m r e (rows_after-placed stripe_rules refl (w ∷ []) none) refl has)
@@ -185,7 +185,7 @@ stripe_told (w ∷ a ∷ b ∷ c ∷ d ∷ rest) none method n m r e is has =
 
 pub stripe_tells : (words : List Text) → HasNoOption words → (method : Method) (n m r : ℕ) (e : List ℕ)
     → SpellsGeometry (method_word method ∷ []) words n m r e
-    → HasMethod (rows_after stripe_rules [] words) (codes "METHOD") method × HasGeometry (rows_after stripe_rules [] words) n m r e
+    → HasMethodWord (rows_after stripe_rules [] words) (codes "METHOD") method × HasGeometry (rows_after stripe_rules [] words) n m r e
 stripe_tells (w ∷ a ∷ b ∷ c ∷ d ∷ rest) none method n m r e spells =
     let holds = stripe_holds w a b c d rest none in
     let words_are = spells.spelled in

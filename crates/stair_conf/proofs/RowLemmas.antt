@@ -7,7 +7,7 @@ use Rattle.clap.specs.Words.{Text, Row, all_of, first_of, first_value, matched_o
 use Rattle.clap.specs.declared.parser.matches.Found.{Found}
 use Rattle.clap.proofs.WalkLemmas.{first_value-rows, raw_values-rows}
 use Rattle.stair_conf.specs.declared.job.Method.{Method}
-use Rattle.stair_conf.specs.Rows.{HasGeometry, HasMethod, HasNumber}
+use Rattle.stair_conf.specs.Rows.{HasGeometry, HasMethodWord, HasNumberWord}
 use Rattle.stair_conf.specs.Words.{IsNumber, SpellsGeometry, method_word}
 
 -- ---- what the getters tell
@@ -17,7 +17,7 @@ first_at f id word at = sym (first_value-rows f id) ∙ sym at
 
 -- a number is read where its word is the first of its id
 pub number_at : (f : Found) (id word : Text) (read : Option ℕ) → Some word ≡ first_value f id → ((n : ℕ) → (read ≡ Some n) ↔ IsNumber word n)
-    → (n : ℕ) → (read ≡ Some n) ↔ HasNumber (rows_of f) id n
+    → (n : ℕ) → (read ≡ Some n) ↔ HasNumberWord (rows_of f) id n
 number_at f id word read at exact n =
     let first = first_at f id word at in (
       (λ is. let number = (exact n).0 is in record { first = first ∙ ap Some number.spelled; fits = number.fits }),
@@ -29,7 +29,7 @@ number_at f id word read at exact n =
 -- the same for a method
 pub method_at : (f : Found) (id word : Text) (read : Option Method) → Some word ≡ first_value f id
     → ((method : Method) → (read ≡ Some method) ↔ (word ≡ method_word method))
-    → (method : Method) → (read ≡ Some method) ↔ HasMethod (rows_of f) id method
+    → (method : Method) → (read ≡ Some method) ↔ HasMethodWord (rows_of f) id method
 method_at f id word read at exact method =
     let first = first_at f id word at in (
       (λ is. record { first = first ∙ ap Some ((exact method).0 is) }),

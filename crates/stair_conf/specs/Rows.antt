@@ -6,22 +6,22 @@ use Rattle.stair_conf.specs.declared.job.Method.{Method}
 use Rattle.stair_conf.specs.Words.{method_word}
 
 -- the first word of this id is the number's
-pub record HasNumber (rows : List Row) (id : Text) (n : ℕ) : Type 0 where
+pub record HasNumberWord (rows : List Row) (id : Text) (n : ℕ) : Type 0 where
   pub first : first_of id rows ≡ Some (decimal n)
   pub fits : n < 2 ^ 64
 
 -- the words of this id are the numbers'
-pub record HasNumbers (rows : List Row) (id : Text) (numbers : List ℕ) : Type 0 where
+pub record HasNumberWords (rows : List Row) (id : Text) (numbers : List ℕ) : Type 0 where
   pub all : all_of id rows ≡ Some (map decimal numbers)
   pub fit : All (λ n. n < 2 ^ 64) numbers
 
 -- the first word of this id is the method's
-pub record HasMethod (rows : List Row) (id : Text) (method : Method) : Type 0 where
+pub record HasMethodWord (rows : List Row) (id : Text) (method : Method) : Type 0 where
   pub first : first_of id rows ≡ Some (method_word method)
 
 -- the rows N, M, R and E have the numbers of a geometry
 pub record HasGeometry (rows : List Row) (n m r : ℕ) (e : List ℕ) : Type 0 where
-  pub n_word : HasNumber rows (codes "N") n
-  pub m_word : HasNumber rows (codes "M") m
-  pub r_word : HasNumber rows (codes "R") r
-  pub e_words : HasNumbers rows (codes "E") e
+  pub n_word : HasNumberWord rows (codes "N") n
+  pub m_word : HasNumberWord rows (codes "M") m
+  pub r_word : HasNumberWord rows (codes "R") r
+  pub e_words : HasNumberWords rows (codes "E") e

@@ -15,8 +15,9 @@ use toml::{Table, Value};
 /// hexadecimal digits, in either case. Other keys are ignored. The faults come in this order, unless memory runs out before
 /// one is known:
 ///
-/// 1. `NotToml`: the bytes are no text in UTF-8, or toml refuses the text. It refuses a whole number of 2^63 or more.
-/// 2. `Key`: the first key, in the order above, that is missing or has another kind of value.
+/// 1. `NotToml`: the bytes are no text in UTF-8, or toml refuses the text. It refuses a whole number of 2^63 or more, or below
+///    -2^63, under whatever key.
+/// 2. `Key`: the first key, in the order above, that is missing or has another kind of value. A negative number is one.
 /// 3. `Limit`: the first limit of [`Geometry::new`] that is broken. An empty array for `e` breaks limit 4.
 pub fn read_config(alloc: Global, text: &[u8]) -> Result<Geometry, ConfigFault>
     ensures { result ≢ Err ConfigFault.Memory → TextReadsAs text.now result }
@@ -43,7 +44,7 @@ fn number_at(table: &Table, key: Key) -> Result<u64, ConfigFault>
     ensures faulty { IfErr result (λ fault. (fault ≡ ConfigFault.Key key)
         × ((n : ℕ) → ¬ HasNumber (table_view table.now) key n)) }
 {
-    number_of(value_at(table, key)?).ok_or(ConfigFault::Key(key))
+    whole_number(value_at(table, key)?).ok_or(ConfigFault::Key(key))
 }
 
 // The whole numbers of the array at a key.
@@ -57,7 +58,7 @@ fn numbers_at(alloc: Global, table: &Table, key: Key) -> Result<Vec<u64>, Config
         .ok_or(ConfigFault::Key(key))?;
     let mut numbers = Vec::new(alloc);
     for value in values {
-        numbers.push(number_of(value).ok_or(ConfigFault::Key(key))?)?;
+        numbers.push(whole_number(value).ok_or(ConfigFault::Key(key))?)?;
     }
     Ok(numbers)
 }
@@ -82,7 +83,7 @@ fn value_at(table: &Table, key: Key) -> Result<&Value, ConfigFault>
 }
 
 // The number, exactly where the value is a whole number that isn't negative.
-fn number_of(value: &Value) -> Option<u64>
+fn whole_number(value: &Value) -> Option<u64>
     ensures { (n : ℕ) → (result ≡ Some n) ↔ (view value.now ≡ number n) }
 {
     u64::try_from(value.as_integer()?).ok()

@@ -51,9 +51,10 @@ impl From<Error> for WordsFault {
 /// Why a geometry text was not read.
 #[derive(Clone, Copy, Debug, PartialEq, Eq)]
 pub enum ConfigFault {
-    /// It isn't TOML.
+    /// It isn't TOML: no UTF-8, or refused by toml, also for a whole number that doesn't fit 64 bits with a sign.
     NotToml,
-    /// The first key that is missing or has another kind of value.
+    /// The first key, in the order of [`Key`], that is missing or has another kind of value: a negative number is one, and so is
+    /// an identity that isn't 32 hexadecimal digits.
     Key(Key),
     /// The number of the first limit that is broken, 1 to 8: see [`stair_base::Geometry::new`].
     Limit(u8),

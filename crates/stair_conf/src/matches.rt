@@ -2,7 +2,7 @@
 
 ghost use Rattle.std.specs.Prelude.{◌≡◌, ℕ, ◌↔◌, List, map, IfOk, IsTrue, Some};
 ghost use Rattle.clap.specs.Words.{found_of, rows_of};
-ghost use Rattle.stair_conf.specs.Rows.{HasGeometry, HasMethod, HasNumber, HasNumbers};
+ghost use Rattle.stair_conf.specs.Rows.{HasGeometry, HasMethodWord, HasNumberWord, HasNumberWords};
 ghost use Rattle.stair_conf.specs.Words.{AreNumbers, BeginsNumber, IsNumber, method_word};
 ghost use Rattle.stair_conf.specs.declared.job.Method.{Method};
 
@@ -39,23 +39,23 @@ pub(crate) fn geometry_of(
 // Reads the method, exactly where the first word of this id is its own.
 pub(crate) fn method_of(matches: &ArgMatches<'_>, id: &str) -> Option<Method>
     ensures { (method : Method) → (result ≡ Some method)
-        ↔ HasMethod (rows_of (found_of matches.now)) id.now method }
+        ↔ HasMethodWord (rows_of (found_of matches.now)) id.now method }
 {
     read_method(matches.get_str(id)?)
 }
 
 // Reads the number, exactly where the first word of this id is its own.
 fn number_of(matches: &ArgMatches<'_>, id: &str) -> Option<u64>
-    ensures { (n : ℕ) → (result ≡ Some n) ↔ HasNumber (rows_of (found_of matches.now)) id.now n }
+    ensures { (n : ℕ) → (result ≡ Some n) ↔ HasNumberWord (rows_of (found_of matches.now)) id.now n }
 {
     read_number(matches.get_str(id)?)
 }
 
 // Reads each word of this id as a number.
 fn numbers_of(alloc: Global, matches: &ArgMatches<'_>, id: &str) -> Result<Numbers, WordsFault>
-    ensures ok { IfOk result (HasNumbers (rows_of (found_of matches.now)) id.now) }
+    ensures ok { IfOk result (HasNumberWords (rows_of (found_of matches.now)) id.now) }
     ensures usage { result ≡ Err WordsFault.Usage → (numbers : List ℕ)
-        → HasNumbers (rows_of (found_of matches.now)) id.now numbers → ⊥ }
+        → HasNumberWords (rows_of (found_of matches.now)) id.now numbers → ⊥ }
 {
     read_numbers(alloc, matches.get_raw(id).ok_or(WordsFault::Usage)?)
 }

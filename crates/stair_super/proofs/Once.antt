@@ -3,11 +3,10 @@ use Rattle.std.proofs.Common.{◌≡◌, ℕ, ◌<◌, ◌≤◌, List, ◌++◌
 use Rattle.std.proofs.lemmas.Bool.{cases_lt}
 use Rattle.std.proofs.lemmas.List.{length-append}
 use Rattle.stair_model.specs.Geometry.{Geometry}
-use Rattle.stair_base.specs.Padding.{padded}
 use Rattle.stair_super.specs.declared.mark.Mark.{Mark}
 use Rattle.stair_super.specs.declared.mark.Mark.TheVariants.{Live, Rebuilding, Down}
 use Rattle.stair_super.specs.Superblock.{Superblock, IsSuperblock, IsJoined, mark_at, joined_at}
-use Rattle.stair_super.specs.Spelling.{Spells, spelled, code, zeros, number32, number64, counts, entries, geometry_part, numbers_part, fields}
+use Rattle.stair_super.specs.Spelling.{padded, Spells, spelled, code, zeros, number32, number64, counts, entries, geometry_part, numbers_part, fields}
 use Rattle.stair_super.proofs.PageLemmas.{length-zeros}
 use Rattle.stair_super.proofs.Parts.{length-number32, length-number64, length-padded, length-entries}
 use Rattle.stair_super.proofs.Fields.{laid, n_is, m_is, r_is, classes_is, coverage_is, stripes_is, slot_is, joined_is, draw_is, epoch_is, mark_is, joined_at_is, all_stored, within}

@@ -3,9 +3,8 @@ use Rattle.std.proofs.Common.{◌≡◌, ℕ, zero, suc, ◌+◌, ◌*◌, ◌-�
 use Rattle.std.specs.Prelude.{nat_lt}
 use Rattle.std.proofs.lemmas.Bool.{cases_lt}
 use Rattle.std.proofs.lemmas.List.{take_at, drop_at, drop-drop, length-append, length-replicate}
-use Rattle.stair_base.specs.Padding.{padded}
 use Rattle.stair_super.specs.Superblock.{Superblock, IsSuperblock, mark_at, joined_at}
-use Rattle.stair_super.specs.Spelling.{zeros, number32, number64, code, entry, entries, counts, geometry_part, numbers_part, fields}
+use Rattle.stair_super.specs.Spelling.{padded, zeros, number32, number64, code, entry, entries, counts, geometry_part, numbers_part, fields}
 use Rattle.stair_super.proofs.PageLemmas.{length-zeros}
 
 -- what stands there is the field, and behind it the rest

@@ -1,9 +1,8 @@
 -- What was written, part by part.
 use Rattle.std.proofs.Common.{◌≡◌, ℕ, ◌+◌, ◌-◌, ◌≤◌, List, [], ◌++◌, length, take, replicate, sym, ap, ◌∙◌, append_assoc, add-one}
 use Rattle.std.proofs.lemmas.List.{take_all, append-nil}
-use Rattle.stair_base.specs.Padding.{padded}
 use Rattle.stair_super.specs.Superblock.{Superblock}
-use Rattle.stair_super.specs.Spelling.{zeros, entry, entries}
+use Rattle.stair_super.specs.Spelling.{padded, zeros, entry, entries}
 
 pub both : (p0 p1 p2 a b : List ℕ) → p1 ≡ p0 ++ a → p2 ≡ p1 ++ b → p2 ≡ p0 ++ (a ++ b)
 both p0 p1 p2 a b first second = second ∙ ap (λ (l : List ℕ). l ++ b) first ∙ append_assoc p0 a b

@@ -1,14 +1,17 @@
 -- The 512 bytes of a superblock. All numbers are big-endian.
-use Rattle.std.specs.Prelude.{◌≡◌, ℕ, zero, suc, List, [], ◌∷◌, ◌++◌, replicate, nat_lt, if◌then◌else◌}
+use Rattle.std.specs.Prelude.{◌≡◌, ℕ, zero, suc, List, [], ◌∷◌, ◌++◌, ◌-◌, codes, length, replicate, nat_lt, if◌then◌else◌}
 use Rattle.std.specs.Int.{w32, w64, to_be_bytes}
 use Rattle.stair_model.specs.Geometry.{Geometry, classes}
-use Rattle.stair_base.specs.Padding.{padded}
 use Rattle.stair_super.specs.declared.mark.Mark.{Mark}
 use Rattle.stair_super.specs.declared.mark.Mark.TheVariants.{Live, Rebuilding, Down}
 use Rattle.stair_super.specs.Superblock.{Superblock, IsSuperblock, mark_at, joined_at}
 
 unfoldable pub zeros : ℕ → List ℕ
 zeros n = replicate n 0
+
+-- the coverage vector, one byte an entry, and then zeros
+abbrev pub padded : List ℕ → List ℕ
+padded e = e ++ replicate (32 - length e) 0
 
 unfoldable pub number32 : ℕ → List ℕ
 number32 n = to_be_bytes w32 n
@@ -30,9 +33,8 @@ unfoldable pub entries : Superblock → ℕ → List ℕ
 entries s zero = []
 entries s (suc j) = entries s j ++ entry s j
 
--- STAIRSB1
 abbrev pub MAGIC : List ℕ
-MAGIC = 83 ∷ 84 ∷ 65 ∷ 73 ∷ 82 ∷ 83 ∷ 66 ∷ 49 ∷ []
+MAGIC = codes "STAIRSB1"
 
 -- bytes 8 to 63: the array's identity, n, m, r, the number of coverage classes, the coverage vector, and the stripes
 abbrev pub counts : Geometry → List ℕ

@@ -207,7 +207,7 @@ fn down(joined: u8) -> [u8; 512] {
 }
 
 #[test]
-fn rules_are_kept(rt: HostRuntime) -> Result<(), Fail> {
+fn rules_are_kept(rt: HostRuntime) {
     let mut contents = created();
     contents.marks[0] = Mark::Down;
     contents.joins[0] = 0;
@@ -248,6 +248,10 @@ fn rules_are_kept(rt: HostRuntime) -> Result<(), Fail> {
     );
     assert_eq!(rt; read(&with(&[(64, 4)])), None, "a slot that isn't there");
     assert_eq!(rt; read(&[0; 512]), None);
+}
+
+#[test]
+fn later_epoch_is_read(rt: HostRuntime) {
     let mut later = created();
     later.draw = 2;
     later.epoch = 2;
@@ -258,7 +262,6 @@ fn rules_are_kept(rt: HostRuntime) -> Result<(), Fail> {
         read(&with(&[(79, 2), (87, 2), (95, 2), (104, 2), (122, 2)])),
         Some(later)
     );
-    Ok(())
 }
 
 // The superblock of this slot with this draw and this epoch.

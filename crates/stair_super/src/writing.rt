@@ -1,6 +1,5 @@
 ghost use Rattle.std.specs.Prelude.{◌≡◌, ◌+◌, ◌≤◌, ◌++◌, length};
-ghost use Rattle.stair_base.specs.Padding.{padded};
-ghost use Rattle.stair_super.specs.Spelling.{spelled, geometry_part, numbers_part, entries, code};
+ghost use Rattle.stair_super.specs.Spelling.{Spells, padded, geometry_part, numbers_part, entries, code};
 
 use crate::block::Super;
 use crate::mark::Mark;
@@ -88,7 +87,7 @@ fn put_numbers(page: &mut Page, block: &Super)
 /// | 88 to 95 | epoch |
 /// | 96 + 9·j to 104 + 9·j | of slot j below n: its mark (1 Live, 2 Rebuilding, 3 Down) and its joined number |
 pub fn write_super(block: &Super) -> [u8; 512]
-    ensures { result ≡ spelled block.now }
+    ensures { Spells result block.now }
 {
     let mut page = Page::new();
     page.put(b"STAIRSB1");

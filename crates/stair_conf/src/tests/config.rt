@@ -6,14 +6,9 @@ use std::test::Fail;
 // n, m, r, e, stripes and id.
 type Said = (u64, u64, u64, &'static [u64], u64, [u8; 16]);
 
-const FOUR: Said = (
-    4,
-    1,
-    2,
-    &[1],
-    3,
-    [0, 0, 0, 0, 0, 0, 0, 0, 0, 0, 0, 0, 0, 0, 0, 4],
-);
+const ID: [u8; 16] = [0, 0, 0, 0, 0, 0, 0, 0, 0, 0, 0, 0, 0, 0, 0, 4];
+
+const FOUR: Said = (4, 1, 2, &[1], 3, ID);
 
 const LETTERS: Said = (
     4,
@@ -49,14 +44,7 @@ const TEXTS: [(&str, Result<Said, ConfigFault>); 15] = [
     ),
     (
         "n = 8\nm = 2\nr = 4\ne = [1, 1, 2]\nstripes = 64\nid = \"00000000000000000000000000000004\"",
-        Ok((
-            8,
-            2,
-            4,
-            &[1, 1, 2],
-            64,
-            [0, 0, 0, 0, 0, 0, 0, 0, 0, 0, 0, 0, 0, 0, 0, 4],
-        )),
+        Ok((8, 2, 4, &[1, 1, 2], 64, ID)),
     ),
     ("", Err(ConfigFault::Key(Key::N))),
     ("# nothing\n", Err(ConfigFault::Key(Key::N))),
@@ -88,7 +76,7 @@ const TEXTS: [(&str, Result<Said, ConfigFault>); 15] = [
 ];
 
 // Each row is a line of `LINES` by its index, what stands in its place, and what the text then reads as.
-const CHANGES: [(u8, &str, Result<Said, ConfigFault>); 75] = [
+const CHANGES: [(u8, &str, Result<Said, ConfigFault>); 77] = [
     // missing
     (0, "", Err(ConfigFault::Key(Key::N))),
     (1, "", Err(ConfigFault::Key(Key::M))),
@@ -210,13 +198,23 @@ const CHANGES: [(u8, &str, Result<Said, ConfigFault>); 75] = [
     ),
     (
         5,
+        "id = \" 0000000000000000000000000000004\"",
+        Err(ConfigFault::Key(Key::Id)),
+    ),
+    (
+        5,
         "id = \" 00000000000000000000000000000004\"",
         Err(ConfigFault::Key(Key::Id)),
     ),
     (5, "id = \"\"", Err(ConfigFault::Key(Key::Id))),
     (
         5,
-        "id = \"\u{ff10}\u{ff10}0000000000000000000000000000\"",
+        "id = \"\u{ff10}\u{ff10}00000000000000000000000000\"",
+        Err(ConfigFault::Key(Key::Id)),
+    ),
+    (
+        5,
+        "id = \"\u{ff10}\u{ff10}000000000000000000000000000000\"",
         Err(ConfigFault::Key(Key::Id)),
     ),
 ];

@@ -6,7 +6,7 @@ use Rattle.clap.specs.Lexer.{usize_max}
 use Rattle.clap.specs.Words.{App, Row, takes}
 use Rattle.stair_conf.specs.declared.fault.WordsFault.TheVariants.{Usage}
 use Rattle.stair_conf.specs.Commands.{IsPlainWord, stripe_app}
-use Rattle.stair_conf.specs.Rows.{HasGeometry, HasMethod}
+use Rattle.stair_conf.specs.Rows.{HasGeometry, HasMethodWord}
 use Rattle.stair_conf.proofs.CommandLaws.{rows_of-matches, stripe_taken, stripe_tells, stripe_told}
 use Rattle.stair_conf.proofs.commands.read_stripe.Goals as goal
 
@@ -28,7 +28,7 @@ returns-in_err-method-clause-usage c is_usage method n m r e spells =
     let words = map string_bytes c.args.words.now in
     let rows = rows_of-matches _ stripe_app words c.in_ok-matches.matches c.in_ok-stripe_command.ensures refl c.in_ok-matches.ensures.ok in
     let has = stripe_tells (drop 1 words) (All-drop IsPlainWord 1 words c.requires) method n m r e spells in
-    let read = (c.method_of.ensures method).1 (subst (λ (rs : List Row). HasMethod rs (codes "METHOD") method) (sym rows) has.0) in
+    let read = (c.method_of.ensures method).1 (subst (λ (rs : List Row). HasMethodWord rs (codes "METHOD") method) (sym rows) has.0) in
     let none = c.in_err-method.ensures.ok_part in
     cc
 
@@ -51,5 +51,5 @@ returns-clause-ok c =
     let method = c.in_ok-method.method in
     let g = c.in_ok-geometry_of.field-0 in
     stripe_told (drop 1 words) (All-drop IsPlainWord 1 words c.requires) method g.n g.m g.r g.e
-    (subst (λ (rs : List Row). HasMethod rs (codes "METHOD") method) rows ((c.method_of.ensures method).0 c.in_ok-method.ensures.ok_part))
+    (subst (λ (rs : List Row). HasMethodWord rs (codes "METHOD") method) rows ((c.method_of.ensures method).0 c.in_ok-method.ensures.ok_part))
     (subst (λ (rs : List Row). HasGeometry rs g.n g.m g.r g.e) rows c.in_ok-geometry_of.ensures.ok)

@@ -14,13 +14,13 @@ returns-in_err-ok_or-clause-faulty c =
     let found = c.in_ok-value_at.ensures.ok ∙ ap Some (array_of _ _ items) in
     rw fault.1 (λ _. (
       key_is,
-      no_numbers c.deref-value-items.result.now c.loop-value.value-index c.value-item.result c.number_of.result _ found (omega arith)
-          c.value-item.is c.number_of.ensures c.in_err-ok_or.ensures.ok_part,
+      no_numbers c.deref-value-items.result.now c.loop-value.value-index c.value-item.result c.whole_number.result _ found (omega arith)
+          c.value-item.is c.whole_number.ensures c.in_err-ok_or.ensures.ok_part,
     ))
 
 pub loop-value-preserved : goal.loop-value-preserved
 loop-value-preserved c =
-    let number_is = (c.number_of.ensures c.in_ok-ok_or.field-0).0 c.in_ok-ok_or.ensures.ok_part in
+    let number_is = (c.whole_number.ensures c.in_ok-ok_or.field-0).0 c.in_ok-ok_or.ensures.ok_part in
     rw c.in_ok-push.ensures.items
     (one_more c.deref-value-items.result.now c.loop-value.value-index c.value-item.result c.loop-value.numbers.items _ (omega arith) c.value-item.is
     c.loop-value.invariant number_is)

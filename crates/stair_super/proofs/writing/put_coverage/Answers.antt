@@ -1,7 +1,7 @@
 -- All entries are written, and zeros behind them.
 use Rattle.std.proofs.Common.{ℕ, ◌+◌, length, ap, ◌∙◌, arith}
 use Rattle.std.proofs.lemmas.List.{length-append}
-use Rattle.stair_base.specs.Padding.{padded}
+use Rattle.stair_super.specs.Spelling.{padded}
 use Rattle.stair_super.proofs.Parts.{length-padded}
 use Rattle.stair_super.proofs.Written.{coverage_put}
 use Rattle.stair_super.proofs.writing.put_coverage.Goals as goal

@@ -1,7 +1,6 @@
 -- One part behind the other.
 use Rattle.std.proofs.Common.{◌≡◌, ℕ, List, ◌++◌, ap, ◌∙◌}
-use Rattle.stair_base.specs.Padding.{padded}
-use Rattle.stair_super.specs.Spelling.{number32, counts}
+use Rattle.stair_super.specs.Spelling.{padded, number32, counts}
 use Rattle.stair_super.proofs.Written.{both}
 use Rattle.stair_super.proofs.writing.put_geometry.Goals as goal
 
