@@ -2,7 +2,8 @@ ghost use Rattle.std.specs.Prelude.{◌≡◌, ◌≤◌, IfErr, OnOk, IfSome, t
 ghost use Rattle.stair_model.specs.Geometry.{IsWithinLimits};
 ghost use Rattle.stair_model.specs.Stripe.{IsStripeOf, IsWellFormed};
 ghost use Rattle.stair_engine.specs.Answer.{HasBytes, bytes_needed};
-ghost use Rattle.stair_engine.specs.Cause.{HasCause, IfNothingIsPutOut, IfRefusedAtOnce, LimitsComeFirst, LooksForEnd, PutsOut, TakesCount, TakesInput};
+ghost use Rattle.stair_engine.specs.Cause.{TakesCount};
+ghost use Rattle.stair_engine.specs.Does.{Does};
 ghost use Rattle.stair_engine.specs.Taking.{RefusesInput, intake_of};
 ghost use Rattle.stair_rack.specs.Count.{Rose};
 
@@ -22,18 +23,8 @@ pub(crate) fn check<S: Source, K: Sink>(
     input: &mut S,
     output: &mut K,
 ) -> Status
-    ensures limits { LimitsComeFirst Command.Check geometry.now result }
-    ensures cause { IfSome (S.left input.old) (λ bytes.
-        HasCause Command.Check geometry.now bytes (K.held output.old) (K.held output.new) result) }
-    ensures input_fault { result ≡ Status.InputFault → Rose (S.faults input.old) (S.faults input.new) }
-    ensures output_fault { result ≡ Status.OutputFault → Rose (K.faults output.old) (K.faults output.new) }
-    ensures taken { TakesInput Command.Check geometry.now (S.left input.old) (S.left input.new) result }
-    ensures looked { LooksForEnd Command.Check geometry.now (S.ended input.old) (S.ended input.new) result }
-    ensures input_count { S.faults input.old ≤ S.faults input.new }
-    ensures output { PutsOut Command.Check geometry.now (K.held output.old) (K.held output.new) result }
-    ensures untouched { IfNothingIsPutOut result (output.new ≡ output.old) }
-    ensures refused { IfRefusedAtOnce result ((input.new ≡ input.old) × (output.new ≡ output.old)) }
-    ensures output_count { K.faults output.old ≤ K.faults output.new }
+    ensures { Does S.left S.ended S.faults K.held K.faults Command.Check geometry.now
+        input.old input.new output.old output.new result }
 {
     let mut stripe = match Stripe::new(alloc, geometry) {
         Ok(stripe) => stripe,

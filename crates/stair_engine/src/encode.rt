@@ -2,7 +2,8 @@ ghost use Rattle.std.specs.Prelude.{◌≡◌, ◌≤◌, IfErr, OnOk, IfSome, t
 ghost use Rattle.stair_model.specs.Geometry.{IsWithinLimits};
 ghost use Rattle.stair_model.specs.Stripe.{IsStripeOf, IsWellFormed};
 ghost use Rattle.stair_engine.specs.Answer.{block_bytes as block_bytes_of};
-ghost use Rattle.stair_engine.specs.Cause.{HasCause, IfNothingIsPutOut, IfRefusedAtOnce, LimitsComeFirst, LooksForEnd, PutsOut, TakesCount, TakesInput};
+ghost use Rattle.stair_engine.specs.Cause.{TakesCount};
+ghost use Rattle.stair_engine.specs.Does.{Does};
 ghost use Rattle.stair_engine.specs.Encode.{CountsSteps, IsCostOfMethod, TookBlocks};
 ghost use Rattle.stair_engine.specs.Taking.{RefusesInput, intake_of};
 ghost use Rattle.stair_rack.specs.Count.{Rose};
@@ -30,18 +31,8 @@ pub(crate) fn encode<S: Source, K: Sink, L: Ledger>(
     output: &mut K,
     steps: &mut Steps<L>,
 ) -> Status
-    ensures limits { LimitsComeFirst (Command.Encode method) geometry.now result }
-    ensures cause { IfSome (S.left input.old) (λ bytes.
-        HasCause (Command.Encode method) geometry.now bytes (K.held output.old) (K.held output.new) result) }
-    ensures input_fault { result ≡ Status.InputFault → Rose (S.faults input.old) (S.faults input.new) }
-    ensures output_fault { result ≡ Status.OutputFault → Rose (K.faults output.old) (K.faults output.new) }
-    ensures taken { TakesInput (Command.Encode method) geometry.now (S.left input.old) (S.left input.new) result }
-    ensures looked { LooksForEnd (Command.Encode method) geometry.now (S.ended input.old) (S.ended input.new) result }
-    ensures input_count { S.faults input.old ≤ S.faults input.new }
-    ensures output { PutsOut (Command.Encode method) geometry.now (K.held output.old) (K.held output.new) result }
-    ensures untouched { IfNothingIsPutOut result (output.new ≡ output.old) }
-    ensures refused { IfRefusedAtOnce result ((input.new ≡ input.old) × (output.new ≡ output.old)) }
-    ensures output_count { K.faults output.old ≤ K.faults output.new }
+    ensures does { Does S.left S.ended S.faults K.held K.faults (Command.Encode method) geometry.now
+        input.old input.new output.old output.new result }
     ensures steps { CountsSteps (Command.Encode method) geometry.now result steps.old steps.new }
 {
     let mut stripe = match Stripe::new(alloc, geometry) {
@@ -77,18 +68,8 @@ fn encode_by<C: StripeCode, S: Source, K: Sink, L: Ledger>(
     requires cost { IsCostOfMethod method geometry.now (C.cost code.old) }
     requires of { IsStripeOf geometry.now stripe.old }
     requires well_formed { IsWellFormed stripe.old }
-    ensures limits { LimitsComeFirst (Command.Encode method) geometry.now result }
-    ensures cause { IfSome (S.left input.old) (λ bytes.
-        HasCause (Command.Encode method) geometry.now bytes (K.held output.old) (K.held output.new) result) }
-    ensures input_fault { result ≡ Status.InputFault → Rose (S.faults input.old) (S.faults input.new) }
-    ensures output_fault { result ≡ Status.OutputFault → Rose (K.faults output.old) (K.faults output.new) }
-    ensures taken { TakesInput (Command.Encode method) geometry.now (S.left input.old) (S.left input.new) result }
-    ensures looked { LooksForEnd (Command.Encode method) geometry.now (S.ended input.old) (S.ended input.new) result }
-    ensures input_count { S.faults input.old ≤ S.faults input.new }
-    ensures output { PutsOut (Command.Encode method) geometry.now (K.held output.old) (K.held output.new) result }
-    ensures untouched { IfNothingIsPutOut result (output.new ≡ output.old) }
-    ensures refused { IfRefusedAtOnce result ((input.new ≡ input.old) × (output.new ≡ output.old)) }
-    ensures output_count { K.faults output.old ≤ K.faults output.new }
+    ensures does { Does S.left S.ended S.faults K.held K.faults (Command.Encode method) geometry.now
+        input.old input.new output.old output.new result }
     ensures steps { CountsSteps (Command.Encode method) geometry.now result steps.old steps.new }
 {
     if let Err(refusal) = take_input(geometry, stripe, input) {

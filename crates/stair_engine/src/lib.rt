@@ -19,6 +19,7 @@ ghost use Rattle.std.specs.Prelude.{◌≡◌, ◌≢◌, ◌≤◌, ◌↔◌, 
 ghost use Rattle.stair_conf.specs.Words.{IsSpelled, Spells};
 ghost use Rattle.stair_conf.specs.declared.job.Job.{Job};
 ghost use Rattle.stair_engine.specs.Cause.{Answers, HasCause, IfNothingIsPutOut, IfRefusedAtOnce, LimitsComeFirst, LooksForEnd, PutsOut, TakesInput};
+ghost use Rattle.stair_engine.specs.Does.{Does};
 ghost use Rattle.stair_engine.specs.Encode.{CountsSteps};
 ghost use Rattle.stair_engine.specs.Task.{command_of, one_stripe};
 ghost use Rattle.stair_rack.specs.Count.{Rose};
@@ -112,18 +113,8 @@ fn work<S: Source, K: Sink, L: Ledger>(
     output: &mut K,
     steps: &mut Steps<L>,
 ) -> Status
-    ensures limits { LimitsComeFirst (command_of job) (one_stripe job) result }
-    ensures cause { IfSome (S.left input.old) (λ bytes.
-        HasCause (command_of job) (one_stripe job) bytes (K.held output.old) (K.held output.new) result) }
-    ensures input_fault { result ≡ Status.InputFault → Rose (S.faults input.old) (S.faults input.new) }
-    ensures output_fault { result ≡ Status.OutputFault → Rose (K.faults output.old) (K.faults output.new) }
-    ensures taken { TakesInput (command_of job) (one_stripe job) (S.left input.old) (S.left input.new) result }
-    ensures looked { LooksForEnd (command_of job) (one_stripe job) (S.ended input.old) (S.ended input.new) result }
-    ensures input_count { S.faults input.old ≤ S.faults input.new }
-    ensures output { PutsOut (command_of job) (one_stripe job) (K.held output.old) (K.held output.new) result }
-    ensures untouched { IfNothingIsPutOut result (output.new ≡ output.old) }
-    ensures refused { IfRefusedAtOnce result ((input.new ≡ input.old) × (output.new ≡ output.old)) }
-    ensures output_count { K.faults output.old ≤ K.faults output.new }
+    ensures does { Does S.left S.ended S.faults K.held K.faults (command_of job) (one_stripe job)
+        input.old input.new output.old output.new result }
     ensures steps { CountsSteps (command_of job) (one_stripe job) result steps.old steps.new }
 {
     let task = Task::of(job);
@@ -142,18 +133,8 @@ fn run<S: Source, K: Sink, L: Ledger>(
     output: &mut K,
     steps: &mut Steps<L>,
 ) -> Status
-    ensures limits { LimitsComeFirst command geometry.now result }
-    ensures cause { IfSome (S.left input.old) (λ bytes.
-        HasCause command geometry.now bytes (K.held output.old) (K.held output.new) result) }
-    ensures input_fault { result ≡ Status.InputFault → Rose (S.faults input.old) (S.faults input.new) }
-    ensures output_fault { result ≡ Status.OutputFault → Rose (K.faults output.old) (K.faults output.new) }
-    ensures taken { TakesInput command geometry.now (S.left input.old) (S.left input.new) result }
-    ensures looked { LooksForEnd command geometry.now (S.ended input.old) (S.ended input.new) result }
-    ensures input_count { S.faults input.old ≤ S.faults input.new }
-    ensures output { PutsOut command geometry.now (K.held output.old) (K.held output.new) result }
-    ensures untouched { IfNothingIsPutOut result (output.new ≡ output.old) }
-    ensures refused { IfRefusedAtOnce result ((input.new ≡ input.old) × (output.new ≡ output.old)) }
-    ensures output_count { K.faults output.old ≤ K.faults output.new }
+    ensures does { Does S.left S.ended S.faults K.held K.faults command geometry.now
+        input.old input.new output.old output.new result }
     ensures steps { CountsSteps command geometry.now result steps.old steps.new }
 {
     match command {

@@ -30,36 +30,36 @@ status_if_sound told held held' words status input_rose output_rose on_input on_
 
 pub returns-in-Ok-clause-limits : goal.returns-in-Ok-clause-limits
 returns-in-Ok-clause-limits g c =
-    of_spelled _ c.in-Ok.job (λ job. LimitsComeFirst (command_of job) (one_stripe job) c.work.result) c.in-Ok.ensures.ok c.work.ensures.limits
+    of_spelled _ c.in-Ok.job (λ job. LimitsComeFirst (command_of job) (one_stripe job) c.work.result) c.in-Ok.ensures.ok c.work.ensures.does.limits
 
 pub returns-in-Ok-clause-cause : goal.returns-in-Ok-clause-cause
 returns-in-Ok-clause-cause g c =
-    IfSome_then _ c.work.ensures.cause (λ bytes cause.
+    IfSome_then _ c.work.ensures.does.cause (λ bytes cause.
     of_spelled _ c.in-Ok.job
     (λ job. HasCause (command_of job) (one_stripe job) bytes (g.K.Sink.held c.args.output.now) (g.K.Sink.held c.work.new.output) c.work.result)
     c.in-Ok.ensures.ok cause)
 
 pub returns-in-Ok-clause-status : goal.returns-in-Ok-clause-status
 returns-in-Ok-clause-status g c =
-    status_if_sound _ _ _ _ _ _ _ c.work.ensures.input_fault c.work.ensures.output_fault (returns-in-Ok-clause-cause g c)
+    status_if_sound _ _ _ _ _ _ _ c.work.ensures.does.input_fault c.work.ensures.does.output_fault (returns-in-Ok-clause-cause g c)
 
 pub returns-in-Ok-clause-taken : goal.returns-in-Ok-clause-taken
 returns-in-Ok-clause-taken g c =
     of_spelled _ c.in-Ok.job
     (λ job. TakesInput (command_of job) (one_stripe job) (g.S.Source.left c.args.input.now) (g.S.Source.left c.work.new.input) c.work.result)
-    c.in-Ok.ensures.ok c.work.ensures.taken
+    c.in-Ok.ensures.ok c.work.ensures.does.taken
 
 pub returns-in-Ok-clause-looked : goal.returns-in-Ok-clause-looked
 returns-in-Ok-clause-looked g c =
     of_spelled _ c.in-Ok.job
     (λ job. LooksForEnd (command_of job) (one_stripe job) (g.S.Source.ended c.args.input.now) (g.S.Source.ended c.work.new.input) c.work.result)
-    c.in-Ok.ensures.ok c.work.ensures.looked
+    c.in-Ok.ensures.ok c.work.ensures.does.looked
 
 pub returns-in-Ok-clause-output : goal.returns-in-Ok-clause-output
 returns-in-Ok-clause-output g c =
     of_spelled _ c.in-Ok.job
     (λ job. PutsOut (command_of job) (one_stripe job) (g.K.Sink.held c.args.output.now) (g.K.Sink.held c.work.new.output) c.work.result)
-    c.in-Ok.ensures.ok c.work.ensures.output
+    c.in-Ok.ensures.ok c.work.ensures.does.output
 
 pub returns-in-Ok-clause-steps : goal.returns-in-Ok-clause-steps
 returns-in-Ok-clause-steps g c =
