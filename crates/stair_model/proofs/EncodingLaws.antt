@@ -30,11 +30,11 @@ above_is_data g i j chunk above =
       | inr apart ↦ cell_at_data g i j chunk apart.test
     ]
 
--- and each data cell is one of these
-data_is_above : (g : Geometry) (i j d : ℕ) → i < g.r → cell_at g i j ≡ Data d → i < g.r - globals_of g j
-data_is_above g i j d row is =
+-- a cell that isn't global is above the global parities of its chunk
+pub not_global-above : (g : Geometry) (i j : ℕ) → i < g.r → is_global g i j ≡ false → i < g.r - globals_of g j
+not_global-above g i j row test =
     elim (is_global_tells g i j) [
-      | inl among ↦ let test : is_global g i j ≡ false = (data_cell_tells g i j d is).test in absurd (cc)
+      | inl among ↦ let other = among.test in absurd (cc)
       | inr apart ↦
           elim (cases_lt j (data_chunks g - classes g)) [
             | inl before ↦ let none : globals_of g j ≡ 0 = globals_of_first g j before in omega arith
@@ -47,6 +47,10 @@ data_is_above g i j d row is =
           ]
     ]
 
+-- and so is each data cell
+pub data_is_above : (g : Geometry) (i j d : ℕ) → i < g.r → cell_at g i j ≡ Data d → i < g.r - globals_of g j
+data_is_above g i j d row is = not_global-above g i j row (data_cell_tells g i j d is).test
+
 -- ---- stripes by their bytes
 
 pub cell-IsSector : (g : Geometry) (stripe : Stripe) (i j : ℕ) → IsStripeOf g stripe → IsWellFormed stripe → i < g.r → j < g.n
@@ -56,6 +60,22 @@ cell-IsSector g stripe i j of formed row chunk =
     mul-add-lt i stripe.chunks j stripe.rows (omega (arith, of.rows)) (omega (arith, of.chunks))
     in
     All-get_or IsSector stripe.cells (i * stripe.chunks + j) [] (omega (arith, place, formed.count)) formed.sectors
+
+-- each place of a list of bytes is a byte, also past its end
+pub byte_at-lt : (bytes : List ℕ) (p : ℕ) → All (λ b. b < 256) bytes → slice_index bytes p < 256
+byte_at-lt bytes p all =
+    elim (cases_lt p (length bytes)) [
+      | inl within ↦ All-get_or (λ b. b < 256) bytes p 0 within all
+      | inr past ↦ let none : slice_index bytes p ≡ 0 = get_or_past bytes p 0 past in omega arith
+    ]
+
+-- sector k, or no bytes past the last sector
+pub sector_bytes : (sectors : List (List ℕ)) (k : ℕ) → All IsSector sectors → All (λ b. b < 256) (slice_index_or sectors k [])
+sector_bytes sectors k all =
+    elim (cases_lt k (length sectors)) [
+      | inl within ↦ (All-get_or IsSector sectors k [] within all).1
+      | inr past ↦ subst (All (λ b. b < 256)) (sym (get_or_past sectors k [] past)) (All-nil (λ b. b < 256))
+    ]
 
 -- sectors with the same bytes are the same
 same_sector : (x y : List ℕ) → length x ≡ SECTOR → length y ≡ SECTOR
@@ -192,22 +212,6 @@ stripe_of-IsWellFormed g x limits bytes = record {
     sectors : ℕ → List ℕ
     sectors k = list_of SECTOR (λ p. x p (k / g.n) (k % g.n))
 
--- each place of a list of bytes is a byte, also past its end
-byte_at-lt : (bytes : List ℕ) (p : ℕ) → All (λ b. b < 256) bytes → slice_index bytes p < 256
-byte_at-lt bytes p all =
-    elim (cases_lt p (length bytes)) [
-      | inl within ↦ All-get_or (λ b. b < 256) bytes p 0 within all
-      | inr past ↦ let none : slice_index bytes p ≡ 0 = get_or_past bytes p 0 past in omega arith
-    ]
-
--- block d, or no bytes past the last block
-block_bytes : (blocks : List (List ℕ)) (d : ℕ) → All IsSector blocks → All (λ b. b < 256) (slice_index_or blocks d [])
-block_bytes blocks d sectors =
-    elim (cases_lt d (length blocks)) [
-      | inl within ↦ (All-get_or IsSector blocks d [] within sectors).1
-      | inr past ↦ subst (All (λ b. b < 256)) (sym (get_or_past blocks d [] past)) (All-nil (λ b. b < 256))
-    ]
-
 -- blocks of sectors, one for each data cell, have an encoding
 pub encoding_exists : (g : Geometry) (blocks : List (List ℕ)) → IsWithinLimits g → length blocks ≡ data_cells g
     → All IsSector blocks → (stripe : Stripe) × IsEncodingOf g blocks stripe
@@ -229,7 +233,7 @@ encoding_exists g blocks limits count sectors = (
     made : (p : ℕ) → (x : Word) × IsCanonicalCodeword g x × SameDataCells g x (wanted p)
     made p =
         canonical_exists g (wanted p) limits
-        (λ i j. byte_at-lt (slice_index_or blocks (data_before g i j) []) p (block_bytes blocks (data_before g i j) sectors))
+        (λ i j. byte_at-lt (slice_index_or blocks (data_before g i j) []) p (sector_bytes blocks (data_before g i j) sectors))
 
     x : ℕ → Word
     x p = (made p).0

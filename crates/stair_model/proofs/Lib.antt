@@ -1,5 +1,6 @@
 pub mod CountLaws
 pub mod CellLaws
+pub mod CellOrder
 pub mod DataLaws
 pub mod StripeLaws
 pub mod FieldLaws
