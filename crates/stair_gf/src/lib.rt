@@ -61,39 +61,3 @@ pub fn mul_add(into: &mut [u8], from: &[u8], by: u8)
         *byte ^= mul(by, from[k]);
     }
 }
-
-#[cfg(test)]
-mod tests {
-    use super::*;
-
-    #[test]
-    fn known_values(rt: HostRuntime) {
-        for (a, b, product) in [
-            (2, 0x80, 0x1D),
-            (0, 0xB7, 0),
-            (0xB7, 0, 0),
-            (1, 0xB7, 0xB7),
-            (0xB7, 1, 0xB7),
-        ] {
-            assert_eq!(rt; mul(a, b), product, "{a}·{b}");
-        }
-        for (a, inverse) in [
-            (1, 1),
-            (2, 0x8E),
-            (3, 0xF4),
-            (4, 0x47),
-            (5, 0xA7),
-            (6, 0x7A),
-            (7, 0xBA),
-        ] {
-            assert_eq!(rt; inv(a), inverse, "1/{a}");
-        }
-    }
-
-    #[test]
-    fn adds_a_multiple_of_each_byte(rt: HostRuntime) {
-        let mut into = [0x01, 0xFF, 0x1D, 0x00];
-        mul_add(&mut into, &[0x01, 0x80, 0x80, 0x40], 2);
-        assert_eq!(rt; into, [0x03, 0xE2, 0x00, 0x80]);
-    }
-}
