@@ -1,9 +1,0 @@
--- It stays a stripe of the geometry.
-use Rattle.stair_model.specs.Stripe.{IsStripeOf}
-use Rattle.stair_up.proofs.tests.put_blocks.Given as goal
-
-abbrev pub invariant-loop-row : goal.invariant-loop-row
-invariant-loop-row l = IsStripeOf l.geometry l.stripe
-
-abbrev pub invariant-loop-slot : goal.invariant-loop-slot
-invariant-loop-slot l = IsStripeOf l.geometry l.stripe
