@@ -1,4 +1,4 @@
-ghost use Rattle.std.specs.Prelude.{◌≡◌, ℕ, ◌+◌, ◌-◌, ◌*◌, ◌<◌, ◌≤◌, ◌↔◌, ◌^◌, length, sum, All, IsTrue, IfOk, IfErr, IsOk};
+ghost use Rattle.std.specs.Prelude.{◌≡◌, ◌+◌, ◌-◌, ◌*◌, ◌<◌, ◌≤◌, ◌↔◌, length, sum, All, IsTrue, IfOk, IfErr, IsOk};
 ghost use Rattle.stair_model.specs.Geometry.{IsCoverageVector};
 ghost use Rattle.stair_base.specs.Padding.{padded};
 

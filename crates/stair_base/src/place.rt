@@ -1,4 +1,4 @@
-ghost use Rattle.std.specs.Prelude.{◌≡◌, ◌<◌};
+ghost use Rattle.std.specs.Prelude.{◌<◌};
 ghost use Rattle.stair_model.specs.Cell.{IsPlaceOf};
 ghost use Rattle.stair_model.specs.Geometry.{block_count};
 ghost use Rattle.stair_base.specs.Rows.{HasBlocksFirst};
