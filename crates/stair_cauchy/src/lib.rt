@@ -67,7 +67,7 @@ mod tests {
 
     // The inverses of 1 to 7 are 01 8E F4 47 A7 7A BA.
     #[test]
-    fn known_matrices(rt: HostRuntime) -> Result<(), Fail> {
+    fn known_matrix(rt: HostRuntime) -> Result<(), Fail> {
         let matrix = Matrix::cauchy(rt.alloc(), &[3, 4], &[0, 1, 2])?;
         assert_eq!(rt; matrix.at(0, 0), 0xF4);
         assert_eq!(rt; matrix.at(0, 1), 0x8E);
@@ -75,12 +75,6 @@ mod tests {
         assert_eq!(rt; matrix.at(1, 0), 0x47);
         assert_eq!(rt; matrix.at(1, 1), 0xA7);
         assert_eq!(rt; matrix.at(1, 2), 0x7A);
-        let one = Matrix::cauchy(rt.alloc(), &[7], &[0])?;
-        assert_eq!(rt; one.at(0, 0), 0xBA);
-        let tall = Matrix::cauchy(rt.alloc(), &[5, 6, 7], &[0])?;
-        assert_eq!(rt; tall.at(0, 0), 0xA7);
-        assert_eq!(rt; tall.at(1, 0), 0x7A);
-        assert_eq!(rt; tall.at(2, 0), 0xBA);
         Ok(())
     }
 }
