@@ -8,6 +8,7 @@ use Rattle.stair_model.specs.Canonical.{canonical_chunks, canonical_rows}
 use Rattle.stair_model.specs.CauchyCode.{Agree}
 use Rattle.stair_model.specs.Geometry.{Geometry}
 use Rattle.stair_model.specs.Stripe.{Stripe, IsSector, SECTOR, cell}
+use Rattle.stair_model.proofs.CellOrder.{IsBefore-apart, HoldsBefore, HoldsBefore-none, HoldsBefore-turn, HoldsBefore-more, HoldsBefore-all}
 use Rattle.stair_mds.specs.Solving.{Solves, word}
 use Rattle.stair_canon.specs.Canonical.{CanonicalStripe, Row, row_of, symbol, byte_at, IsKnown, IsRowOf, IsWellFormed}
 use Rattle.stair_canon.specs.Solving.{column_shape, IsCell, Loads, SolvesChunk}
@@ -91,21 +92,17 @@ pub record IsLoadedAt (g : Geometry) (stripe : Stripe) (c : CanonicalStripe) (i 
   pub others : ¬ IsCell g i j → symbol c i j ≡ replicate SECTOR 0
   pub known : IsKnown c i j ↔ IsCell g i j
 
--- place (i, j) comes before place (row, column)
-abbrev pub IsBefore : ℕ → ℕ → ℕ → ℕ → Type 0
-IsBefore i j row column = (i < row) ⊎ ((i ≡ row) × (j < column))
-
 -- the symbols before place (row, column) are loaded
 pub record HasLoaded (g : Geometry) (stripe : Stripe) (c : CanonicalStripe) (row column : ℕ) : Type 0 where
   pub geometry : c.geometry ≡ g
   pub formed : IsWellFormed c
-  pub so_far : (i j : ℕ) → j < canonical_chunks g → IsBefore i j row column → IsLoadedAt g stripe c i j
+  pub so_far : HoldsBefore (canonical_chunks g) (IsLoadedAt g stripe c) row column
 
 pub HasLoaded-none : (stripe : Stripe) (c : CanonicalStripe) → IsWellFormed c → HasLoaded c.geometry stripe c 0 0
 HasLoaded-none stripe c formed = record {
   geometry = refl;
   formed = formed;
-  so_far = λ i j column_in before. elim before [ inl above ↦ absurd (omega arith) | inr beside ↦ absurd (omega (arith, beside.1)) ];
+  so_far = HoldsBefore-none (canonical_chunks c.geometry) (IsLoadedAt c.geometry stripe c);
 }
 
 -- a row more
@@ -114,47 +111,26 @@ pub HasLoaded-turn : (g : Geometry) (stripe : Stripe) (c : CanonicalStripe) (row
 HasLoaded-turn g stripe c row column all loaded = record {
   geometry = loaded.geometry;
   formed = loaded.formed;
-  so_far = λ i j column_in before.
-      elim before [
-        | inl above ↦
-            elim (cases_eq i row) [
-              | inl here ↦ loaded.so_far i j column_in (inr (here, omega (arith, all)))
-              | inr higher ↦ loaded.so_far i j column_in (inl (omega arith))
-            ]
-        | inr beside ↦ absurd (omega (arith, beside.1))
-      ];
+  so_far = HoldsBefore-turn (canonical_chunks g) (IsLoadedAt g stripe c) row column all loaded.so_far;
 }
 
 -- a symbol more
 module _ (g : Geometry) (stripe : Stripe) (old new : CanonicalStripe) (row column : ℕ) (bytes : List ℕ) (known : Bool)
     (loaded : HasLoaded g stripe old row column) (sets : Sets row column bytes known old new) where
-  stays : (i j : ℕ) → IsBefore i j row column → ¬ ((i ≡ row) × (j ≡ column))
-  stays i j before both = elim before [ inl above ↦ omega (arith, both.0) | inr beside ↦ omega (arith, both.1, beside.1) ]
-
-  still : (i j : ℕ) → IsBefore i j row column → IsLoadedAt g stripe old i j → IsLoadedAt g stripe new i j
-  still i j before at = record {
-    cells = λ is_cell. sets.others i j (stays i j before) ∙ at.cells is_cell;
-    others = λ no_cell. sets.others i j (stays i j before) ∙ at.others no_cell;
-    known = subst (λ (b : Bool). (b ≡ true) ↔ IsCell g i j) (sym (sets.other_marks i j (stays i j before))) at.known;
+  still : (i j : ℕ) → ¬ ((i ≡ row) × (j ≡ column)) → IsLoadedAt g stripe old i j → IsLoadedAt g stripe new i j
+  still i j apart at = record {
+    cells = λ is_cell. sets.others i j apart ∙ at.cells is_cell;
+    others = λ no_cell. sets.others i j apart ∙ at.others no_cell;
+    known = subst (λ (b : Bool). (b ≡ true) ↔ IsCell g i j) (sym (sets.other_marks i j apart)) at.known;
   }
 
   pub HasLoaded-more : IsLoadedAt g stripe new row column → HasLoaded g stripe new row (column + 1)
   HasLoaded-more now = record {
     geometry = sets.geometry ∙ loaded.geometry;
     formed = sets.formed;
-    so_far = λ i j column_in before.
-        elim before [
-          | inl above ↦ still i j (inl above) (loaded.so_far i j column_in (inl above))
-          | inr beside ↦
-              elim (cases_eq j column) [
-                | inl here ↦
-                    subst (λ (s : ℕ). IsLoadedAt g stripe new s j) (sym beside.0)
-                    (subst (λ (t : ℕ). IsLoadedAt g stripe new row t) (sym here) now)
-                | inr earlier ↦
-                    let is_before : IsBefore i j row column = inr (beside.0, omega (arith, beside.1, earlier)) in
-                    still i j is_before (loaded.so_far i j column_in is_before)
-              ]
-        ];
+    so_far =
+        HoldsBefore-more (canonical_chunks g) (IsLoadedAt g stripe old) (IsLoadedAt g stripe new) row column loaded.so_far
+        (λ i j column_in before. still i j (IsBefore-apart i j row column before)) now;
   }
 
 -- a cell of the stripe
@@ -180,7 +156,8 @@ pub Loads-all : (stripe : Stripe) (old new : CanonicalStripe) (row : ℕ) → ca
     → IsWellFormed old → HasLoaded old.geometry stripe new row 0 → Loads stripe old new
 Loads-all stripe old new row all formed loaded =
     let at : (i j : ℕ) → i < canonical_rows old.geometry → j < canonical_chunks old.geometry → IsLoadedAt old.geometry stripe new i j =
-    λ i j row_in column_in. loaded.so_far i j column_in (inl (omega (arith, all))) in
+    HoldsBefore-all (canonical_chunks old.geometry) (IsLoadedAt old.geometry stripe new) (canonical_rows old.geometry) row all loaded.so_far
+    in
     record {
       geometry = loaded.geometry;
       cells = λ i j is_cell. (at i j (omega (arith, is_cell.0)) (omega (arith, is_cell.1))).cells is_cell;

@@ -1,4 +1,4 @@
-ghost use Rattle.std.specs.Prelude.{◌≡◌, ℕ, ◌*◌, ◌+◌, ◌<◌, ◌≤◌, ◌↔◌, IfOk, IfSome, IsSome, false, length, replicate, slice_index};
+ghost use Rattle.std.specs.Prelude.{◌≡◌, ℕ, ◌*◌, ◌+◌, ◌<◌, ◌↔◌, IfOk, IfSome, IsSome, false, length, replicate, slice_index};
 ghost use Rattle.stair_model.specs.Canonical.{canonical_chunks, canonical_rows};
 ghost use Rattle.stair_model.specs.CauchyCode.{AreKnownPlaces};
 ghost use Rattle.stair_model.specs.Geometry.{data_chunks, greatest_coverage};

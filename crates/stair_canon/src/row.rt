@@ -1,4 +1,4 @@
-ghost use Rattle.std.specs.Prelude.{◌≡◌, ℕ, ◌*◌, ◌+◌, ◌<◌, ◌≤◌, ◌⊎◌, ◌↔◌, IfOk, All, Contains, [], false, length, replicate, slice_index_or, slice_set, true};
+ghost use Rattle.std.specs.Prelude.{◌≡◌, ℕ, ◌*◌, ◌+◌, ◌<◌, ◌≤◌, ◌⊎◌, ◌↔◌, IfOk, Contains, [], false, length, replicate, slice_index_or, slice_set, true};
 ghost use Rattle.stair_model.specs.CauchyCode.{AreKnownPlaces};
 ghost use Rattle.stair_model.specs.Stripe.{IsSector};
 ghost use Rattle.stair_mds.specs.Solving.{AreWantedPlaces, Solves};
