@@ -8,7 +8,8 @@ use Rattle.stair_model.specs.Sum.{sum_below}
 use Rattle.stair_model.specs.Geometry.{Geometry, IsWithinLimits, data_chunks}
 use Rattle.stair_model.specs.CellSet.{CellSet, has_cell, IsInStripe, count_in_slot, cell_count}
 use Rattle.stair_model.specs.Coverage.{AreSortedCounts, erased_counts}
-use Rattle.stair_model.proofs.CountLaws.{sum_below_none, sum_below_more, sum_below_same, sum_below_add, sum_below_tail, sum_below_zeros, sum_below_by}
+use Rattle.stair_model.proofs.CountLaws.{sum_below_none, sum_below_more, sum_below_same, sum_below_tail, sum_below_zeros, sum_below_by}
+use Rattle.stair_model.proofs.GridLaws.{sum_below_exchange}
 use Rattle.stair_model.proofs.SortedLaws.{count_above-le, le-from_count_above, count_above-permutation}
 use Rattle.stair_up.specs.Order.{AreInOrder, erased_in_row, erased_in_last}
 use Rattle.stair_up.specs.declared.order.Order.{Order}
@@ -78,18 +79,6 @@ sum_below_last n (suc k) f within =
       sum_below_more k (λ t. f (n - 1 - t)),
       ap f place,
     )
-
--- two sums change places
-pub sum_below_exchange : (m n : ℕ) (f : ℕ → ℕ → ℕ) → sum_below m (λ i. sum_below n (λ j. f i j)) ≡ sum_below n (λ j. sum_below m (λ i. f i j))
-sum_below_exchange zero n f =
-    sum_below_none (λ i. sum_below n (λ j. f i j))
-    ∙ sym (sum_below_zeros n (λ j. sum_below 0 (λ i. f i j)) (λ j below. sum_below_none (λ i. f i j)))
-sum_below_exchange (suc m) n f =
-    sum_below_more m (λ i. sum_below n (λ j. f i j))
-    ∙ ap (λ (a : ℕ). a + sum_below n (λ j. f m j)) (sum_below_exchange m n f)
-    ∙ sym (sum_below_add n (λ j. sum_below m (λ i. f i j)) (λ j. f m j))
-    ∙ sum_below_same n (λ j. sum_below m (λ i. f i j) + f m j) (λ j. sum_below (suc m) (λ i. f i j))
-    (λ j below. sym (sum_below_more m (λ i. f i j)))
 
 -- 1 where the test passes
 abbrev pub one_if : Bool → ℕ

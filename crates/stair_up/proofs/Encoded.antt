@@ -1,40 +1,24 @@
 -- A stripe in which the parities are found is encoded.
-use Rattle.std.proofs.Common.{◌≡◌, ℕ, ◌+◌, ◌-◌, ◌*◌, ◌<◌, ◌↔◌, List, [], length, slice_index, inl, inr, sym, ap, ◌∙◌, arith}
-use Rattle.std.specs.Prelude.{All}
+use Rattle.std.proofs.Common.{◌≡◌, ℕ, ◌+◌, ◌-◌, ◌*◌, ◌<◌, ◌↔◌, List, slice_index, inl, inr, sym, ap, ◌∙◌, arith}
 use Rattle.std.proofs.lemmas.Bool.{cases_lt}
-use Rattle.std.proofs.lemmas.List.{get_or_past}
-use Rattle.std.proofs.lemmas.List.Elements.{All-get_or}
 use Rattle.stair_model.specs.Geometry.{Geometry, IsWithinLimits, data_chunks}
-use Rattle.stair_model.specs.Stripe.{Stripe, SECTOR, IsSector, IsStripeOf, IsWellFormed, cell, byte_of}
+use Rattle.stair_model.specs.Stripe.{Stripe, SECTOR, IsStripeOf, IsWellFormed, cell, byte_of}
 use Rattle.stair_model.specs.Cell.{Data, cell_at}
 use Rattle.stair_model.specs.CellSet.{CellSet, HasCell}
 use Rattle.stair_model.specs.Codeword.{Word}
 use Rattle.stair_model.specs.Canonical.{IsCanonicalCodeword}
 use Rattle.stair_model.specs.Encoding.{IsEncodedFrom}
 use Rattle.stair_model.proofs.CanonicalLaws.{canonical_is_codeword}
+use Rattle.stair_model.proofs.EncodingLaws.{byte_at-lt, sector_bytes}
 use Rattle.stair_model.proofs.KnownSymbolLaws.{globals_of}
 use Rattle.stair_model.proofs.VirtualRowLaws.{SameDataCells, canonical_exists}
 use Rattle.stair_up.specs.Finding.{AreCanonical, FindsStripe}
 use Rattle.stair_up.proofs.Parities.{parities_of, parities_of_data, above_is_data, data_is_above}
 
--- each place of a list of bytes is a byte, also past its end
-byte-lt : (bytes : List ℕ) (p : ℕ) → All (λ b. b < 256) bytes → slice_index bytes p < 256
-byte-lt bytes p all =
-    elim (cases_lt p (length bytes)) [
-      | inl within ↦ All-get_or (λ b. b < 256) bytes p 0 within all
-      | inr past ↦ let none : slice_index bytes p ≡ 0 = get_or_past bytes p 0 past in omega arith
-    ]
-
--- and so is each place of a stripe
+-- each place of a stripe holds a byte, also past its end
 bytes-lt : (stripe : Stripe) → IsWellFormed stripe → (p i j : ℕ) → byte_of stripe p i j < 256
 bytes-lt stripe formed p i j =
-    let k = i * stripe.chunks + j in
-    elim (cases_lt k (length stripe.cells)) [
-      | inl within ↦ byte-lt (cell stripe i j) p (All-get_or IsSector stripe.cells k [] within formed.sectors).1
-      | inr past ↦
-          let none : byte_of stripe p i j ≡ 0 = ap (λ (bytes : List ℕ). slice_index bytes p) (get_or_past stripe.cells k [] past) in
-          omega arith
-    ]
+    byte_at-lt (cell stripe i j) p (sector_bytes stripe.cells (i * stripe.chunks + j) formed.sectors)
 
 pub IsEncodedFrom-found : (g : Geometry) (cells : CellSet) (before after : Stripe) → IsWithinLimits g
     → ((i j : ℕ) → i < g.r → j < g.n → HasCell cells i j ↔ ((d : ℕ) → ¬ (cell_at g i j ≡ Data d)))

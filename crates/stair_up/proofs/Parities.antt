@@ -8,6 +8,8 @@ use Rattle.stair_model.specs.CellSet.{CellSet, has_cell, HasCell, IsInStripe, co
 use Rattle.stair_model.specs.Costs.{upstairs_cost}
 use Rattle.stair_model.specs.Coverage.{AreSortedCounts, AreWithinCoverage, IsCovered}
 use Rattle.stair_model.proofs.CellLaws.{coverage_le, kind_of_cell, OfParity, OfGlobal, OfData}
+use Rattle.stair_model.proofs.DataLaws.{data_cell_tells}
+use Rattle.stair_model.proofs.EncodingLaws.{data_is_above as above_globals}
 use Rattle.stair_model.proofs.CountLaws.{sum_below_none, sum_below_same, sum_below_zeros, sum_below_tail, sum_below_constant, sum_below_marks, sum_below_list}
 use Rattle.stair_model.proofs.CoverageLaws.{chunks_above, covered_from_counts, AreCountsInOrder-sorted}
 use Rattle.stair_model.proofs.KnownSymbolLaws.{globals_of, globals_of_first, globals_of_last, globals_of_le}
@@ -47,23 +49,8 @@ above_is_data g i j above =
 -- and no other
 pub data_is_above : (g : Geometry) (i j d : ℕ) → i < g.r → cell_at g i j ≡ Data d → (j < data_chunks g) × (i < g.r - parities_of g j)
 data_is_above g i j d row is =
-    elim (kind_of_cell g i j) [
-      | OfParity from is' ↦ absurd (cc)
-      | OfGlobal below place is' ↦ absurd (cc)
-      | OfData below place is' ↦
-          let here = parities_of_data g j below in (
-            below,
-            elim (cases_lt j (data_chunks g - classes g)) [
-              | inl before ↦ let none : globals_of g j ≡ 0 = globals_of_first g j before in omega arith
-              | inr from ↦
-                  let count : globals_of g j ≡ coverage g (class_of g j) = globals_of_last g j from in
-                  elim place.why [
-                    | inl before ↦ absurd (omega arith)
-                    | inr above ↦ omega arith
-                  ]
-            ],
-          )
-    ]
+    let below : j < data_chunks g = (data_cell_tells g i j d is).in_chunk in
+    (below, omega (arith, parities_of_data g j below, above_globals g i j d row is))
 
 -- the set of these cells
 module _ (g : Geometry) (cells : CellSet) (limits : IsWithinLimits g) (inside : IsInStripe g cells)

@@ -1,26 +1,15 @@
 -- A stripe in which all cells are found is the codeword.
-use Rattle.std.proofs.Common.{◌≡◌, ℕ, ◌+◌, ◌*◌, ◌<◌, List, [], slice_index, sym, ap, ◌∙◌, arith}
+use Rattle.std.proofs.Common.{◌≡◌, ℕ, ◌<◌, List, slice_index, sym, ap, ◌∙◌, arith}
 use Rattle.std.proofs.lemmas.List.{ext_get_or}
-use Rattle.std.proofs.lemmas.List.Elements.{All-get_or}
-use Rattle.std.proofs.lemmas.Nat.{mul-add-lt}
 use Rattle.stair_model.specs.Geometry.{Geometry, IsWithinLimits}
-use Rattle.stair_model.specs.Stripe.{Stripe, SECTOR, IsSector, IsStripeOf, IsWellFormed, cell, byte_of}
+use Rattle.stair_model.specs.Stripe.{Stripe, SECTOR, IsStripeOf, IsWellFormed, cell, byte_of}
 use Rattle.stair_model.specs.CellSet.{CellSet}
 use Rattle.stair_model.specs.Codeword.{Word, IsCodeword}
 use Rattle.stair_model.specs.Canonical.{IsExtensionOf}
 use Rattle.stair_model.specs.Restoring.{IsRestored}
 use Rattle.stair_model.proofs.CanonicalLaws.{extension_exists, codeword_is_canonical, canonical_is_codeword}
-use Rattle.stair_model.proofs.EncodingLaws.{codewords_agree}
+use Rattle.stair_model.proofs.EncodingLaws.{cell-IsSector, codewords_agree}
 use Rattle.stair_up.specs.Finding.{AreCanonical, FindsStripe}
-
--- a cell of a stripe is a sector
-cell-IsSector : (g : Geometry) (stripe : Stripe) (i j : ℕ) → IsStripeOf g stripe → IsWellFormed stripe → i < g.r → j < g.n
-    → IsSector (cell stripe i j)
-cell-IsSector g stripe i j of formed row chunk =
-    let place : i * stripe.chunks + j < stripe.chunks * stripe.rows =
-    mul-add-lt i stripe.chunks j stripe.rows (omega (arith, of.rows)) (omega (arith, of.chunks))
-    in
-    All-get_or IsSector stripe.cells (i * stripe.chunks + j) [] (omega (arith, place, formed.count)) formed.sectors
 
 -- cells with the same bytes are the same
 same_cell : (g : Geometry) (a b : Stripe) (i j : ℕ) → IsStripeOf g a → IsWellFormed a → IsStripeOf g b → IsWellFormed b → i < g.r → j < g.n

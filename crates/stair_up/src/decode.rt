@@ -1,5 +1,5 @@
-ghost use Rattle.std.specs.Prelude.{◌≡◌, ℕ, ◌<◌, ◌↔◌, IfErr, IfOk, IsOk};
-ghost use Rattle.stair_model.specs.CellSet.{HasCell, IsInStripe};
+ghost use Rattle.std.specs.Prelude.{◌≡◌, ◌<◌, ◌↔◌, IfErr, IfOk, IsOk};
+ghost use Rattle.stair_model.specs.CellSet.{IsInStripe};
 ghost use Rattle.stair_model.specs.Coverage.{IsCovered};
 ghost use Rattle.stair_model.specs.Geometry.{IsWithinLimits};
 ghost use Rattle.stair_model.specs.Restoring.{IsRestored, SameHeld};

@@ -1,4 +1,4 @@
-ghost use Rattle.std.specs.Prelude.{◌≡◌, ℕ, ◌+◌, ◌<◌, ◌⊎◌, ◌↔◌, IsTrue};
+ghost use Rattle.std.specs.Prelude.{◌≡◌, ℕ, ◌+◌, ◌<◌, ◌↔◌, IsTrue};
 ghost use Rattle.stair_model.specs.Cell.{cell_at, Data};
 ghost use Rattle.stair_model.specs.CellSet.{HasCell, IsInStripe};
 ghost use Rattle.stair_model.specs.Costs.{upstairs_cost};

@@ -11,5 +11,3 @@ mod encode;
 mod order;
 mod rows;
 mod solve;
-#[cfg(test)]
-mod tests;
