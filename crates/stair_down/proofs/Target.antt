@@ -1,20 +1,17 @@
 -- The codeword of a stripe's data cells: there is one, and a stripe that holds it is encoded.
-use Rattle.std.proofs.Common.{◌≡◌, ℕ, ◌+◌, ◌-◌, ◌*◌, ◌<◌, List, [], false, length, slice_index, slice_index_or, inl, inr, sym, subst, ap, ◌∙◌, arith}
+use Rattle.std.proofs.Common.{◌≡◌, ℕ, ◌-◌, ◌<◌, [], length, slice_index, slice_index_or, inl, inr, sym, subst, ap, ◌∙◌, arith}
 use Rattle.std.specs.Prelude.{All}
 use Rattle.std.proofs.lemmas.Bool.{cases_lt}
 use Rattle.std.proofs.lemmas.List.{ext_get_or, get_or_past}
 use Rattle.std.proofs.lemmas.List.Elements.{All-nil, All-get_or}
-use Rattle.std.proofs.lemmas.Nat.{mul-add-lt}
 use Rattle.stair_model.specs.Canonical.{canonical_chunks, IsCanonicalCodeword}
-use Rattle.stair_model.specs.Cell.{is_global, class_of}
 use Rattle.stair_model.specs.Codeword.{Word}
 use Rattle.stair_model.specs.Encoding.{IsEncodedFrom}
-use Rattle.stair_model.specs.Geometry.{Geometry, IsWithinLimits, classes, coverage, data_chunks}
+use Rattle.stair_model.specs.Geometry.{Geometry, IsWithinLimits}
 use Rattle.stair_model.specs.Stripe.{Stripe, SECTOR, IsSector, IsStripeOf, IsWellFormed, cell, byte_of}
 use Rattle.stair_model.proofs.CanonicalLaws.{canonical_is_codeword}
-use Rattle.stair_model.proofs.CellLaws.{is_global_tells}
 use Rattle.stair_model.proofs.DataLaws.{data_cell_tells}
-use Rattle.stair_model.proofs.KnownSymbolLaws.{globals_of, globals_of_first, globals_of_last}
+use Rattle.stair_model.proofs.EncodingLaws.{not_global-above, cell-IsSector, byte_at-lt, sector_bytes}
 use Rattle.stair_model.proofs.VirtualRowLaws.{SameDataCells, canonical_exists}
 use Rattle.stair_canon.specs.Canonical.{CanonicalStripe, IsWellFormed as IsWellFormedCanon, Row, IsRowOf, row_of, symbol, byte_at}
 use Rattle.stair_canon.specs.Solving.{Loads}
@@ -28,51 +25,19 @@ symbol-IsSector c i j formed i_in j_in =
     let row = All-get_or (IsRowOf (canonical_chunks c.geometry)) c.rows i _ i_in formed.rows in
     All-get_or IsSector (row_of c i).symbols j [] (omega (arith, row.count)) row.sectors
 
--- each place of a list of bytes is a byte, also past its end
-byte-lt : (bytes : List ℕ) (q : ℕ) → All (λ b. b < 256) bytes → slice_index bytes q < 256
-byte-lt bytes q all =
-    elim (cases_lt q (length bytes)) [
-      | inl within ↦ All-get_or (λ b. b < 256) bytes q 0 within all
-      | inr past ↦ let none : slice_index bytes q ≡ 0 = get_or_past bytes q 0 past in omega arith
-    ]
-
-symbols_bytes : (symbols : List (List ℕ)) (j : ℕ) → All IsSector symbols → All (λ b. b < 256) (slice_index_or symbols j [])
-symbols_bytes symbols j sectors =
-    elim (cases_lt j (length symbols)) [
-      | inl within ↦ (All-get_or IsSector symbols j [] within sectors).1
-      | inr past ↦ subst (All (λ b. b < 256)) (sym (get_or_past symbols j [] past)) (All-nil (λ b. b < 256))
-    ]
-
 rows_bytes : (c : CanonicalStripe) (i j : ℕ) → IsWellFormedCanon c → All (λ b. b < 256) (symbol c i j)
 rows_bytes c i j formed =
     elim (cases_lt i (length c.rows)) [
-      | inl within ↦ symbols_bytes (row_of c i).symbols j (All-get_or (IsRowOf (canonical_chunks c.geometry)) c.rows i _ within formed.rows).sectors
+      | inl within ↦ sector_bytes (row_of c i).symbols j (All-get_or (IsRowOf (canonical_chunks c.geometry)) c.rows i _ within formed.rows).sectors
       | inr past ↦
           subst (λ (row : Row). All (λ b. b < 256) (slice_index_or row.symbols j [])) (sym (get_or_past c.rows i _ past))
-          (symbols_bytes [] j (All-nil IsSector))
+          (sector_bytes [] j (All-nil IsSector))
     ]
 
-byte_at-lt : (c : CanonicalStripe) (q i j : ℕ) → IsWellFormedCanon c → byte_at c q i j < 256
-byte_at-lt c q i j formed = byte-lt (symbol c i j) q (rows_bytes c i j formed)
+symbol_byte-lt : (c : CanonicalStripe) (q i j : ℕ) → IsWellFormedCanon c → byte_at c q i j < 256
+symbol_byte-lt c q i j formed = byte_at-lt (symbol c i j) q (rows_bytes c i j formed)
 
 -- ---- the codeword
-
--- a cell that isn't global is above the global parities of its chunk
-not_global-above : (g : Geometry) (i j : ℕ) → i < g.r → is_global g i j ≡ false → i < g.r - globals_of g j
-not_global-above g i j row test =
-    elim (is_global_tells g i j) [
-      | inl among ↦ let other = among.test in absurd (cc)
-      | inr apart ↦
-          elim (cases_lt j (data_chunks g - classes g)) [
-            | inl before ↦ let none : globals_of g j ≡ 0 = globals_of_first g j before in omega arith
-            | inr from ↦
-                let count : globals_of g j ≡ coverage g (class_of g j) = globals_of_last g j from in
-                elim apart.why [
-                  | inl before ↦ absurd (omega arith)
-                  | inr above ↦ omega arith
-                ]
-          ]
-    ]
 
 pub target_exists : (stripe : Stripe) (old new : CanonicalStripe) → IsWithinLimits old.geometry → IsWellFormedCanon new
     → Loads stripe old new → (x : ℕ → Word) × IsTarget old.geometry stripe x
@@ -90,17 +55,9 @@ target_exists stripe old new limits formed loads = (
     g = old.geometry
 
     made : (q : ℕ) → (x : Word) × IsCanonicalCodeword g x × SameDataCells g x (byte_at new q)
-    made q = canonical_exists g (byte_at new q) limits (λ i j. byte_at-lt new q i j formed)
+    made q = canonical_exists g (byte_at new q) limits (λ i j. symbol_byte-lt new q i j formed)
 
 -- ---- the stripe that holds it
-
-cell-IsSector : (g : Geometry) (stripe : Stripe) (i j : ℕ) → IsStripeOf g stripe → IsWellFormed stripe → i < g.r → j < g.n
-    → IsSector (cell stripe i j)
-cell-IsSector g stripe i j of formed row chunk =
-    let place : i * stripe.chunks + j < stripe.chunks * stripe.rows =
-    mul-add-lt i stripe.chunks j stripe.rows (omega (arith, of.rows)) (omega (arith, of.chunks))
-    in
-    All-get_or IsSector stripe.cells (i * stripe.chunks + j) [] (omega (arith, place, formed.count)) formed.sectors
 
 -- at the end of the walk, the stripe into which the cells were stored is encoded
 pub encoded_at_end : (before after : Stripe) (x : ℕ → Word) (old loaded c : CanonicalStripe) (row : ℕ) → IsWithinLimits old.geometry

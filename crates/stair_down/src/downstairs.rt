@@ -1,7 +1,7 @@
 ghost use Rattle.std.specs.Prelude.{◌≡◌, ◌+◌, ◌*◌, ◌<◌};
 ghost use Rattle.stair_model.specs.Costs.{downstairs_cost};
 ghost use Rattle.stair_model.specs.Encoding.{IsEncodedFrom};
-ghost use Rattle.stair_model.specs.Geometry.{IsWithinLimits, classes, coverage, data_chunks};
+ghost use Rattle.stair_model.specs.Geometry.{classes, coverage, data_chunks};
 ghost use Rattle.stair_model.specs.Stripe.{IsStripeOf};
 ghost use Rattle.stair_down.specs.Completing.{CompletesChunk, CompletesRow};
 

@@ -7,5 +7,3 @@ pub use downstairs::encode_downstairs;
 
 mod downstairs;
 mod places;
-#[cfg(test)]
-mod tests;
