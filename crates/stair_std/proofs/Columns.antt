@@ -9,10 +9,10 @@ use Rattle.stair_model.specs.Costs.{is_parity, unit_blocks}
 use Rattle.stair_model.specs.Encoding.{IsEncodingOf}
 use Rattle.stair_model.specs.Stripe.{Stripe, SECTOR, IsStripeOf, cell}
 use Rattle.stair_model.proofs.CountLaws.{sum_below_longer}
-use Rattle.stair_std.specs.Cells.{is_parity_number, parities_before, bytes_of, byte_of_number}
+use Rattle.stair_std.specs.Cells.{is_parity_number, parities_before, byte_of_number}
 use Rattle.stair_std.specs.Coefficients.{IsGenerator, parity_cells}
 use Rattle.stair_std.specs.Units.{AddsParities, AreUnits}
-use Rattle.stair_std.proofs.Numbers.{bytes_at, bytes_of-number, cell_at-number, cell_of-number, number_in, row_in, slot_in, parities_before-parity, parities_before-block, parities_in_all, parity_in, is_block}
+use Rattle.stair_std.proofs.Numbers.{bytes_at-number, bytes_at, bytes_of-number, cell_at-number, cell_of-number, number_in, row_in, slot_in, parities_before-parity, parities_before-block, parities_in_all, parity_in, is_block}
 use Rattle.stair_std.proofs.UnitStripes.{units_agree}
 
 -- ---- one byte of each parity
@@ -114,10 +114,10 @@ HasColumns-more g d first byte stripe old new limits units here byte_in adds so_
             ap (λ (k : ℕ). slice_index new (k + parities_before g t))
             (ap (λ (k : ℕ). k * parity_cells g) last ∙ sym so_far.count)
             ∙ adds.added t within is
-            ∙ ap (λ (b : List ℕ). slice_index b byte) (sym (at_number stripe t units.units.of))
+            ∙ ap (λ (b : List ℕ). slice_index b byte) (sym (bytes_at-number g stripe t units.units.of))
             ∙ units_agree g first byte e p stripe encoded limits units (here ∙ sym last) byte_in p_in encoding (t / g.n) (t % g.n)
             (row_in g t limits within) (slot_in g t limits)
-            ∙ ap (λ (b : List ℕ). slice_index b p) (at_number encoded t encoding.of)
+            ∙ ap (λ (b : List ℕ). slice_index b p) (bytes_at-number g encoded t encoding.of)
         | inr other ↦
             let place : e * parity_cells g + parities_before g t < parity_cells g * d =
             mul-add-lt e (parity_cells g) (parities_before g t) d (omega arith) (parity_in g t limits within is) in
@@ -128,9 +128,6 @@ HasColumns-more g d first byte stripe old new limits units here byte_in adds so_
   where
     next : (a b : ℕ) → (a + 1) * b ≡ a * b + b
     next a b = omega arith
-
-    at_number : (s : Stripe) (t : ℕ) → IsStripeOf g s → cell s (t / g.n) (t % g.n) ≡ bytes_of s t
-    at_number s t of = bytes_at g s t (t / g.n) (t % g.n) of refl refl
 
 pub IsGenerator-all : (g : Geometry) (d : ℕ) (bytes : List ℕ) → IsWithinLimits g → d ≡ data_cells g → HasColumns g d bytes
     → IsGenerator (record { geometry = g; bytes = bytes })

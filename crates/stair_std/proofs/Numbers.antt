@@ -40,6 +40,9 @@ pub bytes_at : (g : Geometry) (stripe : Stripe) (c row slot : ℕ) → IsStripeO
     → cell stripe row slot ≡ bytes_of stripe c
 bytes_at g stripe c row slot of row_is slot_is = ap (bytes_of stripe) (number_at g stripe c row slot of row_is slot_is)
 
+pub bytes_at-number : (g : Geometry) (stripe : Stripe) (c : ℕ) → IsStripeOf g stripe → cell stripe (c / g.n) (c % g.n) ≡ bytes_of stripe c
+bytes_at-number g stripe c of = bytes_at g stripe c (c / g.n) (c % g.n) of refl refl
+
 -- what the cell is
 pub cell_at-number : (g : Geometry) (c row slot : ℕ) → row ≡ c / g.n → slot ≡ c % g.n → cell_at g row slot ≡ cell_of_number g c
 cell_at-number g c row slot row_is slot_is = ap₂ (cell_at g) row_is slot_is

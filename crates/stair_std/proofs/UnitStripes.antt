@@ -1,5 +1,5 @@
 -- Stripes of which, at each byte position, one data cell is 1, and the encoded stripes of one block that is filled with 01.
-use Rattle.std.proofs.Common.{◌≡◌, ◌≢◌, ℕ, ◌+◌, ◌-◌, ◌*◌, ◌/◌, ◌%◌, ◌<◌, ◌≤◌, true, false, if◌then◌else◌, ◌==◌, List, [], length, slice_index, slice_index_or, slice_set, replicate, inl, inr, refl, sym, ◌∙◌, ap, ap₂, arith, lit<}
+use Rattle.std.proofs.Common.{◌≡◌, ◌≢◌, ℕ, ◌+◌, ◌-◌, ◌*◌, ◌/◌, ◌%◌, ◌<◌, ◌≤◌, true, false, if◌then◌else◌, ◌==◌, List, [], length, slice_index, slice_index_or, slice_set, replicate, inl, inr, sym, ◌∙◌, ap, ap₂, arith, lit<}
 use Rattle.std.proofs.lemmas.Bool.{cases_eq, cond-true, cond-false, eq-eqb, ne_eqb, true≢false}
 use Rattle.std.proofs.lemmas.List.{get_or-set_same, get_or-set_other, get_or-replicate, length-replicate, length-set}
 use Rattle.std.proofs.lemmas.List.Elements.{All-replicate, All-set}
@@ -12,9 +12,9 @@ use Rattle.stair_model.proofs.CanonicalLaws.{byte_of-lt}
 use Rattle.stair_model.proofs.DataLaws.{data_in_range}
 use Rattle.stair_model.proofs.EncodingLaws.{encoding_exists}
 use Rattle.stair_model.proofs.LinearLaws.{MeetsEquations-codeword, words_agree}
-use Rattle.stair_std.specs.Cells.{cell_of_number, is_parity_number, blocks_before, bytes_of, byte_of_number}
+use Rattle.stair_std.specs.Cells.{cell_of_number, is_parity_number, blocks_before, byte_of_number}
 use Rattle.stair_std.specs.Units.{unit_byte, AreUnitBlocks, AreUnits}
-use Rattle.stair_std.proofs.Numbers.{bytes_at, bytes_of-put, bytes_of-kept, bytes_of-number, cell_at-number, cell_of-number, number_in, block_number, block_cell, is_block, row_in, slot_in}
+use Rattle.stair_std.proofs.Numbers.{bytes_at-number, bytes_of-put, bytes_of-kept, bytes_of-number, cell_at-number, cell_of-number, number_in, block_number, block_cell, is_block, row_in, slot_in}
 
 -- ---- one block of the stripe
 
@@ -101,17 +101,14 @@ AreUnits-encoded g first before after limits units encoded = record {
     of = encoded.of;
     blocks = λ p c p_in within is_data.
         ap (λ (b : List ℕ). slice_index b p)
-        (sym (bytes_at_number after c encoded.of)
+        (sym (bytes_at-number g after c encoded.of)
         ∙ sym (encoded.same_data (c / g.n) (c % g.n) (blocks_before g c) (row_in g c limits within) (slot_in g c limits) (block_cell g c is_data))
-        ∙ bytes_at_number before c units.of)
+        ∙ bytes_at-number g before c units.of)
         ∙ units.blocks p c p_in within is_data;
   };
   formed = encoded.formed;
   codeword = encoded.codeword;
 }
-  where
-    bytes_at_number : (s : Stripe) (c : ℕ) → IsStripeOf g s → cell s (c / g.n) (c % g.n) ≡ bytes_of s c
-    bytes_at_number s c of = bytes_at g s c (c / g.n) (c % g.n) of refl refl
 
 -- ---- the blocks that are zero but for one
 

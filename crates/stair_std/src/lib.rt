@@ -10,6 +10,4 @@ pub use standard::encode_standard;
 mod cells;
 mod generator;
 mod standard;
-#[cfg(test)]
-mod tests;
 mod units;
