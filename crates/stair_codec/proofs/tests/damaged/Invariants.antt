@@ -1,6 +1,6 @@
 -- The stripe stays one of this geometry.
 use Rattle.stair_model.specs.Stripe.{IsStripeOf}
-use Rattle.stair_codec.proofs.tests.stripe_of_blocks.Given as goal
+use Rattle.stair_codec.proofs.tests.damaged.Given as goal
 
 abbrev pub invariant-loop-row : goal.invariant-loop-row
 invariant-loop-row l = IsStripeOf l.geometry l.stripe
