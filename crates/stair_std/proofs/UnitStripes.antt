@@ -7,7 +7,7 @@ use Rattle.stair_model.specs.Geometry.{Geometry, IsWithinLimits, data_cells}
 use Rattle.stair_model.specs.Cell.{Data, cell_at}
 use Rattle.stair_model.specs.Costs.{is_parity, unit_blocks}
 use Rattle.stair_model.specs.Encoding.{IsEncodedFrom, IsEncodingOf}
-use Rattle.stair_model.specs.Stripe.{Stripe, SECTOR, IsSector, IsStripeOf, IsWellFormed, byte_of, cell, with_cell}
+use Rattle.stair_model.specs.Stripe.{Stripe, SECTOR, IsSector, IsStripeOf, IsWellFormed, byte_of, with_cell}
 use Rattle.stair_model.proofs.CanonicalLaws.{byte_of-lt}
 use Rattle.stair_model.proofs.DataLaws.{data_in_range}
 use Rattle.stair_model.proofs.EncodingLaws.{encoding_exists}
