@@ -24,8 +24,8 @@ use Rattle.stair_engine.specs.declared.intake.Refusal.{Refusal}
 use Rattle.stair_engine.specs.declared.intake.Refusal.TheVariants.{OtherLength, Fault}
 use Rattle.stair_engine.specs.declared.status.Status.{Status}
 use Rattle.stair_engine.specs.declared.status.Status.TheVariants.{Done, NotCodeword, NoCodeword, Usage, Limit, Input, InputFault, OutputFault, Lost, OutOfMemory}
-use Rattle.stair_engine.specs.declared.task.Command.{Command}
-use Rattle.stair_engine.specs.declared.task.Command.TheVariants.{Check, Encode, Restore}
+use Rattle.stair_engine.specs.Task.{Command}
+use Rattle.stair_engine.specs.Task.Command.{Check, Encode, Restore}
 use Rattle.stair_engine.specs.Answer.{HasBytes, IsAnswer, IsJudged, IsOtherLength, bytes_needed, map_bytes}
 use Rattle.stair_engine.specs.Cause.{Answers, HasCause, IsCodewordBytes, LimitsComeFirst, TakesInput}
 use Rattle.stair_engine.specs.Encode.{TookBlocks}

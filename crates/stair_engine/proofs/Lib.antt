@@ -5,4 +5,3 @@ pub mod BlockLaws
 pub mod MapLaws
 pub mod AnswerLaws
 pub mod RestoreLaws
-pub mod StepLaws

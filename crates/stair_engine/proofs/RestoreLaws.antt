@@ -11,7 +11,7 @@ use Rattle.stair_model.specs.Stripe.{Stripe, IsSector, cell}
 use Rattle.stair_model.specs.CellSet.{CellSet, HasCell}
 use Rattle.stair_engine.specs.declared.status.Status.{Status}
 use Rattle.stair_engine.specs.declared.status.Status.TheVariants.{Done, NotCodeword, NoCodeword, Usage, Limit, Input, InputFault, OutputFault, Lost, OutOfMemory}
-use Rattle.stair_engine.specs.declared.task.Command.TheVariants.{Restore}
+use Rattle.stair_engine.specs.Task.Command.{Restore}
 use Rattle.stair_engine.specs.Answer.{HasBytes, IsAnswer, IsJudged, cell_bytes, map_bytes}
 use Rattle.stair_engine.specs.Laws.{DifferAtErased, cell_of_input}
 use Rattle.stair_engine.specs.Restore.{HoldsCells, IsErasedBy, JudgesErased}

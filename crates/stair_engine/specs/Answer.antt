@@ -10,8 +10,8 @@ use Rattle.stair_model.specs.Equation.{IsFirstBroken}
 use Rattle.stair_base.specs.Equations.{equation_of}
 use Rattle.stair_engine.specs.declared.status.Status.{Status}
 use Rattle.stair_engine.specs.declared.status.Status.TheVariants.{Done, NotCodeword, NoCodeword, Usage, Limit, Input, InputFault, OutputFault, Lost, OutOfMemory}
-use Rattle.stair_engine.specs.declared.task.Command.{Command}
-use Rattle.stair_engine.specs.declared.task.Command.TheVariants.{Check, Encode, Restore}
+use Rattle.stair_engine.specs.Task.{Command}
+use Rattle.stair_engine.specs.Task.Command.{Check, Encode, Restore}
 use Rattle.stair_engine.specs.Encode.{HasBlocks, JudgesBlocks}
 use Rattle.stair_engine.specs.Restore.{IsErasedBy, JudgesErased}
 

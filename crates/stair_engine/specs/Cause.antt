@@ -6,8 +6,8 @@ use Rattle.stair_model.specs.Stripe.{Stripe}
 use Rattle.stair_model.specs.Codeword.{IsCodeword}
 use Rattle.stair_engine.specs.declared.status.Status.{Status}
 use Rattle.stair_engine.specs.declared.status.Status.TheVariants.{Done, NotCodeword, NoCodeword, Usage, Limit, Input, InputFault, OutputFault, Lost, OutOfMemory}
-use Rattle.stair_engine.specs.declared.task.Command.{Command}
-use Rattle.stair_engine.specs.declared.task.Command.TheVariants.{Check, Encode, Restore}
+use Rattle.stair_engine.specs.Task.{Command}
+use Rattle.stair_engine.specs.Task.Command.{Check, Encode, Restore}
 use Rattle.stair_engine.specs.Answer.{HasBytes, IsAnswer, bytes_needed, codeword_line}
 use Rattle.stair_engine.specs.Streams.{PutsPart}
 

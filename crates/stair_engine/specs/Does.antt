@@ -4,7 +4,7 @@ use Rattle.stair_model.specs.Geometry.{Geometry}
 use Rattle.stair_rack.specs.Count.{Rose}
 use Rattle.stair_engine.specs.declared.status.Status.{Status}
 use Rattle.stair_engine.specs.declared.status.Status.TheVariants.{InputFault, OutputFault}
-use Rattle.stair_engine.specs.declared.task.Command.{Command}
+use Rattle.stair_engine.specs.Task.{Command}
 use Rattle.stair_engine.specs.Cause.{HasCause, IfNothingIsPutOut, IfRefusedAtOnce, LimitsComeFirst, LooksForEnd, PutsOut, TakesInput}
 
 -- by what the source and the sink tell, before and after

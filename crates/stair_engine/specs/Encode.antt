@@ -11,8 +11,8 @@ use Rattle.stair_conf.specs.declared.job.Method.{Method}
 use Rattle.stair_engine.specs.Task.{by_of}
 use Rattle.stair_engine.specs.declared.status.Status.{Status}
 use Rattle.stair_engine.specs.declared.status.Status.TheVariants.{Done, OutputFault}
-use Rattle.stair_engine.specs.declared.task.Command.{Command}
-use Rattle.stair_engine.specs.declared.task.Command.TheVariants.{Encode}
+use Rattle.stair_engine.specs.Task.{Command}
+use Rattle.stair_engine.specs.Task.Command.{Encode}
 
 -- the blocks of a stripe, which have these bytes one after the other
 pub record HasBlocks (g : Geometry) (blocks : List (List ℕ)) (bytes : List ℕ) : Type 0 where

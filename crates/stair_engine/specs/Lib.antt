@@ -9,4 +9,3 @@ pub mod Cause
 pub mod Does
 pub mod Taking
 pub mod Laws
-pub mod Examples

@@ -10,7 +10,7 @@ use Rattle.stair_engine.specs.declared.intake.Refusal.{Refusal}
 use Rattle.stair_engine.specs.declared.intake.Refusal.TheVariants.{OtherLength, Fault}
 use Rattle.stair_engine.specs.declared.status.Status.{Status}
 use Rattle.stair_engine.specs.declared.status.Status.TheVariants.{Input, InputFault}
-use Rattle.stair_engine.specs.declared.task.Command.TheVariants.{Restore}
+use Rattle.stair_engine.specs.Task.Command.{Restore}
 use Rattle.stair_engine.specs.Answer.{HasBytes, bytes_needed, map_bytes}
 use Rattle.stair_engine.specs.Encode.{HoldsBlocks}
 use Rattle.stair_engine.specs.Restore.{IsErasedBy}

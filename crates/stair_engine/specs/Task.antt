@@ -7,8 +7,15 @@ use Rattle.stair_conf.specs.declared.job.Job.{Job}
 use Rattle.stair_conf.specs.declared.job.Job.TheVariants as job
 use Rattle.stair_conf.specs.declared.job.Method.{Method}
 use Rattle.stair_conf.specs.declared.job.Method.TheVariants.{Standard, Up, Down, Fewest}
-use Rattle.stair_engine.specs.declared.task.Command.{Command}
-use Rattle.stair_engine.specs.declared.task.Command.TheVariants.{Check, Encode, Restore}
+
+-- what is to be done with one stripe
+pub data Command : Type 0 where
+  -- whether it is a codeword
+  Check : Command
+  -- the stripe of some blocks, by this method
+  Encode : Method → Command
+  -- its erased cells, from those that are held
+  Restore : Command
 
 abbrev pub command_of : Job → Command
 command_of (job.Check n m r e) = Check

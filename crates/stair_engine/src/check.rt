@@ -4,6 +4,7 @@ ghost use Rattle.stair_model.specs.Stripe.{IsStripeOf, IsWellFormed};
 ghost use Rattle.stair_engine.specs.Answer.{HasBytes, bytes_needed};
 ghost use Rattle.stair_engine.specs.Cause.{TakesCount};
 ghost use Rattle.stair_engine.specs.Does.{Does};
+ghost use Rattle.stair_engine.specs.Task.Command.{Check};
 ghost use Rattle.stair_engine.specs.Taking.{RefusesInput, intake_of};
 ghost use Rattle.stair_rack.specs.Count.{Rose};
 
@@ -11,7 +12,6 @@ use crate::cells::{cell_bytes, take_stripe};
 use crate::intake::{Intake, Refusal};
 use crate::status::Status;
 use crate::streams::{SinkFailed, put_all};
-use crate::task::Command;
 use stair_base::{Geometry, Stripe, first_broken};
 use stair_rack::{Sink, Source};
 use std::alloc::Global;
@@ -23,7 +23,7 @@ pub(crate) fn check<S: Source, K: Sink>(
     input: &mut S,
     output: &mut K,
 ) -> Status
-    ensures { Does S.left S.ended S.faults K.held K.faults Command.Check geometry.now
+    ensures { Does S.left S.ended S.faults K.held K.faults Check geometry.now
         input.old input.new output.old output.new result }
 {
     let mut stripe = match Stripe::new(alloc, geometry) {
@@ -53,9 +53,9 @@ fn take_input<S: Source>(
     ensures limits { IsWithinLimits geometry.now }
     ensures ok { OnOk result (IfSome (S.left input.old) (HasBytes geometry.now stripe.new)) }
     ensures taken { OnOk result
-        (TakesCount (S.left input.old) (S.left input.new) (bytes_needed Command.Check geometry.now)) }
+        (TakesCount (S.left input.old) (S.left input.new) (bytes_needed Check geometry.now)) }
     ensures ended { OnOk result ((S.ended input.old ≡ false) × (S.ended input.new ≡ true)) }
-    ensures err { IfErr result (RefusesInput (intake_of (bytes_needed Command.Check geometry.now))
+    ensures err { IfErr result (RefusesInput (intake_of (bytes_needed Check geometry.now))
         (S.left input.old) (S.left input.new) (S.ended input.new) (Rose (S.faults input.old) (S.faults input.new))) }
     ensures of { IsStripeOf geometry.now stripe.new }
     ensures well_formed { IsWellFormed stripe.new }

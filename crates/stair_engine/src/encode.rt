@@ -1,10 +1,11 @@
-ghost use Rattle.std.specs.Prelude.{◌≡◌, ◌≤◌, IfErr, OnOk, IfSome, true, false};
+ghost use Rattle.std.specs.Prelude.{◌≡◌, ◌≤◌, IfErr, OnOk, true, false};
 ghost use Rattle.stair_model.specs.Geometry.{IsWithinLimits};
 ghost use Rattle.stair_model.specs.Stripe.{IsStripeOf, IsWellFormed};
 ghost use Rattle.stair_engine.specs.Answer.{block_bytes as block_bytes_of};
 ghost use Rattle.stair_engine.specs.Cause.{TakesCount};
 ghost use Rattle.stair_engine.specs.Does.{Does};
 ghost use Rattle.stair_engine.specs.Encode.{CountsSteps, IsCostOfMethod, TookBlocks};
+ghost use Rattle.stair_engine.specs.Task.Command.{Encode};
 ghost use Rattle.stair_engine.specs.Taking.{RefusesInput, intake_of};
 ghost use Rattle.stair_rack.specs.Count.{Rose};
 
@@ -13,7 +14,7 @@ use crate::cells::put_stripe;
 use crate::intake::{Intake, Refusal};
 use crate::status::Status;
 use crate::streams::SinkFailed;
-use crate::task::{Command, by_of};
+use crate::task::by_of;
 use stair_base::{Geometry, Stripe, StripeCode};
 use stair_codec::Codec;
 use stair_conf::Method;
@@ -31,9 +32,9 @@ pub(crate) fn encode<S: Source, K: Sink, L: Ledger>(
     output: &mut K,
     steps: &mut Steps<L>,
 ) -> Status
-    ensures does { Does S.left S.ended S.faults K.held K.faults (Command.Encode method) geometry.now
+    ensures does { Does S.left S.ended S.faults K.held K.faults (Encode method) geometry.now
         input.old input.new output.old output.new result }
-    ensures steps { CountsSteps (Command.Encode method) geometry.now result steps.old steps.new }
+    ensures steps { CountsSteps (Encode method) geometry.now result steps.old steps.new }
 {
     let mut stripe = match Stripe::new(alloc, geometry) {
         Ok(stripe) => stripe,
@@ -68,9 +69,9 @@ fn encode_by<C: StripeCode, S: Source, K: Sink, L: Ledger>(
     requires cost { IsCostOfMethod method geometry.now (C.cost code.old) }
     requires of { IsStripeOf geometry.now stripe.old }
     requires well_formed { IsWellFormed stripe.old }
-    ensures does { Does S.left S.ended S.faults K.held K.faults (Command.Encode method) geometry.now
+    ensures does { Does S.left S.ended S.faults K.held K.faults (Encode method) geometry.now
         input.old input.new output.old output.new result }
-    ensures steps { CountsSteps (Command.Encode method) geometry.now result steps.old steps.new }
+    ensures steps { CountsSteps (Encode method) geometry.now result steps.old steps.new }
 {
     if let Err(refusal) = take_input(geometry, stripe, input) {
         return Status::from(refusal);

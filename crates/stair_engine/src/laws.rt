@@ -5,7 +5,7 @@ ghost use Rattle.stair_model.specs.Geometry.{Geometry};
 ghost use Rattle.stair_engine.specs.Answer.{IsAnswer};
 ghost use Rattle.stair_engine.specs.Laws.{DifferAtErased};
 ghost use Rattle.stair_engine.specs.declared.status.Status.{Status};
-ghost use Rattle.stair_engine.specs.declared.task.Command.TheVariants.{Restore};
+ghost use Rattle.stair_engine.specs.Task.Command.{Restore};
 
 /// What stands in the place of an erased cell makes no difference. It does nothing.
 pub fn restore_laws()

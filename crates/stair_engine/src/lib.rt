@@ -34,7 +34,7 @@ use stair_rack::{Sink, Source};
 pub use status::Status;
 use std::alloc::Global;
 use std::sync::ledger::Ledger;
-use task::{Command, Task};
+use task::geometry_of;
 
 /// Does what the words say, over this input and output, and tells what came of it.
 ///
@@ -117,29 +117,28 @@ fn work<S: Source, K: Sink, L: Ledger>(
         input.old input.new output.old output.new result }
     ensures steps { CountsSteps (command_of job) (one_stripe job) result steps.old steps.new }
 {
-    let task = Task::of(job);
-    match Geometry::new(task.n, task.m, task.r, task.e.as_slice(), 1, [0; 16]) {
-        Ok(geometry) => run(alloc, task.command, &geometry, input, output, steps),
+    match geometry_of(&job) {
+        Ok(geometry) => run(alloc, &job, &geometry, input, output, steps),
         Err(fault) => Status::Limit(fault.limit),
     }
 }
 
-/// Does what the command says of a stripe of this geometry.
+/// Does the job with a stripe of this geometry.
 fn run<S: Source, K: Sink, L: Ledger>(
     alloc: Global,
-    command: Command,
+    job: &Job,
     geometry: &Geometry,
     input: &mut S,
     output: &mut K,
     steps: &mut Steps<L>,
 ) -> Status
-    ensures does { Does S.left S.ended S.faults K.held K.faults command geometry.now
+    ensures does { Does S.left S.ended S.faults K.held K.faults (command_of job.now) geometry.now
         input.old input.new output.old output.new result }
-    ensures steps { CountsSteps command geometry.now result steps.old steps.new }
+    ensures steps { CountsSteps (command_of job.now) geometry.now result steps.old steps.new }
 {
-    match command {
-        Command::Check => check(alloc, geometry, input, output),
-        Command::Encode(method) => encode(alloc, method, geometry, input, output, steps),
-        Command::Restore => restore(alloc, geometry, input, output),
+    match job {
+        Job::Check { .. } => check(alloc, geometry, input, output),
+        Job::Stripe { method, .. } => encode(alloc, *method, geometry, input, output, steps),
+        Job::Restore { .. } => restore(alloc, geometry, input, output),
     }
 }

@@ -1,9 +1,10 @@
-ghost use Rattle.std.specs.Prelude.{◌≡◌, ◌≤◌, IfOk, IfErr, OnOk, IfSome, true, false, ◌<◌};
+ghost use Rattle.std.specs.Prelude.{◌≡◌, ◌≤◌, IfOk, IfErr, OnOk, true, false, ◌<◌};
 ghost use Rattle.stair_model.specs.Geometry.{IsWithinLimits};
 ghost use Rattle.stair_model.specs.Stripe.{IsStripeOf, IsWellFormed};
 ghost use Rattle.stair_engine.specs.Answer.{bytes_needed};
 ghost use Rattle.stair_engine.specs.Cause.{TakesCount};
 ghost use Rattle.stair_engine.specs.Does.{Does};
+ghost use Rattle.stair_engine.specs.Task.Command.{Restore};
 ghost use Rattle.stair_engine.specs.Taking.{RefusesInput, TookErased, intake_of};
 ghost use Rattle.stair_rack.specs.Count.{Rose};
 
@@ -12,7 +13,6 @@ use crate::intake::{Intake, Refusal};
 use crate::map::take_map;
 use crate::status::Status;
 use crate::streams::SinkFailed;
-use crate::task::Command;
 use stair_base::{CellSet, Geometry, Stripe, StripeCode, first_broken};
 use stair_codec::{By, Codec};
 use stair_rack::{Sink, Source};
@@ -25,7 +25,7 @@ pub(crate) fn restore<S: Source, K: Sink>(
     input: &mut S,
     output: &mut K,
 ) -> Status
-    ensures { Does S.left S.ended S.faults K.held K.faults Command.Restore geometry.now
+    ensures { Does S.left S.ended S.faults K.held K.faults Restore geometry.now
         input.old input.new output.old output.new result }
 {
     let mut stripe = match Stripe::new(alloc, geometry) {
@@ -51,7 +51,7 @@ fn restore_by<C: StripeCode, S: Source, K: Sink>(
     requires shape { C.shape code.old ≡ geometry.now }
     requires of { IsStripeOf geometry.now stripe.old }
     requires well_formed { IsWellFormed stripe.old }
-    ensures { Does S.left S.ended S.faults K.held K.faults Command.Restore geometry.now
+    ensures { Does S.left S.ended S.faults K.held K.faults Restore geometry.now
         input.old input.new output.old output.new result }
 {
     let erased = match take_input(geometry, stripe, input) {
@@ -85,9 +85,9 @@ fn take_input<S: Source>(
     ensures limits { IsWithinLimits geometry.now }
     ensures ok { IfOk result (λ erased. TookErased geometry.now (S.left input.old) erased stripe.new) }
     ensures taken { OnOk result
-        (TakesCount (S.left input.old) (S.left input.new) (bytes_needed Command.Restore geometry.now)) }
+        (TakesCount (S.left input.old) (S.left input.new) (bytes_needed Restore geometry.now)) }
     ensures ended { OnOk result ((S.ended input.old ≡ false) × (S.ended input.new ≡ true)) }
-    ensures err { IfErr result (RefusesInput (intake_of (bytes_needed Command.Restore geometry.now))
+    ensures err { IfErr result (RefusesInput (intake_of (bytes_needed Restore geometry.now))
         (S.left input.old) (S.left input.new) (S.ended input.new) (Rose (S.faults input.old) (S.faults input.new))) }
     ensures of { IsStripeOf geometry.now stripe.new }
     ensures well_formed { IsWellFormed stripe.new }

@@ -1,61 +1,22 @@
-ghost use Rattle.std.specs.Prelude.{◌≡◌, replicate};
-ghost use Rattle.stair_model.specs.Geometry.{geometry_of};
-ghost use Rattle.stair_engine.specs.Task.{by_of as by_of_method, command_of, one_stripe};
+ghost use Rattle.std.specs.Prelude.{◌≡◌, IfOk, IfErr};
+ghost use Rattle.stair_model.specs.Geometry.{IsFirstBrokenLimit};
+ghost use Rattle.stair_engine.specs.Task.{by_of as by_of_method, one_stripe};
 
+use stair_base::{Geometry, GeometryFault};
 use stair_codec::By;
-use stair_conf::{Job, Method, Numbers};
+use stair_conf::{Job, Method};
 
-/// What is to be done with one stripe.
-#[derive(Clone, Copy, Debug, PartialEq, Eq)]
-pub enum Command {
-    /// Whether it is a codeword.
-    Check,
-    /// The stripe of some blocks, by this method.
-    Encode(Method),
-    /// Its erased cells, from those that are held.
-    Restore,
-}
-
-/// A command, and the numbers of the geometry of its stripe.
-#[derive(Debug, Drop)]
-pub(crate) struct Task {
-    pub(crate) command: Command,
-    pub(crate) n: u64,
-    pub(crate) m: u64,
-    pub(crate) r: u64,
-    pub(crate) e: Numbers,
-}
-
-impl Task {
-    /// What a job asks to be done.
-    pub(crate) fn of(job: Job) -> Task
-        ensures command { result.command ≡ command_of job }
-        ensures geometry { geometry_of result.n result.m result.r result.e 1 (replicate 16 0) ≡ one_stripe job }
-    {
-        match job {
-            Job::Check { n, m, r, e } => Task {
-                command: Command::Check,
-                n,
-                m,
-                r,
-                e,
-            },
-            Job::Stripe { method, n, m, r, e } => Task {
-                command: Command::Encode(method),
-                n,
-                m,
-                r,
-                e,
-            },
-            Job::Restore { n, m, r, e } => Task {
-                command: Command::Restore,
-                n,
-                m,
-                r,
-                e,
-            },
-        }
-    }
+/// The geometry of the one stripe that a job asks for.
+pub(crate) fn geometry_of(job: &Job) -> Result<Geometry, GeometryFault>
+    ensures ok { IfOk result (λ geometry. geometry ≡ one_stripe job.now) }
+    ensures broken { IfErr result (λ fault. IsFirstBrokenLimit (one_stripe job.now) fault.limit) }
+{
+    let (n, m, r, e) = match job {
+        Job::Check { n, m, r, e } => (*n, *m, *r, e),
+        Job::Stripe { n, m, r, e, .. } => (*n, *m, *r, e),
+        Job::Restore { n, m, r, e } => (*n, *m, *r, e),
+    };
+    Geometry::new(n, m, r, e.as_slice(), 1, [0; 16])
 }
 
 /// How a code encodes by this method.

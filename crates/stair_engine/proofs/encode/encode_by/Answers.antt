@@ -5,7 +5,7 @@ use Rattle.stair_model.specs.Encoding.{IsEncodedFrom}
 use Rattle.stair_model.specs.Geometry.{Geometry}
 use Rattle.stair_engine.specs.Cause.{PutsOut}
 use Rattle.stair_engine.specs.declared.status.Status.TheVariants.{Done, OutputFault}
-use Rattle.stair_engine.specs.declared.task.Command.TheVariants.{Encode}
+use Rattle.stair_engine.specs.Task.Command.{Encode}
 use Rattle.stair_engine.proofs.AnswerLaws.{IsCodewordBytes-cells, cause_of_done, cause_of_output_fault, judged_of_blocks}
 use Rattle.stair_engine.proofs.encode.encode_by.Goals as goal
 

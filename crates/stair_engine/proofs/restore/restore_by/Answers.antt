@@ -9,7 +9,7 @@ use Rattle.stair_model.specs.Geometry.{Geometry}
 use Rattle.stair_model.specs.Restoring.{IsRestored, SameHeld}
 use Rattle.stair_engine.specs.Cause.{PutsOut}
 use Rattle.stair_engine.specs.declared.status.Status.TheVariants.{Done, Lost, NoCodeword, OutputFault}
-use Rattle.stair_engine.specs.declared.task.Command.TheVariants.{Restore}
+use Rattle.stair_engine.specs.Task.Command.{Restore}
 use Rattle.stair_engine.proofs.AnswerLaws.{CountsErased-counts, IsCodewordBytes-cells, JudgesErased-done, JudgesErased-lost, JudgesErased-none, at_ok, cause_of_done, cause_of_judged, cause_of_output_fault, judged_of_erased, not_none_and_some, not_ok_and_err}
 use Rattle.stair_engine.proofs.restore.restore_by.Goals as goal
 

@@ -3,7 +3,7 @@ use Rattle.std.proofs.Common.{◌≡◌, ℕ, ◌+◌, ◌*◌, ◌++◌, length
 use Rattle.std.specs.List.{concat}
 use Rattle.stair_rack.specs.Count.{kept-Rose}
 use Rattle.stair_engine.specs.declared.intake.Intake.{Intake}
-use Rattle.stair_engine.specs.declared.task.Command.TheVariants.{Restore}
+use Rattle.stair_engine.specs.Task.Command.{Restore}
 use Rattle.stair_engine.specs.Answer.{bytes_needed}
 use Rattle.stair_engine.specs.Taking.{TakesBytes, intake_of}
 use Rattle.stair_engine.proofs.AnswerLaws.{TookErased-all}
