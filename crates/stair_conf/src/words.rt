@@ -1,4 +1,4 @@
-ghost use Rattle.std.specs.Prelude.{◌≡◌, ℕ, false, true, List, map, string_bytes, IfOk, Any, slice_index};
+ghost use Rattle.std.specs.Prelude.{◌≡◌, false, true, map, string_bytes, IfOk, Any, slice_index};
 ghost use Rattle.stair_conf.specs.Commands.{HasNoOption};
 ghost use Rattle.stair_conf.specs.Words.{Spells};
 ghost use Rattle.stair_conf.specs.declared.job.Job.{Job};
