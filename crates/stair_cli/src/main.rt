@@ -11,7 +11,8 @@ use std::process::ExitCode;
 use std::sync::ledger::{Blank, Ledger};
 use std::{env, io};
 
-/// The words after the folder. Words that are no text are a faulty command line.
+/// The words after the folder. Words that are no text are a faulty command line, and so is an empty folder: then there are no
+/// words.
 fn read_words(rt: &HostRuntime) -> Result<Vec<String>, Status> {
     let mut words = match env::args(rt) {
         Ok(words) => words,
@@ -19,7 +20,11 @@ fn read_words(rt: &HostRuntime) -> Result<Vec<String>, Status> {
         Err(_) => return Err(Status::Usage),
     };
     let _program = words.next();
-    let _folder = words.next();
+    if let Some(folder) = words.next()
+        && folder.is_empty()
+    {
+        return Ok(Vec::new(rt.alloc()));
+    }
     words.collect(rt.alloc()).map_err(|_| Status::OutOfMemory)
 }
 
