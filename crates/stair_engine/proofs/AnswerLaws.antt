@@ -1,9 +1,10 @@
 -- From what was taken to the answer.
-use Rattle.std.proofs.Common.{◌≡◌, ◌≢◌, ℕ, ◌+◌, ◌*◌, ◌<◌, Bool, true, false, inl, inr, List, [], ◌++◌, None, Some, IfSome, Result, Ok, Err, length, take, drop, get_or, refl, sym, ap, ◌∙◌, subst, arith, length-append}
+use Rattle.std.proofs.Common.{◌≡◌, ◌≢◌, ℕ, ◌+◌, ◌*◌, ◌<◌, ◌≤◌, le_refl, Bool, true, false, inl, inr, List, [], ◌++◌, None, Some, IfSome, Result, Ok, Err, length, take, drop, get_or, refl, sym, ap, ◌∙◌, subst, arith, length-append}
 use Rattle.std.specs.Prelude.{Option, MatchBool, IsTrue, IsOk, IsErr, IsNone, IsSome, IfOk, if◌then◌else◌}
 use Rattle.std.specs.List.{concat}
+use Rattle.std.specs.Result.{IsErrAnd}
 use Rattle.std.specs.Io.KnownBytes.{Appends, Consumes}
-use Rattle.std.proofs.KnownBytes.{Appends-nil}
+use Rattle.std.proofs.KnownBytes.{Appends-nil, Keeps-refl}
 use Rattle.std.proofs.lemmas.Bool.{cases_lt}
 use Rattle.std.proofs.lemmas.List.{get_or_past, take_all, take-append-le}
 use Rattle.std.proofs.lemmas.Option.{IfSome_then}
@@ -17,21 +18,23 @@ use Rattle.stair_model.specs.Encoding.{IsEncodedFrom}
 use Rattle.stair_model.specs.Equation.{IsFirstBroken}
 use Rattle.stair_model.proofs.CountLaws.{sum_below_zeros}
 use Rattle.stair_model.specs.Restoring.{IsRestored, SameHeld}
+use Rattle.stair_rack.specs.Count.{Rose}
 use Rattle.stair_base.specs.declared.equations.Broken.{Broken}
 use Rattle.stair_base.specs.Equations.{equation_of}
 use Rattle.stair_conf.specs.declared.job.Method.{Method}
-use Rattle.stair_engine.specs.declared.intake.Refusal.{Refusal}
-use Rattle.stair_engine.specs.declared.intake.Refusal.TheVariants.{OtherLength, Fault}
+use Rattle.stair_engine.specs.declared.fault.Fault.{Fault}
+use Rattle.stair_engine.specs.declared.fault.Fault.TheVariants as fault
 use Rattle.stair_engine.specs.declared.status.Status.{Status}
 use Rattle.stair_engine.specs.declared.status.Status.TheVariants.{Done, NotCodeword, NoCodeword, Usage, Limit, Input, InputFault, OutputFault, Lost, OutOfMemory}
 use Rattle.stair_engine.specs.Task.{Command}
 use Rattle.stair_engine.specs.Task.Command.{Check, Encode, Restore}
-use Rattle.stair_engine.specs.Answer.{HasBytes, IsAnswer, IsJudged, IsOtherLength, bytes_needed, map_bytes}
-use Rattle.stair_engine.specs.Cause.{Answers, HasCause, IsCodewordBytes, LimitsComeFirst, TakesInput}
+use Rattle.stair_engine.specs.Answer.{HasBytes, IsAnswer, IsJudged, IsOtherLength, bytes_needed, codeword_line, map_bytes}
+use Rattle.stair_engine.specs.Cause.{Answers, HasCause, IsCodewordBytes, IsOutput, LimitsComeFirst, TakesCount}
+use Rattle.stair_engine.specs.Does.{Does, status_of}
 use Rattle.stair_engine.specs.Encode.{TookBlocks}
 use Rattle.stair_engine.specs.Restore.{CountsErased, IsErasedBy, JudgesErased}
 use Rattle.stair_engine.specs.Streams.{PutsPart}
-use Rattle.stair_engine.specs.Taking.{RefusesInput, TookErased, intake_of, status_of}
+use Rattle.stair_engine.specs.Taking.{RefusesInput, TookErased, intake_of, status_of_fault}
 use Rattle.stair_engine.proofs.BlockLaws.{IsEncodingOf-held}
 use Rattle.stair_engine.proofs.CellLaws.{length-cell_bytes, length-concat}
 
@@ -51,13 +54,19 @@ HasBytes-cells g stripe of well bytes same = record {
 }
 
 -- the limits were tested before the input was refused
-pub limits_of_refusal : (command : Command) (g : Geometry) (refusal : Refusal) → IsWithinLimits g → LimitsComeFirst command g (status_of refusal)
-limits_of_refusal Check g (OtherLength needed took) limits = limits
-limits_of_refusal Check g Fault limits = limits
-limits_of_refusal (Encode method) g (OtherLength needed took) limits = limits
-limits_of_refusal (Encode method) g Fault limits = limits
-limits_of_refusal Restore g (OtherLength needed took) limits = limits
-limits_of_refusal Restore g Fault limits = limits
+limits_of_refusal : (command : Command) (g : Geometry) (fault : Fault) → IsWithinLimits g → LimitsComeFirst command g (status_of_fault fault)
+limits_of_refusal Check g fault.Memory limits = tt
+limits_of_refusal Check g (fault.Length needed took) limits = limits
+limits_of_refusal Check g fault.Input limits = limits
+limits_of_refusal Check g fault.Output limits = limits
+limits_of_refusal (Encode method) g fault.Memory limits = tt
+limits_of_refusal (Encode method) g (fault.Length needed took) limits = limits
+limits_of_refusal (Encode method) g fault.Input limits = limits
+limits_of_refusal (Encode method) g fault.Output limits = limits
+limits_of_refusal Restore g fault.Memory limits = tt
+limits_of_refusal Restore g (fault.Length needed took) limits = limits
+limits_of_refusal Restore g fault.Input limits = limits
+limits_of_refusal Restore g fault.Output limits = limits
 
 -- an input that was refused for its length has another one
 other_length : (bytes : ℕ) (told left : Option (List ℕ)) (ended : Bool) (needed took : ℕ) (taken : List ℕ) → needed ≡ bytes
@@ -72,21 +81,18 @@ other_length bytes (Some xs) (Some ys) false needed took taken needs is gives en
     let all : length xs ≡ length taken + length ys = ap length gives ∙ length-append taken ys in
     record { other = λ same. omega (arith, all, ends, needs, is, same); needs = needs; takes = omega (arith, all, ends, needs, is) }
 
--- a refusal of the input has its cause
-pub cause_of_refusal : (command : Command) (g : Geometry) (told left held : Option (List ℕ)) (ended : Bool) (rose : Type 0) (refusal : Refusal)
-    → IsWithinLimits g → RefusesInput (intake_of (bytes_needed command g)) told left ended rose refusal
-    → IfSome told (λ input. HasCause command g input held held (status_of refusal))
-cause_of_refusal command g told left held ended rose (OtherLength needed took) limits why =
-    IfSome_then told (other_length (bytes_needed command g) told left ended needed took why.1.0 why.0 why.1.1 why.1.2 why.1.3)
-    (λ input other. ([], (limits, other, refl), Appends-nil held))
-cause_of_refusal command g told left held ended rose Fault limits why = if_told told _ (λ input. limits)
-
 -- the first equation that a stripe breaks
 pub cause_of_broken : (g : Geometry) (told held : Option (List ℕ)) (stripe : Stripe) (b : Broken) → IsWithinLimits g → IfSome told (HasBytes g stripe)
     → IsFirstBroken g stripe (equation_of b) → IfSome told (λ input. HasCause Check g input held held (NotCodeword b))
 cause_of_broken g told held stripe b limits taken broken =
     IfSome_then told taken (λ input has.
     ([], record { limits = limits; whole = has.count; judged = (stripe, has, (broken, refl)) }, Appends-nil held))
+
+-- a codeword is judged to be one
+pub judged_of_codeword : (g : Geometry) (told : Option (List ℕ)) (stripe : Stripe) → IsWithinLimits g → IfSome told (HasBytes g stripe)
+    → IsCodeword g stripe → IfSome told (λ input. IsJudged Check g input Done codeword_line)
+judged_of_codeword g told stripe limits taken codeword =
+    IfSome_then told taken (λ input has. record { limits = limits; whole = has.count; judged = (stripe, has, (codeword, refl)) })
 
 -- a map and cells are all that was told
 pub TookErased-all : (g : Geometry) (told : Option (List ℕ)) (erased : CellSet) (stripe : Stripe) (map : List ℕ) → length map ≡ map_bytes g
@@ -181,18 +187,6 @@ judged_of_blocks method g told before after limits took encoded =
       judged = (has.0, has.1, (after, IsEncodingOf-held g has.0 before after limits has.2 encoded, refl));
     })
 
--- where all was put out
-pub cause_of_done : (command : Command) (g : Geometry) (told held held' : Option (List ℕ)) (output : List ℕ)
-    → IfSome told (λ input. IsJudged command g input Done output)
-    → Appends held held' output → IfSome told (λ input. HasCause command g input held held' Done)
-cause_of_done command g told held held' output judged puts = IfSome_then told judged (λ input is. (output, is, puts))
-
--- where the sink failed
-pub cause_of_output_fault : (command : Command) (g : Geometry) (told held held' : Option (List ℕ)) (output : List ℕ)
-    → IfSome told (λ input. IsJudged command g input Done output)
-    → PutsPart held held' output → IfSome told (λ input. HasCause command g input held held' OutputFault)
-cause_of_output_fault command g told held held' output judged puts = IfSome_then told judged (λ input is. (output, is, puts))
-
 -- a refusal of what was judged
 pub cause_of_judged : (g : Geometry) (told held : Option (List ℕ)) (status : Status) → IfSome told (λ input. IsJudged Restore g input status [])
     → ((input : List ℕ) → IsJudged Restore g input status [] → IsAnswer Restore g input status [])
@@ -232,9 +226,99 @@ pub at_ok : {T E P : Type 0} (r : Result T E) → IsOk r → IfOk r (λ _. P) �
 at_ok (Ok x) ok fact = fact
 at_ok (Err y) ok fact = cc
 
--- what was taken when the input was refused
-pub taken_of_refusal : (command : Command) (g : Geometry) (left left' : Option (List ℕ)) (ended : Bool) (rose : Type 0) (refusal : Refusal)
-    → RefusesInput (intake_of (bytes_needed command g)) left left' ended rose refusal → TakesInput command g left left' (status_of refusal)
-taken_of_refusal command g left left' ended rose (OtherLength needed took) why =
-    (why.1.0, omega (arith, why.1.1), why.1.2)
-taken_of_refusal command g left left' ended rose Fault why = (why.1.0, omega (arith, why.1.1), why.1.2)
+-- whether the source ended tells which length it had
+looks : (ended : Bool) (needed took : ℕ) (P : Type 0) → MatchBool ended ((took < needed) × P) (took ≡ needed + 1)
+    → MatchBool ended (took < needed) (took ≡ needed + 1)
+looks true needed took P ends = ends.0
+looks false needed took P ends = ends
+
+-- a refusal of the input, before anything was put out
+pub Does-refused : {S K : Type 0} (left : S → Option (List ℕ)) (ended : S → Bool) (faults : S → ℕ) (held : K → Option (List ℕ)) (put_faults : K → ℕ)
+    (command : Command) (g : Geometry) (source source' : S) (sink : K) (fault : Fault) → IsWithinLimits g
+    → RefusesInput (intake_of (bytes_needed command g)) (left source) (left source') (ended source') (Rose (faults source) (faults source')) fault
+    → faults source ≤ faults source' → Does left ended faults held put_faults command g source source' sink sink (status_of_fault fault)
+Does-refused left ended faults held put_faults command g source source' sink fault.Memory limits why count = absurd why
+Does-refused left ended faults held put_faults command g source source' sink fault.Output limits why count = absurd why
+Does-refused left ended faults held put_faults command g source source' sink (fault.Length needed took) limits why count = record {
+  limits = limits_of_refusal command g (fault.Length needed took) limits;
+  cause =
+      IfSome_then (left source)
+      (other_length (bytes_needed command g) (left source) (left source') (ended source') needed took why.1.0 why.0 why.1.1 why.1.2 why.1.3)
+      (λ input other. ([], (limits, other, refl), Appends-nil (held sink)));
+  input_fault = λ is. cc;
+  output_fault = λ is. cc;
+  taken = (why.1.0, omega (arith, why.1.1), why.1.2);
+  looked = (why.0, looks (ended source') needed took _ why.1.3);
+  input_count = count;
+  output = Keeps-refl _;
+  untouched = refl;
+  refused = tt;
+  output_count = le_refl _;
+}
+Does-refused left ended faults held put_faults command g source source' sink fault.Input limits why count = record {
+  limits = limits_of_refusal command g fault.Input limits;
+  cause = if_told (left source) _ (λ input. limits);
+  input_fault = λ is. why.0;
+  output_fault = λ is. cc;
+  taken = (why.1.0, omega (arith, why.1.1), why.1.2);
+  looked = tt;
+  input_count = count;
+  output = Keeps-refl _;
+  untouched = refl;
+  refused = tt;
+  output_count = le_refl _;
+}
+
+-- what holds of the geometry that was tested, at the status of a fault, holds where the fault is handed on
+pub Does-handed_on : {S K : Type 0} (left : S → Option (List ℕ)) (ended : S → Bool) (faults : S → ℕ) (held : K → Option (List ℕ)) (put_faults : K → ℕ)
+    (command : Command) (g tested : Geometry) (source source' : S) (sink sink' : K) (result : Result Status Fault) (handed fault : Fault)
+    → tested ≡ g → IsErrAnd result (λ e. e ≡ handed) → handed ≡ fault
+    → Does left ended faults held put_faults command tested source source' sink sink' (status_of_fault fault)
+    → Does left ended faults held put_faults command g source source' sink sink' (status_of result)
+Does-handed_on left ended faults held put_faults command g tested source source' sink sink' (Ok status) handed fault same is one does = absurd is
+Does-handed_on left ended faults held put_faults command g tested source source' sink sink' (Err e) handed fault same is one does =
+    subst (λ (of : Geometry). Does left ended faults held put_faults command of source source' sink sink' (status_of_fault e)) same
+    (subst (λ (k : Fault). Does left ended faults held put_faults command tested source source' sink sink' (status_of_fault k)) (sym (is ∙ one)) does)
+
+-- the output was put out
+pub Does-done : {S K : Type 0} (left : S → Option (List ℕ)) (ended : S → Bool) (faults : S → ℕ) (held : K → Option (List ℕ)) (put_faults : K → ℕ)
+    (command : Command) (g : Geometry) (source source' : S) (sink sink' : K) (output : List ℕ) → IsWithinLimits g
+    → IfSome (left source) (λ input. IsJudged command g input Done output) → IsOutput command g output
+    → TakesCount (left source) (left source') (bytes_needed command g) → (ended source ≡ false) × (ended source' ≡ true)
+    → faults source ≤ faults source' → put_faults sink ≤ put_faults sink' → Appends (held sink) (held sink') output
+    → Does left ended faults held put_faults command g source source' sink sink' Done
+Does-done left ended faults held put_faults command g source source' sink sink' output limits judged is taken looked count put_count puts = record {
+  limits = limits;
+  cause = IfSome_then (left source) judged (λ input fact. (output, fact, puts));
+  input_fault = λ is. cc;
+  output_fault = λ is. cc;
+  taken = taken;
+  looked = looked;
+  input_count = count;
+  output = (output, is, puts);
+  untouched = tt;
+  refused = tt;
+  output_count = put_count;
+}
+
+-- the sink failed
+pub Does-failed : {S K : Type 0} (left : S → Option (List ℕ)) (ended : S → Bool) (faults : S → ℕ) (held : K → Option (List ℕ)) (put_faults : K → ℕ)
+    (command : Command) (g : Geometry) (source source' : S) (sink sink' : K) (output : List ℕ) → IsWithinLimits g
+    → IfSome (left source) (λ input. IsJudged command g input Done output) → IsOutput command g output
+    → TakesCount (left source) (left source') (bytes_needed command g) → (ended source ≡ false) × (ended source' ≡ true)
+    → faults source ≤ faults source' → put_faults sink ≤ put_faults sink' → PutsPart (held sink) (held sink') output
+    → Rose (put_faults sink) (put_faults sink')
+    → Does left ended faults held put_faults command g source source' sink sink' OutputFault
+Does-failed left ended faults held put_faults command g source source' sink sink' output limits judged is taken looked count put_count puts rose = record {
+  limits = limits;
+  cause = IfSome_then (left source) judged (λ input fact. (output, fact, puts));
+  input_fault = λ is. cc;
+  output_fault = λ is. rose;
+  taken = taken;
+  looked = looked;
+  input_count = count;
+  output = (output, is, puts);
+  untouched = tt;
+  refused = tt;
+  output_count = put_count;
+}

@@ -5,8 +5,8 @@ use Rattle.std.specs.Result.{IsErrAnd}
 use Rattle.std.specs.Io.KnownBytes.{Consumes, IsAtEnd, Keeps}
 use Rattle.std.proofs.KnownBytes.{Consumes-kept, Consumes-nil, Consumes-trans}
 use Rattle.stair_engine.specs.declared.intake.Intake.{Intake}
-use Rattle.stair_engine.specs.declared.intake.Refusal.{Refusal}
-use Rattle.stair_engine.specs.declared.intake.Refusal.TheVariants.{OtherLength, Fault}
+use Rattle.stair_engine.specs.declared.fault.Fault.{Fault}
+use Rattle.stair_engine.specs.declared.fault.Fault.TheVariants as fault
 use Rattle.stair_engine.specs.Cause.{TakesCount}
 use Rattle.stair_engine.specs.Streams.{PutsAll, PutsPart}
 use Rattle.stair_engine.specs.Taking.{RefusesInput, TakesBytes, intake_of}
@@ -64,9 +64,9 @@ ended-later a b true took needed xs ys gives ends = (ends.0, all-later a b xs ys
 ended-later a b false took needed xs ys gives ends = ends
 
 -- a refusal after these bytes is one of the whole
-pub RefusesInput-later : (first mid : Intake) (a b c : Option (List ℕ)) (ended : Bool) (rose rose' : Type 0) (xs : List ℕ) (refusal : Refusal)
+pub RefusesInput-later : (first mid : Intake) (a b c : Option (List ℕ)) (ended : Bool) (rose rose' : Type 0) (xs : List ℕ) (refusal : Fault)
     → TakesBytes first mid a b xs → (rose → rose') → RefusesInput mid b c ended rose refusal → RefusesInput first a c ended rose' refusal
-RefusesInput-later first mid a b c ended rose rose' xs (OtherLength needed took) before rises refuses =
+RefusesInput-later first mid a b c ended rose rose' xs (fault.Length needed took) before rises refuses =
     let ys = refuses.1.0 in
     let mid_took : mid.took ≡ first.took + length xs = ap (λ (k : Intake). k.took) before.counted in
     let took_is : took ≡ first.took + length (xs ++ ys) = omega (arith, refuses.1.1, mid_took, length-append xs ys) in
@@ -79,7 +79,9 @@ RefusesInput-later first mid a b c ended rose rose' xs (OtherLength needed took)
         ended-later a b ended took needed xs ys before.consumed refuses.1.3,
       ),
     )
-RefusesInput-later first mid a b c ended rose rose' xs Fault before rises refuses =
+RefusesInput-later first mid a b c ended rose rose' xs fault.Memory before rises refuses = absurd refuses
+RefusesInput-later first mid a b c ended rose rose' xs fault.Output before rises refuses = absurd refuses
+RefusesInput-later first mid a b c ended rose rose' xs fault.Input before rises refuses =
     let ys = refuses.1.0 in
     let mid_took : mid.took ≡ first.took + length xs = ap (λ (k : Intake). k.took) before.counted in
     let mid_needed : mid.needed ≡ first.needed = ap (λ (k : Intake). k.needed) before.counted in

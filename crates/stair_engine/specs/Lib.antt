@@ -6,6 +6,6 @@ pub mod Restore
 pub mod Encode
 pub mod Answer
 pub mod Cause
-pub mod Does
 pub mod Taking
+pub mod Does
 pub mod Laws

@@ -5,20 +5,22 @@ use Rattle.std.specs.Io.KnownBytes.{Consumes}
 use Rattle.stair_model.specs.CellSet.{CellSet, IsInStripe}
 use Rattle.stair_model.specs.Geometry.{Geometry, data_cells}
 use Rattle.stair_model.specs.Stripe.{Stripe, IsSector}
+use Rattle.stair_engine.specs.declared.fault.Fault.{Fault}
+use Rattle.stair_engine.specs.declared.fault.Fault.TheVariants as fault
 use Rattle.stair_engine.specs.declared.intake.Intake.{Intake}
-use Rattle.stair_engine.specs.declared.intake.Refusal.{Refusal}
-use Rattle.stair_engine.specs.declared.intake.Refusal.TheVariants.{OtherLength, Fault}
 use Rattle.stair_engine.specs.declared.status.Status.{Status}
-use Rattle.stair_engine.specs.declared.status.Status.TheVariants.{Input, InputFault}
+use Rattle.stair_engine.specs.declared.status.Status.TheVariants.{Input, InputFault, OutputFault, OutOfMemory}
 use Rattle.stair_engine.specs.Task.Command.{Restore}
 use Rattle.stair_engine.specs.Answer.{HasBytes, bytes_needed, map_bytes}
 use Rattle.stair_engine.specs.Encode.{HoldsBlocks}
 use Rattle.stair_engine.specs.Restore.{IsErasedBy}
 
--- the status of a refusal
-abbrev pub status_of : Refusal → Status
-status_of (OtherLength needed took) = Input needed took
-status_of Fault = InputFault
+-- the status after a fault
+abbrev pub status_of_fault : Fault → Status
+status_of_fault fault.Memory = OutOfMemory
+status_of_fault (fault.Length needed took) = Input needed took
+status_of_fault fault.Input = InputFault
+status_of_fault fault.Output = OutputFault
 
 -- the intake before anything was taken
 abbrev pub intake_of : ℕ → Intake
@@ -48,13 +50,14 @@ TakesBlocks g old new left left' stripe = TakesBlocksTo g (data_cells g) old new
 
 -- Why not exactly the bytes that are needed came, of which the intake had counted some before: the source ended before all
 -- had come, or had one more behind them, or failed.
-abbrev pub RefusesInput : Intake → Option (List ℕ) → Option (List ℕ) → Bool → Type 0 → Refusal → Type 0
-RefusesInput intake left left' ended rose (OtherLength needed took) =
+abbrev pub RefusesInput : Intake → Option (List ℕ) → Option (List ℕ) → Bool → Type 0 → Fault → Type 0
+RefusesInput intake left left' ended rose (fault.Length needed took) =
     (needed ≡ intake.needed)
     × ((taken : List ℕ) × (took ≡ intake.took + length taken) × Consumes left left' taken
     × MatchBool ended ((took < needed) × IfSome left (λ all. taken ≡ all)) (took ≡ needed + 1))
-RefusesInput intake left left' ended rose Fault =
+RefusesInput intake left left' ended rose fault.Input =
     rose × ((taken : List ℕ) × (intake.took + length taken ≤ intake.needed) × Consumes left left' taken)
+RefusesInput intake left left' ended rose _ = ⊥
 
 -- the erased cells, which are cells of the stripe, and the cells of the stripe are all that the source told
 pub record TookErased (g : Geometry) (told : Option (List ℕ)) (erased : CellSet) (stripe : Stripe) : Type 0 where

@@ -5,7 +5,8 @@ ghost use Rattle.stair_engine.specs.Answer.{block_bytes as block_bytes_of};
 ghost use Rattle.stair_engine.specs.Taking.{RefusesInput, TakesBlocks};
 ghost use Rattle.stair_rack.specs.Count.{Rose};
 
-use crate::intake::{Intake, Refusal};
+use crate::fault::Fault;
+use crate::intake::Intake;
 use stair_base::{Geometry, SECTOR, Stripe};
 use stair_rack::Source;
 
@@ -23,7 +24,7 @@ pub(crate) fn take_blocks<S: Source>(
     stripe: &mut Stripe,
     intake: &mut Intake,
     input: &mut S,
-) -> Result<(), Refusal>
+) -> Result<(), Fault>
     requires of { IsStripeOf geometry.now stripe.old }
     requires well_formed { IsWellFormed stripe.old }
     requires room { intake.old.took + block_bytes_of geometry.now ≤ intake.old.needed }

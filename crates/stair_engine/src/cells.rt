@@ -1,4 +1,4 @@
-ghost use Rattle.std.specs.Prelude.{◌≡◌, ◌+◌, ◌≤◌, OnOk, OnErr, IfErr, false};
+ghost use Rattle.std.specs.Prelude.{◌≡◌, ◌+◌, ◌≤◌, OnOk, IfErr, false};
 ghost use Rattle.std.specs.List.{concat};
 ghost use Rattle.stair_model.specs.Geometry.{IsWithinLimits};
 ghost use Rattle.stair_model.specs.Stripe.{IsStripeOf, IsWellFormed};
@@ -7,8 +7,9 @@ ghost use Rattle.stair_engine.specs.Streams.{PutsAll};
 ghost use Rattle.stair_engine.specs.Taking.{RefusesInput, TakesBytes};
 ghost use Rattle.stair_rack.specs.Count.{Rose};
 
-use crate::intake::{Intake, Refusal};
-use crate::streams::{SinkFailed, put_all};
+use crate::fault::Fault;
+use crate::intake::Intake;
+use crate::streams::put_all;
 use stair_base::{Geometry, SECTOR, Stripe};
 use stair_rack::{Sink, Source};
 
@@ -26,7 +27,7 @@ pub(crate) fn take_stripe<S: Source>(
     stripe: &mut Stripe,
     intake: &mut Intake,
     input: &mut S,
-) -> Result<(), Refusal>
+) -> Result<(), Fault>
     requires of { IsStripeOf geometry.now stripe.old }
     requires well_formed { IsWellFormed stripe.old }
     requires room { intake.old.took + cell_bytes_of geometry.now ≤ intake.old.needed }
@@ -53,12 +54,12 @@ pub(crate) fn put_stripe<K: Sink>(
     geometry: &Geometry,
     stripe: &Stripe,
     output: &mut K,
-) -> Result<(), SinkFailed>
+) -> Result<(), Fault>
     requires of { IsStripeOf geometry.now stripe.now }
     requires well_formed { IsWellFormed stripe.now }
     ensures bytes { PutsAll (K.held output.old) (K.held output.new) result (concat stripe.now.cells) }
     ensures count { K.faults output.old ≤ K.faults output.new }
-    ensures failed { OnErr result (Rose (K.faults output.old) (K.faults output.new)) }
+    ensures failed { IfErr result (λ fault. (fault ≡ Fault.Output) × Rose (K.faults output.old) (K.faults output.new)) }
 {
     for row in 0..geometry.r() {
         for slot in 0..geometry.n() {

@@ -3,15 +3,16 @@ ghost use Rattle.stair_model.specs.Geometry.{IsWithinLimits};
 ghost use Rattle.stair_model.specs.Stripe.{IsStripeOf, IsWellFormed};
 ghost use Rattle.stair_engine.specs.Answer.{HasBytes, bytes_needed};
 ghost use Rattle.stair_engine.specs.Cause.{TakesCount};
-ghost use Rattle.stair_engine.specs.Does.{Does};
+ghost use Rattle.stair_engine.specs.Does.{Does, status_of};
 ghost use Rattle.stair_engine.specs.Task.Command.{Check};
 ghost use Rattle.stair_engine.specs.Taking.{RefusesInput, intake_of};
 ghost use Rattle.stair_rack.specs.Count.{Rose};
 
 use crate::cells::{cell_bytes, take_stripe};
-use crate::intake::{Intake, Refusal};
+use crate::fault::Fault;
+use crate::intake::Intake;
 use crate::status::Status;
-use crate::streams::{SinkFailed, put_all};
+use crate::streams::put_all;
 use stair_base::{Geometry, Stripe, first_broken};
 use stair_rack::{Sink, Source};
 use std::alloc::Global;
@@ -22,24 +23,17 @@ pub(crate) fn check<S: Source, K: Sink>(
     geometry: &Geometry,
     input: &mut S,
     output: &mut K,
-) -> Status
+) -> Result<Status, Fault>
     ensures { Does S.left S.ended S.faults K.held K.faults Check geometry.now
-        input.old input.new output.old output.new result }
+        input.old input.new output.old output.new (status_of result) }
 {
-    let mut stripe = match Stripe::new(alloc, geometry) {
-        Ok(stripe) => stripe,
-        Err(_) => return Status::OutOfMemory,
-    };
-    if let Err(refusal) = take_input(geometry, &mut stripe, input) {
-        return Status::from(refusal);
-    }
+    let mut stripe = Stripe::new(alloc, geometry)?;
+    take_input(geometry, &mut stripe, input)?;
     if let Some(broken) = first_broken(geometry, &stripe) {
-        return Status::NotCodeword(broken);
+        return Ok(Status::NotCodeword(broken));
     }
-    match put_all(output, b"codeword\n") {
-        Ok(()) => Status::Done,
-        Err(SinkFailed) => Status::OutputFault,
-    }
+    put_all(output, b"codeword\n")?;
+    Ok(Status::Done)
 }
 
 /// Takes exactly the cells of a stripe, and looks for the end behind them.
@@ -47,7 +41,7 @@ fn take_input<S: Source>(
     geometry: &Geometry,
     stripe: &mut Stripe,
     input: &mut S,
-) -> Result<(), Refusal>
+) -> Result<(), Fault>
     requires of { IsStripeOf geometry.now stripe.old }
     requires well_formed { IsWellFormed stripe.old }
     ensures limits { IsWithinLimits geometry.now }

@@ -3,7 +3,7 @@ ghost use Rattle.stair_model.specs.Geometry.{IsWithinLimits};
 ghost use Rattle.stair_model.specs.Stripe.{IsStripeOf, IsWellFormed};
 ghost use Rattle.stair_engine.specs.Answer.{block_bytes as block_bytes_of};
 ghost use Rattle.stair_engine.specs.Cause.{TakesCount};
-ghost use Rattle.stair_engine.specs.Does.{Does};
+ghost use Rattle.stair_engine.specs.Does.{Does, status_of};
 ghost use Rattle.stair_engine.specs.Encode.{CountsSteps, IsCostOfMethod, TookBlocks};
 ghost use Rattle.stair_engine.specs.Task.Command.{Encode};
 ghost use Rattle.stair_engine.specs.Taking.{RefusesInput, intake_of};
@@ -11,9 +11,9 @@ ghost use Rattle.stair_rack.specs.Count.{Rose};
 
 use crate::blocks::{block_bytes, take_blocks};
 use crate::cells::put_stripe;
-use crate::intake::{Intake, Refusal};
+use crate::fault::Fault;
+use crate::intake::Intake;
 use crate::status::Status;
-use crate::streams::SinkFailed;
 use crate::task::by_of;
 use stair_base::{Geometry, Stripe, StripeCode};
 use stair_codec::Codec;
@@ -31,56 +31,37 @@ pub(crate) fn encode<S: Source, K: Sink, L: Ledger>(
     input: &mut S,
     output: &mut K,
     steps: &mut Steps<L>,
-) -> Status
+) -> Result<Status, Fault>
     ensures does { Does S.left S.ended S.faults K.held K.faults (Encode method) geometry.now
-        input.old input.new output.old output.new result }
-    ensures steps { CountsSteps (Encode method) geometry.now result steps.old steps.new }
+        input.old input.new output.old output.new (status_of result) }
+    ensures steps { CountsSteps (Encode method) geometry.now (status_of result) steps.old steps.new }
 {
-    let mut stripe = match Stripe::new(alloc, geometry) {
-        Ok(stripe) => stripe,
-        Err(_) => return Status::OutOfMemory,
-    };
-    let mut codec = match Codec::new(alloc, geometry, by_of(method)) {
-        Ok(codec) => codec,
-        Err(_) => return Status::OutOfMemory,
-    };
-    encode_by(
-        &mut codec,
-        method,
-        geometry,
-        &mut stripe,
-        input,
-        output,
-        steps,
-    )
+    let mut stripe = Stripe::new(alloc, geometry)?;
+    let mut codec = Codec::new(alloc, geometry, by_of(method))?;
+    encode_by(&mut codec, method, &mut stripe, input, output, steps)
 }
 
-/// Takes the blocks of a stripe into a stripe of this geometry, encodes it by this code, and puts out its cells.
+/// Takes the blocks of a stripe into a stripe of the code's geometry, encodes it by this code, and puts out its cells.
 fn encode_by<C: StripeCode, S: Source, K: Sink, L: Ledger>(
     code: &mut C,
     method: Method,
-    geometry: &Geometry,
     stripe: &mut Stripe,
     input: &mut S,
     output: &mut K,
     steps: &mut Steps<L>,
-) -> Status
-    requires shape { C.shape code.old ≡ geometry.now }
-    requires cost { IsCostOfMethod method geometry.now (C.cost code.old) }
-    requires of { IsStripeOf geometry.now stripe.old }
+) -> Result<Status, Fault>
+    requires cost { IsCostOfMethod method (C.shape code.old) (C.cost code.old) }
+    requires of { IsStripeOf (C.shape code.old) stripe.old }
     requires well_formed { IsWellFormed stripe.old }
-    ensures does { Does S.left S.ended S.faults K.held K.faults (Encode method) geometry.now
-        input.old input.new output.old output.new result }
-    ensures steps { CountsSteps (Encode method) geometry.now result steps.old steps.new }
+    ensures does { Does S.left S.ended S.faults K.held K.faults (Encode method) (C.shape code.old)
+        input.old input.new output.old output.new (status_of result) }
+    ensures steps { CountsSteps (Encode method) (C.shape code.old) (status_of result) steps.old steps.new }
 {
-    if let Err(refusal) = take_input(geometry, stripe, input) {
-        return Status::from(refusal);
-    }
+    let geometry = code.geometry();
+    take_input(&geometry, stripe, input)?;
     code.encode(stripe, steps);
-    match put_stripe(geometry, stripe, output) {
-        Ok(()) => Status::Done,
-        Err(SinkFailed) => Status::OutputFault,
-    }
+    put_stripe(&geometry, stripe, output)?;
+    Ok(Status::Done)
 }
 
 /// Takes exactly the blocks of a stripe, and looks for the end behind them.
@@ -88,7 +69,7 @@ fn take_input<S: Source>(
     geometry: &Geometry,
     stripe: &mut Stripe,
     input: &mut S,
-) -> Result<(), Refusal>
+) -> Result<(), Fault>
     requires of { IsStripeOf geometry.now stripe.old }
     requires well_formed { IsWellFormed stripe.old }
     ensures limits { IsWithinLimits geometry.now }

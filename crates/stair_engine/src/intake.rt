@@ -3,17 +3,9 @@ ghost use Rattle.std.specs.Io.KnownBytes.{IsAtEnd, Keeps};
 ghost use Rattle.stair_engine.specs.Taking.{RefusesInput, TakesBytes, intake_of};
 ghost use Rattle.stair_rack.specs.Count.{Rose};
 
+use crate::fault::Fault;
 use crate::streams::{Filled, fill};
 use stair_rack::{Source, Taken};
-
-/// Why an input was refused.
-#[derive(Clone, Copy, Debug, PartialEq, Eq)]
-pub(crate) enum Refusal {
-    /// It had another length, in bytes, than the command needs.
-    OtherLength { needed: u64, took: u64 },
-    /// The source failed.
-    Fault,
-}
 
 /// How many bytes a command needs from its source, and how many of them were taken.
 #[derive(Clone, Copy, Debug, PartialEq, Eq)]
@@ -31,7 +23,7 @@ impl Intake {
     }
 
     /// Fills the piece from the source.
-    pub(crate) fn fill<S: Source>(&mut self, input: &mut S, into: &mut [u8]) -> Result<(), Refusal>
+    pub(crate) fn fill<S: Source>(&mut self, input: &mut S, into: &mut [u8]) -> Result<(), Fault>
         requires piece { 0 < length into.old }
         requires room { self.old.took + length into.old ≤ self.old.needed }
         ensures ok { OnOk result (TakesBytes self.old self.new (S.left input.old) (S.left input.new) into.new) }
@@ -45,16 +37,16 @@ impl Intake {
                 self.took += into.len() as u64;
                 Ok(())
             }
-            Filled::Short(count) => Err(Refusal::OtherLength {
+            Filled::Short(count) => Err(Fault::Length {
                 needed: self.needed,
                 took: self.took + count as u64,
             }),
-            Filled::Failed => Err(Refusal::Fault),
+            Filled::Failed => Err(Fault::Input),
         }
     }
 
     /// Looks for the end behind all the bytes that are needed.
-    pub(crate) fn end<S: Source>(&self, input: &mut S) -> Result<(), Refusal>
+    pub(crate) fn end<S: Source>(&self, input: &mut S) -> Result<(), Fault>
         requires all { self.now.took ≡ self.now.needed }
         requires fits { self.now.needed < 2 ^ 63 }
         ensures ok { OnOk result (IsAtEnd (S.left input.old) × Keeps (S.left input.old) (S.left input.new)) }
@@ -65,11 +57,11 @@ impl Intake {
     {
         match input.take(&mut [0]) {
             Taken::End => Ok(()),
-            Taken::Bytes(_) => Err(Refusal::OtherLength {
+            Taken::Bytes(_) => Err(Fault::Length {
                 needed: self.needed,
                 took: self.needed + 1,
             }),
-            Taken::Failed => Err(Refusal::Fault),
+            Taken::Failed => Err(Fault::Input),
         }
     }
 }

@@ -5,6 +5,7 @@ mod blocks;
 mod cells;
 mod check;
 mod encode;
+mod fault;
 mod intake;
 pub mod laws;
 mod map;
@@ -19,13 +20,14 @@ ghost use Rattle.std.specs.Prelude.{◌≡◌, ◌≢◌, ◌≤◌, ◌↔◌, 
 ghost use Rattle.stair_conf.specs.Words.{IsSpelled, Spells};
 ghost use Rattle.stair_conf.specs.declared.job.Job.{Job};
 ghost use Rattle.stair_engine.specs.Cause.{Answers, HasCause, IfNothingIsPutOut, IfRefusedAtOnce, LimitsComeFirst, LooksForEnd, PutsOut, TakesInput};
-ghost use Rattle.stair_engine.specs.Does.{Does};
+ghost use Rattle.stair_engine.specs.Does.{Does, status_of};
 ghost use Rattle.stair_engine.specs.Encode.{CountsSteps};
 ghost use Rattle.stair_engine.specs.Task.{command_of, one_stripe};
 ghost use Rattle.stair_rack.specs.Count.{Rose};
 
 use check::check;
 use encode::encode;
+use fault::Fault;
 use restore::restore;
 use stair_base::Geometry;
 use stair_conf::{Job, WordsFault, read_words};
@@ -118,7 +120,9 @@ fn work<S: Source, K: Sink, L: Ledger>(
     ensures steps { CountsSteps (command_of job) (one_stripe job) result steps.old steps.new }
 {
     match geometry_of(&job) {
-        Ok(geometry) => run(alloc, &job, &geometry, input, output, steps),
+        Ok(geometry) => run(alloc, &job, &geometry, input, output, steps).unwrap_or_else(
+            Status::from,
+        ),
         Err(fault) => Status::Limit(fault.limit),
     }
 }
@@ -131,10 +135,10 @@ fn run<S: Source, K: Sink, L: Ledger>(
     input: &mut S,
     output: &mut K,
     steps: &mut Steps<L>,
-) -> Status
+) -> Result<Status, Fault>
     ensures does { Does S.left S.ended S.faults K.held K.faults (command_of job.now) geometry.now
-        input.old input.new output.old output.new result }
-    ensures steps { CountsSteps (command_of job.now) geometry.now result steps.old steps.new }
+        input.old input.new output.old output.new (status_of result) }
+    ensures steps { CountsSteps (command_of job.now) geometry.now (status_of result) steps.old steps.new }
 {
     match job {
         Job::Check { .. } => check(alloc, geometry, input, output),

@@ -4,7 +4,8 @@ ghost use Rattle.stair_engine.specs.Answer.{map_bytes};
 ghost use Rattle.stair_engine.specs.Taking.{RefusesInput, TakesMap};
 ghost use Rattle.stair_rack.specs.Count.{Rose};
 
-use crate::intake::{Intake, Refusal};
+use crate::fault::Fault;
+use crate::intake::Intake;
 use stair_base::{CellSet, Geometry};
 use stair_rack::Source;
 
@@ -19,7 +20,7 @@ pub(crate) fn take_map<S: Source>(
     geometry: &Geometry,
     intake: &mut Intake,
     input: &mut S,
-) -> Result<CellSet, Refusal>
+) -> Result<CellSet, Fault>
     requires room { intake.old.took + map_bytes geometry.now ≤ intake.old.needed }
     ensures ok { IfOk result (TakesMap geometry.now intake.old intake.new (S.left input.old) (S.left input.new)) }
     ensures running { OnOk result ((S.ended input.old ≡ false) × (S.ended input.new ≡ false)) }

@@ -3,16 +3,16 @@ ghost use Rattle.stair_model.specs.Geometry.{IsWithinLimits};
 ghost use Rattle.stair_model.specs.Stripe.{IsStripeOf, IsWellFormed};
 ghost use Rattle.stair_engine.specs.Answer.{bytes_needed};
 ghost use Rattle.stair_engine.specs.Cause.{TakesCount};
-ghost use Rattle.stair_engine.specs.Does.{Does};
+ghost use Rattle.stair_engine.specs.Does.{Does, status_of};
 ghost use Rattle.stair_engine.specs.Task.Command.{Restore};
 ghost use Rattle.stair_engine.specs.Taking.{RefusesInput, TookErased, intake_of};
 ghost use Rattle.stair_rack.specs.Count.{Rose};
 
 use crate::cells::{cell_bytes, put_stripe, take_stripe};
-use crate::intake::{Intake, Refusal};
+use crate::fault::Fault;
+use crate::intake::Intake;
 use crate::map::take_map;
 use crate::status::Status;
-use crate::streams::SinkFailed;
 use stair_base::{CellSet, Geometry, Stripe, StripeCode, first_broken};
 use stair_codec::{By, Codec};
 use stair_rack::{Sink, Source};
@@ -24,54 +24,42 @@ pub(crate) fn restore<S: Source, K: Sink>(
     geometry: &Geometry,
     input: &mut S,
     output: &mut K,
-) -> Status
+) -> Result<Status, Fault>
     ensures { Does S.left S.ended S.faults K.held K.faults Restore geometry.now
-        input.old input.new output.old output.new result }
+        input.old input.new output.old output.new (status_of result) }
 {
-    let mut stripe = match Stripe::new(alloc, geometry) {
-        Ok(stripe) => stripe,
-        Err(_) => return Status::OutOfMemory,
-    };
-    let mut codec = match Codec::new(alloc, geometry, By::Upstairs) {
-        Ok(codec) => codec,
-        Err(_) => return Status::OutOfMemory,
-    };
-    restore_by(&mut codec, geometry, &mut stripe, input, output)
+    let mut stripe = Stripe::new(alloc, geometry)?;
+    let mut codec = Codec::new(alloc, geometry, By::Upstairs)?;
+    restore_by(&mut codec, &mut stripe, input, output)
 }
 
-/// Takes a map and the cells of a stripe of this geometry, restores it by this code, and puts out the codeword that has the
-/// cells that are held.
+/// Takes a map and the cells of a stripe of the code's geometry, restores it by this code, and puts out the codeword that has
+/// the cells that are held.
 fn restore_by<C: StripeCode, S: Source, K: Sink>(
     code: &mut C,
-    geometry: &Geometry,
     stripe: &mut Stripe,
     input: &mut S,
     output: &mut K,
-) -> Status
-    requires shape { C.shape code.old ≡ geometry.now }
-    requires of { IsStripeOf geometry.now stripe.old }
+) -> Result<Status, Fault>
+    requires of { IsStripeOf (C.shape code.old) stripe.old }
     requires well_formed { IsWellFormed stripe.old }
-    ensures { Does S.left S.ended S.faults K.held K.faults Restore geometry.now
-        input.old input.new output.old output.new result }
+    ensures { Does S.left S.ended S.faults K.held K.faults Restore (C.shape code.old)
+        input.old input.new output.old output.new (status_of result) }
 {
-    let erased = match take_input(geometry, stripe, input) {
-        Ok(erased) => erased,
-        Err(refusal) => return Status::from(refusal),
-    };
+    let geometry = code.geometry();
+    let erased = take_input(&geometry, stripe, input)?;
     if code.restore(stripe, &erased).is_err() {
-        return Status::Lost {
+        return Ok(Status::Lost {
             stripe: 0,
             counts: erased.counts(),
             n: geometry.n(),
-        };
+        });
     }
-    if first_broken(geometry, stripe).is_some() {
-        return Status::NoCodeword;
+    if first_broken(&geometry, stripe).is_some() {
+        return Ok(Status::NoCodeword);
     }
-    match put_stripe(geometry, stripe, output) {
-        Ok(()) => Status::Done,
-        Err(SinkFailed) => Status::OutputFault,
-    }
+    put_stripe(&geometry, stripe, output)?;
+    Ok(Status::Done)
 }
 
 /// Takes exactly a map and the cells of a stripe, looks for the end behind them, and gives the cells that are erased.
@@ -79,7 +67,7 @@ fn take_input<S: Source>(
     geometry: &Geometry,
     stripe: &mut Stripe,
     input: &mut S,
-) -> Result<CellSet, Refusal>
+) -> Result<CellSet, Fault>
     requires of { IsStripeOf geometry.now stripe.old }
     requires well_formed { IsWellFormed stripe.old }
     ensures limits { IsWithinLimits geometry.now }

@@ -1,6 +1,6 @@
 ghost use Rattle.std.specs.Prelude.{◌≡◌, Some};
 
-use crate::intake::Refusal;
+use crate::fault::Fault;
 use stair_base::Broken;
 use std::fmt;
 
@@ -37,15 +37,17 @@ pub enum Status {
     OutOfMemory,
 }
 
-impl From<Refusal> for Status {
-    ghost use Rattle.stair_engine.specs.Taking.{status_of};
+impl From<Fault> for Status {
+    ghost use Rattle.stair_engine.specs.Taking.{status_of_fault};
 
-    ghost from_gives = { λ refusal status. status ≡ status_of refusal };
+    ghost from_gives = { λ fault status. status ≡ status_of_fault fault };
 
-    fn from(refusal: Refusal) -> Status {
-        match refusal {
-            Refusal::OtherLength { needed, took } => Status::Input { needed, took },
-            Refusal::Fault => Status::InputFault,
+    fn from(fault: Fault) -> Status {
+        match fault {
+            Fault::Memory => Status::OutOfMemory,
+            Fault::Length { needed, took } => Status::Input { needed, took },
+            Fault::Input => Status::InputFault,
+            Fault::Output => Status::OutputFault,
         }
     }
 }

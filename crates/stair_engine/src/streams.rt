@@ -1,7 +1,8 @@
-ghost use Rattle.std.specs.Prelude.{◌≡◌, ◌<◌, ◌≤◌, ◌↔◌, IsTrue, OnErr, length, true};
+ghost use Rattle.std.specs.Prelude.{◌≡◌, ◌<◌, ◌≤◌, ◌↔◌, IsTrue, IfErr, length, true};
 ghost use Rattle.stair_engine.specs.Streams.{FillConsumes, PutsAll, is_short};
 ghost use Rattle.stair_rack.specs.Count.{Rose};
 
+use crate::fault::Fault;
 use stair_rack::{Put, Sink, Source, Taken};
 
 /// What came of filling a piece from a source.
@@ -12,10 +13,6 @@ pub(crate) enum Filled {
     Short(usize),
     Failed,
 }
-
-/// The sink failed.
-#[derive(Clone, Copy, Debug, PartialEq, Eq)]
-pub(crate) struct SinkFailed;
 
 /// Fills the piece from the source.
 pub(crate) fn fill<S: Source>(input: &mut S, into: &mut [u8]) -> Filled
@@ -38,16 +35,16 @@ pub(crate) fn fill<S: Source>(input: &mut S, into: &mut [u8]) -> Filled
 }
 
 /// Puts all of the bytes into the sink.
-pub(crate) fn put_all<K: Sink>(output: &mut K, bytes: &[u8]) -> Result<(), SinkFailed>
+pub(crate) fn put_all<K: Sink>(output: &mut K, bytes: &[u8]) -> Result<(), Fault>
     ensures bytes { PutsAll (K.held output.old) (K.held output.new) result bytes.now }
     ensures count { K.faults output.old ≤ K.faults output.new }
-    ensures failed { OnErr result (Rose (K.faults output.old) (K.faults output.new)) }
+    ensures failed { IfErr result (λ fault. (fault ≡ Fault.Output) × Rose (K.faults output.old) (K.faults output.new)) }
 {
     let mut put = 0;
     while put < bytes.len() {
         match output.put(&bytes[put..]) {
             Put::Bytes(count) => put += count,
-            Put::Failed => return Err(SinkFailed),
+            Put::Failed => return Err(Fault::Output),
         }
     }
     Ok(())
