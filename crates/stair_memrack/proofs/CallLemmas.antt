@@ -5,8 +5,7 @@ use Rattle.std.proofs.lemmas.Bool.{cases_eq, cases_Bool, ltb-false, ltb-true, an
 use Rattle.stair_rack.specs.Sector.{content}
 use Rattle.stair_rack.specs.Media.{has_sector}
 use Rattle.stair_rack.specs.History.{SlotCall, SlotState, Event, Called, after_call, slot_state, stopped}
-use Rattle.stair_rack.specs.History as slot
-use Rattle.stair_rack.specs.Answers.{is_ready, is_good, is_readable, reply_if, attach_answer, read_answer, write_answer, sync_answer}
+use Rattle.stair_rack.specs.Answers.{IsAnswered, is_ready, is_good, is_readable, reply_if, attach_answer, read_answer, write_answer, sync_answer}
 use Rattle.stair_rack.specs.declared.rack.Reply.{Reply}
 use Rattle.stair_rack.specs.declared.rack.Reply.TheVariants as reply
 use Rattle.stair_rack.specs.declared.rack.Got.{Got}
@@ -14,7 +13,12 @@ use Rattle.stair_rack.specs.declared.rack.Got.TheVariants as got
 use Rattle.stair_rack.proofs.StepLemmas.{slot_after_call, slot_after_call_elsewhere}
 use Rattle.stair_memrack.specs.declared.disk.StoredSector.{StoredSector}
 use Rattle.stair_memrack.specs.Disk.{cell_of, stored_in}
-use Rattle.stair_memrack.specs.Place.{PlaceState, size_of, is_open, attach_reply, attached_as, read_got, write_reply, written_as, sync_reply, synced_as}
+use Rattle.stair_memrack.specs.Place.{PlaceState, size_of, is_open, attach_reply, read_got, write_reply, sync_reply, answer_of, answered_as}
+use Rattle.stair_memrack.specs.declared.record.Ask.{Ask}
+use Rattle.stair_memrack.specs.declared.record.Ask.TheVariants as ask
+use Rattle.stair_memrack.specs.declared.record.Call.{Call}
+use Rattle.stair_memrack.specs.declared.record.Call.TheVariants as call
+use Rattle.stair_memrack.specs.Record.{slot_call}
 use Rattle.stair_memrack.specs.Shelf.{IsPlaceOf, IsShelfOf, place_at, HasRoom}
 use Rattle.stair_memrack.proofs.PlaceLemmas.{is_full, has_sector-stored, stored_past, IsPlaceOf-attached, IsPlaceOf-written, IsPlaceOf-synced}
 use Rattle.stair_memrack.proofs.ShelfLemmas.{place-set_same, place-set_other, IsShelfOf-set}
@@ -25,22 +29,6 @@ IsShelfOf-called : (places : List PlaceState) (stop : Bool) (h : List Event) (j 
 IsShelfOf-called places stop h j p c within is here =
     IsShelfOf-set places stop h (Called j c ∷ h) j p within is refl (subst (IsPlaceOf p) (sym (slot_after_call h j c)) here)
     (λ i other. slot_after_call_elsewhere h j i c (λ same. other (sym same)))
-
--- a call that changes none
-IsShelfOf-looked : (places : List PlaceState) (stop : Bool) (h : List Event) (j : ℕ) (c : SlotCall) → ((b : SlotState) → after_call c b ≡ b)
-    → IsShelfOf places stop h → IsShelfOf places stop (Called j c ∷ h)
-IsShelfOf-looked places stop h j c leaves is = record {
-  count = is.count;
-  stopped_is = is.stopped_is;
-  each = λ i below. elim (cases_eq i j) [
-    | inl same ↦
-        let it : slot_state (Called j c ∷ h) i ≡ slot_state h i =
-        ap (λ n. slot_state (Called j c ∷ h) n) same ∙ slot_after_call h j c ∙ leaves (slot_state h j) ∙ ap (slot_state h) (sym same) in
-        subst (λ b. IsPlaceOf (place_at places i) b) (sym it) (is.each i below)
-    | inr other ↦
-        subst (λ b. IsPlaceOf (place_at places i) b) (sym (slot_after_call_elsewhere h j i c (λ same. other (sym same)))) (is.each i below)
-  ];
-}
 
 HasRoom-kept : (places : List PlaceState) (n j : ℕ) (p : PlaceState) → j < 32 → length places ≡ 32 → p.removed ≡ (place_at places j).removed
     → p.room ≡ (place_at places j).room → HasRoom places n → HasRoom (slice_set places j p) n
@@ -102,95 +90,54 @@ done_within b k n done = ltb-true k n ((and_parts b (nat_lt k n) (done_true (b &
 
 -- THE FIVE CALLS
 
+-- what an answer does to a slot in memory is what the call does to the slot
+IsPlaceOf-answered : (stop : Bool) (a : Ask) (p : PlaceState) (b : SlotState) → IsPlaceOf p b
+    → IsPlaceOf (answered_as (answer_of stop a p) p) (after_call (slot_call (answer_of stop a p)) b)
+IsPlaceOf-answered stop ask.Attach p b is = IsPlaceOf-attached p b (attach_reply stop p) is
+IsPlaceOf-answered stop ask.Sectors p b is = is
+IsPlaceOf-answered stop (ask.Read k) p b is = is
+IsPlaceOf-answered stop (ask.Write k bytes) p b is =
+    IsPlaceOf-written p b k bytes (write_reply stop k p) is (done_within (is_open stop p) k (size_of p.medium))
+IsPlaceOf-answered stop ask.Sync p b is = IsPlaceOf-synced p b (sync_reply stop p) is
+
+answer_is : (places : List PlaceState) (stop : Bool) (h : List Event) (j : ℕ) (a : Ask) → j < 32 → IsShelfOf places stop h
+    → IsAnswered h j (slot_call (answer_of stop a (place_at places j)))
+answer_is places stop h j ask.Attach within is = attach_is places stop h j within is
+answer_is places stop h j ask.Sectors within is = sym (is.each j within).found_is
+answer_is places stop h j (ask.Read k) within is = read_is places stop h j k within is
+answer_is places stop h j (ask.Write k bytes) within is = write_is places stop h j k within is
+answer_is places stop h j ask.Sync within is = sync_is places stop h j within is
+
+-- no call changes the drawer
+drawer_kept : (c : Call) (p : PlaceState) → ((answered_as c p).removed ≡ p.removed) × ((answered_as c p).room ≡ p.room)
+drawer_kept (call.Attach reply.Done) p = (refl, refl)
+drawer_kept (call.Attach reply.Gone) p = (refl, refl)
+drawer_kept (call.Sectors size) p = (refl, refl)
+drawer_kept (call.Read k answer) p = (refl, refl)
+drawer_kept (call.Write k bytes reply.Done) p = (refl, refl)
+drawer_kept (call.Write k bytes reply.Gone) p = (refl, refl)
+drawer_kept (call.Sync reply.Done) p = (refl, refl)
+drawer_kept (call.Sync reply.Gone) p = (refl, refl)
+
 -- After the call the slots stand as the history tells, the drawers have their memory, and the answer is the history's.
-pub record IsCalled (places : List PlaceState) (stop : Bool) (n j : ℕ) (c : SlotCall) (h : List Event) : Type 0 where
-  pub shelf : IsShelfOf places stop (Called j c ∷ h)
+pub record IsCalled (places : List PlaceState) (stop : Bool) (n j : ℕ) (c : Call) (h : List Event) : Type 0 where
+  pub shelf : IsShelfOf places stop (Called j (slot_call c) ∷ h)
   pub room_left : HasRoom places n
+  pub answered : IsAnswered h j (slot_call c)
 
-module _ (places : List PlaceState) (stop : Bool) (n j : ℕ) (h : List Event) where
-  pub attach_called : (p : PlaceState) (answer : Reply) → j < 32 → IsShelfOf places stop h → HasRoom places n → answer ≡ attach_reply stop (place_at places j)
-      → p ≡ attached_as answer (place_at places j)
-      → IsCalled (slice_set places j p) stop n j (slot.Attach answer) h × (answer ≡ attach_answer h j)
-  attach_called p answer within is has answered after = (
+pub called : (places : List PlaceState) (stop : Bool) (n j : ℕ) (h : List Event) (a : Ask) (p : PlaceState) (c : Call) → j < 32
+    → IsShelfOf places stop h → HasRoom places n → c ≡ answer_of stop a (place_at places j) → p ≡ answered_as c (place_at places j)
+    → IsCalled (slice_set places j p) stop n j c h
+called places stop n j h a p c within is has answered after =
+    let q : PlaceState = place_at places j in
+    let kept = drawer_kept c q in
     record {
       shelf =
-          IsShelfOf-called places stop h j p (slot.Attach answer) within is
-          (subst (λ q. IsPlaceOf q (after_call (slot.Attach answer) (slot_state h j))) (sym after)
-          (IsPlaceOf-attached (place_at places j) (slot_state h j) answer (is.each j within)));
+          IsShelfOf-called places stop h j p (slot_call c) within is
+          (subst (λ o. IsPlaceOf o (after_call (slot_call c) (slot_state h j))) (sym after)
+          (subst (λ d. IsPlaceOf (answered_as d q) (after_call (slot_call d) (slot_state h j))) (sym answered)
+          (IsPlaceOf-answered stop a q (slot_state h j) (is.each j within))));
       room_left =
-          HasRoom-kept places n j p within is.count (ap (λ (q : PlaceState). q.removed) after ∙ kept answer (place_at places j))
-          (ap (λ (q : PlaceState). q.room) after ∙ kept_room answer (place_at places j)) has;
-    },
-    answered ∙ attach_is places stop h j within is,
-  )
-    where
-      kept : (r : Reply) (q : PlaceState) → (attached_as r q).removed ≡ q.removed
-      kept reply.Done q = refl
-      kept reply.Gone q = refl
-
-      kept_room : (r : Reply) (q : PlaceState) → (attached_as r q).room ≡ q.room
-      kept_room reply.Done q = refl
-      kept_room reply.Gone q = refl
-
-  pub sectors_called : (size : ℕ) → j < 32 → IsShelfOf places stop h → HasRoom places n → size ≡ (place_at places j).found
-      → IsCalled places stop n j (slot.Sectors size) h × (size ≡ (slot_state h j).found)
-  sectors_called size within is has answered = (
-    record { shelf = IsShelfOf-looked places stop h j (slot.Sectors size) (λ b. refl) is; room_left = has },
-    answered ∙ sym (is.each j within).found_is,
-  )
-
-  pub read_called : (k : ℕ) (answer : Got) → j < 32 → IsShelfOf places stop h → HasRoom places n → answer ≡ read_got stop k (place_at places j)
-      → IsCalled places stop n j (slot.Read k answer) h × (answer ≡ read_answer h j k)
-  read_called k answer within is has answered = (
-    record { shelf = IsShelfOf-looked places stop h j (slot.Read k answer) (λ b. refl) is; room_left = has },
-    answered ∙ read_is places stop h j k within is,
-  )
-
-  pub write_called : (p : PlaceState) (k : ℕ) (bytes : List ℕ) (answer : Reply) → j < 32 → IsShelfOf places stop h → HasRoom places n
-      → answer ≡ write_reply stop k (place_at places j) → p ≡ written_as k bytes answer (place_at places j)
-      → IsCalled (slice_set places j p) stop n j (slot.Write k bytes answer) h × (answer ≡ write_answer h j k)
-  write_called p k bytes answer within is has answered after = (
-    record {
-      shelf =
-          IsShelfOf-called places stop h j p (slot.Write k bytes answer) within is
-          (subst (λ q. IsPlaceOf q (after_call (slot.Write k bytes answer) (slot_state h j))) (sym after)
-          (IsPlaceOf-written (place_at places j) (slot_state h j) k bytes answer (is.each j within)
-          (λ done. done_within (is_open stop (place_at places j)) k (size_of (place_at places j).medium) (sym answered ∙ done))));
-      room_left =
-          HasRoom-kept places n j p within is.count (ap (λ (q : PlaceState). q.removed) after ∙ kept answer (place_at places j))
-          (ap (λ (q : PlaceState). q.room) after ∙ kept_room answer (place_at places j)) has;
-    },
-    answered ∙ write_is places stop h j k within is,
-  )
-    where
-      kept : (r : Reply) (q : PlaceState) → (written_as k bytes r q).removed ≡ q.removed
-      kept reply.Done q = refl
-      kept reply.Gone q = refl
-
-      kept_room : (r : Reply) (q : PlaceState) → (written_as k bytes r q).room ≡ q.room
-      kept_room reply.Done q = refl
-      kept_room reply.Gone q = refl
-
-  pub sync_called : (p : PlaceState) (answer : Reply) → j < 32 → IsShelfOf places stop h → HasRoom places n → answer ≡ sync_reply stop (place_at places j)
-      → p ≡ synced_as answer (place_at places j)
-      → IsCalled (slice_set places j p) stop n j (slot.Sync answer) h × (answer ≡ sync_answer h j)
-  sync_called p answer within is has answered after = (
-    record {
-      shelf =
-          IsShelfOf-called places stop h j p (slot.Sync answer) within is
-          (subst (λ q. IsPlaceOf q (after_call (slot.Sync answer) (slot_state h j))) (sym after)
-          (IsPlaceOf-synced (place_at places j) (slot_state h j) answer (is.each j within)));
-      room_left =
-          HasRoom-kept places n j p within is.count (ap (λ (q : PlaceState). q.removed) after ∙ kept answer (place_at places j))
-          (ap (λ (q : PlaceState). q.room) after ∙ kept_room answer (place_at places j)) has;
-    },
-    answered ∙ sync_is places stop h j within is,
-  )
-    where
-      kept : (r : Reply) (q : PlaceState) → (synced_as r q).removed ≡ q.removed
-      kept reply.Done q = refl
-      kept reply.Gone q = refl
-
-      kept_room : (r : Reply) (q : PlaceState) → (synced_as r q).room ≡ q.room
-      kept_room reply.Done q = refl
-      kept_room reply.Gone q = refl
+          HasRoom-kept places n j p within is.count (ap (λ (o : PlaceState). o.removed) after ∙ kept.0) (ap (λ (o : PlaceState). o.room) after ∙ kept.1) has;
+      answered = subst (λ d. IsAnswered h j (slot_call d)) (sym answered) (answer_is places stop h j a within is);
+    }

@@ -13,6 +13,8 @@ use Rattle.stair_rack.specs.declared.rack.Reply.{Reply}
 use Rattle.stair_rack.specs.declared.rack.Reply.TheVariants as reply
 use Rattle.stair_rack.specs.declared.rack.Got.{Got}
 use Rattle.stair_rack.specs.declared.rack.Got.TheVariants as got
+use Rattle.stair_memrack.specs.declared.record.Ask.{Ask}
+use Rattle.stair_memrack.specs.declared.record.Ask.TheVariants as ask
 use Rattle.stair_memrack.specs.declared.record.Call.{Call}
 use Rattle.stair_memrack.specs.declared.record.Call.TheVariants.{Attach, Sectors, Read, Write, Sync}
 use Rattle.stair_memrack.specs.declared.record.Recorded.{Recorded}
@@ -20,37 +22,37 @@ use Rattle.stair_memrack.specs.declared.rack.MemRack.TheInside.{Inside}
 use Rattle.stair_memrack.specs.declared.disk.StoredSector.{StoredSector}
 use Rattle.stair_memrack.specs.declared.disk.StoredCell.TheVariants as stored
 use Rattle.stair_memrack.specs.Disk.{cell_of, stored_in}
-use Rattle.stair_memrack.specs.Place.{PlaceState, no_place, attach_reply, attached_as, read_got, write_reply, written_as, sync_reply, synced_as}
+use Rattle.stair_memrack.specs.Place.{PlaceState, no_place, answer_of, answered_as, refusal_of}
 use Rattle.stair_memrack.specs.Script.{after_acts}
 use Rattle.stair_memrack.specs.Shelf.{IsShelfOf, HasRoom, AreBlanks, acts_from, place_at}
-use Rattle.stair_memrack.specs.Record.{MemRackState, slot_call, recorded, history_of, has_room, moment, call_is_gone, call_is_bad, call_is_read, counted, with_call, after_call}
+use Rattle.stair_memrack.specs.Record.{MemRackState, slot_call, recorded, history_of, has_room, moment, call_is_gone, call_is_bad, call_is_read, IsAnswerTo, counted, with_call, after_call}
 use Rattle.stair_memrack.specs.Sound.{state_of, IsSoundRecord, IsSound}
 use Rattle.stair_memrack.proofs.RunLemmas.{calls_of}
-use Rattle.stair_memrack.proofs.CallLemmas.{IsCalled, attach_called, sectors_called, read_called, write_called, sync_called}
-use Rattle.stair_memrack.proofs.RecordLemmas.{gones_after, state-recorded, state-spent, reverse-push, record_sound, none_falls, gone_rose, bad_rose, reads_same}
+use Rattle.stair_memrack.specs.OneCall.{IsOneCall}
+use Rattle.stair_memrack.proofs.CallLemmas.{IsCalled, called}
+use Rattle.stair_memrack.proofs.RecordLemmas.{gones_after, state-recorded, state-spent, reverse-push, record_sound, none_falls, gone_rose, bad_rose, counts_reads}
 
--- what every call promises
-pub record IsClauses (old new : MemRackState) (j : ℕ) (call : Call) : Type 0 where
-  pub told : Calls (history_of old) (history_of new) j (slot_call call)
-  pub counts : NoneFalls old.bads new.bads (λ i. slice_index old.gones i) (λ i. slice_index new.gones i)
-  pub gone : call_is_gone call ≡ true → Rose (slice_index old.gones j) (slice_index new.gones j)
-  pub bad : call_is_bad call ≡ true → Rose old.bads new.bads
-  pub reads_kept : call_is_read call ≡ false → Some new.reads ≡ Some old.reads
-
-clauses_at : (s : MemRackState) (capacity j : ℕ) (call : Call) → j < 32 → IsSoundRecord s capacity → IsAnswered (moment s) j (slot_call call)
-    → IsClauses s (after_call j call s) j call
-clauses_at s capacity j call within sound answered = record {
+one_call_at : (s : MemRackState) (capacity j : ℕ) (call : Call) → j < 32 → IsSoundRecord s capacity → IsAnswered (moment s) j (slot_call call)
+    → IsOneCall s (after_call j call s) j call
+one_call_at s capacity j call within sound answered = record {
+  answered = answered;
+  after = refl;
   told = calls_of s j call sound.spent_only answered;
   counts = none_falls s capacity j call sound;
   gone = λ is. gone_rose s capacity j call sound within is;
   bad = λ is. bad_rose s capacity j call sound is;
-  reads_kept = λ is. ap (λ n. Some n) (reads_same s capacity j call sound is);
+  reads = counts_reads s capacity j call sound answered;
 }
 
-pub clauses_of : (old new : MemRackState) (capacity j : ℕ) (call : Call) → j < 32 → IsSoundRecord old capacity
-    → IsAnswered (moment old) j (slot_call call) → new ≡ after_call j call old → IsClauses old new j call
-clauses_of old new capacity j call within sound answered is =
-    subst (λ n. IsClauses old n j call) (sym is) (clauses_at old capacity j call within sound answered)
+pub one_call : (old new : MemRackState) (capacity j : ℕ) (call : Call) → j < 32 → IsSoundRecord old capacity
+    → IsAnswered (moment old) j (slot_call call) → new ≡ after_call j call old → IsOneCall old new j call
+one_call old new capacity j call within sound answered is =
+    subst (λ n. IsOneCall old n j call) (sym is) (one_call_at old capacity j call within sound answered)
+
+-- what was told of a call, where the call is known
+pub told_as : {old new : MemRackState} {j : ℕ} {call : Call} (known : Call) → IsOneCall old new j call → call ≡ known
+    → Calls (history_of old) (history_of new) j (slot_call known)
+told_as {old} {new} {j} known one same = subst (λ (c : Call). Calls (history_of old) (history_of new) j (slot_call c)) same one.told
 
 -- of a rack that is opened
 pub sound_old : (r : Inside) (old : MemRackState) → state_of r ≡ old → IsSound r → IsSoundRecord old (vec_capacity r.log)
@@ -126,58 +128,28 @@ place_read places j p within count is = get_or_read places j p (omega arith) is 
 
 -- what a call leaves that is recorded: the slots, the media that are still to come, and the answer
 pub record IsNext (s : MemRackState) (places : List PlaceState) (stop : Bool) (blanks : List (Option (List StoredSector))) (j : ℕ) (call : Call) : Type 0 where
-  pub called : IsCalled places stop (acts_from (length s.calls + 1) s.script) j (slot_call call) (moment s)
+  pub called : IsCalled places stop (acts_from (length s.calls + 1) s.script) j call (moment s)
   pub blanks_left : AreBlanks (length s.calls + 1) 0 s.script blanks
-  pub answered : IsAnswered (moment s) j (slot_call call)
 
 module _ (s : MemRackState) (places : List PlaceState) (stop : Bool) (blanks : List (Option (List StoredSector))) (j : ℕ) (p : PlaceState) (within : j < 32)
     (acts : IsActed s places stop blanks) (at : p ≡ get_or places j p) where
   place_is : p ≡ place_at places j
   place_is = place_read places j p within acts.shelf.count at
 
-  pub attach_next : (p' : PlaceState) (answer : Reply) → answer ≡ attach_reply stop p → p' ≡ attached_as answer p
-      → IsNext s (slice_set places j p') stop blanks j (Attach answer)
-  attach_next p' answer answered after =
-      let both =
-      attach_called places stop (acts_from (length s.calls + 1) s.script) j (moment s) p' answer within acts.shelf acts.room_left
-      (answered ∙ ap (attach_reply stop) place_is) (after ∙ ap (attached_as answer) place_is) in
-      record { called = both.0; blanks_left = acts.blanks_left; answered = both.1 }
-
-  pub sectors_next : (size : ℕ) → size ≡ p.found → IsNext s places stop blanks j (Sectors size)
-  sectors_next size answered =
-      let both =
-      sectors_called places stop (acts_from (length s.calls + 1) s.script) j (moment s) size within acts.shelf acts.room_left
-      (answered ∙ ap (λ (q : PlaceState). q.found) place_is) in
-      record { called = both.0; blanks_left = acts.blanks_left; answered = both.1 }
-
-  pub read_next : (k : ℕ) (answer : Got) → answer ≡ read_got stop k p → IsNext s places stop blanks j (Read k answer)
-  read_next k answer answered =
-      let both =
-      read_called places stop (acts_from (length s.calls + 1) s.script) j (moment s) k answer within acts.shelf acts.room_left
-      (answered ∙ ap (read_got stop k) place_is) in
-      record { called = both.0; blanks_left = acts.blanks_left; answered = both.1 }
+  pub next_of : (a : Ask) (p' : PlaceState) (call : Call) → call ≡ answer_of stop a p → p' ≡ answered_as call p
+      → IsNext s (slice_set places j p') stop blanks j call
+  next_of a p' call answered after = record {
+    called =
+        called places stop (acts_from (length s.calls + 1) s.script) j (moment s) a p' call within acts.shelf acts.room_left
+        (answered ∙ ap (answer_of stop a) place_is) (after ∙ ap (answered_as call) place_is);
+    blanks_left = acts.blanks_left;
+  }
 
   -- what was read is what the sector holds
   pub read_bytes : (k : ℕ) (bytes : List ℕ) → (stored_in p.medium k).now ≡ stored.Good bytes → content ((slot_state (moment s) j).sector k) ≡ Good bytes
   read_bytes k bytes found =
       sym ((acts.shelf.each j within).medium.each k).content_is
       ∙ ap cell_of (sym (ap (λ (q : PlaceState). (stored_in q.medium k).now) place_is) ∙ found)
-
-  pub write_next : (p' : PlaceState) (k : ℕ) (bytes : List ℕ) (answer : Reply) → answer ≡ write_reply stop k p → p' ≡ written_as k bytes answer p
-      → IsNext s (slice_set places j p') stop blanks j (Write k bytes answer)
-  write_next p' k bytes answer answered after =
-      let both =
-      write_called places stop (acts_from (length s.calls + 1) s.script) j (moment s) p' k bytes answer within acts.shelf acts.room_left
-      (answered ∙ ap (write_reply stop k) place_is) (after ∙ ap (written_as k bytes answer) place_is) in
-      record { called = both.0; blanks_left = acts.blanks_left; answered = both.1 }
-
-  pub sync_next : (p' : PlaceState) (answer : Reply) → answer ≡ sync_reply stop p → p' ≡ synced_as answer p
-      → IsNext s (slice_set places j p') stop blanks j (Sync answer)
-  sync_next p' answer answered after =
-      let both =
-      sync_called places stop (acts_from (length s.calls + 1) s.script) j (moment s) p' answer within acts.shelf acts.room_left
-      (answered ∙ ap (sync_reply stop) place_is) (after ∙ ap (synced_as answer) place_is) in
-      record { called = both.0; blanks_left = acts.blanks_left; answered = both.1 }
 
 pub IsSound-recorded : (r r' : Inside) (j : ℕ) (call : Call) → IsSound r → vec_len r.log < r.room → state_of r' ≡ after_call j call (state_of r)
     → vec_capacity r'.log ≡ vec_capacity r.log → IsNext (state_of r) r'.places.items r'.stopped r'.blanks.items j call → IsSound r'
@@ -212,32 +184,63 @@ recorded_after r j call log bads gones reads less is bads_are gones_are reads_ar
     state-recorded (state_of r) j call (reverse log) bads gones reads (room_there r less) (ap reverse is ∙ reverse-push r.log.items (record { slot = j; call = call }))
     bads_are gones_are reads_are
 
-pub spent_after : (r : Inside) (j : ℕ) (call : Call) (gones : List ℕ) → r.room ≤ vec_len r.log → call_is_bad call ≡ false
-    → gones ≡ gones_after (call_is_gone call) j r.gones.items → record (state_of r) { spent = true; gones = gones } ≡ after_call j call (state_of r)
-spent_after r j call gones full good gones_are =
-    state-spent (state_of r) j call r.bads gones (spent_room r full) (sym (cond-false (call_is_bad call) (one_more r.bads) r.bads good)) gones_are
+pub spent_after : (r : Inside) (j : ℕ) (call : Call) (bads : ℕ) (gones : List ℕ) → r.room ≤ vec_len r.log
+    → bads ≡ (if call_is_bad call then one_more r.bads else r.bads) → gones ≡ gones_after (call_is_gone call) j r.gones.items
+    → record (state_of r) { spent = true; bads = bads; gones = gones } ≡ after_call j call (state_of r)
+spent_after r j call bads gones full bads_are gones_are = state-spent (state_of r) j call bads gones (spent_room r full) bads_are gones_are
 
 -- a rack whose record is spent is gone
-pub spent_attach : (s : MemRackState) (j : ℕ) → has_room s ≡ false → reply.Gone ≡ attach_answer (moment s) j
+spent_attach : (s : MemRackState) (j : ℕ) → has_room s ≡ false → reply.Gone ≡ attach_answer (moment s) j
 spent_attach s j none =
     sym (ap (λ h. attach_answer h j) (moment-spent s none) ∙ ap reply_if (and_right (is_some (slot_state (recorded s) j).size) false refl))
 
-pub spent_read : (s : MemRackState) (j k : ℕ) → has_room s ≡ false → got.Gone ≡ read_answer (moment s) j k
+spent_read : (s : MemRackState) (j k : ℕ) → has_room s ≡ false → got.Gone ≡ read_answer (moment s) j k
 spent_read s j k none =
     sym (ap (λ h. read_answer h j k) (moment-spent s none) ∙ cond-false _ _ _ (and_right (slot_state (recorded s) j).attached false refl))
 
-pub spent_write : (s : MemRackState) (j k : ℕ) → has_room s ≡ false → reply.Gone ≡ write_answer (moment s) j k
+spent_write : (s : MemRackState) (j k : ℕ) → has_room s ≡ false → reply.Gone ≡ write_answer (moment s) j k
 spent_write s j k none =
     sym (ap (λ h. write_answer h j k) (moment-spent s none)
     ∙ ap (λ (b : Bool). reply_if (b && has_sector (slot_state (recorded s) j).size k)) (and_right (slot_state (recorded s) j).attached false refl))
 
-pub spent_sync : (s : MemRackState) (j : ℕ) → has_room s ≡ false → reply.Gone ≡ sync_answer (moment s) j
+spent_sync : (s : MemRackState) (j : ℕ) → has_room s ≡ false → reply.Gone ≡ sync_answer (moment s) j
 spent_sync s j none =
     sym (ap (λ h. sync_answer h j) (moment-spent s none) ∙ ap reply_if (and_right (slot_state (recorded s) j).attached false refl))
 
 -- but `sectors` answers as ever
-pub spent_sectors : (r : Inside) (j size : ℕ) (p : PlaceState) → j < 32 → IsSound r → has_room (state_of r) ≡ false → p ≡ get_or r.places.items j p
+spent_sectors : (r : Inside) (j size : ℕ) (p : PlaceState) → j < 32 → IsSound r → has_room (state_of r) ≡ false → p ≡ get_or r.places.items j p
     → size ≡ p.found → size ≡ (slot_state (moment (state_of r)) j).found
 spent_sectors r j size p within sound none at is =
     is ∙ ap (λ (q : PlaceState). q.found) (place_read r.places.items j p within sound.shelf.count at) ∙ sym (sound.shelf.each j within).found_is
     ∙ sym (ap (λ h. (slot_state h j).found) (moment-spent (state_of r) none))
+
+pub spent_answered : (r : Inside) (j : ℕ) (a : Ask) (p : PlaceState) → j < 32 → IsSound r → has_room (state_of r) ≡ false → p ≡ get_or r.places.items j p
+    → IsAnswered (moment (state_of r)) j (slot_call (refusal_of a p))
+spent_answered r j ask.Attach p within sound none at = spent_attach (state_of r) j none
+spent_answered r j ask.Sectors p within sound none at = spent_sectors r j p.found p within sound none at refl
+spent_answered r j (ask.Read k) p within sound none at = spent_read (state_of r) j k none
+spent_answered r j (ask.Write k bytes) p within sound none at = spent_write (state_of r) j k none
+spent_answered r j ask.Sync p within sound none at = spent_sync (state_of r) j none
+
+-- WHAT WAS ASKED IS ANSWERED
+
+pub answer_asked : (stop : Bool) (a : Ask) (p : PlaceState) → IsAnswerTo a (answer_of stop a p)
+answer_asked stop ask.Attach p = refl
+answer_asked stop ask.Sectors p = refl
+answer_asked stop (ask.Read k) p = refl
+answer_asked stop (ask.Write k bytes) p = refl
+answer_asked stop ask.Sync p = refl
+
+pub refusal_asked : (a : Ask) (p : PlaceState) → IsAnswerTo a (refusal_of a p)
+refusal_asked ask.Attach p = refl
+refusal_asked ask.Sectors p = refl
+refusal_asked (ask.Read k) p = refl
+refusal_asked (ask.Write k bytes) p = refl
+refusal_asked ask.Sync p = refl
+
+pub refusal_not_good : (a : Ask) (p : PlaceState) (k : ℕ) → refusal_of a p ≡ Read k got.Good → ⊥
+refusal_not_good ask.Attach p k is = cc
+refusal_not_good ask.Sectors p k is = cc
+refusal_not_good (ask.Read l) p k is = cc
+refusal_not_good (ask.Write l bytes) p k is = cc
+refusal_not_good ask.Sync p k is = cc

@@ -6,15 +6,15 @@ use Rattle.std.proofs.lemmas.List.{get_or-set_same, get_or-set_other, set_past, 
 use Rattle.stair_rack.specs.Count.{Rose, one_more}
 use Rattle.stair_rack.specs.History.{Event, Stopped, Called, slot_state, stopped}
 use Rattle.stair_rack.specs.History as slot
-use Rattle.stair_rack.specs.Answers.{read_answer}
+use Rattle.stair_rack.specs.Answers.{IsAnswered, read_answer}
 use Rattle.stair_rack.specs.RackCounts.{IsLaterCount, NoneFalls, CountsRead}
 use Rattle.stair_rack.specs.declared.rack.Got.{Got}
 use Rattle.stair_rack.specs.declared.rack.Got.TheVariants as got
 use Rattle.stair_rack.proofs.StepLemmas.{slot_after_call}
 use Rattle.stair_memrack.specs.declared.record.Call.{Call}
-use Rattle.stair_memrack.specs.declared.record.Call.TheVariants.{Read}
+use Rattle.stair_memrack.specs.declared.record.Call.TheVariants.{Attach, Sectors, Read, Write, Sync}
 use Rattle.stair_memrack.specs.declared.record.Recorded.{Recorded}
-use Rattle.stair_memrack.specs.Record.{MemRackState, recorded, history_of, has_room, moment, call_is_gone, call_is_bad, call_is_read, counted, with_call, after_call}
+use Rattle.stair_memrack.specs.Record.{MemRackState, slot_call, CountsReads, recorded, history_of, has_room, moment, call_is_gone, call_is_bad, call_is_read, counted, with_call, after_call}
 use Rattle.stair_memrack.specs.Sound.{IsSoundRecord}
 use Rattle.stair_memrack.proofs.RunLemmas.{history-with_room, history-spent}
 
@@ -160,7 +160,7 @@ module _ (s : MemRackState) (capacity j : ℕ) (call : Call) (sound : IsSoundRec
       rose : Rose s.bads (if call_is_bad call then one_more s.bads else s.bads)
       rose = subst (Rose s.bads) (sym (cond-true (call_is_bad call) (one_more s.bads) s.bads bad)) (one_more-rose s.bads sound.bads_fit)
 
-  pub reads_same : call_is_read call ≡ false → (after_call j call s).reads ≡ s.reads
+  reads_same : call_is_read call ≡ false → (after_call j call s).reads ≡ s.reads
   reads_same other =
       cond_both (has_room s) (with_call j call s) (record s { spent = true }) (λ t. (counted j call t).reads ≡ s.reads)
       (λ room. cond-false (call_is_read call) (s.reads + 1) s.reads other) (λ none. refl)
@@ -181,13 +181,21 @@ counts_none got.Good n m gone is = absurd (cc)
 counts_none got.Bad n m gone is = absurd (cc)
 counts_none got.Gone n m gone is = inl (ap (λ x. Some x) is)
 
-pub counts_read : (s : MemRackState) (j k : ℕ) (answer : Got) → answer ≡ read_answer (moment s) j k
+counts_read : (s : MemRackState) (j k : ℕ) (answer : Got) → answer ≡ read_answer (moment s) j k
     → CountsRead answer (Some s.reads) (Some (after_call j (Read k answer) s).reads)
 counts_read s j k answer answered =
     cond_both (has_room s) (with_call j (Read k answer) s) (record s { spent = true })
     (λ t. CountsRead answer (Some s.reads) (Some (counted j (Read k answer) t).reads))
     (λ room. counts_one answer s.reads (s.reads + 1) refl)
     (λ none. counts_none answer s.reads s.reads (answered ∙ spent_gone s j k none) refl)
+
+pub counts_reads : (s : MemRackState) (capacity j : ℕ) (call : Call) → IsSoundRecord s capacity → IsAnswered (moment s) j (slot_call call)
+    → CountsReads call (Some s.reads) (Some (after_call j call s).reads)
+counts_reads s capacity j (Attach answer) sound answered = ap (λ n. Some n) (reads_same s capacity j (Attach answer) sound refl)
+counts_reads s capacity j (Sectors size) sound answered = ap (λ n. Some n) (reads_same s capacity j (Sectors size) sound refl)
+counts_reads s capacity j (Read k answer) sound answered = counts_read s j k answer answered
+counts_reads s capacity j (Write k bytes answer) sound answered = ap (λ n. Some n) (reads_same s capacity j (Write k bytes answer) sound refl)
+counts_reads s capacity j (Sync answer) sound answered = ap (λ n. Some n) (reads_same s capacity j (Sync answer) sound refl)
 
 -- after a read the slot is as it was when it was answered
 pub after_read : (s : MemRackState) (j k : ℕ) (answer : Got) → (s.spent ≡ true → length s.calls ≡ s.room)

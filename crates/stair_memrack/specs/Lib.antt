@@ -4,3 +4,4 @@ pub mod Script
 pub mod Record
 pub mod Shelf
 pub mod Sound
+pub mod OneCall

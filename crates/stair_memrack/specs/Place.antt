@@ -6,6 +6,10 @@ use Rattle.stair_rack.specs.declared.rack.Reply.TheVariants as reply
 use Rattle.stair_rack.specs.declared.rack.Got.{Got}
 use Rattle.stair_rack.specs.declared.rack.Got.TheVariants as got
 use Rattle.stair_memrack.specs.declared.disk.StoredSector.{StoredSector}
+use Rattle.stair_memrack.specs.declared.record.Ask.{Ask}
+use Rattle.stair_memrack.specs.declared.record.Ask.TheVariants as ask
+use Rattle.stair_memrack.specs.declared.record.Call.{Call}
+use Rattle.stair_memrack.specs.declared.record.Call.TheVariants as call
 use Rattle.stair_memrack.specs.Disk.{cell_of, unwritten, settle, written, stored_at, stored_in}
 
 pub record PlaceState : Type 0 where
@@ -75,3 +79,27 @@ sync_reply stopped p = reply_if (is_open stopped p)
 abbrev pub synced_as : Reply → PlaceState → PlaceState
 synced_as reply.Done p = record p { medium = option_map (map settle) p.medium }
 synced_as reply.Gone p = p
+
+-- THE FIVE CALLS
+
+abbrev pub answer_of : Bool → Ask → PlaceState → Call
+answer_of stopped ask.Attach p = call.Attach (attach_reply stopped p)
+answer_of stopped ask.Sectors p = call.Sectors p.found
+answer_of stopped (ask.Read k) p = call.Read k (read_got stopped k p)
+answer_of stopped (ask.Write k bytes) p = call.Write k bytes (write_reply stopped k p)
+answer_of stopped ask.Sync p = call.Sync (sync_reply stopped p)
+
+abbrev pub answered_as : Call → PlaceState → PlaceState
+answered_as (call.Attach answer) p = attached_as answer p
+answered_as (call.Sectors size) p = p
+answered_as (call.Read k answer) p = p
+answered_as (call.Write k bytes answer) p = written_as k bytes answer p
+answered_as (call.Sync answer) p = synced_as answer p
+
+-- what a rack whose record is spent answers
+abbrev pub refusal_of : Ask → PlaceState → Call
+refusal_of ask.Attach p = call.Attach reply.Gone
+refusal_of ask.Sectors p = call.Sectors p.found
+refusal_of (ask.Read k) p = call.Read k got.Gone
+refusal_of (ask.Write k bytes) p = call.Write k bytes reply.Gone
+refusal_of ask.Sync p = call.Sync reply.Gone

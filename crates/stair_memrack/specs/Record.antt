@@ -1,15 +1,18 @@
 -- A rack in memory, as contracts see it: what it was made over, its script, and the record of its calls.
-use Rattle.std.specs.Prelude.{ℕ, ◌+◌, Bool, true, false, List, [], ◌∷◌, length, None, Some, if◌then◌else◌, nat_lt, slice_index, slice_set}
+use Rattle.std.specs.Prelude.{◌≡◌, ℕ, ◌+◌, Bool, true, false, List, [], ◌∷◌, length, Option, None, Some, if◌then◌else◌, nat_lt, slice_index, slice_set}
 use Rattle.stair_rack.specs.Count.{one_more}
 use Rattle.stair_rack.specs.Sector.{Damaged}
 use Rattle.stair_rack.specs.Media.{Image}
 use Rattle.stair_rack.specs.History.{SlotCall, Event, Made, Stopped, Called}
 use Rattle.stair_rack.specs.History as slot
+use Rattle.stair_rack.specs.RackCounts.{CountsRead}
 use Rattle.stair_rack.specs.declared.rack.Reply.{Reply}
 use Rattle.stair_rack.specs.declared.rack.Reply.TheVariants as reply
 use Rattle.stair_rack.specs.declared.rack.Got.{Got}
 use Rattle.stair_rack.specs.declared.rack.Got.TheVariants as got
 use Rattle.stair_memrack.specs.declared.act.Act.{Act}
+use Rattle.stair_memrack.specs.declared.record.Ask.{Ask}
+use Rattle.stair_memrack.specs.declared.record.Ask.TheVariants as ask
 use Rattle.stair_memrack.specs.declared.record.Call.{Call}
 use Rattle.stair_memrack.specs.declared.record.Call.TheVariants.{Attach, Sectors, Read, Write, Sync}
 use Rattle.stair_memrack.specs.declared.record.Recorded.{Recorded}
@@ -62,6 +65,34 @@ has_room s = nat_lt (length s.calls) s.room
 abbrev pub moment : MemRackState → List Event
 moment s = if has_room s then after_acts (length s.calls) s.script (recorded s) else Stopped ∷ recorded s
 
+-- WHAT WAS ANSWERED
+
+-- the reply of an attach, a write or a sync, and Done of the others
+abbrev pub reply_of : Call → Reply
+reply_of (Attach answer) = answer
+reply_of (Sectors size) = reply.Done
+reply_of (Read k answer) = reply.Done
+reply_of (Write k bytes answer) = answer
+reply_of (Sync answer) = answer
+
+-- what `sectors` answered, and 0 of the others
+abbrev pub number_of : Call → ℕ
+number_of (Sectors size) = size
+number_of call = 0
+
+-- what a read got, and Good of the others
+abbrev pub got_of : Call → Got
+got_of (Read k answer) = answer
+got_of call = got.Good
+
+-- the call is what was asked, with its answer
+abbrev pub IsAnswerTo : Ask → Call → Type 0
+IsAnswerTo ask.Attach call = call ≡ Attach (reply_of call)
+IsAnswerTo ask.Sectors call = call ≡ Sectors (number_of call)
+IsAnswerTo (ask.Read k) call = call ≡ Read k (got_of call)
+IsAnswerTo (ask.Write k bytes) call = call ≡ Write k bytes (reply_of call)
+IsAnswerTo ask.Sync call = call ≡ Sync (reply_of call)
+
 -- THE COUNTS
 
 abbrev pub is_gone : Reply → Bool
@@ -88,18 +119,16 @@ call_is_gone (Sync answer) = is_gone answer
 
 -- the call was answered as bad
 abbrev pub call_is_bad : Call → Bool
-call_is_bad (Attach answer) = false
-call_is_bad (Sectors size) = false
-call_is_bad (Read k answer) = is_bad answer
-call_is_bad (Write k bytes answer) = false
-call_is_bad (Sync answer) = false
+call_is_bad call = is_bad (got_of call)
 
 abbrev pub call_is_read : Call → Bool
-call_is_read (Attach answer) = false
-call_is_read (Sectors size) = false
 call_is_read (Read k answer) = true
-call_is_read (Write k bytes answer) = false
-call_is_read (Sync answer) = false
+call_is_read call = false
+
+-- the number of reads after a call: after a read as after one with its answer, and else unchanged
+abbrev pub CountsReads : Call → Option ℕ → Option ℕ → Type 0
+CountsReads (Read k answer) old new = CountsRead answer old new
+CountsReads call old new = new ≡ old
 
 -- a call with this answer raises the counts
 abbrev pub counted : ℕ → Call → MemRackState → MemRackState

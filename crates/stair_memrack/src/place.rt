@@ -1,9 +1,10 @@
 // A slot of the rack.
-ghost use Rattle.std.specs.Prelude.{◌≡◌, ◌≢◌, ◌<◌, length, [], false, IfOk};
+ghost use Rattle.std.specs.Prelude.{◌≡◌, ◌≢◌, ◌<◌, ℕ, length, [], false, IfOk};
 ghost use Rattle.stair_memrack.specs.Disk.{stored_in};
-ghost use Rattle.stair_memrack.specs.Place.{pulled, inserted, inserted_old, damaged_at, attach_reply, attached_as, read_got, write_reply, written_as, sync_reply, synced_as};
+ghost use Rattle.stair_memrack.specs.Place.{pulled, inserted, inserted_old, damaged_at, attach_reply, attached_as, read_got, write_reply, written_as, sync_reply, synced_as, answer_of, answered_as, refusal_of};
 
 use crate::disk::{Disk, StoredCell};
+use crate::record::{Ask, Call};
 use stair_rack::{Got, Reply};
 use std::alloc::{AllocError, Global};
 use std::marker::Model;
@@ -92,8 +93,40 @@ impl Place {
         }
     }
 
-    /// Looks at the slot anew.
-    pub(crate) fn attach(&mut self, stopped: bool) -> Reply
+    /// Does what a call asks, and answers it. A good read puts the bytes into `into`, and one that isn't leaves it.
+    pub(crate) fn answer(&mut self, stopped: bool, ask: &Ask, into: &mut [u8; 512]) -> Call
+        ensures answer { result ≡ answer_of stopped ask.now self.old }
+        ensures after { self.new ≡ answered_as result self.old }
+        ensures good { (k : ℕ) → result ≡ Call.Read k Got.Good →
+            (stored_in self.old.medium k).now ≡ StoredCell.Good into.new }
+        ensures unread { (k : ℕ) (got : Got) → result ≡ Call.Read k got → got ≢ Got.Good → into.new ≡ into.old }
+    {
+        match ask {
+            Ask::Attach => Call::Attach(self.attach(stopped)),
+            Ask::Sectors => Call::Sectors(self.found),
+            Ask::Read(sector) => Call::Read(*sector, self.read(stopped, *sector, into)),
+            Ask::Write(sector, from) => {
+                Call::Write(*sector, *from, self.write(stopped, *sector, from))
+            }
+            Ask::Sync => Call::Sync(self.sync(stopped)),
+        }
+    }
+
+    /// What it answers where the record of the rack is spent.
+    pub(crate) fn refusal(&self, ask: &Ask) -> Call
+        ensures { result ≡ refusal_of ask.now self.now }
+    {
+        match ask {
+            Ask::Attach => Call::Attach(Reply::Gone),
+            Ask::Sectors => Call::Sectors(self.found),
+            Ask::Read(sector) => Call::Read(*sector, Got::Gone),
+            Ask::Write(sector, from) => Call::Write(*sector, *from, Reply::Gone),
+            Ask::Sync => Call::Sync(Reply::Gone),
+        }
+    }
+
+    // Looks at the slot anew.
+    fn attach(&mut self, stopped: bool) -> Reply
         ensures answer { result ≡ attach_reply stopped self.old }
         ensures after { self.new ≡ attached_as result self.old }
     {
@@ -111,15 +144,8 @@ impl Place {
         }
     }
 
-    /// The number of sectors that the last attach found.
-    pub(crate) fn found(&self) -> u32
-        ensures { result ≡ self.now.found }
-    {
-        self.found
-    }
-
-    /// Reads a sector into `into`, which is unchanged where the answer isn't `Good`.
-    pub(crate) fn read(&self, stopped: bool, sector: u32, into: &mut [u8; 512]) -> Got
+    // Reads a sector into `into`, which is unchanged where the answer isn't `Good`.
+    fn read(&self, stopped: bool, sector: u32, into: &mut [u8; 512]) -> Got
         ensures answer { result ≡ read_got stopped sector self.now }
         ensures good { result ≡ Got.Good → (stored_in self.now.medium sector).now ≡ StoredCell.Good into.new }
         ensures unread { result ≢ Got.Good → into.new ≡ into.old }
@@ -139,8 +165,8 @@ impl Place {
         }
     }
 
-    /// Writes a sector.
-    pub(crate) fn write(&mut self, stopped: bool, sector: u32, from: &[u8; 512]) -> Reply
+    // Writes a sector.
+    fn write(&mut self, stopped: bool, sector: u32, from: &[u8; 512]) -> Reply
         ensures answer { result ≡ write_reply stopped sector self.old }
         ensures after { self.new ≡ written_as sector from.now result self.old }
     {
@@ -156,8 +182,8 @@ impl Place {
         }
     }
 
-    /// Settles the medium as what reads find.
-    pub(crate) fn sync(&mut self, stopped: bool) -> Reply
+    // Settles the medium as what reads find.
+    fn sync(&mut self, stopped: bool) -> Reply
         ensures answer { result ≡ sync_reply stopped self.old }
         ensures after { self.new ≡ synced_as result self.old }
     {

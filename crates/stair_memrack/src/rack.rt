@@ -1,5 +1,5 @@
 // A rack in memory.
-ghost use Rattle.std.specs.Prelude.{◌≡◌, ◌≢◌, ◌<◌, ◌≤◌, true, false, [], ◌∷◌, Some, length, map, replicate, IfOk, vec_len, slice_index, slice_set, if◌then◌else◌};
+ghost use Rattle.std.specs.Prelude.{◌≡◌, ◌≢◌, ◌<◌, ◌≤◌, ◌+◌, ◌-◌, ◌^◌, ℕ, true, false, [], ◌∷◌, Some, length, map, replicate, IfOk, vec_len, slice_index, slice_set, if◌then◌else◌};
 ghost use Rattle.stair_rack.specs.Count.{Rose, one_more};
 ghost use Rattle.stair_rack.specs.Sector.{Good, content};
 ghost use Rattle.stair_rack.specs.History.{Made, Attach, Sectors, Read, Write, Sync, slot_state};
@@ -7,12 +7,13 @@ ghost use Rattle.stair_rack.specs.Answers.{Calls, attach_answer, read_answer, wr
 ghost use Rattle.stair_rack.specs.RackCounts.{NoneFalls, CountsRead};
 ghost use Rattle.stair_memrack.specs.declared.record.Call.TheVariants as Call;
 ghost use Rattle.stair_memrack.specs.Shelf.{blank_for, ArePlaces};
-ghost use Rattle.stair_memrack.specs.Record.{blank_image, history_of, moment, is_gone, is_gone_got, is_bad, after_call};
+ghost use Rattle.stair_memrack.specs.Record.{blank_image, history_of, moment, call_is_gone, call_is_bad, call_is_read, IsAnswerTo, after_call};
+ghost use Rattle.stair_memrack.specs.OneCall.{IsOneCall};
 
 use crate::act::{Act, What};
 use crate::disk::Disk;
 use crate::place::Place;
-use crate::record::{Call, Recorded};
+use crate::record::{Ask, Call, Recorded};
 use crate::script::act_before;
 use stair_rack::{Got, Rack, Reply};
 use std::alloc::{AllocError, Global};
@@ -110,6 +111,36 @@ impl MemRack {
         let made = self.log.len();
         made as u32
     }
+
+    // The call that is asked of a slot, which is recorded where the record has room. A good read puts the bytes into
+    // `into`, and one that isn't leaves it.
+    fn call(&mut self, slot: u8, ask: &Ask, into: &mut [u8; 512]) -> Call
+        requires { slot < 32 }
+        ensures asked { IsAnswerTo ask.now result }
+        ensures one { IsOneCall self.old self.new slot result }
+        ensures good { (k : ℕ) → result ≡ Call.Read k Got.Good →
+            content ((slot_state (history_of self.new) slot).sector k) ≡ Good into.new }
+        ensures unread { (k : ℕ) (got : Got) → result ≡ Call.Read k got → got ≢ Got.Good → into.new ≡ into.old }
+    {
+        if self.log.len() >= self.room as usize {
+            self.spent = true;
+            let refusal = self.places[slot as usize].refusal(ask);
+            count(&refusal, slot, &mut self.bads, &mut self.gones);
+            return refusal;
+        }
+        act_before(
+            self.log.len() as u32,
+            &self.script,
+            &mut self.blanks,
+            &mut self.places,
+            &mut self.stopped,
+        );
+        let call = self.places[slot as usize].answer(self.stopped, ask, into);
+        self.log.push_reserved(Recorded { slot, call });
+        count(&call, slot, &mut self.bads, &mut self.gones);
+        self.reads = reads_after(&call, self.reads);
+        call
+    }
 }
 
 impl Rack for MemRack {
@@ -135,25 +166,7 @@ impl Rack for MemRack {
         ensures answer { result ≡ attach_answer (moment self.old) slot }
         ensures after { self.new ≡ after_call slot (Call.Attach result) self.old }
     {
-        if self.log.len() >= self.room as usize {
-            self.spent = true;
-            count_reply(&mut self.gones, slot, Reply::Gone);
-            return Reply::Gone;
-        }
-        act_before(
-            self.log.len() as u32,
-            &self.script,
-            &mut self.blanks,
-            &mut self.places,
-            &mut self.stopped,
-        );
-        let reply = self.places[slot as usize].attach(self.stopped);
-        self.log.push_reserved(Recorded {
-            slot,
-            call: Call::Attach(reply),
-        });
-        count_reply(&mut self.gones, slot, reply);
-        reply
+        self.call(slot, &Ask::Attach, &mut [0; 512]).reply()
     }
 
     fn sectors(&mut self, slot: u8) -> u32
@@ -166,23 +179,7 @@ impl Rack for MemRack {
         ensures answer { result ≡ (slot_state (moment self.old) slot).found }
         ensures after { self.new ≡ after_call slot (Call.Sectors result) self.old }
     {
-        if self.log.len() >= self.room as usize {
-            self.spent = true;
-            return self.places[slot as usize].found();
-        }
-        act_before(
-            self.log.len() as u32,
-            &self.script,
-            &mut self.blanks,
-            &mut self.places,
-            &mut self.stopped,
-        );
-        let size = self.places[slot as usize].found();
-        self.log.push_reserved(Recorded {
-            slot,
-            call: Call::Sectors(size),
-        });
-        size
+        self.call(slot, &Ask::Sectors, &mut [0; 512]).number()
     }
 
     fn read(&mut self, slot: u8, sector: u32, into: &mut [u8; 512]) -> Got
@@ -201,26 +198,7 @@ impl Rack for MemRack {
         ensures answer { result ≡ read_answer (moment self.old) slot sector }
         ensures after { self.new ≡ after_call slot (Call.Read sector result) self.old }
     {
-        if self.log.len() >= self.room as usize {
-            self.spent = true;
-            count_reply(&mut self.gones, slot, Reply::Gone);
-            return Got::Gone;
-        }
-        act_before(
-            self.log.len() as u32,
-            &self.script,
-            &mut self.blanks,
-            &mut self.places,
-            &mut self.stopped,
-        );
-        let answer = self.places[slot as usize].read(self.stopped, sector, into);
-        self.log.push_reserved(Recorded {
-            slot,
-            call: Call::Read(sector, answer),
-        });
-        self.reads += 1;
-        count_got(&mut self.bads, &mut self.gones, slot, answer);
-        answer
+        self.call(slot, &Ask::Read(sector), into).got()
     }
 
     fn write(&mut self, slot: u8, sector: u32, from: &[u8; 512]) -> Reply
@@ -235,25 +213,7 @@ impl Rack for MemRack {
         ensures answer { result ≡ write_answer (moment self.old) slot sector }
         ensures after { self.new ≡ after_call slot (Call.Write sector from.now result) self.old }
     {
-        if self.log.len() >= self.room as usize {
-            self.spent = true;
-            count_reply(&mut self.gones, slot, Reply::Gone);
-            return Reply::Gone;
-        }
-        act_before(
-            self.log.len() as u32,
-            &self.script,
-            &mut self.blanks,
-            &mut self.places,
-            &mut self.stopped,
-        );
-        let reply = self.places[slot as usize].write(self.stopped, sector, from);
-        self.log.push_reserved(Recorded {
-            slot,
-            call: Call::Write(sector, *from, reply),
-        });
-        count_reply(&mut self.gones, slot, reply);
-        reply
+        self.call(slot, &Ask::Write(sector, *from), &mut [0; 512]).reply()
     }
 
     fn sync(&mut self, slot: u8) -> Reply
@@ -268,25 +228,7 @@ impl Rack for MemRack {
         ensures answer { result ≡ sync_answer (moment self.old) slot }
         ensures after { self.new ≡ after_call slot (Call.Sync result) self.old }
     {
-        if self.log.len() >= self.room as usize {
-            self.spent = true;
-            count_reply(&mut self.gones, slot, Reply::Gone);
-            return Reply::Gone;
-        }
-        act_before(
-            self.log.len() as u32,
-            &self.script,
-            &mut self.blanks,
-            &mut self.places,
-            &mut self.stopped,
-        );
-        let reply = self.places[slot as usize].sync(self.stopped);
-        self.log.push_reserved(Recorded {
-            slot,
-            call: Call::Sync(reply),
-        });
-        count_reply(&mut self.gones, slot, reply);
-        reply
+        self.call(slot, &Ask::Sync, &mut [0; 512]).reply()
     }
 }
 
@@ -327,27 +269,25 @@ fn places(alloc: Global, media: u8, sectors: u32, room: usize) -> Result<Vec<Pla
     Ok(places)
 }
 
-// Counts the slot where this answer says that it is gone.
-fn count_reply(gones: &mut Vec<u64>, slot: u8, reply: Reply)
+// Counts what this call was answered.
+fn count(call: &Call, slot: u8, bads: &mut u64, gones: &mut Vec<u64>)
     requires { slot < vec_len gones.old }
-    ensures { gones.new.items ≡ (if is_gone reply
+    ensures bads { bads.new ≡ (if call_is_bad call.now then one_more bads.old else bads.old) }
+    ensures gones { gones.new.items ≡ (if call_is_gone call.now
         then slice_set gones.old.items slot (one_more (slice_index gones.old.items slot)) else gones.old.items) }
 {
-    if reply == Reply::Gone {
+    if call.is_bad() {
+        *bads = bads.saturating_add(1);
+    }
+    if call.is_gone() {
         gones[slot as usize] = gones[slot as usize].saturating_add(1);
     }
 }
 
-// Counts what this answer says.
-fn count_got(bads: &mut u64, gones: &mut Vec<u64>, slot: u8, got: Got)
-    requires { slot < vec_len gones.old }
-    ensures bads { bads.new ≡ (if is_bad got then one_more bads.old else bads.old) }
-    ensures gones { gones.new.items ≡ (if is_gone_got got
-        then slice_set gones.old.items slot (one_more (slice_index gones.old.items slot)) else gones.old.items) }
+// The number of reads after a call.
+fn reads_after(call: &Call, reads: u32) -> u32
+    requires { reads < 2 ^ 32 - 1 }
+    ensures { result ≡ (if call_is_read call.now then reads + 1 else reads) }
 {
-    match got {
-        Got::Good => {}
-        Got::Bad => *bads = bads.saturating_add(1),
-        Got::Gone => count_reply(gones, slot, Reply::Gone),
-    }
+    if call.is_read() { reads + 1 } else { reads }
 }

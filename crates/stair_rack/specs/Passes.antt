@@ -8,6 +8,13 @@ use Rattle.stair_rack.specs.Answers.{Calls, Ran, reply_if}
 use Rattle.stair_rack.specs.Moments.{AtEveryMoment}
 use Rattle.stair_rack.specs.Offline.{IsHeld, IsOfflineUntilAttached, ButForOutside}
 use Rattle.stair_rack.specs.declared.rack.Reply.{Reply}
+use Rattle.stair_rack.specs.declared.pass.Pass.{Pass}
+use Rattle.stair_rack.specs.declared.pass.Pass.TheVariants as pass
+
+-- the call of a pass, with its answer
+abbrev pub call_of : Pass → Reply → SlotCall
+call_of (pass.Write k bytes) answer = Write k bytes answer
+call_of pass.Sync answer = Sync answer
 
 -- the call with some answer, on a slot of the set
 abbrev pub IsOn : Slots → (Reply → SlotCall) → ℕ → SlotCall → Type 0

@@ -1,19 +1,14 @@
 // A source over a reader.
 ghost use Rattle.std.specs.Prelude.{◌≡◌, ◌<◌, ◌≤◌, ◌↔◌, false, length, IsTrue};
-ghost use Rattle.std.specs.Io.{ReadsAtMost};
-ghost use Rattle.std.specs.Io.KnownBytes.{ReadConsumes};
 ghost use Rattle.stair_rack.specs.Count.{Rose};
 ghost use Rattle.stair_rack.specs.FromRead.{faults_after_take};
 ghost use Rattle.stair_rack.specs.Source.{TakeConsumes, TakesWithin};
 
 use crate::count::raised;
+use crate::retry::read_retrying;
 use crate::source::{Source, Taken};
-use std::io;
-use std::io::{ErrorKind, Read};
+use std::io::Read;
 use std::marker::Model;
-
-// How often one take tries a read again that was interrupted.
-const RETRIES: u32 = 16;
 
 /// A source over a reader. It tells the bytes that the reader is known to have left.
 ///
@@ -87,18 +82,4 @@ impl<T: Read + Drop> Source for FromRead<T> {
             }
         }
     }
-}
-
-// One read, tried again where it is interrupted.
-fn read_retrying<R: Read>(reader: &mut R, into: &mut [u8]) -> io::Result<usize>
-    ensures bound { ReadsAtMost result into.new }
-    ensures bytes { ReadConsumes (R.remaining reader.old) (R.remaining reader.new) result into.new }
-{
-    for _ in 0..RETRIES {
-        match reader.read(into) {
-            Err(e) if e.kind() == ErrorKind::Interrupted => {}
-            answer => return answer,
-        }
-    }
-    reader.read(into)
 }

@@ -1,19 +1,14 @@
 // A sink over a writer.
 ghost use Rattle.std.specs.Prelude.{◌≡◌, ◌<◌, ◌≤◌, length};
-ghost use Rattle.std.specs.Io.{WritesAtMost};
-ghost use Rattle.std.specs.Io.KnownBytes.{WriteAppends};
 ghost use Rattle.stair_rack.specs.Count.{Rose};
 ghost use Rattle.stair_rack.specs.FromWrite.{faults_after_put};
 ghost use Rattle.stair_rack.specs.Sink.{PutAppends, PutsWithin};
 
 use crate::count::raised;
+use crate::retry::write_retrying;
 use crate::sink::{Put, Sink};
-use std::io;
-use std::io::{ErrorKind, Write};
+use std::io::Write;
 use std::marker::Model;
-
-// How often one put tries a write again that was interrupted.
-const RETRIES: u32 = 16;
 
 /// A sink over a writer. It tells the bytes that the writer is known to hold.
 ///
@@ -66,18 +61,4 @@ impl<T: Write + Drop> Sink for FromWrite<T> {
             Ok(count) => Put::Bytes(count),
         }
     }
-}
-
-// One write, tried again where it is interrupted.
-fn write_retrying<W: Write>(writer: &mut W, from: &[u8]) -> io::Result<usize>
-    ensures bound { WritesAtMost result from.now }
-    ensures bytes { WriteAppends (W.contents writer.old) (W.contents writer.new) result from.now }
-{
-    for _ in 0..RETRIES {
-        match writer.write(from) {
-            Err(e) if e.kind() == ErrorKind::Interrupted => {}
-            answer => return answer,
-        }
-    }
-    writer.write(from)
 }

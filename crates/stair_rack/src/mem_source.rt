@@ -24,7 +24,7 @@ pub struct MemSource {
 }
 
 impl Model for MemSource {
-    ghost use Rattle.std.specs.Prelude.{◌≡◌, ◌≢◌, ◌<◌, ◌≤◌, Some, true, drop, vec_len};
+    ghost use Rattle.std.specs.Prelude.{◌≡◌, ◌<◌, ◌≤◌, Some, true, drop};
     ghost use Rattle.stair_rack.specs.MemSource.{MemSourceState, IsSoundMemSource};
 
     ghost Value = { MemSourceState };

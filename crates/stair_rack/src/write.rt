@@ -5,7 +5,8 @@ ghost use Rattle.stair_rack.specs.Count.{Rose};
 ghost use Rattle.stair_rack.specs.RackCounts.{NoneFalls};
 ghost use Rattle.stair_rack.specs.Passes.{Wrote};
 
-use crate::rack::{Rack, Reply};
+use crate::pass::{Pass, pass_over};
+use crate::rack::Rack;
 use stair_base::Slots;
 
 /// Writes a sector on each slot of `to`, in rising order, and answers those that were gone.
@@ -21,11 +22,5 @@ pub fn write_all<R: Rack>(rack: &mut R, to: Slots, sector: u32, from: &[u8; 512]
     ensures reads { R.reads rack.new ≡ R.reads rack.old }
     ensures well_formed { IsSlotSet result }
 {
-    let mut gone = Slots::empty();
-    for slot in 0..32u8 {
-        if to.has(slot) && rack.write(slot, sector, from) == Reply::Gone {
-            gone.add(slot);
-        }
-    }
-    gone
+    pass_over(rack, to, Pass::Write(sector, *from))
 }

@@ -1,73 +1,7 @@
--- Where the record is spent the slot is gone. Else the acts before the call are done, the slot answers, and the call is recorded.
-use Rattle.std.proofs.Common.{◌≡◌, ◌<◌, ◌≤◌, ◌∙◌, ℕ, refl, ap, subst, arith, false}
-use Rattle.std.specs.Prelude.{vec_len}
-use Rattle.stair_rack.specs.Answers.{sync_answer}
-use Rattle.stair_rack.specs.declared.rack.Reply.TheVariants as reply
+use Rattle.std.proofs.Common.{sym, ap, ◌∙◌}
 use Rattle.stair_memrack.specs.declared.record.Call.TheVariants.{Sync}
-use Rattle.stair_memrack.specs.Record.{MemRackState, has_room, moment, is_gone, after_call}
-use Rattle.stair_memrack.specs.Sound.{state_of}
-use Rattle.stair_memrack.proofs.ClauseLemmas.{clauses_of, sound_old, spent_room, spent_sync, spent_after, recorded_after, acted, sync_next, IsSound-spent, IsSound-recorded}
+use Rattle.stair_memrack.proofs.ClauseLemmas.{told_as}
 use Rattle.stair_memrack.proofs.rack.MemRackRack.sync.Goals as goal
 
-pub invariant_of-self : goal.invariant_of-self
-invariant_of-self c =
-    let r = c.self.inside in
-    let j : ℕ = c.args.slot in
-    let full : r.room ≤ vec_len r.log = omega arith in
-    IsSound-spent r _ j (Sync reply.Gone) c.self.invariant (spent_after r j (Sync reply.Gone) _ full refl c.count_reply.ensures) (spent_room r full) refl refl refl refl
-
-pub returns-then-len-self : goal.returns-then-len-self
-returns-then-len-self c =
-    let r = c.self.inside in
-    let j : ℕ = c.args.slot in
-    let old : MemRackState = c.args.self.now in
-    let full : r.room ≤ vec_len r.log = omega arith in
-    let none : has_room old ≡ false = subst (λ (s : MemRackState). has_room s ≡ false) c.self.view_is (spent_room r full) in
-    let is = spent_after r j (Sync reply.Gone) _ full refl c.count_reply.ensures ∙ ap (after_call j (Sync reply.Gone)) c.self.view_is in
-    let answered : reply.Gone ≡ sync_answer (moment old) j = spent_sync old j none in
-    let clauses = clauses_of old _ _ j (Sync reply.Gone) c.requires (sound_old r old c.self.view_is c.self.invariant) answered is in
-    record {
-      told = clauses.told;
-      counts = clauses.counts;
-      gone = λ gone. clauses.gone (ap is_gone gone);
-      reads = clauses.reads_kept refl;
-      answer = answered;
-      after = is;
-    }
-
-pub invariant_of-self-2 : goal.invariant_of-self-2
-invariant_of-self-2 c =
-    let r = c.self.inside in
-    let j : ℕ = c.args.slot in
-    let less : vec_len r.log < r.room = omega arith in
-    let acts = acted r c.len-2.result c.act_before.new.places.items c.act_before.new.stopped c.act_before.new.blanks.items c.self.invariant c.len-2.ensures less
-    c.act_before.ensures.shelf c.act_before.ensures.room c.act_before.ensures.blanks in
-    let next = sync_next (state_of r) c.act_before.new.places.items c.act_before.new.stopped c.act_before.new.blanks.items j c.index_mut.result.now c.requires
-    acts c.index_mut.ensures.value c.sync-reply.new.self c.sync-reply.result c.sync-reply.ensures.answer c.sync-reply.ensures.after in
-    IsSound-recorded r _ j (Sync c.sync-reply.result) c.self.invariant less
-    (recorded_after r j (Sync c.sync-reply.result) _ _ _ _ less c.push_reserved.ensures.items refl c.count_reply-2.ensures refl)
-    c.push_reserved.ensures.capacity next
-
-pub returns : goal.returns
-returns c =
-    let r = c.self.inside in
-    let j : ℕ = c.args.slot in
-    let old : MemRackState = c.args.self.now in
-    let less : vec_len r.log < r.room = omega arith in
-    let acts = acted r c.len-2.result c.act_before.new.places.items c.act_before.new.stopped c.act_before.new.blanks.items c.self.invariant c.len-2.ensures less
-    c.act_before.ensures.shelf c.act_before.ensures.room c.act_before.ensures.blanks in
-    let next = sync_next (state_of r) c.act_before.new.places.items c.act_before.new.stopped c.act_before.new.blanks.items j c.index_mut.result.now c.requires
-    acts c.index_mut.ensures.value c.sync-reply.new.self c.sync-reply.result c.sync-reply.ensures.answer c.sync-reply.ensures.after in
-    let answered : c.sync-reply.result ≡ sync_answer (moment old) j = next.answered ∙ ap (λ (s : MemRackState). sync_answer (moment s) j) c.self.view_is in
-    let is =
-    recorded_after r j (Sync c.sync-reply.result) _ _ _ _ less c.push_reserved.ensures.items refl c.count_reply-2.ensures refl
-    ∙ ap (after_call j (Sync c.sync-reply.result)) c.self.view_is in
-    let clauses = clauses_of old _ _ j (Sync c.sync-reply.result) c.requires (sound_old r old c.self.view_is c.self.invariant) answered is in
-    record {
-      told = clauses.told;
-      counts = clauses.counts;
-      gone = λ gone. clauses.gone (ap is_gone gone);
-      reads = clauses.reads_kept refl;
-      answer = answered;
-      after = is;
-    }
+pub returns-clause-told : goal.returns-clause-told
+returns-clause-told c = told_as (Sync c.reply.result) c.call.ensures.one (c.call.ensures.asked ∙ ap Sync (sym c.reply.ensures))

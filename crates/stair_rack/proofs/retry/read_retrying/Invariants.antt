@@ -1,6 +1,6 @@
 -- the reader has left what it had left
 use Rattle.std.specs.Io.KnownBytes.{Keeps}
-use Rattle.stair_rack.proofs.from_read.read_retrying.Given as goal
+use Rattle.stair_rack.proofs.retry.read_retrying.Given as goal
 
 abbrev pub invariant-loop : goal.invariant-loop
 invariant-loop g l = Keeps (g.R.Read.remaining l.initial.reader) (g.R.Read.remaining l.reader)

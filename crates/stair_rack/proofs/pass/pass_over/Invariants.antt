@@ -1,11 +1,11 @@
 -- the slots below this one were called
-use Rattle.stair_rack.specs.History.{Write}
+use Rattle.stair_rack.specs.Passes.{call_of}
 use Rattle.stair_rack.proofs.PassCounts.{PassSoFar}
-use Rattle.stair_rack.proofs.write.write_all.Given as goal
+use Rattle.stair_rack.proofs.pass.pass_over.Given as goal
 
 abbrev pub invariant-loop-slot : goal.invariant-loop-slot
 invariant-loop-slot g l =
-    PassSoFar (Write l.fn.sector l.fn.from) l.fn.to l.gone l.slot g.R.Rack.is_honest
+    PassSoFar (call_of l.fn.pass) l.fn.to l.gone l.slot g.R.Rack.is_honest
     (record {
       history = g.R.Rack.history l.initial.rack;
       bads = g.R.Rack.bads l.initial.rack;
