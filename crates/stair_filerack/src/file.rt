@@ -1,19 +1,15 @@
 // An image file, which may be open.
 ghost use Rattle.std.specs.Prelude.{◌≡◌, ◌≢◌, ◌≤◌, ◌<◌, take, is_some, IsSome, None, IfOk, MatchOption, OnOk};
-ghost use Rattle.std.specs.Io.{ReadsAtMost};
-ghost use Rattle.std.specs.Io.KnownBytes.{Consumes, Appends, IsAtEnd, ReadConsumes};
+ghost use Rattle.std.specs.Io.KnownBytes.{Consumes, Appends, IsAtEnd};
 ghost use Rattle.stair_image.specs.Seal.{sealed};
 ghost use Rattle.stair_filerack.specs.Files.{SeeksSector, ReadsSector, IsNoSector, ReadsNoSector, WritesSector, GoesOn, sectors_in};
 ghost use Rattle.stair_filerack.specs.Slot.{is_kept};
 
 use stair_image::{SECTOR_BYTES, seal, unseal};
-use stair_rack::{Got, Reply};
+use stair_rack::{Got, Reply, read_retrying};
 use std::fs::{Files, OpenFile, OpenOptions};
 use std::io;
-use std::io::{ErrorKind, Read, Seek, SeekFrom, Write};
-
-// How often one read of a file is tried again that was interrupted.
-const RETRIES: u32 = 16;
+use std::io::{Read, Seek, SeekFrom, Write};
 
 /// Opens an image file for reading and writing, and counts its sectors.
 pub(crate) fn open<F: Files>(runtime: &F, path: &str) -> io::Result<(F::File, u32)> {
@@ -169,20 +165,6 @@ fn read_full<T: Read>(file: &mut T, into: &mut [u8; 544]) -> io::Result<usize>
         filled += count;
     }
     Ok(filled)
-}
-
-// One read, tried again where it is interrupted.
-fn read_retrying<T: Read>(file: &mut T, into: &mut [u8]) -> io::Result<usize>
-    ensures bound { ReadsAtMost result into.new }
-    ensures bytes { ReadConsumes (T.remaining file.old) (T.remaining file.new) result into.new }
-{
-    for _ in 0..RETRIES {
-        match file.read(into) {
-            Err(e) if e.kind() == ErrorKind::Interrupted => {}
-            answer => return answer,
-        }
-    }
-    file.read(into)
 }
 
 // Writes a sector at the file's place.

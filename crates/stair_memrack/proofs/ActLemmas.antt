@@ -154,6 +154,10 @@ left_next n i acts act within at =
 
 module _ (n i : ℕ) (acts : List Act) (act : Act) (from : List PlaceState) (from_stop : Bool) (places : List PlaceState) (stop : Bool)
     (blanks : List (Option (List StoredSector))) where
+  sooner : (k : ℕ) (a : Act) → (n < a.at) ⊎ ((a.at ≡ n) × (i + 1 ≤ k)) → (n < a.at) ⊎ ((a.at ≡ n) × (i ≤ k))
+  sooner k a (inl later) = inl later
+  sooner k a (inr both) = inr (both.0, omega (arith, both.1))
+
   -- the act stands before another call
   pub ActsDone-skip : i < length acts → get_or acts i act ≡ act → act.at ≢ n → ActsDone n i acts from from_stop places stop blanks
       → ActsDone n (i + 1) acts from from_stop places stop blanks
@@ -169,10 +173,6 @@ module _ (n i : ℕ) (acts : List Act) (act : Act) (from : List PlaceState) (fro
         subst (λ m. HasRoom places (m + acts_from (n + 1) acts)) same done.room;
     blanks_left = record { count = done.blanks_left.count; each = λ k a below is may. done.blanks_left.each k a below is (sooner k a may) };
   }
-    where
-      sooner : (k : ℕ) (a : Act) → (n < a.at) ⊎ ((a.at ≡ n) × (i + 1 ≤ k)) → (n < a.at) ⊎ ((a.at ≡ n) × (i ≤ k))
-      sooner k a (inl later) = inl later
-      sooner k a (inr both) = inr (both.0, omega (arith, both.1))
 
   -- the act is done
   pub ActsDone-act : (blank : Option (List StoredSector)) (places' : List PlaceState) (stop' : Bool) (blanks' : List (Option (List StoredSector)))
@@ -205,10 +205,6 @@ module _ (n i : ℕ) (acts : List Act) (act : Act) (from : List PlaceState) (fro
     };
   }
     where
-      sooner : (k : ℕ) (a : Act) → (n < a.at) ⊎ ((a.at ≡ n) × (i + 1 ≤ k)) → (n < a.at) ⊎ ((a.at ≡ n) × (i ≤ k))
-      sooner k a (inl later) = inl later
-      sooner k a (inr both) = inr (both.0, omega (arith, both.1))
-
       gone : (k : ℕ) (a : Act) → k ≡ i → get_or acts k a ≡ a → (n < a.at) ⊎ ((a.at ≡ n) × (i + 1 ≤ k)) → ⊥
       gone k a same is (inl later) =
           let e : a ≡ act = sym is ∙ ap (λ m. get_or acts m a) same ∙ get_or_default acts i a act within ∙ at in

@@ -4,11 +4,9 @@ use Rattle.std.specs.Prelude.{if◌then◌else◌, nat_lt, slice_set}
 use Rattle.std.proofs.lemmas.Bool.{cases_eq, cases_Bool, ltb-false, ltb-true, and_parts}
 use Rattle.stair_rack.specs.Sector.{content}
 use Rattle.stair_rack.specs.Media.{has_sector}
-use Rattle.stair_rack.specs.History.{SlotCall, SlotState, Event, Called, after_call, slot_state, stopped}
+use Rattle.stair_rack.specs.History.{SlotCall, SlotState, Event, Called, after_call, slot_state}
 use Rattle.stair_rack.specs.Answers.{IsAnswered, is_ready, is_good, is_readable, reply_if, attach_answer, read_answer, write_answer, sync_answer}
-use Rattle.stair_rack.specs.declared.rack.Reply.{Reply}
 use Rattle.stair_rack.specs.declared.rack.Reply.TheVariants as reply
-use Rattle.stair_rack.specs.declared.rack.Got.{Got}
 use Rattle.stair_rack.specs.declared.rack.Got.TheVariants as got
 use Rattle.stair_rack.proofs.StepLemmas.{slot_after_call, slot_after_call_elsewhere}
 use Rattle.stair_memrack.specs.declared.disk.StoredSector.{StoredSector}

@@ -1,22 +1,19 @@
 -- The clauses of a call, from its answer and from what the rack is afterwards.
-use Rattle.std.proofs.Common.{◌≡◌, ℕ, ◌<◌, ◌≤◌, ◌+◌, Bool, true, false, List, [], ◌∷◌, ◌++◌, length, reverse, get_or, refl, sym, ap, ◌∙◌, subst, arith, Option, Some}
-use Rattle.std.specs.Prelude.{if◌then◌else◌, ◌&&◌, is_some, slice_index, slice_set, vec_len, vec_capacity}
+use Rattle.std.proofs.Common.{◌≡◌, ℕ, ◌<◌, ◌≤◌, ◌+◌, Bool, true, false, List, [], ◌∷◌, ◌++◌, length, reverse, get_or, refl, sym, ap, ◌∙◌, subst, arith, Option}
+use Rattle.std.specs.Prelude.{if◌then◌else◌, ◌&&◌, is_some, slice_set, vec_len, vec_capacity}
 use Rattle.stair_rack.specs.Media.{has_sector}
 use Rattle.std.proofs.lemmas.Bool.{cond-true, cond-false, and_right, lt-ltb, le-ltb}
 use Rattle.std.proofs.lemmas.List.{get_or_read, length-reverse}
-use Rattle.stair_rack.specs.Count.{Rose, one_more}
+use Rattle.stair_rack.specs.Count.{one_more}
 use Rattle.stair_rack.specs.Sector.{Good, content}
 use Rattle.stair_rack.specs.History.{Event, Stopped, Called, slot_state}
 use Rattle.stair_rack.specs.Answers.{IsAnswered, Calls, reply_if, attach_answer, read_answer, write_answer, sync_answer}
-use Rattle.stair_rack.specs.RackCounts.{NoneFalls}
-use Rattle.stair_rack.specs.declared.rack.Reply.{Reply}
 use Rattle.stair_rack.specs.declared.rack.Reply.TheVariants as reply
-use Rattle.stair_rack.specs.declared.rack.Got.{Got}
 use Rattle.stair_rack.specs.declared.rack.Got.TheVariants as got
 use Rattle.stair_memrack.specs.declared.record.Ask.{Ask}
 use Rattle.stair_memrack.specs.declared.record.Ask.TheVariants as ask
 use Rattle.stair_memrack.specs.declared.record.Call.{Call}
-use Rattle.stair_memrack.specs.declared.record.Call.TheVariants.{Attach, Sectors, Read, Write, Sync}
+use Rattle.stair_memrack.specs.declared.record.Call.TheVariants.{Read}
 use Rattle.stair_memrack.specs.declared.record.Recorded.{Recorded}
 use Rattle.stair_memrack.specs.declared.rack.MemRack.TheInside.{Inside}
 use Rattle.stair_memrack.specs.declared.disk.StoredSector.{StoredSector}
@@ -30,7 +27,7 @@ use Rattle.stair_memrack.specs.Sound.{state_of, IsSoundRecord, IsSound}
 use Rattle.stair_memrack.proofs.RunLemmas.{calls_of}
 use Rattle.stair_memrack.specs.OneCall.{IsOneCall}
 use Rattle.stair_memrack.proofs.CallLemmas.{IsCalled, called}
-use Rattle.stair_memrack.proofs.RecordLemmas.{gones_after, state-recorded, state-spent, reverse-push, record_sound, none_falls, gone_rose, bad_rose, counts_reads}
+use Rattle.stair_memrack.proofs.RecordLemmas.{gones_after, state-recorded, state-spent, reverse-push, record_sound, none_falls, gone_rose, bad_rose, counts_reads, spent_gone}
 
 one_call_at : (s : MemRackState) (capacity j : ℕ) (call : Call) → j < 32 → IsSoundRecord s capacity → IsAnswered (moment s) j (slot_call call)
     → IsOneCall s (after_call j call s) j call
@@ -195,8 +192,7 @@ spent_attach s j none =
     sym (ap (λ h. attach_answer h j) (moment-spent s none) ∙ ap reply_if (and_right (is_some (slot_state (recorded s) j).size) false refl))
 
 spent_read : (s : MemRackState) (j k : ℕ) → has_room s ≡ false → got.Gone ≡ read_answer (moment s) j k
-spent_read s j k none =
-    sym (ap (λ h. read_answer h j k) (moment-spent s none) ∙ cond-false _ _ _ (and_right (slot_state (recorded s) j).attached false refl))
+spent_read s j k none = sym (spent_gone s j k none)
 
 spent_write : (s : MemRackState) (j k : ℕ) → has_room s ≡ false → reply.Gone ≡ write_answer (moment s) j k
 spent_write s j k none =

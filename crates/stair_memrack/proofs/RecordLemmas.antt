@@ -11,6 +11,7 @@ use Rattle.stair_rack.specs.RackCounts.{IsLaterCount, NoneFalls, CountsRead}
 use Rattle.stair_rack.specs.declared.rack.Got.{Got}
 use Rattle.stair_rack.specs.declared.rack.Got.TheVariants as got
 use Rattle.stair_rack.proofs.StepLemmas.{slot_after_call}
+use Rattle.stair_rack.proofs.PassCounts.{IsLaterCount-same}
 use Rattle.stair_memrack.specs.declared.record.Call.{Call}
 use Rattle.stair_memrack.specs.declared.record.Call.TheVariants.{Attach, Sectors, Read, Write, Sync}
 use Rattle.stair_memrack.specs.declared.record.Recorded.{Recorded}
@@ -53,9 +54,6 @@ one_more-rose n fits = grind arith
 one_more-later : (n : ℕ) → n < 2 ^ 64 → IsLaterCount n (one_more n)
 one_more-later n fits = record { not_less = grind arith; fits = λ h. one_more-fits n }
 
-later_same : (n : ℕ) → IsLaterCount n n
-later_same n = record { not_less = omega arith; fits = λ h. h }
-
 -- a count that rose, and the others
 set_cases : (P : ℕ → Type 0) (xs : List ℕ) (j i x : ℕ) → (i ≡ j → P x) → P (slice_index xs i) → P (slice_index (slice_set xs j x) i)
 set_cases P xs j i x here there =
@@ -79,8 +77,8 @@ gones-later : (gone : Bool) (j : ℕ) (gones : List ℕ) → ((i : ℕ) → slic
 gones-later true j gones fit i =
     set_cases (IsLaterCount (slice_index gones i)) gones j i (one_more (slice_index gones j))
     (λ same. subst (λ n. IsLaterCount (slice_index gones n) (one_more (slice_index gones j))) (sym same) (one_more-later (slice_index gones j) (fit j)))
-    (later_same (slice_index gones i))
-gones-later false j gones fit i = later_same (slice_index gones i)
+    (IsLaterCount-same (slice_index gones i))
+gones-later false j gones fit i = IsLaterCount-same (slice_index gones i)
 
 gones-count : (gone : Bool) (j : ℕ) (gones : List ℕ) → length (gones_after gone j gones) ≡ length gones
 gones-count true j gones = length-set gones j (one_more (slice_index gones j))
@@ -92,7 +90,7 @@ bads-fit false n fits = fits
 
 bads-later : (bad : Bool) (n : ℕ) → n < 2 ^ 64 → IsLaterCount n (if bad then one_more n else n)
 bads-later true n fits = one_more-later n fits
-bads-later false n fits = later_same n
+bads-later false n fits = IsLaterCount-same n
 
 reads-within : (read : Bool) (n m : ℕ) → n ≤ m → (if read then n + 1 else n) ≤ suc m
 reads-within true n m less = omega arith
@@ -167,7 +165,7 @@ module _ (s : MemRackState) (capacity j : ℕ) (call : Call) (sound : IsSoundRec
 
 -- READS
 
-spent_gone : (s : MemRackState) (j k : ℕ) → has_room s ≡ false → read_answer (moment s) j k ≡ got.Gone
+pub spent_gone : (s : MemRackState) (j k : ℕ) → has_room s ≡ false → read_answer (moment s) j k ≡ got.Gone
 spent_gone s j k none =
     ap (λ h. read_answer h j k) (cond-false (has_room s) _ (Stopped ∷ recorded s) none) ∙ cond-false _ _ _ (and_right _ _ refl)
 

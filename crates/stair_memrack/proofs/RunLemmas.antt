@@ -2,7 +2,6 @@
 use Rattle.std.proofs.Common.{◌≡◌, ℕ, ◌<◌, Bool, true, false, not, ◌&&◌, List, [], ◌∷◌, ◌++◌, length, inl, inr, refl, sym, ap, ◌∙◌, subst, arith, Option, None, Some}
 use Rattle.std.specs.Prelude.{is_some, if◌then◌else◌, ◌==◌, nat_lt, unwrap_or}
 use Rattle.std.proofs.lemmas.Bool.{cond-true, cond-false, cases_Bool, and_parts, and_right, ltb-true, false≢true}
-use Rattle.stair_rack.specs.Sector.{Cell, newest, LeftOf}
 use Rattle.stair_rack.specs.Media.{has_sector}
 use Rattle.stair_rack.specs.Crash.{Settles}
 use Rattle.stair_rack.specs.History.{SlotAct, Pulled, InsertedBlank, InsertedOld, SectorDamaged, SlotCall, SlotState, Event, Made, Stopped, Acted, Called, slot_state, stopped}
@@ -10,6 +9,7 @@ use Rattle.stair_rack.specs.History as slot
 use Rattle.stair_rack.specs.Outside.{MayHappen, IsAct}
 use Rattle.stair_rack.specs.Answers.{IsAnswered, IsUntold, Runs, Ran, Calls, Told, Untold, no_call, reply_if}
 use Rattle.stair_rack.proofs.MomentLemmas.{ran_none, ran_join}
+use Rattle.stair_rack.proofs.CrashLemmas.{newest_left}
 use Rattle.stair_memrack.specs.declared.act.Act.{Act}
 use Rattle.stair_memrack.specs.declared.act.What.{What}
 use Rattle.stair_memrack.specs.declared.act.What.TheVariants.{Pull, InsertBlank, InsertOld, Damage, Stop}
@@ -18,10 +18,6 @@ use Rattle.stair_memrack.specs.Script.{medium_now, act_where, followed_by, after
 use Rattle.stair_memrack.specs.Record.{MemRackState, slot_call, recorded, history_of, has_room, moment, with_call, counted, after_call}
 
 -- ACTS
-
-leaves_now : (base : Cell) (since : List (List ℕ)) → LeftOf base since (newest base since)
-leaves_now base [] = refl
-leaves_now base (bytes ∷ since) = inl refl
 
 some_size : (size : Option ℕ) → is_some size ≡ true → size ≡ Some (unwrap_or size 0)
 some_size None some = absurd (false≢true some)
@@ -32,7 +28,7 @@ no_size None none = refl
 no_size (Some n) none = absurd (false≢true none)
 
 pub settles_now : (b : SlotState) → is_some b.size ≡ true → Settles b (medium_now b)
-settles_now b full = record { size = some_size b.size full; each = λ k. leaves_now (b.sector k).base (b.sector k).since }
+settles_now b full = record { size = some_size b.size full; each = λ k. newest_left (b.sector k).base (b.sector k).since }
 
 ran_act : (h : List Event) (e : Event) → IsAct h e → Ran no_call h (e ∷ h)
 ran_act h e may = record { more = e ∷ []; is = refl; runs = (tt, inl may) }

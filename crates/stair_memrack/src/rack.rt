@@ -213,7 +213,8 @@ impl Rack for MemRack {
         ensures answer { result ≡ write_answer (moment self.old) slot sector }
         ensures after { self.new ≡ after_call slot (Call.Write sector from.now result) self.old }
     {
-        self.call(slot, &Ask::Write(sector, *from), &mut [0; 512]).reply()
+        self.call(slot, &Ask::Write(sector, *from), &mut [0; 512])
+            .reply()
     }
 
     fn sync(&mut self, slot: u8) -> Reply

@@ -1,7 +1,7 @@
 -- What a crash may leave of sectors, through acts and calls.
-use Rattle.std.proofs.Common.{◌≡◌, ℕ, ◌<◌, Bool, true, false, List, [], ◌∷◌, ◌++◌, ◌⊎◌, inl, inr, refl, sym, ap, ◌∙◌, subst}
+use Rattle.std.proofs.Common.{◌≡◌, ℕ, ◌<◌, List, [], ◌∷◌, ◌++◌, ◌⊎◌, inl, inr, refl, sym, ap, ◌∙◌, subst}
 use Rattle.std.specs.Prelude.{⊤, IsTrue, IsSome, is_some, not, ◌&&◌, ◌==◌, if◌then◌else◌}
-use Rattle.std.proofs.lemmas.Bool.{cases_eq, cond-true, cond-false, eq-eqb, ne_eqb}
+use Rattle.std.proofs.lemmas.Bool.{and_right, cases_eq, cond-true, cond-false, eq-eqb, ne_eqb}
 use Rattle.stair_rack.specs.Sector.{Cell, Good, Damaged, Sector, settled, damaged, newest, content, wrote, synced, torn, LeftOf, MayLeave, Leaves}
 use Rattle.stair_rack.specs.Media.{Medium, SlotImage, Image, has_sector}
 use Rattle.stair_rack.specs.History.{SlotCall, Attach, Sectors, Read, Write, Sync, Event, Made, Stopped, Acted, Called, SlotState, slot_state, stopped}
@@ -18,7 +18,7 @@ use Rattle.stair_rack.proofs.OfflineLemmas.{keeps_stopped, unready_when_stopped}
 
 -- ONE SECTOR
 
-newest_left : (base : Cell) (since : List (List ℕ)) → LeftOf base since (newest base since)
+pub newest_left : (base : Cell) (since : List (List ℕ)) → LeftOf base since (newest base since)
 newest_left base [] = refl
 newest_left base (bytes ∷ since) = inl refl
 
@@ -224,11 +224,7 @@ IsRefused j (Write k bytes answer) = answer ≡ reply.Gone
 IsRefused j (Sync answer) = answer ≡ reply.Gone
 
 refused : (h : List Event) (j : ℕ) (c : SlotCall) → IsTrue (stopped h) → IsAnswered h j c → IsRefused j c
-refused h j (Attach answer) is answered = answered ∙ ap reply_if (and_not (is_some (slot_state h j).size) (stopped h) is)
-  where
-    and_not : (a s : Bool) → s ≡ true → (a && not s) ≡ false
-    and_not true s is = ap not is
-    and_not false s is = refl
+refused h j (Attach answer) is answered = answered ∙ ap reply_if (and_right (is_some (slot_state h j).size) (not (stopped h)) (ap not is))
 refused h j (Sectors size) is answered = tt
 refused h j (Read k answer) is answered = answered ∙ cond-false _ _ _ (unready_when_stopped h j is)
 refused h j (Write k bytes answer) is answered =

@@ -1,7 +1,7 @@
 -- Slots that are held or offline, and racks that are stopped, through acts and calls.
 use Rattle.std.proofs.Common.{◌≡◌, ℕ, ◌<◌, ◌≤◌, Bool, true, false, List, ◌∷◌, ◌⊎◌, inl, inr, refl, sym, ap, ◌∙◌, subst, arith, slice_get, true≢false, Option, None, Some, if◌then◌else◌}
 use Rattle.std.specs.Prelude.{IsSome, IsTrue, is_some, not, ◌&&◌}
-use Rattle.std.proofs.lemmas.Bool.{cases_Bool, false≢true}
+use Rattle.std.proofs.lemmas.Bool.{and_right, cases_Bool, false≢true}
 use Rattle.stair_rack.specs.Media.{has_sector}
 use Rattle.stair_rack.specs.History.{SlotAct, Pulled, InsertedBlank, InsertedOld, SectorDamaged, SlotCall, Attach, Sectors, Read, Write, Sync, Event, Made, Stopped, Acted, Called, SlotState, after_act, after_attach, after_write, after_sync, after_call, slot_state, stopped}
 use Rattle.stair_rack.specs.Outside.{MayHappen, IsAct}
@@ -44,11 +44,7 @@ pub stopped_from_unready : (h : List Event) (j : ℕ) → is_ready h j ≡ false
 stopped_from_unready h j unready attached = not-false (stopped h) (and-false (slot_state h j).attached (not (stopped h)) unready attached)
 
 pub unready_when_stopped : (h : List Event) (j : ℕ) → IsTrue (stopped h) → is_ready h j ≡ false
-unready_when_stopped h j is_stopped = unready (slot_state h j).attached (stopped h) is_stopped
-  where
-    unready : (a s : Bool) → s ≡ true → (a && not s) ≡ false
-    unready true s is = ap not is
-    unready false s is = refl
+unready_when_stopped h j is_stopped = and_right (slot_state h j).attached (not (stopped h)) (ap not is_stopped)
 
 -- a read is answered Gone where the slot isn't ready
 pub read_unready : (h : List Event) (j k : ℕ) → got.Gone ≡ read_answer h j k → is_ready h j ≡ false

@@ -1,5 +1,5 @@
 // The files of a runtime, with a fault.
-ghost use Rattle.std.specs.Prelude.{◌≤◌, IfOk, IsErr};
+ghost use Rattle.std.specs.Prelude.{IsErr};
 
 use std::alloc::Allocator;
 use std::fs::{Files, Metadata, OpenFile, OpenOptions};
@@ -9,22 +9,16 @@ use std::io::{ErrorKind, Read, Seek, SeekFrom, Write};
 // What fails of each file that is opened.
 #[derive(Clone, Copy, Debug, Drop)]
 pub(super) enum Fault {
-    None,
     // Its length isn't told.
     Measure,
-    Seek,
-    Read,
-    Write,
+    // Its data isn't synced.
     Sync,
-    // Nothing fails for good: a read or a write is interrupted, or takes 200 bytes at most, in turn.
-    Pieces,
+    // Every second read or write is interrupted.
+    Interruptions,
 }
 
 #[derive(Drop)]
-pub(super) struct Faulty<'a, R: Files> {
-    pub(super) inner: &'a R,
-    pub(super) fault: Fault,
-}
+pub(super) struct Faulty<'a, R: Files>(pub(super) &'a R, pub(super) Fault);
 
 #[derive(Drop)]
 pub(super) struct FaultyFile<T> {
@@ -40,39 +34,26 @@ fn broken<T>() -> io::Result<T>
 }
 
 impl<T> FaultyFile<T> {
-    // How many of so many bytes are read or written next.
-    fn piece(&mut self, bytes: usize) -> io::Result<usize>
-        ensures { IfOk result (λ count. count ≤ bytes) }
-    {
-        if !matches!(self.fault, Fault::Pieces) {
-            return Ok(bytes);
-        }
-        self.interrupted = !self.interrupted;
+    fn interrupt(&mut self) -> io::Result<()> {
+        self.interrupted = matches!(self.fault, Fault::Interruptions) && !self.interrupted;
         if self.interrupted {
-            Err(io::Error::from(ErrorKind::Interrupted))
-        } else {
-            Ok(bytes.min(200))
+            return Err(io::Error::from(ErrorKind::Interrupted));
         }
+        Ok(())
     }
 }
 
 impl<T: Read> Read for FaultyFile<T> {
     fn read(&mut self, buf: &mut [u8]) -> io::Result<usize> {
-        if matches!(self.fault, Fault::Read) {
-            return broken();
-        }
-        let count = self.piece(buf.len())?;
-        self.inner.read(&mut buf[..count])
+        self.interrupt()?;
+        self.inner.read(buf)
     }
 }
 
 impl<T: Write> Write for FaultyFile<T> {
     fn write(&mut self, buf: &[u8]) -> io::Result<usize> {
-        if matches!(self.fault, Fault::Write) {
-            return broken();
-        }
-        let count = self.piece(buf.len())?;
-        self.inner.write(&buf[..count])
+        self.interrupt()?;
+        self.inner.write(buf)
     }
 
     fn flush(&mut self) -> io::Result<()> {
@@ -82,37 +63,35 @@ impl<T: Write> Write for FaultyFile<T> {
 
 impl<T: Seek> Seek for FaultyFile<T> {
     fn seek(&mut self, to: SeekFrom) -> io::Result<u64> {
-        if matches!(self.fault, Fault::Seek) {
-            return broken();
-        }
         self.inner.seek(to)
     }
 }
 
 impl<T: OpenFile> OpenFile for FaultyFile<T> {
     fn metadata(&self) -> io::Result<Metadata> {
-        if matches!(self.fault, Fault::Measure) {
-            return broken();
+        match self.fault {
+            Fault::Measure => broken(),
+            _ => self.inner.metadata(),
         }
-        self.inner.metadata()
     }
 
-    fn set_len(&self, size: u64) -> io::Result<()> {
-        self.inner.set_len(size)
+    fn set_len(&self, _size: u64) -> io::Result<()> {
+        broken()
     }
 
     fn sync_all(&self) -> io::Result<()> {
-        self.inner.sync_all()
+        broken()
     }
 
     fn sync_data(&self) -> io::Result<()> {
-        if matches!(self.fault, Fault::Sync) {
-            return broken();
+        match self.fault {
+            Fault::Sync => broken(),
+            _ => self.inner.sync_data(),
         }
-        self.inner.sync_data()
     }
 }
 
+// It opens files, and does nothing else.
 impl<R: Files> Files for Faulty<'_, R> {
     type File = FaultyFile<R::File>;
 
@@ -120,45 +99,45 @@ impl<R: Files> Files for Faulty<'_, R> {
 
     fn open_file(&self, how: &OpenOptions, path: &str) -> io::Result<FaultyFile<R::File>> {
         Ok(FaultyFile {
-            inner: self.inner.open_file(how, path)?,
-            fault: self.fault,
+            inner: self.0.open_file(how, path)?,
+            fault: self.1,
             interrupted: false,
         })
     }
 
-    fn open_dir(&self, path: &str) -> io::Result<R::Dir> {
-        self.inner.open_dir(path)
+    fn open_dir(&self, _path: &str) -> io::Result<R::Dir> {
+        broken()
     }
 
-    fn metadata(&self, path: &str) -> io::Result<Metadata> {
-        self.inner.metadata(path)
+    fn metadata(&self, _path: &str) -> io::Result<Metadata> {
+        broken()
     }
 
-    fn symlink_metadata(&self, path: &str) -> io::Result<Metadata> {
-        self.inner.symlink_metadata(path)
+    fn symlink_metadata(&self, _path: &str) -> io::Result<Metadata> {
+        broken()
     }
 
-    fn copy(&self, from: &str, to: &str) -> io::Result<u64> {
-        self.inner.copy(from, to)
+    fn copy(&self, _from: &str, _to: &str) -> io::Result<u64> {
+        broken()
     }
 
-    fn rename(&self, from: &str, to: &str) -> io::Result<()> {
-        self.inner.rename(from, to)
+    fn rename(&self, _from: &str, _to: &str) -> io::Result<()> {
+        broken()
     }
 
-    fn remove_file(&self, path: &str) -> io::Result<()> {
-        self.inner.remove_file(path)
+    fn remove_file(&self, _path: &str) -> io::Result<()> {
+        broken()
     }
 
-    fn create_dir(&self, path: &str) -> io::Result<()> {
-        self.inner.create_dir(path)
+    fn create_dir(&self, _path: &str) -> io::Result<()> {
+        broken()
     }
 
-    fn remove_dir(&self, path: &str) -> io::Result<()> {
-        self.inner.remove_dir(path)
+    fn remove_dir(&self, _path: &str) -> io::Result<()> {
+        broken()
     }
 
-    fn remove_dir_all<B: Allocator>(&self, alloc: B, path: &str) -> io::Result<()> {
-        self.inner.remove_dir_all(alloc, path)
+    fn remove_dir_all<B: Allocator>(&self, _alloc: B, _path: &str) -> io::Result<()> {
+        broken()
     }
 }

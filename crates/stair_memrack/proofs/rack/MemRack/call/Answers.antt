@@ -1,13 +1,12 @@
 -- Where the record is spent the slot refuses. Else the acts before the call are done, the slot answers, and the call is recorded.
-use Rattle.std.proofs.Common.{◌≡◌, ◌<◌, ◌≤◌, ◌∙◌, ℕ, List, refl, sym, ap, subst, arith, false}
+use Rattle.std.proofs.Common.{◌≡◌, ◌<◌, ◌≤◌, ◌∙◌, ℕ, List, refl, sym, ap, subst, arith}
 use Rattle.std.specs.Prelude.{vec_len}
 use Rattle.stair_rack.specs.Sector.{Good, content}
 use Rattle.stair_rack.specs.History.{SlotState, slot_state}
 use Rattle.stair_rack.specs.Answers.{IsAnswered}
 use Rattle.stair_rack.specs.declared.rack.Got.TheVariants as got
 use Rattle.stair_memrack.specs.declared.record.Call.{Call}
-use Rattle.stair_memrack.specs.declared.record.Call.TheVariants.{Read}
-use Rattle.stair_memrack.specs.Record.{MemRackState, slot_call, IsAnswerTo, has_room, moment, history_of, after_call}
+use Rattle.stair_memrack.specs.Record.{MemRackState, slot_call, IsAnswerTo, moment, history_of, after_call}
 use Rattle.stair_memrack.specs.Sound.{state_of}
 use Rattle.stair_memrack.proofs.RecordLemmas.{after_read}
 use Rattle.stair_memrack.proofs.ClauseLemmas.{one_call, sound_old, spent_room, spent_answered, spent_after, recorded_after, acted, next_of, read_bytes, answer_asked, refusal_asked, refusal_not_good, IsSound-spent, IsSound-recorded}
