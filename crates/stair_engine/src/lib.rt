@@ -120,9 +120,10 @@ fn work<S: Source, K: Sink, L: Ledger>(
     ensures steps { CountsSteps (command_of job) (one_stripe job) result steps.old steps.new }
 {
     match geometry_of(&job) {
-        Ok(geometry) => run(alloc, &job, &geometry, input, output, steps).unwrap_or_else(
-            Status::from,
-        ),
+        Ok(geometry) => {
+            let done = run(alloc, &job, &geometry, input, output, steps);
+            done.unwrap_or_else(Status::from)
+        }
         Err(fault) => Status::Limit(fault.limit),
     }
 }

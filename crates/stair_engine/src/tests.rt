@@ -171,48 +171,49 @@ fn bytes_of(alloc: Global, bytes: Bytes) -> Result<Vec<u8>, AllocError> {
     Ok(whole)
 }
 
-// The status of a call, and what was put out.
-fn run(
-    alloc: Global,
-    line: &str,
-    input: Bytes,
-    ends: Ends,
-) -> Result<(Status, Vec<u8>), AllocError> {
-    run_on::<Brand>(Blank::new(1), alloc, line, input, ends)
+// What came of a call, and what was put out.
+#[derive(Drop)]
+struct Outcome {
+    status: Status,
+    put: Vec<u8>,
+}
+
+fn run(alloc: Global, words: &[String], bytes: &[u8], ends: Ends) -> Result<Outcome, AllocError> {
+    run_on::<Brand>(Blank::new(1), alloc, words, bytes, ends)
 }
 
 // The same, with the counter on a ledger of its own.
 fn run_on<L: Ledger>(
     blank: Blank,
     alloc: Global,
-    line: &str,
-    input: Bytes,
+    words: &[String],
+    bytes: &[u8],
     ends: Ends,
-) -> Result<(Status, Vec<u8>), AllocError>
+) -> Result<Outcome, AllocError>
     requires name { blank.name ≡ L.name }
     requires parts { blank.parts ≡ L.parts }
     requires some { 0 < L.parts }
 {
+    let (fail_at, room) = ends;
+    let mut input = MemSource::new(alloc, bytes, 100, fail_at)?;
+    let mut output = MemSink::new(alloc, room)?;
     let mut steps = Steps::<L>::new(blank);
-    let words = words_of(alloc, line)?;
-    let mut source = MemSource::new(alloc, &bytes_of(alloc, input)?, 100, ends.0)?;
-    let mut sink = MemSink::new(alloc, ends.1)?;
-    let status = stair(alloc, &words, &mut source, &mut sink, &mut steps);
-    Ok((status, sink.bytes().to_vec(alloc)?))
+    let status = stair(alloc, words, &mut input, &mut output, &mut steps);
+    let put = output.bytes().to_vec(alloc)?;
+    Ok(Outcome { status, put })
 }
 
 // Every clause allows a body that always wants memory: this is what refuses it.
 #[test]
 fn each_command_is_done_and_a_fault_ends_it(rt: HostRuntime) -> Result<(), Fail> {
     for (line, input, ends, status, put) in CALLS {
-        let (came, held) = run(rt.alloc(), line, input, ends)?;
-        let whole = bytes_of(rt.alloc(), put)?;
-        let count = whole.len().min(ends.1);
-        assert_eq!(rt; came, status, "{line} {input:?} {ends:?}");
-        assert!(rt;
-            held.as_slice() == &whole[..count],
-            "{line} {input:?} {ends:?}"
-        );
+        let bytes = bytes_of(rt.alloc(), input)?;
+        let words = words_of(rt.alloc(), line)?;
+        let came = run(rt.alloc(), &words, &bytes, ends)?;
+        let mut front = bytes_of(rt.alloc(), put)?;
+        front.truncate(ends.1);
+        assert_eq!(rt; came.status, status, "{line} {input:?} {ends:?}");
+        assert!(rt; came.put == front, "{line} {input:?} {ends:?}");
     }
     Ok(())
 }

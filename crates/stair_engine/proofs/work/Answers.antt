@@ -16,12 +16,12 @@ status_is status (Err fault) is = is
 
 pub returns-in-Ok-clause-does : goal.returns-in-Ok-clause-does
 returns-in-Ok-clause-does g c =
-    let is : c.unwrap_or_else.result ≡ status_of c.run.result = status_is _ c.run.result c.unwrap_or_else.ensures in
+    let is : c.unwrap_or_else.result ≡ status_of c.run-done.result = status_is _ c.run-done.result c.unwrap_or_else.ensures in
     subst
     (λ (of : Geometry). Does g.S.Source.left g.S.Source.ended g.S.Source.faults g.K.Sink.held g.K.Sink.faults (command_of c.args.job) of
-    c.args.input.now c.run.new.input c.args.output.now c.run.new.output c.unwrap_or_else.result)
+    c.args.input.now c.run-done.new.input c.args.output.now c.run-done.new.output c.unwrap_or_else.result)
     c.in-Ok.ensures.ok
     (subst
     (λ (status : Status). Does g.S.Source.left g.S.Source.ended g.S.Source.faults g.K.Sink.held g.K.Sink.faults (command_of c.args.job) c.in-Ok.geometry
-    c.args.input.now c.run.new.input c.args.output.now c.run.new.output status)
-    (sym is) c.run.ensures.does)
+    c.args.input.now c.run-done.new.input c.args.output.now c.run-done.new.output status)
+    (sym is) c.run-done.ensures.does)

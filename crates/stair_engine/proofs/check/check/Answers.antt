@@ -1,5 +1,5 @@
 -- The first equation that is broken, and where the sink fails.
-use Rattle.std.proofs.Common.{◌≡◌, arith, refl, rules}
+use Rattle.std.proofs.Common.{arith, refl, rules}
 use Rattle.std.specs.Prelude.{IsNone}
 use Rattle.std.proofs.KnownBytes.{Keeps-refl}
 use Rattle.stair_engine.specs.Answer.{codeword_line}

@@ -1,5 +1,5 @@
 -- The cells that are put out are those of the stripe that encodes the blocks that were taken.
-use Rattle.std.proofs.Common.{refl, rules, subst, sym}
+use Rattle.std.proofs.Common.{refl, subst, sym}
 use Rattle.std.specs.List.{concat}
 use Rattle.stair_model.specs.Encoding.{IsEncodedFrom}
 use Rattle.stair_model.specs.Geometry.{Geometry}
