@@ -17,6 +17,11 @@ fn read(rack: &mut impl Rack, sector: u32) -> (Got, u8) {
     (rack.read(3, sector, &mut into), into[511])
 }
 
+// What is read of the first four sectors.
+fn read_all(rack: &mut impl Rack) -> [(Got, u8); 4] {
+    [0, 1, 2, 3].map(|sector| read(rack, sector))
+}
+
 #[test]
 fn real_files(rt: HostRuntime) -> Result<(), Fail> {
     let (folder, path) = ("real_files", "real_files/dev03.img");
@@ -24,24 +29,22 @@ fn real_files(rt: HostRuntime) -> Result<(), Fail> {
     fs::create_dir(&rt, folder)?;
     let mut rack = FileRack::at(&rt, rt.alloc(), folder)?;
     // No file, one that is too short, and a blank one of three sectors and a part.
-    assert_eq!(rt; attach(&mut rack), (Reply::Gone, 0));
+    let missing = attach(&mut rack);
     fs::write(&rt, path, &[0; 543])?;
-    assert_eq!(rt; attach(&mut rack), (Reply::Done, 0));
+    let short = attach(&mut rack);
     fs::write(&rt, path, &[0; 3 * 544 + 100])?;
-    assert_eq!(rt; attach(&mut rack), (Reply::Done, 3));
-    for (sector, reply) in [(0, Reply::Done), (2, Reply::Done), (3, Reply::Gone)] {
-        assert_eq!(rt; rack.write(3, sector, &[0xA5; 512]), reply, "{sector}");
-    }
-    assert_eq!(rt; rack.sync(3), Reply::Done);
+    let blank = attach(&mut rack);
+    let (done, gone) = (Reply::Done, Reply::Gone);
+    assert_eq!(rt; [missing, short, blank], [(gone, 0), (done, 0), (done, 3)]);
+    let written = [0, 2, 3].map(|sector| rack.write(3, sector, &[0xA5; 512]));
+    assert_eq!(rt; written, [done, done, gone]);
+    assert_eq!(rt; rack.sync(3), done);
 
     // Another rack reads what was written, and the file hasn't grown.
-    let good = (Got::Good, 0xA5);
-    let bad = (Got::Bad, 0);
+    let (good, bad) = ((Got::Good, 0xA5), (Got::Bad, 0));
     let mut second = FileRack::at(&rt, rt.alloc(), folder)?;
-    assert_eq!(rt; attach(&mut second), (Reply::Done, 3));
-    for (sector, got) in [(0, good), (1, bad), (2, good), (3, bad)] {
-        assert_eq!(rt; read(&mut second, sector), got, "{sector}");
-    }
+    second.attach(3);
+    assert_eq!(rt; read_all(&mut second), [good, bad, good, bad]);
     let mut bytes = fs::read(&rt, path)?;
     assert_eq!(rt; bytes.len(), 3 * 544 + 100);
 
@@ -51,17 +54,14 @@ fn real_files(rt: HostRuntime) -> Result<(), Fail> {
     }
     bytes.truncate(2 * 544 + 300);
     fs::write(&rt, path, bytes.as_slice())?;
-    for sector in 0..3 {
-        assert_eq!(rt; read(&mut rack, sector), bad, "{sector}");
-    }
-    assert_eq!(rt; rack.write(3, 0, &[0xA5; 512]), Reply::Done);
+    assert_eq!(rt; read_all(&mut rack), [bad; 4]);
+    assert_eq!(rt; rack.write(3, 0, &[0xA5; 512]), done);
 
     // The open file is kept until the slot is attached anew, here to a folder in its place.
     fs::remove_file(&rt, path)?;
     fs::create_dir(&rt, path)?;
     assert_eq!(rt; read(&mut rack, 0), good);
-    assert_eq!(rt; attach(&mut rack), (Reply::Gone, 0));
-    assert_eq!(rt; read(&mut rack, 0), (Got::Gone, 0));
+    assert_eq!(rt; attach(&mut rack), (gone, 0));
     fs::remove_dir_all(&rt, folder)?;
     Ok(())
 }

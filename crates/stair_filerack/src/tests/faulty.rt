@@ -1,5 +1,4 @@
 // The files of a runtime, with a fault.
-ghost use Rattle.std.specs.Prelude.{IsErr};
 
 use std::alloc::Allocator;
 use std::fs::{Files, Metadata, OpenFile, OpenOptions};
@@ -27,9 +26,7 @@ pub(super) struct FaultyFile<T> {
     interrupted: bool,
 }
 
-fn broken<T>() -> io::Result<T>
-    ensures { IsErr result }
-{
+fn broken<T>() -> io::Result<T> {
     Err(io::Error::other("broken"))
 }
 
