@@ -55,7 +55,9 @@ fn real_files(rt: HostRuntime) -> Result<(), Fail> {
     bytes.truncate(2 * 544 + 300);
     fs::write(&rt, path, bytes.as_slice())?;
     assert_eq!(rt; read_all(&mut rack), [bad; 4]);
-    assert_eq!(rt; rack.write(3, 0, &[0xA5; 512]), done);
+    let repaired = [0, 2].map(|sector| rack.write(3, sector, &[0xA5; 512]));
+    assert_eq!(rt; repaired, [done, done]);
+    assert_eq!(rt; read_all(&mut rack), [good, bad, good, bad]);
 
     // The open file is kept until the slot is attached anew, here to a folder in its place.
     fs::remove_file(&rt, path)?;
