@@ -3,9 +3,10 @@ use Rattle.std.proofs.Common.{◌≡◌, ℕ, ◌+◌, ◌-◌, ◌*◌, ◌<◌
 use Rattle.std.proofs.lemmas.Bool.{cond_below, cond_above}
 use Rattle.stair_model.specs.Sum.{sum_below}
 use Rattle.stair_model.specs.Geometry.{Geometry, IsWithinLimits, coverage, data_chunks}
-use Rattle.stair_model.specs.Cell.{global_chunk, rows_before, cell_at, is_global, data_before, globals_before, Data}
+use Rattle.stair_model.specs.Cell.{global_chunk, cell_at, is_global, data_before, Data}
 use Rattle.stair_model.proofs.CountLaws.{sum_below_none, sum_below_more}
 use Rattle.stair_model.proofs.CellLaws.{cells_before, cell_at_data}
+use Rattle.stair_base.specs.Globals.{rows_before, globals_before}
 
 -- the global parities of class l before cell (i, j)
 abbrev pub of_class : Geometry → ℕ → ℕ → ℕ → ℕ

@@ -2,3 +2,4 @@ pub mod EquationLaws
 pub mod GlobalCounts
 pub mod RowScan
 pub mod CoverageScan
+pub mod RestRows

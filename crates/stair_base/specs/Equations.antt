@@ -1,8 +1,8 @@
 -- What the search for the first broken equation finds on its way.
-use Rattle.std.specs.Prelude.{◌≡◌, ◌≢◌, ℕ, ◌+◌, ◌<◌, List, [], Option, slice_index, slice_index_or, MatchOption}
-use Rattle.stair_model.specs.Geometry.{Geometry, classes, coverage}
-use Rattle.stair_model.specs.Stripe.{Stripe, SECTOR, byte_of}
-use Rattle.stair_model.specs.Codeword.{IsRowEquation, IsGlobalEquation, row_sum}
+use Rattle.std.specs.Prelude.{◌≡◌, ◌≢◌, ℕ, ◌+◌, ◌<◌, List, Option, slice_index, MatchOption}
+use Rattle.stair_model.specs.Geometry.{Geometry}
+use Rattle.stair_model.specs.Stripe.{Stripe, SECTOR, symbol_byte, byte_of}
+use Rattle.stair_model.specs.Codeword.{MeetsRowEquations, MeetsGlobalEquations, row_sum}
 use Rattle.stair_model.specs.Equation.{Equation, RowEquation, GlobalEquation}
 use Rattle.stair_base.specs.declared.equations.Broken.{Broken}
 use Rattle.stair_base.specs.declared.equations.Broken.TheVariants.{Row, Global}
@@ -12,14 +12,10 @@ equation_of (Row i k p) = RowEquation i k p
 equation_of (Global l h p) = GlobalEquation l h p
 
 abbrev pub RowEquationsHold : Geometry → Stripe → Type 0
-RowEquationsHold g stripe = (p i k : ℕ) → p < SECTOR → i < g.r → k < g.m → IsRowEquation g (byte_of stripe p) i k
+RowEquationsHold g stripe = (p : ℕ) → p < SECTOR → MeetsRowEquations g (byte_of stripe p)
 
 abbrev pub GlobalEquationsHold : Geometry → Stripe → Type 0
-GlobalEquationsHold g stripe = (p l h : ℕ) → p < SECTOR → l < classes g → h < coverage g l → IsGlobalEquation g (byte_of stripe p) l h
-
--- byte p of each symbol of a chunk
-abbrev pub symbol_byte : List (List ℕ) → ℕ → ℕ → ℕ
-symbol_byte symbols p i = slice_index (slice_index_or symbols i []) p
+GlobalEquationsHold g stripe = (p : ℕ) → p < SECTOR → MeetsGlobalEquations g (byte_of stripe p)
 
 -- the symbols are those of intermediate chunk l
 abbrev pub IsIntermediateChunk : Geometry → Stripe → ℕ → List (List ℕ) → Type 0

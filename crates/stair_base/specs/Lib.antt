@@ -2,6 +2,7 @@
 pub mod Padding
 pub mod Stored
 pub mod Kinds
+pub mod Globals
 pub mod Equations
 pub mod Rows
 pub use Rattle.stair_model.specs.Geometry

@@ -14,7 +14,8 @@ use stair_gf::Steps;
 use std::sync::ledger::Ledger;
 
 /// The code of the stripes of one geometry (Li and Lee, STAIR Codes, FAST 2014): it encodes them and restores their erased
-/// cells, in whatever way. No call takes memory.
+/// cells, in whatever way. No call is to take memory; no signature shows it, since a `Vec` keeps its
+/// allocator.
 pub trait StripeCode: Drop {
     // The geometry of its stripes.
     ghost shape: { Self → Numbers };

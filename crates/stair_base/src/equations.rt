@@ -3,8 +3,8 @@ ghost use Rattle.stair_model.specs.Codeword.{IsCodeword, column_sum, row_sum as 
 ghost use Rattle.stair_model.specs.Equation.{IsFirstBroken};
 ghost use Rattle.stair_model.specs.Geometry.{classes, coverage, data_chunks};
 ghost use Rattle.stair_model.specs.Matrix.{row_coefficient as row_coefficient_of, column_coefficient as column_coefficient_of};
-ghost use Rattle.stair_model.specs.Stripe.{IsStripeOf, byte_of};
-ghost use Rattle.stair_base.specs.Equations.{FirstDifference, equation_of, IsIntermediateChunk, symbol_byte, RowEquationsHold, GlobalEquationsHold};
+ghost use Rattle.stair_model.specs.Stripe.{IsStripeOf, SECTOR, byte_of, symbol_byte};
+ghost use Rattle.stair_base.specs.Equations.{FirstDifference, equation_of, IsIntermediateChunk, RowEquationsHold, GlobalEquationsHold};
 
 use crate::geometry::Geometry;
 use crate::stripe::{SECTOR, Stripe};
@@ -85,7 +85,8 @@ fn row_sum(geometry: &Geometry, stripe: &Stripe, row: u8, k: u8) -> [u8; SECTOR]
     requires of { IsStripeOf geometry.now stripe.now }
     requires row_in { row < geometry.now.r }
     requires k_in { k < geometry.now.m + classes geometry.now }
-    ensures { (p : ℕ) → p < 512 → slice_index result p ≡ row_sum_of geometry.now (byte_of stripe.now p) row k }
+    ensures { (p : ℕ) → p < SECTOR →
+        slice_index result p ≡ row_sum_of geometry.now (byte_of stripe.now p) row k }
 {
     let mut sum = [0; SECTOR];
     for chunk in 0..geometry.n() - geometry.m() {
@@ -114,7 +115,8 @@ fn intermediate_chunk(geometry: &Geometry, stripe: &Stripe, l: u8) -> [[u8; SECT
 /// Row `h` of the column matrix over the symbols of an intermediate chunk, at each byte.
 fn global_sum(geometry: &Geometry, symbols: &[[u8; SECTOR]; MAX_ROWS], h: u8) -> [u8; SECTOR]
     requires { h < geometry.now.r }
-    ensures { (p : ℕ) → p < 512 → slice_index result p ≡ column_sum geometry.now (symbol_byte symbols.now p) h }
+    ensures { (p : ℕ) → p < SECTOR →
+        slice_index result p ≡ column_sum geometry.now (symbol_byte symbols.now p) h }
 {
     let mut sum = [0; SECTOR];
     for row in 0..geometry.r() {

@@ -150,6 +150,22 @@ impl Geometry {
         }
     }
 
+    /// Whether it is the other geometry: the same numbers, and the same identity.
+    ///
+    /// It stands beside the derived `==`, which answers the same: no contract says so of that one, and
+    /// nothing that a proof can cite ties it to equal values.
+    pub fn is_same(&self, other: &Geometry) -> bool
+        ensures { IsTrue result ↔ (self.now ≡ other.now) }
+    {
+        if self.n != other.n || self.m != other.m || self.r != other.r {
+            return false;
+        }
+        if self.classes != other.classes || self.stripes != other.stripes {
+            return false;
+        }
+        self.coverage == other.coverage && self.id == other.id
+    }
+
     /// Devices of the array, and chunks of a stripe: 3 to 32.
     pub fn n(&self) -> u8
         ensures value { result ≡ self.now.n }

@@ -1,6 +1,7 @@
 ghost use Rattle.std.specs.Prelude.{◌≡◌, ◌<◌};
-ghost use Rattle.stair_model.specs.Cell.{cell_at, globals_before};
+ghost use Rattle.stair_model.specs.Cell.{cell_at};
 ghost use Rattle.stair_model.specs.Geometry.{data_chunks};
+ghost use Rattle.stair_base.specs.Globals.{globals_before};
 ghost use Rattle.stair_base.specs.Kinds.{cell_of};
 
 use crate::geometry::Geometry;

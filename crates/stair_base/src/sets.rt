@@ -1,7 +1,9 @@
 ghost use Rattle.std.specs.Prelude.{◌≡◌, ℕ, ◌<◌, ◌⊎◌, ◌↔◌, IsTrue, slice_index};
-ghost use Rattle.stair_model.specs.CellSet.{HasCell, cell_count, count_in_slot, IsCellSet};
+ghost use Rattle.stair_model.specs.CellSet.{HasCell, cell_count, count_in_row, count_in_slot, IsCellSet};
+ghost use Rattle.stair_model.specs.Coverage.{rest};
 ghost use Rattle.stair_model.specs.Slots.{HasSlot, slot_count, IsSlotSet};
 
+use crate::geometry::Geometry;
 use std::marker::Model;
 
 /// A set of slots, each of which is a number below 32.
@@ -122,6 +124,30 @@ impl CellSet {
             count += u16::from(row.count());
         }
         count
+    }
+
+    /// How many cells of this row, a number below 32, are in the set: at most 32.
+    pub fn count_in_row(&self, row: u8) -> u8
+        requires { row < 32 }
+        ensures value { result ≡ count_in_row self.now row }
+        ensures well_formed { IsCellSet self.now }
+    {
+        self.rows[usize::from(row)].count()
+    }
+
+    /// The rest of a set: its cells that lie in a row with more than m of them.
+    pub fn rest(&self, geometry: &Geometry) -> CellSet
+        ensures value { result ≡ rest geometry.now self.now }
+        ensures well_formed { IsCellSet self.now }
+    {
+        let m = geometry.m();
+        let mut rest = *self;
+        for row in 0..32 {
+            if rest.rows[row].count() <= m {
+                rest.rows[row] = Slots::empty();
+            }
+        }
+        rest
     }
 
     /// For each slot, how many of its cells are in the set: at most 32.

@@ -1,21 +1,19 @@
 -- A canonical stripe of which one row is replaced.
 use Rattle.std.proofs.Common.{◌≡◌, ℕ, ◌-◌, ◌<◌, ◌≤◌, ◌⊎◌, ◌↔◌, List, [], false, length, set, get_or, replicate, slice_index_or, inl, inr, refl, sym, subst, ap, ◌∙◌, lit<, arith}
 use Rattle.std.specs.Prelude.{Contains}
-use Rattle.std.proofs.lemmas.Bool.{cases_eq}
-use Rattle.std.proofs.lemmas.List.{get_or-set_same, get_or-set_other, get_or_read, length-replicate, length-set}
+use Rattle.std.proofs.lemmas.Bool.{cases_eq, false≢true}
+use Rattle.std.proofs.lemmas.List.{get_or-replicate, get_or-set_same, get_or-set_other, get_or_read, length-replicate, length-set}
 use Rattle.std.proofs.lemmas.List.Elements.{All-get_or, All-replicate, All-set}
 use Rattle.stair_model.specs.Geometry.{Geometry, IsWithinLimits, classes}
 use Rattle.stair_model.proofs.CellLaws.{coverage_le}
+use Rattle.stair_model.proofs.StripeLaws.{filled-IsSector}
 use Rattle.stair_model.specs.Canonical.{canonical_chunks, canonical_rows, IsRowCodeword}
 use Rattle.stair_model.specs.CauchyCode.{AreSolved}
-use Rattle.stair_model.specs.Stripe.{IsSector}
-use Rattle.stair_mds.specs.Solving.{Shape, Solves, word}
-use Rattle.stair_canon.specs.Canonical.{CanonicalStripe, Row, row_of, symbol, IsMarked, IsKnown, IsRowOf, IsWellFormed}
+use Rattle.stair_model.specs.Stripe.{IsSector, SECTOR, symbol_byte}
+use Rattle.stair_mds.specs.Solving.{Shape, Solves}
+use Rattle.stair_canon.specs.Canonical.{CanonicalStripe, Row, row_of, symbol, IsMarked, IsKnown, IsWellFormed}
+use Rattle.stair_canon.specs.Kept.{IsKeptRow, AreKeptRows}
 use Rattle.stair_canon.specs.Solving.{row_shape, SolvesRow}
-
--- 512 zeros are a sector
-pub IsSector-zero : IsSector (replicate 512 0)
-IsSector-zero = (length-replicate {A = ℕ} 512 0, All-replicate (λ b. b < 256) 512 0 (lit< tt))
 
 -- a canonical stripe has at most 64 rows and 64 columns
 pub columns_few : (g : Geometry) → IsWithinLimits g → canonical_chunks g ≤ 64
@@ -35,16 +33,24 @@ module _ (c : CanonicalStripe) (i : ℕ) (row : Row) where
   pub row_of-other : (t : ℕ) → (t ≡ i → ⊥) → row_of (with_row c i row) t ≡ row_of c t
   row_of-other t other = get_or-set_other c.rows i t row _ other
 
-  pub IsWellFormed-with_row : IsWellFormed c → IsRowOf (canonical_chunks c.geometry) row → IsWellFormed (with_row c i row)
-  IsWellFormed-with_row formed is_row = record {
+  pub AreKeptRows-with_row : AreKeptRows c → IsKeptRow (canonical_chunks c.geometry) row → AreKeptRows (with_row c i row)
+  AreKeptRows-with_row formed is_row = record {
     limits = formed.limits;
     count = length-set c.rows i row ∙ formed.count;
-    rows = All-set (IsRowOf (canonical_chunks c.geometry)) c.rows i row is_row formed.rows;
+    rows = All-set (IsKeptRow (canonical_chunks c.geometry)) c.rows i row is_row formed.rows;
   }
 
 -- a row of a canonical stripe
-pub row_is : (c : CanonicalStripe) (i : ℕ) → IsWellFormed c → i < canonical_rows c.geometry → IsRowOf (canonical_chunks c.geometry) (row_of c i)
-row_is c i formed within = All-get_or (IsRowOf (canonical_chunks c.geometry)) c.rows i _ (omega (arith, formed.count)) formed.rows
+pub row_is : (c : CanonicalStripe) (i : ℕ) → AreKeptRows c → i < canonical_rows c.geometry → IsKeptRow (canonical_chunks c.geometry) (row_of c i)
+row_is c i formed within = All-get_or (IsKeptRow (canonical_chunks c.geometry)) c.rows i _ (omega (arith, formed.count)) formed.rows
+
+-- what is kept is well formed
+pub IsWellFormed-kept : (c : CanonicalStripe) → AreKeptRows c → IsWellFormed c
+IsWellFormed-kept c kept = record {
+  limits = kept.limits;
+  count = kept.count;
+  rows = λ i d within. let row = kept.rows i d within in record { count = row.count; sectors = row.sectors };
+}
 
 -- a row that was read
 pub row_read : (c : CanonicalStripe) (i k : ℕ) (read : Row) → i < length c.rows → k ≡ i → read ≡ get_or c.rows k read → read ≡ row_of c i
@@ -58,7 +64,7 @@ pub SolvesRow-from : (c : CanonicalStripe) (i : ℕ) (known wanted : List ℕ) (
     → SolvesRow i known wanted c (with_row c i row)
 SolvesRow-from c i known wanted row within solved marks = record {
   symbols =
-      subst (λ (r : Row). AreSolved (IsRowCodeword c.geometry) known wanted (word (row_of c i).symbols) (word r.symbols))
+      subst (λ (r : Row). AreSolved (IsRowCodeword c.geometry) known wanted (symbol_byte (row_of c i).symbols) (symbol_byte r.symbols))
       (sym here) solved.symbols;
   changes = record {
     geometry = refl;
@@ -101,7 +107,7 @@ SolvesRow-from c i known wanted row within solved marks = record {
     )
 
 -- the same, of a row that was read and a code that is the row code
-pub SolvesRow-read : (c : CanonicalStripe) (i k : ℕ) (code : Shape) (known wanted : List ℕ) (read row : Row) → IsWellFormed c
+pub SolvesRow-read : (c : CanonicalStripe) (i k : ℕ) (code : Shape) (known wanted : List ℕ) (read row : Row) → AreKeptRows c
     → i < canonical_rows c.geometry → k ≡ i → code ≡ row_shape c.geometry → read ≡ get_or c.rows k read
     → Solves code known wanted read.symbols row.symbols
     → ((j : ℕ) → IsMarked row.known j ↔ (IsMarked read.known j ⊎ Contains wanted j))
@@ -119,14 +125,28 @@ SolvesRow-read c i k code known wanted read row formed within same is_code is so
 abbrev pub zero_row : ℕ → Row
 zero_row columns = record { symbols = replicate columns (replicate 512 0); known = replicate 64 false }
 
-pub IsWellFormed-zero : (g : Geometry) (count columns : ℕ) → IsWithinLimits g → count ≡ canonical_rows g → columns ≡ canonical_chunks g
-    → IsWellFormed (record { geometry = g; rows = replicate count (zero_row columns) })
-IsWellFormed-zero g count columns limits all wide = record {
+pub AreKeptRows-zero : (g : Geometry) (count columns : ℕ) → IsWithinLimits g → count ≡ canonical_rows g → columns ≡ canonical_chunks g
+    → AreKeptRows (record { geometry = g; rows = replicate count (zero_row columns) })
+AreKeptRows-zero g count columns limits all wide = record {
   limits = limits;
   count = length-replicate count (zero_row columns) ∙ all;
-  rows = All-replicate (IsRowOf (canonical_chunks g)) count (zero_row columns) (record {
+  rows = All-replicate (IsKeptRow (canonical_chunks g)) count (zero_row columns) (record {
     count = length-replicate columns (replicate 512 0) ∙ wide;
     marks = length-replicate 64 false;
-    sectors = All-replicate IsSector columns (replicate 512 0) IsSector-zero;
+    sectors = All-replicate IsSector columns (replicate 512 0) (filled-IsSector 0 (lit< tt));
   });
 }
+
+pub symbol-zero : (g : Geometry) (count columns i j : ℕ) → i < count → j < columns
+    → symbol (record { geometry = g; rows = replicate count (zero_row columns) }) i j ≡ replicate SECTOR 0
+symbol-zero g count columns i j row_in column_in =
+    ap (λ (r : Row). slice_index_or r.symbols j []) (get_or-replicate count i (zero_row columns) (record { symbols = []; known = [] }) row_in)
+    ∙ get_or-replicate columns j (replicate 512 0) [] column_in
+
+pub IsKnown-zero : (g : Geometry) (count columns i j : ℕ) → i < count → j < 64
+    → ¬ IsKnown (record { geometry = g; rows = replicate count (zero_row columns) }) i j
+IsKnown-zero g count columns i j row_in few known =
+    false≢true
+    (sym (get_or-replicate 64 j false false few)
+    ∙ sym (ap (λ (r : Row). slice_index_or r.known j false) (get_or-replicate count i (zero_row columns) (record { symbols = []; known = [] }) row_in))
+    ∙ known)

@@ -7,13 +7,14 @@ use Rattle.std.proofs.lemmas.List.Elements.{All-from_get_or, All-set}
 use Rattle.stair_model.specs.Canonical.{canonical_chunks, canonical_rows}
 use Rattle.stair_model.specs.CauchyCode.{Agree}
 use Rattle.stair_model.specs.Geometry.{Geometry}
-use Rattle.stair_model.specs.Stripe.{Stripe, IsSector, SECTOR, cell}
+use Rattle.stair_model.specs.Stripe.{Stripe, IsSector, SECTOR, cell, symbol_byte}
 use Rattle.stair_model.proofs.CellOrder.{IsBefore-apart, HoldsBefore, HoldsBefore-none, HoldsBefore-turn, HoldsBefore-more, HoldsBefore-all}
-use Rattle.stair_mds.specs.Solving.{Solves, word}
-use Rattle.stair_canon.specs.Canonical.{CanonicalStripe, Row, row_of, symbol, byte_at, IsKnown, IsRowOf, IsWellFormed}
+use Rattle.stair_mds.specs.Solving.{Solves}
+use Rattle.stair_canon.specs.Canonical.{CanonicalStripe, Row, row_of, symbol, byte_at, IsKnown}
+use Rattle.stair_canon.specs.Kept.{IsKeptRow, AreKeptRows}
 use Rattle.stair_canon.specs.Solving.{column_shape, IsCell, Loads, SolvesChunk}
 use Rattle.stair_canon.proofs.Marks.{IsAmong}
-use Rattle.stair_canon.proofs.Rows.{with_row, row_of-same, row_of-other, row_is, row_read, IsWellFormed-with_row}
+use Rattle.stair_canon.proofs.Rows.{with_row, row_of-same, row_of-other, row_is, row_read, AreKeptRows-with_row}
 
 -- the mark of a symbol
 abbrev pub mark : CanonicalStripe → ℕ → ℕ → Bool
@@ -22,22 +23,22 @@ mark c i j = slice_index_or (row_of c i).known j false
 -- the symbol in row i of column j is set, and nothing else
 pub record Sets (i j : ℕ) (bytes : List ℕ) (known : Bool) (old new : CanonicalStripe) : Type 0 where
   pub geometry : new.geometry ≡ old.geometry
-  pub formed : IsWellFormed new
+  pub formed : AreKeptRows new
   pub here : symbol new i j ≡ bytes
   pub marked : mark new i j ≡ known
   pub others : (s t : ℕ) → ¬ ((s ≡ i) × (t ≡ j)) → symbol new s t ≡ symbol old s t
   pub other_marks : (s t : ℕ) → ¬ ((s ≡ i) × (t ≡ j)) → mark new s t ≡ mark old s t
 
-module _ (c : CanonicalStripe) (i j : ℕ) (bytes : List ℕ) (known : Bool) (row : Row) (formed : IsWellFormed c)
+module _ (c : CanonicalStripe) (i j : ℕ) (bytes : List ℕ) (known : Bool) (row : Row) (formed : AreKeptRows c)
     (row_in : i < canonical_rows c.geometry) (column_in : j < canonical_chunks c.geometry) (few : j < 64) (sector : IsSector bytes)
     (symbols : row.symbols ≡ set (row_of c i).symbols j bytes) (marks : row.known ≡ set (row_of c i).known j known) where
   in_rows : i < length c.rows
   in_rows = omega (arith, formed.count)
 
-  before : IsRowOf (canonical_chunks c.geometry) (row_of c i)
+  before : IsKeptRow (canonical_chunks c.geometry) (row_of c i)
   before = row_is c i formed row_in
 
-  is_row : IsRowOf (canonical_chunks c.geometry) row
+  is_row : IsKeptRow (canonical_chunks c.geometry) row
   is_row = record {
     count = ap length symbols ∙ length-set (row_of c i).symbols j bytes ∙ before.count;
     marks = ap length marks ∙ length-set (row_of c i).known j known ∙ before.marks;
@@ -66,7 +67,7 @@ module _ (c : CanonicalStripe) (i j : ℕ) (bytes : List ℕ) (known : Bool) (ro
   pub Sets-row : Sets i j bytes known c (with_row c i row)
   Sets-row = record {
     geometry = refl;
-    formed = IsWellFormed-with_row c i row formed is_row;
+    formed = AreKeptRows-with_row c i row formed is_row;
     here = in_row j ∙ get_or-set_same (row_of c i).symbols j bytes [] (omega (arith, before.count));
     marked = mark_in_row j ∙ get_or-set_same (row_of c i).known j known false (omega (arith, before.marks));
     others = λ s t other. (other_at s t other (cases_eq s i)).0;
@@ -74,7 +75,7 @@ module _ (c : CanonicalStripe) (i j : ℕ) (bytes : List ℕ) (known : Bool) (ro
   }
 
 -- the same, of a row that was read
-pub Sets-read : (c : CanonicalStripe) (i j k : ℕ) (bytes : List ℕ) (known : Bool) (read row : Row) → IsWellFormed c
+pub Sets-read : (c : CanonicalStripe) (i j k : ℕ) (bytes : List ℕ) (known : Bool) (read row : Row) → AreKeptRows c
     → i < canonical_rows c.geometry → j < canonical_chunks c.geometry → j < 64 → IsSector bytes → k ≡ i → read ≡ get_or c.rows k read
     → row.symbols ≡ set read.symbols j bytes → row.known ≡ set read.known j known
     → Sets i j bytes known c (with_row c k row)
@@ -95,10 +96,10 @@ pub record IsLoadedAt (g : Geometry) (stripe : Stripe) (c : CanonicalStripe) (i 
 -- the symbols before place (row, column) are loaded
 pub record HasLoaded (g : Geometry) (stripe : Stripe) (c : CanonicalStripe) (row column : ℕ) : Type 0 where
   pub geometry : c.geometry ≡ g
-  pub formed : IsWellFormed c
+  pub formed : AreKeptRows c
   pub so_far : HoldsBefore (canonical_chunks g) (IsLoadedAt g stripe c) row column
 
-pub HasLoaded-none : (stripe : Stripe) (c : CanonicalStripe) → IsWellFormed c → HasLoaded c.geometry stripe c 0 0
+pub HasLoaded-none : (stripe : Stripe) (c : CanonicalStripe) → AreKeptRows c → HasLoaded c.geometry stripe c 0 0
 HasLoaded-none stripe c formed = record {
   geometry = refl;
   formed = formed;
@@ -153,7 +154,7 @@ IsLoadedAt-other g stripe old new i j no_cell sets = record {
 
 -- all symbols are loaded
 pub Loads-all : (stripe : Stripe) (old new : CanonicalStripe) (row : ℕ) → canonical_rows old.geometry ≡ row
-    → IsWellFormed old → HasLoaded old.geometry stripe new row 0 → Loads stripe old new
+    → AreKeptRows old → HasLoaded old.geometry stripe new row 0 → Loads stripe old new
 Loads-all stripe old new row all formed loaded =
     let at : (i j : ℕ) → i < canonical_rows old.geometry → j < canonical_chunks old.geometry → IsLoadedAt old.geometry stripe new i j =
     HoldsBefore-all (canonical_chunks old.geometry) (IsLoadedAt old.geometry stripe new) (canonical_rows old.geometry) row all loaded.so_far
@@ -230,12 +231,12 @@ HasTaken-more c column known room k place bytes before is within same = record {
 -- the wanted symbols so far are put back
 pub record HasReturned (column : ℕ) (wanted : List ℕ) (room : List (List ℕ)) (old now : CanonicalStripe) (k : ℕ) : Type 0 where
   pub geometry : now.geometry ≡ old.geometry
-  pub formed : IsWellFormed now
+  pub formed : AreKeptRows now
   pub solved : (t : ℕ) → t < k → symbol now (slice_index wanted t) column ≡ slice_index_or room (slice_index wanted t) []
   pub others : (i j : ℕ) → ¬ (IsAmong wanted k i × (j ≡ column)) → symbol now i j ≡ symbol old i j
   pub known : (i j : ℕ) → IsKnown now i j ↔ (IsKnown old i j ⊎ (IsAmong wanted k i × (j ≡ column)))
 
-pub HasReturned-none : (column : ℕ) (wanted : List ℕ) (room : List (List ℕ)) (c : CanonicalStripe) → IsWellFormed c
+pub HasReturned-none : (column : ℕ) (wanted : List ℕ) (room : List (List ℕ)) (c : CanonicalStripe) → AreKeptRows c
     → HasReturned column wanted room c c 0
 HasReturned-none column wanted room c formed = record {
   geometry = refl;
@@ -322,19 +323,19 @@ module _ (column : ℕ) (known wanted : List ℕ) (room solved : List (List ℕ)
     (taken : HasTaken old column known room (length known)) (solves : Solves (column_shape old.geometry) known wanted room solved)
     (returned : HasReturned column wanted solved old new (length wanted)) where
   -- the known symbols of the chunk are those of the room
-  known_same : (q : ℕ) (c : ℕ → ℕ) → Agree known c (λ i. byte_at old q i column) → Agree known c (word room q)
+  known_same : (q : ℕ) (c : ℕ → ℕ) → Agree known c (λ i. byte_at old q i column) → Agree known c (symbol_byte room q)
   known_same q c agree =
-      All-from_get_or (λ p. c p ≡ word room q p) known 0
+      All-from_get_or (λ p. c p ≡ symbol_byte room q p) known 0
       (λ t below.
       agree t 0 below ∙ ap (λ bytes. slice_index bytes q) (sym (taken.so_far t below)))
 
-  known_back : (q : ℕ) (c : ℕ → ℕ) → Agree known c (word room q) → Agree known c (λ i. byte_at old q i column)
+  known_back : (q : ℕ) (c : ℕ → ℕ) → Agree known c (symbol_byte room q) → Agree known c (λ i. byte_at old q i column)
   known_back q c agree =
       All-from_get_or (λ p. c p ≡ byte_at old q p column) known 0
       (λ t below.
       agree t 0 below ∙ ap (λ bytes. slice_index bytes q) (taken.so_far t below))
 
-  wanted_same : (q : ℕ) (c : ℕ → ℕ) → Agree wanted c (word solved q) → Agree wanted c (λ i. byte_at new q i column)
+  wanted_same : (q : ℕ) (c : ℕ → ℕ) → Agree wanted c (symbol_byte solved q) → Agree wanted c (λ i. byte_at new q i column)
   wanted_same q c agree =
       All-from_get_or (λ p. c p ≡ byte_at new q p column) wanted 0
       (λ t below.

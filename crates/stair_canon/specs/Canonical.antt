@@ -1,9 +1,9 @@
 -- What contracts see of a canonical stripe.
-use Rattle.std.specs.Prelude.{◌≡◌, ℕ, List, [], Bool, true, false, length, slice_index, slice_index_or, All}
+use Rattle.std.specs.Prelude.{◌≡◌, ℕ, List, [], Bool, true, false, length, slice_index_or, All}
 use Rattle.stair_model.specs.Canonical.{canonical_chunks, canonical_rows}
 use Rattle.stair_model.specs.Codeword.{Word}
 use Rattle.stair_model.specs.Geometry.{Geometry, IsWithinLimits}
-use Rattle.stair_model.specs.Stripe.{IsSector}
+use Rattle.stair_model.specs.Stripe.{IsSector, symbol_byte}
 
 -- a row: the symbol in each column, and whether it is known
 pub record Row : Type 0 where
@@ -27,18 +27,17 @@ row_of c i = slice_index_or c.rows i (record { symbols = []; known = [] })
 abbrev pub symbol : CanonicalStripe → ℕ → ℕ → List ℕ
 symbol c i j = slice_index_or (row_of c i).symbols j []
 
--- byte q of each symbol
+-- byte q of each symbol: row and column to byte
 abbrev pub byte_at : CanonicalStripe → ℕ → Word
-byte_at c q i j = slice_index (symbol c i j) q
+byte_at c q i = symbol_byte (row_of c i).symbols q
 
 -- the symbol in row i of column j is known
 abbrev pub IsKnown : CanonicalStripe → ℕ → ℕ → Type 0
 IsKnown c i j = IsMarked (row_of c i).known j
 
--- a row has a symbol of 512 bytes in each of so many columns, which are at most 64
+-- a row has a symbol of 512 bytes in each of so many columns
 pub record IsRowOf (columns : ℕ) (row : Row) : Type 0 where
   pub count : length row.symbols ≡ columns
-  pub marks : length row.known ≡ 64
   pub sectors : All IsSector row.symbols
 
 -- r + e_max rows of n + m' symbols

@@ -1,8 +1,8 @@
-ghost use Rattle.std.specs.Prelude.{◌≡◌, ℕ, ◌*◌, ◌+◌, ◌<◌, ◌↔◌, IfOk, IfSome, IsSome, false, length, replicate, slice_index};
+ghost use Rattle.std.specs.Prelude.{◌≡◌, ℕ, ◌*◌, ◌+◌, ◌<◌, ◌↔◌, IfOk, IfSome, IsSome, length, replicate};
 ghost use Rattle.stair_model.specs.Canonical.{canonical_chunks, canonical_rows};
 ghost use Rattle.stair_model.specs.CauchyCode.{AreKnownPlaces};
 ghost use Rattle.stair_model.specs.Geometry.{data_chunks, greatest_coverage};
-ghost use Rattle.stair_model.specs.Stripe.{IsStripeOf, IsWellFormed as IsWellFormedStripe, IsSector, cell};
+ghost use Rattle.stair_model.specs.Stripe.{IsStripeOf, IsWellFormed as IsWellFormedStripe, IsSector, SECTOR, cell};
 ghost use Rattle.stair_mds.specs.Solving.{AreWantedPlaces};
 ghost use Rattle.stair_canon.specs.Canonical.{IsKnown, IsWellFormed, symbol};
 ghost use Rattle.stair_canon.specs.Solving.{ExtendsChunk, Loads, SolvesChunk, SolvesRow, column_shape, row_shape};
@@ -10,25 +10,10 @@ ghost use Rattle.stair_canon.specs.Solving.{ExtendsChunk, Loads, SolvesChunk, So
 use crate::row::Row;
 use stair_base::{Geometry, Stripe};
 use stair_gf::Steps;
-use stair_mds::{Mds, SYMBOL, Symbols};
+use stair_mds::{Mds, SYMBOL, Symbols, numbers_from};
 use std::alloc::{AllocError, Global};
 use std::marker::Model;
 use std::sync::ledger::Ledger;
-
-/// The most rows that a canonical stripe may have.
-const MAX_ROWS: usize = 64;
-
-/// The numbers of the rows.
-fn row_numbers() -> [u16; MAX_ROWS]
-    ensures count { length result ≡ 64 }
-    ensures each { (i : ℕ) → i < 64 → slice_index result i ≡ i }
-{
-    let mut numbers = [0; MAX_ROWS];
-    for i in 0..MAX_ROWS {
-        numbers[i] = i as u16;
-    }
-    numbers
-}
 
 /// A canonical stripe (Li and Lee, STAIR Codes, FAST 2014): r+e_max rows of n+m' symbols of 512 bytes.
 ///
@@ -63,8 +48,12 @@ impl Canon {
     /// The error comes only for want of memory. All memory that later calls use is taken here.
     pub fn new(alloc: Global, geometry: &Geometry) -> Result<Canon, AllocError>
         ensures geometry { IfOk result (λ canon. canon.geometry ≡ geometry.now) }
-        ensures zero { IfOk result (λ canon. canon.rows ≡ replicate (canonical_rows geometry.now)
-            (record { symbols = replicate (canonical_chunks geometry.now) (replicate 512 0); known = replicate 64 false })) }
+        ensures zero { IfOk result (λ canon. (i j : ℕ) →
+            i < canonical_rows geometry.now → j < canonical_chunks geometry.now →
+            symbol canon i j ≡ replicate SECTOR 0) }
+        ensures unknown { IfOk result (λ canon. (i j : ℕ) →
+            i < canonical_rows geometry.now → j < canonical_chunks geometry.now →
+            ¬ IsKnown canon i j) }
         ensures well_formed { IfOk result IsWellFormed }
     {
         let columns = geometry.n() + geometry.classes();
@@ -152,7 +141,7 @@ impl Canon {
     {
         let r = usize::from(self.geometry.r());
         let e_max = usize::from(self.geometry.e_max());
-        let rows = row_numbers();
+        let rows = numbers_from(0);
         self.solve_chunk(column, &rows[..r], &rows[r..r + e_max], steps);
     }
 

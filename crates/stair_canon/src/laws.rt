@@ -7,12 +7,11 @@ ghost use Rattle.stair_model.specs.Canonical.{
   IsColumnCodeword,
   IsExtensionOf,
   IsRowCodeword,
-  MeetsRowEquations,
   canonical_chunks,
   canonical_rows,
 };
 ghost use Rattle.stair_model.specs.CauchyCode.{IsSystematicCodeword};
-ghost use Rattle.stair_model.specs.Codeword.{IsCodeword, Word};
+ghost use Rattle.stair_model.specs.Codeword.{IsCodeword, MeetsRowEquations, Word};
 ghost use Rattle.stair_model.specs.Geometry.{Geometry, IsWithinLimits, greatest_coverage};
 ghost use Rattle.stair_model.specs.Stripe.{IsStripeOf, IsWellFormed, SECTOR, Stripe, byte_of};
 
@@ -21,7 +20,8 @@ ghost use Rattle.stair_model.specs.Stripe.{IsStripeOf, IsWellFormed, SECTOR, Str
 ///
 /// `matrices` says so of any two codes, by their matrices alone; `rows` of the row code and the column code of each
 /// geometry. So the virtual rows of a canonical stripe are codewords of the row code (the product of two codes: P. Elias,
-/// Error-Free Coding, 1954).
+/// Error-Free Coding, 1954), and `extension` says it of the equations: of bytes that meet the row equations, each virtual
+/// row of their extension is a codeword of the row code.
 pub fn product_law()
     ensures matrices { (held total depth height : ℕ) (row_matrix column_matrix : ℕ → ℕ → ℕ) (w : Word) →
         ((i : ℕ) → i < depth → IsSystematicCodeword held total row_matrix (λ j. w i j)) →
@@ -30,6 +30,9 @@ pub fn product_law()
     ensures rows { (g : Geometry) (x : Word) →
         ((i : ℕ) → i < g.r → IsRowCodeword g (λ j. x i j)) →
         ((j : ℕ) → j < canonical_chunks g → IsColumnCodeword g (λ i. x i j)) →
+        (h : ℕ) → h < greatest_coverage g → IsRowCodeword g (λ j. x (g.r + h) j) }
+    ensures extension { (g : Geometry) (w x : Word) → IsWithinLimits g →
+        ((i j : ℕ) → i < g.r → j < g.n → w i j < 256) → MeetsRowEquations g w → IsExtensionOf g w x →
         (h : ℕ) → h < greatest_coverage g → IsRowCodeword g (λ j. x (g.r + h) j) }
 {}
 

@@ -1,23 +1,21 @@
 ghost use Rattle.std.specs.Prelude.{◌≡◌, ℕ, ◌*◌, ◌+◌, ◌<◌, ◌≤◌, ◌⊎◌, ◌↔◌, IfOk, Contains, [], false, length, replicate, slice_index_or, slice_set, true};
 ghost use Rattle.stair_model.specs.CauchyCode.{AreKnownPlaces};
-ghost use Rattle.stair_model.specs.Stripe.{IsSector};
+ghost use Rattle.stair_model.specs.Stripe.{IsSector, SECTOR};
 ghost use Rattle.stair_mds.specs.Solving.{AreWantedPlaces, Solves};
-ghost use Rattle.stair_canon.specs.Canonical.{IsMarked, IsRowOf};
+ghost use Rattle.stair_canon.specs.Canonical.{IsMarked};
+ghost use Rattle.stair_canon.specs.Kept.{IsKeptRow};
 
 use stair_gf::Steps;
-use stair_mds::{Mds, SYMBOL, Symbols};
+use stair_mds::{MAX_PLACES, Mds, SYMBOL, Symbols};
 use std::alloc::{AllocError, Global};
 use std::marker::Model;
 use std::sync::ledger::Ledger;
-
-/// No row has so many symbols.
-const MAX_COLUMNS: usize = 64;
 
 /// A row of a canonical stripe: its symbols, and which of them are known.
 #[derive(Drop)]
 pub(crate) struct Row {
     symbols: Symbols,
-    known: [bool; MAX_COLUMNS],
+    known: [bool; MAX_PLACES],
 }
 
 impl Model for Row {
@@ -32,11 +30,14 @@ impl Row {
     /// So many zero symbols, none of them known.
     pub(crate) fn new(alloc: Global, columns: u8) -> Result<Row, AllocError>
         requires { columns ≤ 64 }
-        ensures { IfOk result (λ row. row ≡ record { symbols = replicate columns (replicate 512 0); known = replicate 64 false }) }
+        ensures { IfOk result (λ row. row ≡ record {
+          symbols = replicate columns (replicate SECTOR 0);
+          known = replicate 64 false;
+        }) }
     {
         Ok(Row {
             symbols: Symbols::new(alloc, u16::from(columns))?,
-            known: [false; MAX_COLUMNS],
+            known: [false; MAX_PLACES],
         })
     }
 
@@ -72,7 +73,8 @@ impl Row {
     pub(crate) fn clear(&mut self, column: u16)
         requires symbol { column < length self.old.symbols }
         requires mark { column < 64 }
-        ensures symbols { self.new.symbols ≡ slice_set self.old.symbols column (replicate 512 0) }
+        ensures symbols { self.new.symbols ≡
+            slice_set self.old.symbols column (replicate SECTOR 0) }
         ensures known { self.new.known ≡ slice_set self.old.known column false }
     {
         self.symbols.put(column, &[0; SYMBOL]);
@@ -89,11 +91,11 @@ impl Row {
     )
         requires known { AreKnownPlaces code.old.held code.old.total known.now }
         requires wanted { AreWantedPlaces code.old known.now wanted.now }
-        requires row { IsRowOf code.old.total self.old }
+        requires row { IsKeptRow code.old.total self.old }
         requires few { code.old.total ≤ 64 }
         ensures solved { Solves code.old known.now wanted.now self.old.symbols self.new.symbols }
         ensures known { (j : ℕ) → IsMarked self.new.known j ↔ (IsMarked self.old.known j ⊎ Contains wanted.now j) }
-        ensures row { IsRowOf code.old.total self.new }
+        ensures row { IsKeptRow code.old.total self.new }
         ensures cost { steps.new ≡ steps.old + length known.now * length wanted.now }
         ensures code { code.new ≡ code.old }
     {

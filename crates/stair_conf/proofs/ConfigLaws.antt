@@ -16,8 +16,8 @@ use Rattle.stair_conf.specs.Config.{HasIdentity, HasKey, HasNumber, HasNumbers, 
 use Rattle.stair_conf.specs.Config.TableReadsAs.{key, limit, geometry}
 use Rattle.stair_conf.specs.Config.TextReadsAs.{not_toml, table}
 use Rattle.stair_conf.proofs.ConfigLemmas.{same_array}
-use Rattle.stair_conf.proofs.FirstLemmas.{one_first}
-use Rattle.stair_conf.proofs.LimitLemmas.{none_broken, one_limit}
+use Rattle.stair_model.proofs.FirstLaws.{one_first}
+use Rattle.stair_model.proofs.LimitLaws.{none_broken, one_limit}
 use Rattle.stair_conf.proofs.TableLemmas.{HasKeyAt, same_place}
 
 -- ---- a table says one geometry

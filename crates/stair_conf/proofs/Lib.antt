@@ -6,6 +6,4 @@ pub mod CommandLaws
 pub mod MapLemmas
 pub mod ConfigLemmas
 pub mod TableLemmas
-pub mod FirstLemmas
-pub mod LimitLemmas
 pub mod ConfigLaws

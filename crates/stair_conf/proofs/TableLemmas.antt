@@ -9,7 +9,7 @@ use Rattle.stair_conf.specs.declared.key.Key.TheVariants.{N, M, R, E, Stripes, I
 use Rattle.stair_conf.specs.declared.fault.ConfigFault.{ConfigFault}
 use Rattle.stair_conf.specs.declared.fault.ConfigFault.TheVariants as fault
 use Rattle.stair_conf.specs.Config.{HasIdentity, HasKey, HasNumber, HasNumbers, Says, TableReadsAs, TextReadsAs, place}
-use Rattle.stair_conf.proofs.FirstLemmas.{HoldsBelow, none_below, one_more}
+use Rattle.stair_model.proofs.FirstLaws.{HoldsBelow, none_below, one_more}
 use Rattle.stair_conf.specs.Config.TableReadsAs.{key, limit, geometry}
 use Rattle.stair_conf.specs.Config.TextReadsAs.{not_toml}
 

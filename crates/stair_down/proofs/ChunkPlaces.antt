@@ -11,13 +11,14 @@ use Rattle.stair_canon.specs.Canonical.{CanonicalStripe, byte_at}
 use Rattle.stair_canon.specs.Solving.{column_shape, SolvesChunk}
 use Rattle.stair_down.specs.Completing.{CompletesChunk}
 use Rattle.stair_down.specs.Places.{ArePlacesOfChunk}
-use Rattle.stair_down.proofs.Lists.{Contains-first, All-first, known_places, wanted_places, solved_at}
+use Rattle.stair_mds.proofs.Stretches.{Contains-first, All-first, known_places, wanted_places}
+use Rattle.stair_down.proofs.Lists.{solved_at}
 
 -- ---- how the list of known rows is made
 
 -- the rows from the first global parity on, up to this one, stand as virtual ones
 pub record HasMoved (rows covered : ℕ) (known : List ℕ) (row : ℕ) : Type 0 where
-  pub room : length known ≡ 32
+  pub room : length known ≡ 64
   pub above : (i : ℕ) → i < rows - covered → slice_index known i ≡ i
   pub virtual : (i : ℕ) → rows - covered ≤ i → i < row → slice_index known i ≡ i + covered
 

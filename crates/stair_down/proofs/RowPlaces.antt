@@ -14,15 +14,16 @@ use Rattle.stair_canon.specs.Canonical.{CanonicalStripe, byte_at}
 use Rattle.stair_canon.specs.Solving.{row_shape, SolvesRow}
 use Rattle.stair_down.specs.Completing.{CompletesRow}
 use Rattle.stair_down.specs.Places.{IsPairOfClass, ArePlacesOfRow}
-use Rattle.stair_down.proofs.Lists.{Contains-first, All-first, known_places, wanted_places, solved_at}
+use Rattle.stair_mds.proofs.Stretches.{Contains-first, All-first, known_places, wanted_places}
+use Rattle.stair_down.proofs.Lists.{solved_at}
 
 -- ---- how the lists are made
 
 -- the pairs of the classes below this one are set, and each later class still has its own chunk known
 pub record HasPairs (g : Geometry) (i : ℕ) (known wanted : List ℕ) (class : ℕ) : Type 0 where
   pub limits : IsWithinLimits g
-  pub known_room : length known ≡ 32
-  pub wanted_room : length wanted ≡ 32
+  pub known_room : length known ≡ 64
+  pub wanted_room : length wanted ≡ 64
   pub first : (k : ℕ) → k < data_chunks g - classes g → slice_index known k ≡ k
   pub parities : (k : ℕ) → k < g.m → slice_index wanted k ≡ data_chunks g + k
   pub done : (l : ℕ) → l < class → IsPairOfClass g i l (slice_index known (global_chunk g l)) (slice_index wanted (g.m + l))

@@ -11,7 +11,8 @@ use Rattle.stair_model.specs.Geometry.{Geometry, IsWithinLimits}
 use Rattle.stair_model.specs.Stripe.{Stripe, SECTOR, IsSector, IsStripeOf, IsWellFormed, cell, byte_of}
 use Rattle.stair_model.proofs.CanonicalLaws.{canonical_is_codeword}
 use Rattle.stair_model.proofs.DataLaws.{data_cell_tells}
-use Rattle.stair_model.proofs.EncodingLaws.{not_global-above, cell-IsSector, byte_at-lt, sector_bytes}
+use Rattle.stair_model.proofs.EncodingLaws.{not_global-above}
+use Rattle.stair_model.proofs.StripeLaws.{cell-IsSector, byte_at-lt, sector_bytes}
 use Rattle.stair_model.proofs.VirtualRowLaws.{SameDataCells, canonical_exists}
 use Rattle.stair_canon.specs.Canonical.{CanonicalStripe, IsWellFormed as IsWellFormedCanon, Row, IsRowOf, row_of, symbol, byte_at}
 use Rattle.stair_canon.specs.Solving.{Loads}

@@ -12,8 +12,8 @@ pub record IsPairOfClass (g : Geometry) (i l known wanted : ℕ) : Type 0 where
 -- row i: n-m known chunks, and m+m' wanted ones
 pub record ArePlacesOfRow (g : Geometry) (i : ℕ) (known wanted : List ℕ) : Type 0 where
   pub limits : IsWithinLimits g
-  pub known_room : length known ≡ 32
-  pub wanted_room : length wanted ≡ 32
+  pub known_room : length known ≡ 64
+  pub wanted_room : length wanted ≡ 64
   pub first : (k : ℕ) → k < data_chunks g - classes g → slice_index known k ≡ k
   pub parities : (k : ℕ) → k < g.m → slice_index wanted k ≡ data_chunks g + k
   pub pairs : (l : ℕ) → l < classes g → IsPairOfClass g i l (slice_index known (global_chunk g l)) (slice_index wanted (g.m + l))
@@ -22,8 +22,8 @@ pub record ArePlacesOfRow (g : Geometry) (i : ℕ) (known wanted : List ℕ) : T
 pub record ArePlacesOfChunk (g : Geometry) (l : ℕ) (known wanted : List ℕ) : Type 0 where
   pub limits : IsWithinLimits g
   pub covered : coverage g l ≤ g.r
-  pub known_room : length known ≡ 32
-  pub wanted_room : length wanted ≡ 32
+  pub known_room : length known ≡ 64
+  pub wanted_room : length wanted ≡ 64
   pub above : (i : ℕ) → i < g.r - coverage g l → slice_index known i ≡ i
   pub virtual : (i : ℕ) → g.r - coverage g l ≤ i → i < g.r → slice_index known i ≡ i + coverage g l
   pub below : (h : ℕ) → h < coverage g l → slice_index wanted h ≡ g.r - coverage g l + h

@@ -1,32 +1,17 @@
 //! By which symbols the rows and the intermediate chunks are solved, and which ones they give.
 
-ghost use Rattle.std.specs.Prelude.{◌≡◌, ℕ, ◌+◌, ◌-◌, ◌<◌, ◌≤◌, length, slice_index};
+ghost use Rattle.std.specs.Prelude.{◌<◌};
 ghost use Rattle.stair_model.specs.Geometry.{classes, coverage};
 ghost use Rattle.stair_down.specs.Places.{ArePlacesOfChunk, ArePlacesOfRow};
 
 use stair_base::Geometry;
-
-/// The most places of a list: neither 32 rows nor 32 chunks give more.
-const MAX_PLACES: usize = 32;
+use stair_mds::{MAX_PLACES, numbers_from};
 
 /// The places of the known symbols and those of the wanted ones. What stands behind the last of either means nothing.
 #[derive(Drop)]
 pub struct Places {
     pub known: [u16; MAX_PLACES],
     pub wanted: [u16; MAX_PLACES],
-}
-
-/// The numbers from this one on.
-fn numbers_from(first: u16) -> [u16; MAX_PLACES]
-    requires { first ≤ 64 }
-    ensures count { length result ≡ 32 }
-    ensures each { (k : ℕ) → k < 32 → slice_index result k ≡ first + k }
-{
-    let mut numbers = [0; MAX_PLACES];
-    for k in 0..MAX_PLACES {
-        numbers[k] = first + k as u16;
-    }
-    numbers
 }
 
 /// The places of a row: n-m known chunks, and m+m' wanted ones.

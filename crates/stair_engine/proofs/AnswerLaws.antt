@@ -1,6 +1,6 @@
 -- From what was taken to the answer.
 use Rattle.std.proofs.Common.{◌≡◌, ◌≢◌, ℕ, ◌+◌, ◌*◌, ◌<◌, ◌≤◌, le_refl, Bool, true, false, inl, inr, List, [], ◌++◌, None, Some, IfSome, Result, Ok, Err, length, take, drop, get_or, refl, sym, ap, ◌∙◌, subst, arith, length-append}
-use Rattle.std.specs.Prelude.{Option, MatchBool, IsTrue, IsOk, IsErr, IsNone, IsSome, IfOk, if◌then◌else◌}
+use Rattle.std.specs.Prelude.{Option, MatchBool, IsOk, IsErr, IsNone, IsSome, IfOk}
 use Rattle.std.specs.List.{concat}
 use Rattle.std.specs.Result.{IsErrAnd}
 use Rattle.std.specs.Io.KnownBytes.{Appends, Consumes}
@@ -11,12 +11,12 @@ use Rattle.std.proofs.lemmas.Option.{IfSome_then}
 use lib.Seq.{drop_at}
 use Rattle.stair_model.specs.Geometry.{Geometry, IsWithinLimits}
 use Rattle.stair_model.specs.Stripe.{Stripe, IsStripeOf, IsWellFormed}
-use Rattle.stair_model.specs.CellSet.{CellSet, HasCell, IsInStripe, count_in_slot, has_cell}
+use Rattle.stair_model.specs.CellSet.{CellSet, IsInStripe, count_in_slot}
 use Rattle.stair_model.specs.Codeword.{IsCodeword}
 use Rattle.stair_model.specs.Coverage.{IsCovered}
 use Rattle.stair_model.specs.Encoding.{IsEncodedFrom}
 use Rattle.stair_model.specs.Equation.{IsFirstBroken}
-use Rattle.stair_model.proofs.CountLaws.{sum_below_zeros}
+use Rattle.stair_model.proofs.CoverageLaws.{count_in_slot-none}
 use Rattle.stair_model.specs.Restoring.{IsRestored, SameHeld}
 use Rattle.stair_rack.specs.Count.{Rose}
 use Rattle.stair_base.specs.declared.equations.Broken.{Broken}
@@ -127,22 +127,13 @@ judged_of_erased g (Some input) erased stripe status output limits took judges =
   judged = (erased, stripe, took.by_map, took.by_cells, judges);
 }
 
--- what isn't marked counts nothing
-unmarked : (b : Bool) → ¬ IsTrue b → ◌≡◌ {A = ℕ} (if b then 1 else 0) 0
-unmarked true fails = absurd (fails refl)
-unmarked false fails = refl
-
--- no cell of the slot is erased
-no_marks : (erased : CellSet) (j : ℕ) → ((i : ℕ) → ¬ HasCell erased i j) → count_in_slot erased j ≡ 0
-no_marks erased j none = sum_below_zeros 32 (λ i. if has_cell erased i j then 1 else 0) (λ i in_rows. unmarked (has_cell erased i j) (none i))
-
 pub CountsErased-counts : (g : Geometry) (erased : CellSet) (counts : List ℕ) → IsWithinLimits g → IsInStripe g erased → length counts ≡ 32
     → ((j : ℕ) → j < 32 → get_or counts j 0 ≡ count_in_slot erased j) → CountsErased g erased counts
 CountsErased-counts g erased counts limits within long each = record {
   count = long;
   slots = λ j in_slots. each j (omega (arith, in_slots, limits.devices.1));
   behind = λ j behind. elim (cases_lt j 32) as (λ _. get_or counts j 0 ≡ 0) [
-    | inl below ↦ each j below ∙ no_marks erased j (λ i has. omega (arith, behind, (within i j has).1))
+    | inl below ↦ each j below ∙ count_in_slot-none erased j (λ i has. omega (arith, behind, (within i j has).1))
     | inr past ↦ get_or_past counts j 0 (omega (arith, past, long))
   ];
 }

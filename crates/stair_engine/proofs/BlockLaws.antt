@@ -12,8 +12,7 @@ use Rattle.stair_model.specs.Encoding.{IsEncodedFrom, IsEncodingOf}
 use Rattle.stair_model.specs.Geometry.{Geometry, IsWithinLimits, data_cells}
 use Rattle.stair_model.specs.Stripe.{Stripe, IsSector, IsStripeOf, IsWellFormed, cell, with_cell}
 use Rattle.stair_model.proofs.DataLaws.{data_in_range, data_once}
-use Rattle.stair_model.proofs.EncodingLaws.{cell-IsSector}
-use Rattle.stair_model.proofs.StripeLaws.{cell-with_cell_other, cell-with_cell_same}
+use Rattle.stair_model.proofs.StripeLaws.{cell-IsSector, cell-with_cell_other, cell-with_cell_same}
 use Rattle.stair_engine.specs.Encode.{HoldsBlocks, TookBlocks}
 use Rattle.stair_engine.specs.Taking.{TakesBlocks, TakesBlocksTo, TakesBytes}
 use Rattle.stair_engine.specs.declared.intake.Intake.{Intake}

@@ -4,8 +4,6 @@ use Rattle.std.specs.Prelude.{Option, All}
 use Rattle.std.specs.List.{concat}
 use Rattle.std.specs.Io.KnownBytes.{Appends}
 use Rattle.std.proofs.KnownBytes.{Appends-trans}
-use Rattle.std.proofs.Math.Nat.{mul_comm}
-use Rattle.std.proofs.lemmas.Nat.{mul-add-lt}
 use Rattle.std.proofs.lemmas.List.{take_more, take_more_set, take_all}
 use Rattle.std.proofs.lemmas.List.{take-append-le}
 use Rattle.std.proofs.lemmas.List.Elements.{All-head, All-tail}
@@ -13,6 +11,7 @@ use Rattle.std.proofs.lemmas.List.Folds.{concat-append}
 use lib.Seq.{drop_at, take-add}
 use Rattle.stair_model.specs.Geometry.{Geometry}
 use Rattle.stair_model.specs.Stripe.{Stripe, IsSector, IsStripeOf, IsWellFormed, with_cell}
+use Rattle.stair_model.proofs.StripeLaws.{number_in}
 use Rattle.stair_engine.specs.declared.intake.Intake.{Intake}
 use Rattle.stair_engine.specs.Streams.{PutsPart}
 use Rattle.stair_engine.specs.Taking.{TakesBytes}
@@ -35,11 +34,6 @@ length-cells g stripe of well = well.count ∙ ap₂ (λ (a b : ℕ). a * b) of.
 pub length-cell_bytes : (g : Geometry) (stripe : Stripe) → IsStripeOf g stripe → IsWellFormed stripe
     → length (concat stripe.cells) ≡ g.r * g.n * 512
 length-cell_bytes g stripe of well = length-concat stripe.cells well.sectors ∙ ap (λ k. k * 512) (length-cells g stripe of well)
-
--- cell (row, slot) stands before the end
-pub cell_in : (g : Geometry) (row slot : ℕ) → row < g.r → slot < g.n → row * g.n + slot < g.r * g.n
-cell_in g row slot row_in slot_in =
-    omega (arith, mul-add-lt row g.n slot g.r row_in slot_in, mul_comm g.r g.n)
 
 -- the stripe's first `done` cells are what the source gave
 pub record HasTaken (g : Geometry) (first now : Intake) (left left' : Option (List ℕ)) (stripe : Stripe) (done : ℕ) : Type 0 where
@@ -69,7 +63,7 @@ HasTaken-more g first now next a b c stripe row slot sector row_in slot_in long 
     let done = row * g.n + slot in
     let same : at ≡ done = ap (λ n. row * n + slot) before.of.chunks in
     let in_stripe : at < length cells =
-    omega (arith, same, length-cells g stripe before.of before.well_formed, cell_in g row slot row_in slot_in)
+    omega (arith, same, length-cells g stripe before.of before.well_formed, number_in g row slot row_in slot_in)
     in
     let front : take (row * g.n + (slot + 1)) (set cells at sector) ≡ take done cells ++ sector ∷ [] =
     ap (λ k. take k (set cells at sector)) (omega (arith, same)) ∙ take_more_set cells at sector in_stripe
@@ -98,7 +92,7 @@ cells_more : (g : Geometry) (stripe : Stripe) (row slot : ℕ) (sector : List �
     → concat (take (row * g.n + (slot + 1)) stripe.cells) ≡ concat (take (row * g.n + slot) stripe.cells) ++ sector
 cells_more g stripe row slot sector of well row_in slot_in is =
     let done = row * g.n + slot in
-    let in_cells : done < length stripe.cells = omega (arith, length-cells g stripe of well, cell_in g row slot row_in slot_in) in
+    let in_cells : done < length stripe.cells = omega (arith, length-cells g stripe of well, number_in g row slot row_in slot_in) in
     let at : sector ≡ get_or stripe.cells done [] = is ∙ ap (λ n. get_or stripe.cells (row * n + slot) []) of.chunks in
     let front : take (row * g.n + (slot + 1)) stripe.cells ≡ take done stripe.cells ++ sector ∷ [] =
     ap (λ k. take k stripe.cells) (omega arith) ∙ take_more stripe.cells done [] in_cells ∙ ap (λ x. take done stripe.cells ++ x ∷ []) (sym at)

@@ -7,7 +7,7 @@ use Rattle.stair_model.specs.Geometry.{Geometry}
 use Rattle.stair_model.specs.CellSet.{CellSet, HasCell}
 use Rattle.stair_engine.specs.declared.intake.Intake.{Intake}
 use Rattle.stair_engine.specs.Taking.{TakesBytes, TakesMap}
-use Rattle.stair_engine.proofs.CellLaws.{cell_in}
+use Rattle.stair_model.proofs.StripeLaws.{number_in}
 use Rattle.stair_engine.proofs.IntakeLaws.{TakesBytes-none, TakesBytes-more}
 
 -- of this row, the cells were added whose marks, below `count`, aren't those of held ones
@@ -89,7 +89,7 @@ HasMapped-more g first now next a b c erased erased' row marks long before gives
     let map = before.map in
     let earlier_mark : (i j : ℕ) → i < row → j < g.n → get_or (map ++ marks) (i * g.n + j) 0 ≡ get_or map (i * g.n + j) 0 =
     λ i j row_in slot_in. get_or_append_left map marks 0 (i * g.n + j)
-    (omega (arith, before.long, cell_in (record g { r = row }) i j row_in slot_in))
+    (omega (arith, before.long, number_in (record g { r = row }) i j row_in slot_in))
     in
     let this_mark : (j : ℕ) → get_or (map ++ marks) (row * g.n + j) 0 ≡ get_or marks j 0 =
     λ j. ap (λ k. get_or (map ++ marks) (k + j) 0) (sym before.long) ∙ get_or-append-add map marks j 0

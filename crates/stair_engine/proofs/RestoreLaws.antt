@@ -15,7 +15,8 @@ use Rattle.stair_engine.specs.Task.Command.{Restore}
 use Rattle.stair_engine.specs.Answer.{HasBytes, IsAnswer, IsJudged, cell_bytes, map_bytes}
 use Rattle.stair_engine.specs.Laws.{DifferAtErased, cell_of_input}
 use Rattle.stair_engine.specs.Restore.{HoldsCells, IsErasedBy, JudgesErased}
-use Rattle.stair_engine.proofs.CellLaws.{cell_in, length-cells}
+use Rattle.stair_model.proofs.StripeLaws.{number_in}
+use Rattle.stair_engine.proofs.CellLaws.{length-cells}
 
 empty-length : (xs : List ℕ) → length xs ≡ 0 → xs ≡ []
 empty-length [] none = refl
@@ -75,7 +76,7 @@ cell-input : (g : Geometry) (stripe : Stripe) (input : List ℕ) → HasBytes g 
     → cell stripe i j ≡ cell_of_input g input i j
 cell-input g stripe input has i j row_in slot_in =
     let k = i * g.n + j in
-    let below : k < length stripe.cells = omega (arith, length-cells g stripe has.of has.well_formed, cell_in g i j row_in slot_in) in
+    let below : k < length stripe.cells = omega (arith, length-cells g stripe has.of has.well_formed, number_in g i j row_in slot_in) in
     ap (λ n. get_or stripe.cells (i * n + j) []) has.of.chunks ∙ sector_at stripe.cells k has.well_formed.sectors below
     ∙ ap (λ bytes. take 512 (drop (k * 512) bytes)) has.same_bytes
 

@@ -1,4 +1,4 @@
-//! Worked rows of the commands, over memory. The cells and the answers were computed by hand.
+//! Worked rows of the commands, over memory. The cells and the answers were worked out elsewhere.
 
 ghost use Rattle.std.specs.Prelude.{◌≡◌, ◌<◌};
 

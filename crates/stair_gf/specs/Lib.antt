@@ -1,1 +1,2 @@
 pub mod AddsMultiple
+pub mod Lanes

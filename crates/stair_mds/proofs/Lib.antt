@@ -1,2 +1,4 @@
 pub mod Products
+pub mod Formula
 pub mod SolvedSoFar
+pub mod Stretches

@@ -1,3 +1,4 @@
 -- What contracts see of a code and its symbols.
 pub mod Solving
+pub mod Lagrange
 pub mod Weights

@@ -1,15 +1,12 @@
 -- What solving makes of the symbols.
 use Rattle.std.specs.Prelude.{◌≡◌, ℕ, ◌<◌, List, [], length, slice_index, slice_index_or, All, Contains}
 use Rattle.stair_model.specs.CauchyCode.{AreDistinct, AreSolved, IsSystematicCodeword, coefficient}
+use Rattle.stair_model.specs.Stripe.{symbol_byte}
 
 -- a code of so many held symbols and so many places in all
 pub record Shape : Type 0 where
   pub held : ℕ
   pub total : ℕ
-
--- byte q of the symbol at each place
-abbrev pub word : List (List ℕ) → ℕ → ℕ → ℕ
-word symbols q place = slice_index (slice_index_or symbols place []) q
 
 -- the word is a codeword of the Cauchy code
 abbrev pub IsCodewordOf : Shape → (ℕ → ℕ) → Type 0
@@ -25,4 +22,4 @@ pub record AreWantedPlaces (code : Shape) (known wanted : List ℕ) : Type 0 whe
 pub record Solves (code : Shape) (known wanted : List ℕ) (old new : List (List ℕ)) : Type 0 where
   pub count : length new ≡ length old
   pub others : (p : ℕ) → (Contains wanted p → ⊥) → slice_index_or new p [] ≡ slice_index_or old p []
-  pub symbols : AreSolved (IsCodewordOf code) known wanted (word old) (word new)
+  pub symbols : AreSolved (IsCodewordOf code) known wanted (symbol_byte old) (symbol_byte new)

@@ -1,6 +1,6 @@
 -- What a code keeps.
 use Rattle.std.specs.Prelude.{◌≡◌, ℕ, ◌<◌, ◌≤◌, List, length, slice_index}
-use Rattle.stair_model.specs.CauchyCode.{weight}
+use Rattle.stair_mds.specs.Lagrange.{weight}
 
 -- the weight of each place, of which there are at most 256
 pub record HasWeights (held : ℕ) (weights : List ℕ) : Type 0 where

@@ -1,5 +1,5 @@
 ghost use Rattle.std.specs.Prelude.{◌≡◌, ◌<◌, All, length, slice_index};
-ghost use Rattle.stair_model.specs.CauchyCode.{distances as distances_of, weight as weight_of};
+ghost use Rattle.stair_mds.specs.Lagrange.{distances as distances_of, weight as weight_of};
 
 use stair_gf::mul;
 

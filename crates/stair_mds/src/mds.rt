@@ -1,9 +1,10 @@
 ghost use Rattle.std.specs.Prelude.{◌≡◌, ℕ, ◌+◌, ◌-◌, ◌*◌, ◌<◌, ◌≤◌, IfOk, All, length, slice_index};
-ghost use Rattle.stair_model.specs.CauchyCode.{AreKnownPlaces, solving};
+ghost use Rattle.stair_model.specs.CauchyCode.{AreKnownPlaces};
 ghost use Rattle.stair_model.specs.Sum.{field_sum};
 ghost use Rattle.stair_model.specs.Field.{product};
-ghost use Rattle.stair_model.specs.Stripe.{IsSector};
-ghost use Rattle.stair_mds.specs.Solving.{AreWantedPlaces, Solves, word};
+ghost use Rattle.stair_model.specs.Stripe.{IsSector, SECTOR, symbol_byte};
+ghost use Rattle.stair_mds.specs.Lagrange.{solving};
+ghost use Rattle.stair_mds.specs.Solving.{AreWantedPlaces, Solves};
 
 use crate::distances::{distances, weight};
 use crate::symbols::{SYMBOL, Symbols};
@@ -109,8 +110,10 @@ impl Mds {
         requires known { AreKnownPlaces self.now.held self.now.total known.now }
         requires wanted { wanted < self.now.total }
         requires count { length work.now ≡ self.now.total }
-        ensures symbol { (q : ℕ) → q < 512 → slice_index result q ≡ field_sum (length known.now)
-            (λ i. product (solving self.now.held known.now i wanted) (word work.now q (slice_index known.now i))) }
+        ensures symbol { (q : ℕ) → q < SECTOR →
+            slice_index result q ≡ field_sum (length known.now) (λ i.
+            product (solving self.now.held known.now i wanted)
+            (symbol_byte work.now q (slice_index known.now i))) }
         ensures cost { steps.new ≡ steps.old + length known.now }
     {
         let mut sum = [0; SYMBOL];

@@ -1,5 +1,5 @@
 ghost use Rattle.std.specs.Prelude.{◌≡◌, ◌<◌, IfOk, length, replicate, slice_index_or, slice_set, []};
-ghost use Rattle.stair_model.specs.Stripe.{IsSector};
+ghost use Rattle.stair_model.specs.Stripe.{IsSector, SECTOR};
 
 use std::alloc::{AllocError, Global};
 use std::marker::Model;
@@ -27,7 +27,7 @@ impl Model for Symbols {
 impl Symbols {
     /// So many zero symbols, in one allocation.
     pub fn new(alloc: Global, count: u16) -> Result<Symbols, AllocError>
-        ensures { IfOk result (λ symbols. symbols ≡ replicate count (replicate 512 0)) }
+        ensures { IfOk result (λ symbols. symbols ≡ replicate count (replicate SECTOR 0)) }
     {
         let mut symbols = Vec::with_capacity(alloc, usize::from(count))?;
         for _made in 0..count {

@@ -1,27 +1,19 @@
 -- Laws of the canonical stripe: a word has one extension, and a stripe is a codeword exactly where its extension is one of
 -- the row code in each row, of the column code in each chunk, and has the global zeros.
-use Rattle.std.proofs.Common.{◌≡◌, ℕ, ◌+◌, ◌-◌, ◌*◌, ◌<◌, ◌≤◌, ◌⊎◌, ◌↔◌, inl, inr, sym, ap, subst, ◌∙◌, nat_lt, if◌then◌else◌, arith}
-use Rattle.std.proofs.lemmas.Bool.{cases_lt, lt-ltb, le-ltb, cond-true, cond-false}
-use Rattle.std.proofs.lemmas.List.Elements.{All-get_or}
-use Rattle.std.proofs.lemmas.Nat.{mul-add-lt}
+use Rattle.std.proofs.Common.{◌≡◌, ℕ, ◌+◌, ◌-◌, ◌<◌, ◌≤◌, ◌↔◌, inl, inr, sym, ap, subst, ◌∙◌, nat_lt, if◌then◌else◌, arith}
+use Rattle.std.proofs.lemmas.Bool.{lt-ltb, le-ltb, cond-true, cond-false}
 use Rattle.stair_model.specs.Field.{product}
 use Rattle.stair_model.specs.Sum.{field_sum}
 use Rattle.stair_model.specs.CauchyCode.{IsSystematicCodeword}
 use Rattle.stair_model.specs.Geometry.{Geometry, IsWithinLimits, classes, coverage, data_chunks, greatest_coverage}
 use Rattle.stair_model.specs.Matrix.{row_coefficient, column_coefficient}
-use Rattle.stair_model.specs.Stripe.{Stripe, SECTOR, IsSector, IsStripeOf, IsWellFormed, cell, byte_of}
-use Rattle.stair_model.specs.Codeword.{Word, IsRowEquation, IsCodeword, row_sum, column_sum, global_sum}
-use Rattle.stair_model.specs.Canonical.{canonical_chunks, canonical_rows, IsRowCodeword, IsColumnCodeword, IsExtensionOf, MeetsRowEquations, HasGlobalZeros, IsCanonicalCodeword}
+use Rattle.stair_model.specs.Stripe.{Stripe, SECTOR, IsStripeOf, IsWellFormed, byte_of}
+use Rattle.stair_model.specs.Codeword.{Word, IsRowEquation, MeetsRowEquations, MeetsEquations, IsCodeword, row_sum, column_sum, global_sum}
+use Rattle.stair_model.specs.Canonical.{canonical_chunks, canonical_rows, IsRowCodeword, IsColumnCodeword, IsExtensionOf, HasGlobalZeros, IsCanonicalCodeword}
 use Rattle.stair_model.proofs.FieldLaws.{product-lt, product_left_comm}
 use Rattle.stair_model.proofs.SumLaws.{field_sum_same, field_sum_exchange, field_sum-product_left, field_sum-lt}
-
--- a number is below n, or n and something
-below_or_past : (n i : ℕ) → (i < n) ⊎ ((k : ℕ) × (i ≡ n + k))
-below_or_past n i =
-    elim (cases_lt i n) [
-      | inl below ↦ inl below
-      | inr past ↦ inr (i - n, omega arith)
-    ]
+use Rattle.stair_model.proofs.StripeLaws.{byte_of-lt}
+use Rattle.stair_model.proofs.CodeLaws.{below_or_past}
 
 -- ---- rows and chunks of one word
 
@@ -156,18 +148,18 @@ extension_chunk g w x bytes extension j j_in = record {
   parity = λ h h_in. extension.virtual h j (omega arith) j_in;
 }
 
--- a row of a word and the same row of its extension have one sum
-row_sum_same : (g : Geometry) (w x : Word) (i k : ℕ) → ((j : ℕ) → j < g.n → x i j ≡ w i j) → row_sum g w i k ≡ row_sum g x i k
-row_sum_same g w x i k cells =
-    field_sum_same (data_chunks g) (λ j. product (row_coefficient g k j) (w i j)) (λ j. product (row_coefficient g k j) (x i j))
-    (λ j before. ap (product (row_coefficient g k j)) (sym (cells j (omega arith))))
+-- rows of the same cells have one sum
+pub row_sum_same : (g : Geometry) (v w : Word) (i k : ℕ) → ((j : ℕ) → j < g.n → v i j ≡ w i j) → row_sum g v i k ≡ row_sum g w i k
+row_sum_same g v w i k same =
+    field_sum_same (data_chunks g) (λ j. product (row_coefficient g k j) (v i j)) (λ j. product (row_coefficient g k j) (w i j))
+    (λ j before. ap (product (row_coefficient g k j)) (same j (omega arith)))
 
 -- a row whose equations hold is in the extension a codeword of the row code
 pub extension_row : (g : Geometry) (w x : Word) → IsWithinLimits g → ((i j : ℕ) → i < g.r → j < g.n → w i j < 256)
     → IsExtensionOf g w x → (i : ℕ) → i < g.r → ((k : ℕ) → k < g.m → IsRowEquation g w i k) → IsRowCodeword g (λ j. x i j)
 extension_row g w x limits bytes extension i row equations = record {
   bytes = λ j j_in. extension-lt g w x bytes extension i j (omega arith) j_in;
-  parity = λ k k_in. parity k k_in ∙ row_sum_same g w x i k (λ j chunk. extension.cells i j row chunk);
+  parity = λ k k_in. parity k k_in ∙ sym (row_sum_same g x w i k (λ j chunk. extension.cells i j row chunk));
 }
   where
     parity : (k : ℕ) → data_chunks g + k < canonical_chunks g → x i (data_chunks g + k) ≡ row_sum g w i k
@@ -200,6 +192,25 @@ covered_zero_is : (g : Geometry) (w x : Word) → IsWithinLimits g → IsExtensi
 covered_zero_is g w x limits extension l h l_in h_in =
     global_zero_is g w x extension l h l_in (omega (arith, coverage_le_greatest g limits l l_in))
 
+-- ---- words that meet the equations
+
+-- where the row equations hold, each row of the extension is a codeword of the row code, the virtual ones too
+pub extension_rows : (g : Geometry) (w x : Word) → IsWithinLimits g → ((i j : ℕ) → i < g.r → j < g.n → w i j < 256)
+    → MeetsRowEquations g w → IsExtensionOf g w x → (i : ℕ) → i < canonical_rows g → IsRowCodeword g (λ j. x i j)
+extension_rows g w x limits bytes equations extension =
+    product_law (data_chunks g) (canonical_chunks g) g.r (canonical_rows g) (row_coefficient g) (column_coefficient g) x
+    (λ i row. extension_row g w x limits bytes extension i row (λ k k_in. equations i k row k_in))
+    (λ j j_in. extension_chunk g w x bytes extension j j_in)
+
+-- and where all equations hold, the extension is a canonical codeword
+pub word_is_canonical : (g : Geometry) (w x : Word) → IsWithinLimits g → ((i j : ℕ) → i < g.r → j < g.n → w i j < 256)
+    → MeetsEquations g w → IsExtensionOf g w x → IsCanonicalCodeword g x
+word_is_canonical g w x limits bytes meets extension = record {
+  rows = extension_rows g w x limits bytes meets.rows extension;
+  chunks = λ j j_in. extension_chunk g w x bytes extension j j_in;
+  zeros = λ l h l_in h_in. covered_zero_is g w x limits extension l h l_in h_in ∙ meets.globals l h l_in h_in;
+}
+
 -- ---- stripes
 
 -- a stripe is a codeword exactly where at each byte its row equations hold and its extension has the global zeros
@@ -213,48 +224,23 @@ bridge g stripe x limits extensions = (from_codeword, to_codeword)
 
     from_codeword : IsCodeword g stripe → (p : ℕ) → p < SECTOR → MeetsRowEquations g (byte_of stripe p) × HasGlobalZeros g (x p)
     from_codeword codeword p p_in = (
-      λ i k row k_in. codeword.row_equations p i k p_in row k_in,
-      λ l h l_in h_in. is_sum p l h p_in l_in h_in ∙ codeword.global_equations p l h p_in l_in h_in,
+      (codeword.words p p_in).rows,
+      λ l h l_in h_in. is_sum p l h p_in l_in h_in ∙ (codeword.words p p_in).globals l h l_in h_in,
     )
 
     to_codeword : ((p : ℕ) → p < SECTOR → MeetsRowEquations g (byte_of stripe p) × HasGlobalZeros g (x p)) → IsCodeword g stripe
     to_codeword holds = record {
-      row_equations = λ p i k p_in row k_in. (holds p p_in).0 i k row k_in;
-      global_equations = λ p l h p_in l_in h_in. sym (is_sum p l h p_in l_in h_in) ∙ (holds p p_in).1 l h l_in h_in;
+      words = λ p p_in. record {
+        rows = (holds p p_in).0;
+        globals = λ l h l_in h_in. sym (is_sum p l h p_in l_in h_in) ∙ (holds p p_in).1 l h l_in h_in;
+      };
     }
-
--- the bytes of a stripe are bytes
-pub byte_of-lt : (g : Geometry) (stripe : Stripe) → IsStripeOf g stripe → IsWellFormed stripe
-    → (p i j : ℕ) → p < SECTOR → i < g.r → j < g.n → byte_of stripe p i j < 256
-byte_of-lt g stripe of formed p i j p_in row chunk =
-    let place : i * stripe.chunks + j < stripe.chunks * stripe.rows =
-    mul-add-lt i stripe.chunks j stripe.rows (omega (arith, of.rows)) (omega (arith, of.chunks)) in
-    let sector : IsSector (cell stripe i j) =
-    All-get_or IsSector stripe.cells (i * stripe.chunks + j) _ (omega (arith, place, formed.count)) formed.sectors in
-    All-get_or (λ b. b < 256) (cell stripe i j) p 0 (omega (arith, sector.0)) sector.1
 
 -- at each byte the extension of a codeword is a canonical codeword
 pub codeword_is_canonical : (g : Geometry) (stripe : Stripe) (p : ℕ) (x : Word) → IsWithinLimits g → IsStripeOf g stripe
     → IsWellFormed stripe → IsCodeword g stripe → p < SECTOR → IsExtensionOf g (byte_of stripe p) x → IsCanonicalCodeword g x
-codeword_is_canonical g stripe p x limits of formed codeword p_in extension = record {
-  rows = λ i i_in.
-      product_law (data_chunks g) (canonical_chunks g) g.r (canonical_rows g) (row_coefficient g) (column_coefficient g) x
-      (λ t row. extension_row g w x limits bytes extension t row (λ k k_in. codeword.row_equations p t k p_in row k_in))
-      chunks i i_in;
-  chunks = chunks;
-  zeros = λ l h l_in h_in.
-      covered_zero_is g w x limits extension l h l_in h_in
-      ∙ codeword.global_equations p l h p_in l_in h_in;
-}
-  where
-    w : Word
-    w = byte_of stripe p
-
-    bytes : (i j : ℕ) → i < g.r → j < g.n → w i j < 256
-    bytes i j row chunk = byte_of-lt g stripe of formed p i j p_in row chunk
-
-    chunks : (j : ℕ) → j < canonical_chunks g → IsColumnCodeword g (λ i. x i j)
-    chunks j j_in = extension_chunk g w x bytes extension j j_in
+codeword_is_canonical g stripe p x limits of formed codeword p_in extension =
+    word_is_canonical g (byte_of stripe p) x limits (λ i j row chunk. byte_of-lt stripe formed p i j) (codeword.words p p_in) extension
 
 -- a canonical codeword is the extension of its cells, whose row equations hold
 pub canonical_is_extension : (g : Geometry) (w x : Word) → IsWithinLimits g
@@ -274,7 +260,7 @@ canonical_is_extension g w x limits cells canonical = (
   where
     parity : (i k : ℕ) → i < g.r → data_chunks g + k < canonical_chunks g → x i (data_chunks g + k) ≡ row_sum g w i k
     parity i k row k_in =
-        (canonical.rows i (omega arith)).parity k k_in ∙ sym (row_sum_same g w x i k (λ j chunk. cells i j row chunk))
+        (canonical.rows i (omega arith)).parity k k_in ∙ row_sum_same g x w i k (λ j chunk. cells i j row chunk)
 
 -- a stripe whose cells are at each byte those of a canonical codeword is a codeword
 pub canonical_is_codeword : (g : Geometry) (stripe : Stripe) (x : ℕ → Word) → IsWithinLimits g

@@ -1,11 +1,24 @@
 -- Laws of the cell layout.
-use Rattle.std.proofs.Common.{◌≡◌, ℕ, zero, suc, ◌+◌, ◌-◌, ◌*◌, ◌<◌, ◌≤◌, ◌⊎◌, ◌↔◌, inl, inr, refl, sym, ◌∙◌, ap, ap₂, subst, arith, Bool, true, false, ◌&&◌, nat_le, if◌then◌else◌, mul-one, mul-zero, add-zero, add-one, add_assoc, le_refl}
-use Rattle.std.proofs.lemmas.Bool.{cases_lt, cases_eq, le-leb, lt-leb, lt-ltb, le-ltb, and_from, cond-true, cond-false}
+use Rattle.std.proofs.Common.{◌≡◌, ℕ, zero, suc, ◌+◌, ◌-◌, ◌*◌, ◌<◌, ◌≤◌, ◌⊎◌, ◌↔◌, inl, inr, refl, sym, ◌∙◌, ap, ap₂, subst, arith, Bool, true, false, ◌&&◌, nat_le, nat_lt, if◌then◌else◌, mul-one, mul-zero, add-zero, add-one, add_assoc, le_refl}
+use Rattle.std.specs.Prelude.{IsTrue}
+use Rattle.std.proofs.lemmas.Bool.{cases_lt, cases_eq, le-leb, lt-leb, lt-ltb, le-ltb, true≢false, and_from, cond-true, cond-false}
 use Rattle.std.proofs.lemmas.Bool.Decides.{nat_tests}
 use Rattle.stair_model.specs.Sum.{sum_below}
 use Rattle.stair_model.specs.Geometry.{Geometry, IsWithinLimits, classes, coverage, data_chunks, data_cells, global_cells}
-use Rattle.stair_model.specs.Cell.{Data, Global, Parity, global_chunk, global_row, class_of, is_global, data_in_row, data_before, rows_before, globals_before, cell_at}
+use Rattle.stair_model.specs.Cell.{Cell, Data, Global, Parity, is_parity, global_chunk, global_row, class_of, is_global, data_in_row, data_before, cell_at}
 use Rattle.stair_model.proofs.CountLaws.{sum_below_none, sum_below_more, sum_below_same, sum_below_add, sum_below_constant, sum_below_changed, sum_below_list}
+
+-- ---- which cells are parities
+
+-- a parity holds no data
+pub parity_is_no_data : (c : Cell) (d : ℕ) → IsTrue (is_parity c) → ¬ (c ≡ Data d)
+parity_is_no_data c d parity is = true≢false (sym parity ∙ ap is_parity is)
+
+-- and a cell that holds none is a parity
+pub no_data_is_parity : (c : Cell) → ((d : ℕ) → ¬ (c ≡ Data d)) → IsTrue (is_parity c)
+no_data_is_parity (Data d) none = absurd (none d refl)
+no_data_is_parity (Global l h) none = refl
+no_data_is_parity (Parity k) none = refl
 
 -- ---- which cells are global
 
@@ -45,7 +58,8 @@ data_mark g i j = if is_global g i j then 0 else 1
 abbrev pub globals_in_row : Geometry → ℕ → ℕ → ℕ
 globals_in_row g i j = sum_below j (λ c. global_mark g i c)
 
-one_of_two : (b : Bool) → (if b then 0 else 1) + (if b then 1 else 0) ≡ 1
+-- a number passes a test or fails it
+pub one_of_two : (b : Bool) → (if b then 0 else 1) + (if b then 1 else 0) ≡ 1
 one_of_two true = refl
 one_of_two false = refl
 
@@ -72,6 +86,10 @@ rows_split g i =
     ∙ sum_below_constant i (data_chunks g)
 
 -- ---- the global parities before a cell
+
+-- the rows of chunk c that have a cell before cell (i, j), row by row
+abbrev rows_before : ℕ → ℕ → ℕ → ℕ
+rows_before i j c = if nat_lt c j then i + 1 else i
 
 rows_before_yes : (i j c : ℕ) → c < j → rows_before i j c ≡ i + 1
 rows_before_yes i j c h = cond-true _ _ _ (lt-ltb c j h)
@@ -108,6 +126,10 @@ class_rows g l rows = rows - (g.r - coverage g l)
 -- and before cell (i, j)
 abbrev class_before : Geometry → ℕ → ℕ → ℕ → ℕ
 class_before g i j l = class_rows g l (rows_before i j (global_chunk g l))
+
+-- those of all classes
+abbrev pub globals_before : Geometry → ℕ → ℕ → ℕ
+globals_before g i j = sum_below (classes g) (class_before g i j)
 
 -- a cell that isn't global, in the chunk of class l, is above that class's rows
 above_class : (g : Geometry) (i j l : ℕ) → IsApartFromGlobals g i j → global_chunk g l ≡ j → i < g.r - coverage g l + 0

@@ -5,15 +5,19 @@ use Rattle.std.specs.Prelude.{bit_xor}
 use Rattle.std.proofs.lemmas.Bool.{cases_lt}
 use Rattle.std.proofs.lemmas.List.Elements.{All-get_or, All-from_get_or}
 use Rattle.stair_model.specs.Field.{product, inverse}
-use Rattle.stair_model.specs.Sum.{field_sum, field_product}
-use Rattle.stair_model.specs.CauchyCode.{coefficient, AreBytes, AreDistinct, IsSystematicCodeword, AreKnownPlaces, Agree, distances, weight, solving}
-use Rattle.stair_model.proofs.FieldLaws.{product-lt, product_comm, product_assoc, product_left_comm, product_right_comm, product-inverse_product, inverse-product}
-use Rattle.stair_model.proofs.SumLaws.{field_sum_same, field_sum-product_left, field_sum-lt}
+use Rattle.stair_model.specs.Sum.{field_sum, field_product, product_except}
+use Rattle.stair_model.specs.CauchyCode.{coefficient, AreBytes, AreDistinct, IsSystematicCodeword, AreKnownPlaces, Agree}
+use Rattle.stair_model.proofs.FieldLaws.{product-lt, product_comm, product-inverse_product}
+use Rattle.stair_model.proofs.SumLaws.{field_sum-lt}
 use Rattle.stair_model.proofs.ProductLaws.{product_except_past}
 use Rattle.stair_model.proofs.PolynomialLaws.{IsPolynomial}
-use Rattle.stair_model.proofs.LagrangeLaws.{distances-lt, distances-pos, own_distances-pos, combination, combination-polynomial, combination_at, combination_same, combination_apart, through, through_at, lagrange}
+use Rattle.stair_model.proofs.LagrangeLaws.{distances, distances-lt, distances-pos, combination, combination-polynomial, combination_at, combination_same, combination_apart, through, through_at, lagrange}
 
 -- ---- weights
+
+-- the product of p + c over the held places c other than p
+unfoldable pub weight : ℕ → ℕ → ℕ
+weight held p = product_except held p (λ c. bit_xor p c)
 
 pub weight-lt : (held p : ℕ) → weight held p < 256
 unfolding weight distances
@@ -45,19 +49,19 @@ parity_value held k w byte =
     combination_apart held (λ c. c) w (held + k) (λ c h. omega arith) byte (λ c h same. omega arith)
     ∙ ap (λ v. product v (field_sum held (λ j. product (coefficient held k j) (w j)))) (weight_parity held (held + k) (omega arith))
 
--- a place is held or a parity's
-held_or_parity : (held p : ℕ) → (p < held) ⊎ ((k : ℕ) × (p ≡ held + k))
-held_or_parity held p =
-    elim (cases_lt p held) [
+-- a number is below n, or n and something
+pub below_or_past : (n p : ℕ) → (p < n) ⊎ ((k : ℕ) × (p ≡ n + k))
+below_or_past n p =
+    elim (cases_lt p n) [
       | inl below ↦ inl below
-      | inr past ↦ inr (p - held, omega arith)
+      | inr past ↦ inr (p - n, omega arith)
     ]
 
 -- each place of a codeword times its weight is the value there of one polynomial of degree below `held`
 pub codeword_polynomial : (held total : ℕ) (w : ℕ → ℕ) → total ≤ 256 → IsSystematicCodeword held total (coefficient held) w
     → (p : ℕ) → p < total → combination held (λ c. c) w p ≡ product (weight held p) (w p)
 codeword_polynomial held total w few codeword p within =
-    elim (held_or_parity held p) [
+    elim (below_or_past held p) [
       | inl below ↦
           combination_at held (λ c. c) w p below ∙ product_comm (w p) (distances held (λ c. c) p p)
           ∙ ap (λ v. product v (w p)) (weight_held held p)
@@ -129,64 +133,44 @@ codeword_exists held total known w room few places bytes = (
         ∙ product-inverse_product (weight held (points i)) (w (points i)) (weight-pos held (points i) (omega arith) (omega arith))
         (weight-lt held (points i)) (bytes (points i) below)
 
--- u·(((w·c)·v)·d) is ((w·d)·(u·v))·c
-regroup : (u w c v d : ℕ) → product u (product (product (product w c) v) d) ≡ product (product (product w d) (product u v)) c
-regroup u w c v d =
-    ap (product u)
-    (ap (λ x. product x d) (product_right_comm w c v) ∙ product_right_comm (product w v) c d
-    ∙ ap (λ x. product x c) (product_right_comm w v d))
-    ∙ sym (product_assoc u (product (product w d) v) c)
-    ∙ ap (λ x. product x c) (product_left_comm u (product w d) v)
-
--- each place of a codeword, by its known places
-pub codeword_formula : (held total : ℕ) (known : List ℕ) (c : ℕ → ℕ) (b : ℕ) → held ≤ total → total ≤ 256
-    → AreKnownPlaces held total known → IsSystematicCodeword held total (coefficient held) c → b < total
-    → c b ≡ field_sum held (λ i. product (solving held known i b) (c (slice_index known i)))
-unfolding solving combination
-codeword_formula held total known c b room few places codeword within =
-    sym (product-inverse_product (weight held b) (c b) weight_positive (weight-lt held b) (codeword.bytes b within))
-    ∙ ap (product (inverse (weight held b)))
-    (sym (codeword_polynomial held total c few codeword b within)
-    ∙ lagrange held points f (known_bytes held total known few places) (known_distinct held total known places) (combination-polynomial held (λ p. p) c) b)
-    ∙ sym (field_sum-product_left held (inverse (weight held b))
-    (λ i. product (product (f (points i)) (inverse (distances held points i (points i)))) (distances held points i b)))
-    ∙ field_sum_same held
-    (λ i. product (inverse (weight held b))
-    (product (product (f (points i)) (inverse (distances held points i (points i)))) (distances held points i b)))
-    (λ i. product (solving held known i b) (c (points i))) term
-  where
-    points : ℕ → ℕ
-    points = slice_index known
-
-    f : ℕ → ℕ
-    f = combination held (λ p. p) c
-
-    weight_positive : 0 < weight held b
-    weight_positive = weight-pos held b (omega arith) (omega arith)
-
-    term : (i : ℕ) → i < held
-        → product (inverse (weight held b))
-        (product (product (f (points i)) (inverse (distances held points i (points i)))) (distances held points i b))
-        ≡ product (solving held known i b) (c (points i))
-    term i h =
-        let a : ℕ = points i in
-        let own : ℕ = distances held points i a in
-        let there : ℕ = distances held points i b in
-        ap (λ x. product (inverse (weight held b)) (product (product x (inverse own)) there))
-        (codeword_polynomial held total c few codeword a (known_below held total known places i h))
-        ∙ regroup (inverse (weight held b)) (weight held a) (c a) (inverse own) there
-        ∙ ap (λ x. product (product (product (weight held a) there) x) (c a))
-        (sym (inverse-product (weight held b) own weight_positive (weight-lt held b)
-        (own_distances-pos held points i (known_bytes held total known few places) (known_distinct held total known places) h) (distances-lt held points i a)))
-
 -- codewords that agree at known places agree at each place
 pub codeword_determined : (held total : ℕ) (known : List ℕ) (c d : ℕ → ℕ) (b : ℕ) → held ≤ total → total ≤ 256
     → AreKnownPlaces held total known → IsSystematicCodeword held total (coefficient held) c
     → IsSystematicCodeword held total (coefficient held) d → Agree known c d → b < total → c b ≡ d b
 codeword_determined held total known c d b room few places first second agree within =
-    codeword_formula held total known c b room few places first within
-    ∙ field_sum_same held (λ i. product (solving held known i b) (c (slice_index known i)))
-    (λ i. product (solving held known i b) (d (slice_index known i)))
-    (λ i h. ap (product (solving held known i b))
-    (All-get_or (λ p. c p ≡ d p) known i 0 (omega (arith, places.count)) agree))
-    ∙ sym (codeword_formula held total known d b room few places second within)
+    sym (product-inverse_product (weight held b) (c b) positive (weight-lt held b) (first.bytes b within))
+    ∙ ap (product (inverse (weight held b)))
+    (sym (codeword_polynomial held total c few first b within)
+    ∙ lagrange held points f bytes distinct (combination-polynomial held (λ p. p) c) b
+    ∙ combination_same held points (λ i. product (f (points i)) (inverse (distances held points i (points i))))
+    (λ i. product (g (points i)) (inverse (distances held points i (points i))))
+    (λ i h. ap (λ v. product v (inverse (distances held points i (points i)))) (at_known i h)) b
+    ∙ sym (lagrange held points g bytes distinct (combination-polynomial held (λ p. p) d) b)
+    ∙ codeword_polynomial held total d few second b within)
+    ∙ product-inverse_product (weight held b) (d b) positive (weight-lt held b) (second.bytes b within)
+  where
+    points : ℕ → ℕ
+    points = slice_index known
+
+    -- their polynomials
+    f : ℕ → ℕ
+    f = combination held (λ p. p) c
+
+    g : ℕ → ℕ
+    g = combination held (λ p. p) d
+
+    positive : 0 < weight held b
+    positive = weight-pos held b (omega arith) (omega arith)
+
+    bytes : AreBytes held points
+    bytes = known_bytes held total known few places
+
+    distinct : AreDistinct held points
+    distinct = known_distinct held total known places
+
+    at_known : (i : ℕ) → i < held → f (points i) ≡ g (points i)
+    at_known i h =
+        let below : points i < total = known_below held total known places i h in
+        codeword_polynomial held total c few first (points i) below
+        ∙ ap (product (weight held (points i))) (All-get_or (λ p. c p ≡ d p) known i 0 (omega (arith, places.count)) agree)
+        ∙ sym (codeword_polynomial held total d few second (points i) below)

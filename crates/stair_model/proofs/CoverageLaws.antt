@@ -1,28 +1,19 @@
 -- Coverage by how many chunks have more erased cells than an entry of the coverage vector, and the laws that follow.
-use Rattle.std.proofs.Common.{◌≡◌, ℕ, ◌+◌, ◌-◌, ◌<◌, ◌≤◌, Bool, true, false, cond, List, length, map, slice_index, refl, sym, ap, ◌∙◌, inl, inr, arith}
+use Rattle.std.proofs.Common.{◌≡◌, ℕ, ◌+◌, ◌-◌, ◌<◌, ◌≤◌, cond, List, length, map, slice_index, sym, ap, ◌∙◌, inl, inr, arith}
 use Rattle.std.specs.Prelude.{◌↔◌, IsTrue, nat_lt}
 use Rattle.std.specs.List.{range_with_len}
 use Rattle.std.specs.List.Sorted.{IsPermutation}
-use Rattle.std.proofs.lemmas.Bool.{false≢true, cases_lt, cases_Bool, false_from_ne_true, ltb-true, lt-ltb}
+use Rattle.std.proofs.lemmas.Bool.{false≢true, cases_lt, cases_Bool, ltb-true, lt-ltb}
 use Rattle.std.proofs.lemmas.List.FromFn.{length-map-range_with_len, fill_by_all}
 use Rattle.std.proofs.lemmas.List.Sorted.{IsPermutation-map, length_permutation}
 use Rattle.stair_model.specs.Sum.{sum_below}
 use Rattle.stair_model.specs.Geometry.{Geometry, IsWithinLimits, classes, coverage}
 use Rattle.stair_model.specs.Slots.{Slots, has_slot, HasSlot, slot_count}
 use Rattle.stair_model.specs.CellSet.{CellSet, has_cell, HasCell, count_in_slot, IsInStripe}
-use Rattle.stair_model.specs.Coverage.{IsNonIncreasing, erased_counts, AreSortedCounts, AreWithinCoverage, IsCovered, IsCoveredOrder}
+use Rattle.stair_model.specs.Coverage.{IsNonIncreasing, erased_counts, AreSortedCounts, AreWithinCoverage, HasCoveredChunks, IsCoveredOrder}
+use Rattle.stair_model.proofs.SetLaws.{mark_small, mark_le, unmarked}
 use Rattle.stair_model.proofs.CountLaws.{sum_below_le, sum_below_longer, sum_below_marks, sum_below_zeros, sum_below_tail}
 use Rattle.stair_model.proofs.SortedLaws.{mark, mark_not_above, count_above, count_above-le, le-from_count_above, count_above-permutation, count_above-map, sorted_by}
-
--- marks of two tests, where the second passes wherever the first does
-mark_le : (a b : Bool) → (IsTrue a → IsTrue b) → cond a 1 0 ≤ cond b 1 0
-mark_le true true implies = omega arith
-mark_le true false implies = absurd (false≢true (implies refl))
-mark_le false b implies = omega arith
-
-mark_small : (b : Bool) → cond b 1 0 ≤ 1
-mark_small true = omega arith
-mark_small false = omega arith
 
 -- how many of the first n chunks have more than x erased cells
 abbrev pub chunks_above : CellSet → ℕ → ℕ → ℕ
@@ -85,6 +76,28 @@ AreCountsInOrder-sorted g erased c sorted = record {
   counts = λ x. count_above-permutation x (erased_counts g erased) c sorted.permutation ∙ count_above-map x (count_in_slot erased) g.n;
 }
 
+-- sorted counts of the same cells are the same, place by place
+sorted_le : (g : Geometry) (erased : CellSet) (c d : List ℕ) → AreSortedCounts g erased c → AreSortedCounts g erased d
+    → (p : ℕ) → p < length c → slice_index c p ≤ slice_index d p
+sorted_le g erased c d first second p within =
+    let x = slice_index d p in
+    le-from_count_above x c first.falling p within
+    (omega (
+      arith,
+      count_above-permutation x (erased_counts g erased) c first.permutation,
+      count_above-permutation x (erased_counts g erased) d second.permutation,
+      count_above-le x d second.falling p (omega arith),
+    ))
+
+pub sorted_same : (g : Geometry) (erased : CellSet) (c d : List ℕ) → AreSortedCounts g erased c → AreSortedCounts g erased d
+    → (p : ℕ) → p < length c → slice_index c p ≡ slice_index d p
+sorted_same g erased c d first second p within =
+    let long : length d ≡ length c =
+    length_permutation (erased_counts g erased) d second.permutation ∙ sym (length_permutation (erased_counts g erased) c first.permutation) in
+    let up = sorted_le g erased c d first second p within in
+    let down = sorted_le g erased d c second first p (omega (arith, long)) in
+    omega (arith, up, down)
+
 -- the chunks in order of their counts
 sorted_chunks : (g : Geometry) (erased : CellSet)
     → (order : List ℕ) × IsPermutation (range_with_len 0 g.n) order × AreSortedCounts g erased (map (count_in_slot erased) order)
@@ -98,11 +111,11 @@ sorted_chunks g erased =
       },
     )
 
-pub counts_from_covered : (g : Geometry) (erased : CellSet) → IsCovered g erased → IsCoveredByCounts g erased
+pub counts_from_covered : (g : Geometry) (erased : CellSet) → HasCoveredChunks g erased → IsCoveredByCounts g erased
 counts_from_covered g erased covered =
     counts_from_within g erased covered.counts (AreCountsInOrder-sorted g erased covered.counts covered.sorted) covered.within
 
-pub covered_from_counts : (g : Geometry) (erased : CellSet) → IsCoveredByCounts g erased → IsCovered g erased
+pub covered_from_counts : (g : Geometry) (erased : CellSet) → IsCoveredByCounts g erased → HasCoveredChunks g erased
 covered_from_counts g erased counts =
     let found = sorted_chunks g erased in
     let c = map (count_in_slot erased) found.0 in
@@ -110,7 +123,7 @@ covered_from_counts g erased counts =
 
 -- every sorted list of the counts tells the same
 pub covered_each : (g : Geometry) (erased : CellSet)
-    → IsCovered g erased ↔ ((c : List ℕ) → AreSortedCounts g erased c → AreWithinCoverage g c)
+    → HasCoveredChunks g erased ↔ ((c : List ℕ) → AreSortedCounts g erased c → AreWithinCoverage g c)
 covered_each g erased = (
   λ covered c sorted.
       within_from_counts g erased c (AreCountsInOrder-sorted g erased c sorted) (counts_from_covered g erased covered),
@@ -121,7 +134,7 @@ covered_each g erased = (
 )
 
 -- and so does the order of the chunks
-pub covered_order : (g : Geometry) (erased : CellSet) → IsCovered g erased → (order : List ℕ) × IsCoveredOrder g erased order
+pub covered_order : (g : Geometry) (erased : CellSet) → HasCoveredChunks g erased → (order : List ℕ) × IsCoveredOrder g erased order
 covered_order g erased covered =
     let found = sorted_chunks g erased in
     let c = map (count_in_slot erased) found.0 in (
@@ -133,7 +146,7 @@ covered_order g erased covered =
       },
     )
 
-pub covered_from_order : (g : Geometry) (erased : CellSet) (order : List ℕ) → IsCoveredOrder g erased order → IsCovered g erased
+pub covered_from_order : (g : Geometry) (erased : CellSet) (order : List ℕ) → IsCoveredOrder g erased order → HasCoveredChunks g erased
 covered_from_order g erased order ordered = record {
   counts = map (count_in_slot erased) order;
   sorted =
@@ -162,7 +175,7 @@ chunks_above-subset fewer erased subset n x =
     lt-ltb x (count_in_slot erased j) (omega (arith, count_in_slot-le fewer erased subset j))))
 
 pub covered_subset : (g : Geometry) (fewer erased : CellSet) → ((i j : ℕ) → HasCell fewer i j → HasCell erased i j)
-    → IsCovered g erased → IsCovered g fewer
+    → HasCoveredChunks g erased → HasCoveredChunks g fewer
 covered_subset g fewer erased subset covered =
     let counts = counts_from_covered g erased covered in
     covered_from_counts g fewer
@@ -174,9 +187,9 @@ covered_subset g fewer erased subset covered =
     })
 
 -- a chunk without erased cells counts none
-count_in_slot-none : (erased : CellSet) (j : ℕ) → ((i : ℕ) → has_cell erased i j ≡ false) → count_in_slot erased j ≡ 0
+pub count_in_slot-none : (erased : CellSet) (j : ℕ) → ((i : ℕ) → ¬ HasCell erased i j) → count_in_slot erased j ≡ 0
 count_in_slot-none erased j none =
-    sum_below_zeros 32 (λ i. cond (has_cell erased i j) 1 0) (λ i below. ap (λ (b : Bool). cond b 1 0) (none i))
+    sum_below_zeros 32 (λ i. cond (has_cell erased i j) 1 0) (λ i below. unmarked (has_cell erased i j) (none i))
 
 above_in_lost : (erased : CellSet) (lost : Slots) → ((i j : ℕ) → HasCell erased i j → HasSlot lost j)
     → (x j : ℕ) → IsTrue (nat_lt x (count_in_slot erased j)) → HasSlot lost j
@@ -188,13 +201,13 @@ above_in_lost erased lost within x j above =
           absurd (omega (
             arith,
             count_in_slot-none erased j
-                (λ i. false_from_ne_true (has_cell erased i j) (λ has. false≢true (sym outside ∙ within i j has))),
+                (λ i has. false≢true (sym outside ∙ within i j has)),
           ))
     ]
 
 -- cells of at most m chunks are covered
 pub covered_chunks_lost : (g : Geometry) (erased : CellSet) (lost : Slots) → IsWithinLimits g → slot_count lost ≤ g.m
-    → ((i j : ℕ) → HasCell erased i j → HasSlot lost j) → IsCovered g erased
+    → ((i j : ℕ) → HasCell erased i j → HasSlot lost j) → HasCoveredChunks g erased
 covered_chunks_lost g erased lost limits few within =
     covered_from_counts g erased (record { few = λ k below. omega (arith, at_most (coverage g (classes g - 1 - k))); none = omega (arith, at_most 0) })
   where
@@ -210,7 +223,7 @@ covered_chunks_lost g erased lost limits few within =
         omega arith
 
 -- no cells are covered
-pub covered_none : (g : Geometry) (erased : CellSet) → ((i j : ℕ) → ¬ HasCell erased i j) → IsCovered g erased
+pub covered_none : (g : Geometry) (erased : CellSet) → ((i j : ℕ) → ¬ HasCell erased i j) → HasCoveredChunks g erased
 covered_none g erased none =
     covered_from_counts g erased
     (record { few = λ k below. omega (arith, nowhere (coverage g (classes g - 1 - k))); none = omega (arith, nowhere 0) })
@@ -220,7 +233,7 @@ covered_none g erased none =
         sum_below_zeros g.n (λ j. mark x (count_in_slot erased j))
         (λ j below.
         mark_not_above x (count_in_slot erased j)
-        (omega (arith, count_in_slot-none erased j (λ i. false_from_ne_true (has_cell erased i j) (none i j)))))
+        (omega (arith, count_in_slot-none erased j (λ i. none i j))))
 
 -- the counts of 32 slots, of cells in a stripe, fall like those of its chunks: further slots have none
 pub AreCountsInOrder-slots : (g : Geometry) (erased : CellSet) (counts c : List ℕ) → g.n ≤ 32 → IsInStripe g erased → length counts ≡ 32
@@ -238,12 +251,12 @@ AreCountsInOrder-slots g erased counts c few inside long each moved falling = re
     outside x j from to =
         let empty : count_in_slot erased j ≡ 0 =
         count_in_slot-none erased j
-        (λ i. false_from_ne_true (has_cell erased i j) (λ has. let place = inside i j has in absurd (omega (arith, place.1))))
+        (λ i has. let place = inside i j has in omega (arith, place.1))
         in
         mark_not_above x (count_in_slot erased j) (omega arith)
 
 -- sorted counts are within coverage exactly where the cells are covered
-pub covered_by_order : (g : Geometry) (erased : CellSet) (c : List ℕ) → AreCountsInOrder g erased c → AreWithinCoverage g c ↔ IsCovered g erased
+pub covered_by_order : (g : Geometry) (erased : CellSet) (c : List ℕ) → AreCountsInOrder g erased c → AreWithinCoverage g c ↔ HasCoveredChunks g erased
 covered_by_order g erased c ordered = (
   λ within. covered_from_counts g erased (counts_from_within g erased c ordered within),
   λ covered. within_from_counts g erased c ordered (counts_from_covered g erased covered),

@@ -1,11 +1,11 @@
 -- Laws of the numbers of data cells and of the places of blocks.
-use Rattle.std.proofs.Common.{◌≡◌, ℕ, suc, ◌+◌, ◌-◌, ◌*◌, ◌/◌, ◌%◌, ◌<◌, ◌≤◌, ◌⊎◌, inl, inr, refl, sym, ◌∙◌, ap, ap₂, subst, subst₂, arith, Bool, true, false, mul_comm, le_trans, le_of_lt, lt_irrefl, add-zero, div-add-mod'}
+use Rattle.std.proofs.Common.{◌≡◌, ℕ, suc, ◌+◌, ◌-◌, ◌*◌, ◌/◌, ◌%◌, ◌<◌, ◌≤◌, ◌⊎◌, inl, inr, refl, sym, ◌∙◌, ap, ap₂, subst, subst₂, arith, Bool, true, false, mul_comm, le_trans, lt_irrefl, add-zero, div-add-mod'}
 use Rattle.std.proofs.lemmas.Bool.{cases_order, cond-true, cond-false}
 use Rattle.std.proofs.lemmas.Nat.{div_below, mod_below, mul-add-lt, div-mul-add, mod-mul-add}
 use Rattle.stair_model.specs.Geometry.{Geometry, IsWithinLimits, data_chunks, data_cells, block_count}
-use Rattle.stair_model.specs.Cell.{Data, is_global, data_in_row, data_before, globals_before, cell_at, IsPlaceOf}
+use Rattle.stair_model.specs.Cell.{Data, is_global, data_in_row, data_before, cell_at, IsPlaceOf}
 use Rattle.stair_model.proofs.CountLaws.{sum_below_none, sum_below_more, sum_below_longer, sum_below_cell}
-use Rattle.stair_model.proofs.CellLaws.{data_mark, data_in_rows, data_in_all, cells_before, cell_at_data, OfParity, OfGlobal, OfData, kind_of_cell}
+use Rattle.stair_model.proofs.CellLaws.{data_mark, data_in_rows, data_in_all, cell_at_data, OfParity, OfGlobal, OfData, kind_of_cell}
 
 -- ---- how the numbers grow
 
@@ -133,13 +133,6 @@ data_once g i j k l d e f =
 
     second : (k < i) ⊎ ((k ≡ i) × (l < j)) → (i ≡ k) × (j ≡ l)
     second later = absurd (lt_irrefl d (data_order g k l i j d d f e later))
-
--- a data cell's number is its place among the cells that aren't row parity, less the global parities before it
-pub data_number : (g : Geometry) (i j d : ℕ) → IsWithinLimits g → cell_at g i j ≡ Data d
-    → d + globals_before g i j ≡ i * data_chunks g + j
-data_number g i j d limits e =
-    let here = data_cell_tells g i j d e in
-    ap (λ c. c + globals_before g i j) (sym here.number) ∙ cells_before g limits i j (le_of_lt here.in_chunk)
 
 -- ---- the places of blocks
 

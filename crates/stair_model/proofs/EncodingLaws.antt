@@ -2,8 +2,8 @@
 use Rattle.std.proofs.Common.{◌≡◌, ℕ, ◌+◌, ◌-◌, ◌*◌, ◌/◌, ◌%◌, ◌<◌, List, [], length, slice_index, slice_index_or, inl, inr, refl, sym, ◌∙◌, ap, ap₂, subst, arith, false}
 use Rattle.std.specs.Prelude.{All}
 use Rattle.std.proofs.lemmas.Bool.{cases_lt}
-use Rattle.std.proofs.lemmas.List.{ext_get_or, get_or_past}
-use Rattle.std.proofs.lemmas.List.Elements.{All-nil, All-get_or, All-from_get_or}
+use Rattle.std.proofs.lemmas.List.{ext_get_or}
+use Rattle.std.proofs.lemmas.List.Elements.{All-get_or, All-from_get_or}
 use Rattle.std.proofs.lemmas.Nat.{mul-add-lt, div-mul-add, mod-mul-add, div_below, mod_below, div-add-mod'}
 use Rattle.stair_model.specs.Geometry.{Geometry, IsWithinLimits, classes, coverage, data_chunks, data_cells}
 use Rattle.stair_model.specs.Cell.{Data, is_global, class_of, data_before, cell_at}
@@ -13,6 +13,7 @@ use Rattle.stair_model.specs.Canonical.{IsCanonicalCodeword}
 use Rattle.stair_model.specs.Encoding.{IsEncodedFrom, IsEncodingOf, SameData}
 use Rattle.stair_model.proofs.CellLaws.{is_global_tells, cell_at_data}
 use Rattle.stair_model.proofs.DataLaws.{data_cell_tells, data_in_range}
+use Rattle.stair_model.proofs.StripeLaws.{byte_at-lt, sector_bytes, same_sector, same_cell}
 use Rattle.stair_model.proofs.CanonicalLaws.{extension_exists, codeword_is_canonical, canonical_is_codeword}
 use Rattle.stair_model.proofs.PlaceLaws.{list_of, length-list_of, list_of_at}
 use Rattle.stair_model.proofs.KnownSymbolLaws.{globals_of, globals_of_first, globals_of_last}
@@ -51,37 +52,6 @@ not_global-above g i j row test =
 pub data_is_above : (g : Geometry) (i j d : ℕ) → i < g.r → cell_at g i j ≡ Data d → i < g.r - globals_of g j
 data_is_above g i j d row is = not_global-above g i j row (data_cell_tells g i j d is).test
 
--- ---- stripes by their bytes
-
-pub cell-IsSector : (g : Geometry) (stripe : Stripe) (i j : ℕ) → IsStripeOf g stripe → IsWellFormed stripe → i < g.r → j < g.n
-    → IsSector (cell stripe i j)
-cell-IsSector g stripe i j of formed row chunk =
-    let place : i * stripe.chunks + j < stripe.chunks * stripe.rows =
-    mul-add-lt i stripe.chunks j stripe.rows (omega (arith, of.rows)) (omega (arith, of.chunks))
-    in
-    All-get_or IsSector stripe.cells (i * stripe.chunks + j) [] (omega (arith, place, formed.count)) formed.sectors
-
--- each place of a list of bytes is a byte, also past its end
-pub byte_at-lt : (bytes : List ℕ) (p : ℕ) → All (λ b. b < 256) bytes → slice_index bytes p < 256
-byte_at-lt bytes p all =
-    elim (cases_lt p (length bytes)) [
-      | inl within ↦ All-get_or (λ b. b < 256) bytes p 0 within all
-      | inr past ↦ let none : slice_index bytes p ≡ 0 = get_or_past bytes p 0 past in omega arith
-    ]
-
--- sector k, or no bytes past the last sector
-pub sector_bytes : (sectors : List (List ℕ)) (k : ℕ) → All IsSector sectors → All (λ b. b < 256) (slice_index_or sectors k [])
-sector_bytes sectors k all =
-    elim (cases_lt k (length sectors)) [
-      | inl within ↦ (All-get_or IsSector sectors k [] within all).1
-      | inr past ↦ subst (All (λ b. b < 256)) (sym (get_or_past sectors k [] past)) (All-nil (λ b. b < 256))
-    ]
-
--- sectors with the same bytes are the same
-same_sector : (x y : List ℕ) → length x ≡ SECTOR → length y ≡ SECTOR
-    → ((p : ℕ) → p < SECTOR → slice_index x p ≡ slice_index y p) → x ≡ y
-same_sector x y first second same = ext_get_or 0 x y (first ∙ sym second) (λ p p_in. same p (omega (arith, first)))
-
 -- a stripe by its three fields
 abbrev stripe_from : ℕ → ℕ → List (List ℕ) → Stripe
 stripe_from rows chunks cells = record { rows = rows; chunks = chunks; cells = cells }
@@ -98,9 +68,7 @@ same_stripe g a b limits a_of a_formed b_of b_formed same =
     let row : k / g.n < g.r = div_below k g.n g.r (omega (arith, limits.devices.0)) within in
     let chunk : k % g.n < g.n = mod_below k g.n (omega (arith, limits.devices.0)) in
     ap (λ n. slice_index_or a.cells n []) (sym (place a a_of k))
-    ∙ same_sector (cell a (k / g.n) (k % g.n)) (cell b (k / g.n) (k % g.n))
-    (cell-IsSector g a (k / g.n) (k % g.n) a_of a_formed row chunk).0
-    (cell-IsSector g b (k / g.n) (k % g.n) b_of b_formed row chunk).0
+    ∙ same_cell g a b (k / g.n) (k % g.n) a_of a_formed b_of b_formed row chunk
     (λ p p_in. same p (k / g.n) (k % g.n) p_in row chunk)
     ∙ ap (λ n. slice_index_or b.cells n []) (place b b_of k)))
   where

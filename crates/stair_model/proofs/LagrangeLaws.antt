@@ -4,14 +4,18 @@ use Rattle.std.specs.Prelude.{bit_xor}
 use Rattle.std.specs.Int.Bits.{xor_self}
 use Rattle.std.proofs.lemmas.Nat.{xor_lt}
 use Rattle.stair_model.specs.Field.{product, inverse}
-use Rattle.stair_model.specs.Sum.{field_sum, field_product}
-use Rattle.stair_model.specs.CauchyCode.{AreBytes, AreDistinct, AreCauchyPoints, distances}
+use Rattle.stair_model.specs.Sum.{field_sum, field_product, product_except}
+use Rattle.stair_model.specs.CauchyCode.{AreBytes, AreDistinct, AreCauchyPoints}
 use Rattle.stair_model.proofs.FieldLaws.{xor-pos, same_from_xor, product_comm, product_assoc, product-one_right, product-zero_right, product-inverse_left, product-inverse_right, no_zero_divisors}
 use Rattle.stair_model.proofs.SumLaws.{field_sum_same, field_sum_one_term, field_sum-product_left}
 use Rattle.stair_model.proofs.ProductLaws.{product_except-lt, product_except-pos, product_except_zero, product_except_whole}
 use Rattle.stair_model.proofs.PolynomialLaws.{IsPolynomial, polynomial-lt, polynomial_xor, polynomial_multiple, polynomial_sum, polynomial_roots_except, vanishes}
 
 -- ---- distances
+
+-- the product of x + y over n points y, without that of point i
+unfoldable pub distances : ℕ → (ℕ → ℕ) → ℕ → ℕ → ℕ
+distances n points i x = product_except n i (λ j. bit_xor x (points j))
 
 pub distances-lt : (n : ℕ) (y : ℕ → ℕ) (i x : ℕ) → distances n y i x < 256
 unfolding distances

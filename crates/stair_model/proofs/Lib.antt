@@ -1,4 +1,6 @@
 pub mod CountLaws
+pub mod FirstLaws
+pub mod LimitLaws
 pub mod CellLaws
 pub mod CellOrder
 pub mod DataLaws
@@ -14,12 +16,17 @@ pub mod PlaceLaws
 pub mod KnownSymbolLaws
 pub mod VirtualRowLaws
 pub mod EncodingLaws
+pub mod CostLaws
 pub mod SetLaws
 pub mod SortedLaws
 pub mod OrderLaws
 pub mod CoverageLaws
+pub mod RestLaws
 pub mod AgreementLaws
 pub mod RestoringLaws
 pub mod DeviceLaws
 pub mod LinearLaws
 pub mod GridLaws
+pub mod UnitLaws
+pub mod DependentLaws
+pub mod DependentSets

@@ -9,8 +9,8 @@ use Rattle.std.proofs.lemmas.List.Elements.{All-get_or}
 use Rattle.stair_model.specs.Sum.{sum_below}
 use Rattle.stair_model.specs.CauchyCode.{AreDistinct}
 use Rattle.stair_model.specs.Geometry.{Geometry, IsWithinLimits, classes, coverage, data_chunks, greatest_coverage}
-use Rattle.stair_model.specs.CellSet.{CellSet, has_cell, HasCell, count_in_slot}
-use Rattle.stair_model.specs.Coverage.{IsCovered}
+use Rattle.stair_model.specs.CellSet.{CellSet, has_cell, HasCell, count_in_row, count_in_slot}
+use Rattle.stair_model.specs.Coverage.{HasCoveredChunks, IsCovered, rest}
 use Rattle.stair_model.specs.Stripe.{Stripe, IsStripeOf, IsWellFormed}
 use Rattle.stair_model.specs.Codeword.{Word, IsCodeword}
 use Rattle.stair_model.specs.Canonical.{canonical_chunks, canonical_rows, IsRowCodeword, IsColumnCodeword, IsCanonicalCodeword}
@@ -22,6 +22,7 @@ use Rattle.stair_model.proofs.PlaceLaws.{ArePlaces, same_from_places}
 use Rattle.stair_model.proofs.AgreementLaws.{same_from_kept}
 use Rattle.stair_model.proofs.OrderLaws.{HasEachOnce-permutation}
 use Rattle.stair_model.proofs.CoverageLaws.{covered_order}
+use Rattle.stair_model.proofs.RestLaws.{in_rest}
 use Rattle.stair_model.proofs.EncodingLaws.{codewords_from_canonical}
 
 -- ---- n-m chunks with few erased cells
@@ -33,8 +34,8 @@ pub record HaveFewErased (g : Geometry) (erased : CellSet) (chunk : ℕ → ℕ)
   pub few : (k : ℕ) → k < classes g → count_in_slot erased (chunk k) ≤ coverage g (classes g - 1 - k)
   pub none : (k : ℕ) → classes g ≤ k → k < data_chunks g → count_in_slot erased (chunk k) ≡ 0
 
--- covered erased cells leave such chunks: those past the first m in order of their counts
-pub few_erased : (g : Geometry) (erased : CellSet) → IsWithinLimits g → IsCovered g erased
+-- erased cells of whole chunks and of further ones leave such chunks: those past the first m in order of their counts
+pub few_erased : (g : Geometry) (erased : CellSet) → IsWithinLimits g → HasCoveredChunks g erased
     → (chunk : ℕ → ℕ) × HaveFewErased g erased chunk
 few_erased g erased limits covered =
     let found = covered_order g erased covered in
@@ -209,6 +210,29 @@ module _ (g : Geometry) (erased : CellSet) (limits : IsWithinLimits g) (chunk : 
       (λ l l_in covers. absurd (omega (arith, coverage_le_greatest g limits l l_in)))
       j_in
 
+-- ---- rows with at most m erased cells
+
+-- two rows that agree at the held cells agree everywhere
+row_from_held : (g : Geometry) (erased : CellSet) (i : ℕ) (c d : ℕ → ℕ) (b : ℕ) → IsWithinLimits g → count_in_row erased i ≤ g.m
+    → IsRowCodeword g c → IsRowCodeword g d → ((j : ℕ) → j < g.n → ¬ HasCell erased i j → c j ≡ d j)
+    → b < canonical_chunks g → c b ≡ d b
+row_from_held g erased i c d b limits few first second held within =
+    same_from_kept (data_chunks g) (canonical_chunks g) g.n (has_cell erased i) c d b (omega arith)
+    (omega (arith, limits.devices.1, limits.covered_chunks.1))
+    (omega (arith, limits.majority, sum_below_longer (λ j. if has_cell erased i j then 1 else 0) g.n 32 limits.devices.1))
+    first second (λ j j_in kept. held j j_in (λ has. false≢true (sym kept ∙ has))) within
+
+-- so of canonical codewords with the same held cells only those of the rest may differ
+pub rest_same : (g : Geometry) (erased : CellSet) (x y : Word) → IsWithinLimits g → IsCanonicalCodeword g x → IsCanonicalCodeword g y
+    → SameHeldCells g erased x y → SameHeldCells g (rest g erased) x y
+rest_same g erased x y limits first second cells i j i_in j_in kept =
+    elim (cases_lt g.m (count_in_row erased i)) [
+      | inl many ↦ cells i j i_in j_in (λ has. kept ((in_rest g erased i j).1 (has, many)))
+      | inr few ↦
+          row_from_held g erased i (x i) (y i) j limits few (first.rows i (omega arith)) (second.rows i (omega arith))
+          (λ s s_in. cells i s i_in s_in) (omega arith)
+    ]
+
 -- ---- stripes
 
 -- codewords with the same held cells are the same
@@ -216,10 +240,11 @@ pub restoring_determined : (g : Geometry) (erased : CellSet) (a b : Stripe) → 
     → IsCovered g erased → IsStripeOf g a → IsWellFormed a → IsCodeword g a → IsStripeOf g b → IsWellFormed b → IsCodeword g b
     → SameHeld g erased a b → a ≡ b
 restoring_determined g erased a b limits covered a_of a_formed a_codeword b_of b_formed b_codeword same =
-    let chunks = few_erased g erased limits covered in
+    let chunks = few_erased g (rest g erased) limits covered in
     codewords_from_canonical g a b limits a_of a_formed a_codeword b_of b_formed b_codeword
     (λ p x y p_in first second x_is y_is i j row chunk.
-    canonical_restored g erased limits chunks.0 chunks.1 x y first second
+    canonical_restored g (rest g erased) limits chunks.0 chunks.1 x y first second
+    (rest_same g erased x y limits first second
     (λ s c s_in c_in kept.
-    x_is s c s_in c_in ∙ ap (λ (bytes : List ℕ). slice_index bytes p) (same s c s_in c_in kept) ∙ sym (y_is s c s_in c_in))
+    x_is s c s_in c_in ∙ ap (λ (bytes : List ℕ). slice_index bytes p) (same s c s_in c_in kept) ∙ sym (y_is s c s_in c_in)))
     i j (omega arith) (omega arith))

@@ -2,7 +2,7 @@
 -- stand its m' intermediate chunks, and below the r rows of all these e_max rows of virtual symbols.
 use Rattle.std.specs.Prelude.{◌≡◌, ℕ, ◌+◌, ◌<◌}
 use Rattle.stair_model.specs.CauchyCode.{IsSystematicCodeword}
-use Rattle.stair_model.specs.Codeword.{Word, IsRowEquation, row_sum, column_sum}
+use Rattle.stair_model.specs.Codeword.{Word, row_sum, column_sum}
 use Rattle.stair_model.specs.Geometry.{Geometry, classes, coverage, data_chunks, greatest_coverage}
 use Rattle.stair_model.specs.Matrix.{row_coefficient, column_coefficient}
 
@@ -29,10 +29,6 @@ pub record IsExtensionOf (g : Geometry) (w x : Word) : Type 0 where
   pub intermediate : (i l : ℕ) → i < g.r → l < classes g → x i (g.n + l) ≡ row_sum g w i (g.m + l)
   -- virtual symbol h of each chunk is made by row h of the column matrix
   pub virtual : (h j : ℕ) → h < greatest_coverage g → j < canonical_chunks g → x (g.r + h) j ≡ column_sum g (λ i. x i j) h
-
--- all row equations hold
-abbrev pub MeetsRowEquations : Geometry → Word → Type 0
-MeetsRowEquations g w = (i k : ℕ) → i < g.r → k < g.m → IsRowEquation g w i k
 
 -- the first e_l virtual symbols of intermediate chunk l are zero, for every l
 abbrev pub HasGlobalZeros : Geometry → Word → Type 0

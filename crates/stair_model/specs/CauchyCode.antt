@@ -4,7 +4,7 @@
 use Rattle.std.specs.Prelude.{◌≡◌, ◌≢◌, ℕ, ◌+◌, ◌<◌, List, length, slice_index, All, bit_xor}
 use Rattle.stair_model.specs.Field.{product, inverse}
 use Rattle.stair_model.specs.Stripe.{SECTOR}
-use Rattle.stair_model.specs.Sum.{field_sum, product_except}
+use Rattle.stair_model.specs.Sum.{field_sum}
 
 -- of parity k over held symbol j: 1/((held+k) + j)
 abbrev pub coefficient : ℕ → ℕ → ℕ → ℕ
@@ -41,21 +41,6 @@ pub record AreSolved (IsCode : (ℕ → ℕ) → Type 0) (known wanted : List �
       (c : ℕ → ℕ) × IsCode c × Agree known c (before q) × Agree wanted c (after q)
   pub each :
       (q : ℕ) (c : ℕ → ℕ) → q < SECTOR → IsCode c → Agree known c (before q) → Agree wanted c (after q)
-
--- the product of x + y over n points y, without that of point i
-unfoldable pub distances : ℕ → (ℕ → ℕ) → ℕ → ℕ → ℕ
-distances n points i x = product_except n i (λ j. bit_xor x (points j))
-
--- the product of p + c over the held places c other than p
-unfoldable pub weight : ℕ → ℕ → ℕ
-weight held p = product_except held p (λ c. bit_xor p c)
-
--- what known place number i, which is a, contributes to place b: weight(a)·distances(b) over weight(b)·distances(a)
-unfoldable pub solving : ℕ → List ℕ → ℕ → ℕ → ℕ
-solving held known i b =
-    let points = slice_index known in
-    product (product (weight held (points i)) (distances held points i b))
-    (inverse (product (weight held b) (distances held points i (points i))))
 
 -- the points of a square Cauchy matrix, x of its rows and y of its columns: bytes, and no two of them the same
 pub record AreCauchyPoints (n : ℕ) (x y : ℕ → ℕ) : Type 0 where

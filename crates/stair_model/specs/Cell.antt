@@ -1,5 +1,5 @@
 -- What each cell of a stripe holds. Cell (i, j) is row i of chunk j.
-use Rattle.std.specs.Prelude.{◌≡◌, ℕ, ◌+◌, ◌-◌, ◌/◌, ◌%◌, ◌<◌, Bool, ◌&&◌, nat_le, nat_lt, if◌then◌else◌}
+use Rattle.std.specs.Prelude.{◌≡◌, ℕ, ◌+◌, ◌-◌, ◌/◌, ◌%◌, ◌<◌, Bool, true, false, ◌&&◌, nat_le, if◌then◌else◌}
 use Rattle.stair_model.specs.Sum.{sum_below}
 use Rattle.stair_model.specs.Geometry.{Geometry, classes, coverage, data_chunks, data_cells}
 
@@ -10,6 +10,12 @@ pub data Cell : Type 0 where
   Global : ℕ → ℕ → Cell
   -- row parity k
   Parity : ℕ → Cell
+
+-- whether it is a row parity or a global parity
+abbrev pub is_parity : Cell → Bool
+is_parity (Data d) = false
+is_parity (Global l h) = true
+is_parity (Parity k) = true
 
 -- the chunk whose bottom cells are the global parities of class l
 abbrev pub global_chunk : Geometry → ℕ → ℕ
@@ -34,14 +40,6 @@ data_in_row g i j = sum_below j (λ c. if is_global g i c then 0 else 1)
 -- how many data cells come before cell (i, j), row by row
 abbrev pub data_before : Geometry → ℕ → ℕ → ℕ
 data_before g i j = sum_below i (λ t. data_in_row g t (data_chunks g)) + data_in_row g i j
-
--- the rows of chunk c that have a cell before cell (i, j), row by row
-abbrev pub rows_before : ℕ → ℕ → ℕ → ℕ
-rows_before i j c = if nat_lt c j then i + 1 else i
-
--- how many global parities come before cell (i, j), class by class: those rows of its chunk, less the rows above its parities
-abbrev pub globals_before : Geometry → ℕ → ℕ → ℕ
-globals_before g i j = sum_below (classes g) (λ l. rows_before i j (global_chunk g l) - (g.r - coverage g l))
 
 abbrev pub cell_at : Geometry → ℕ → ℕ → Cell
 cell_at g i j =

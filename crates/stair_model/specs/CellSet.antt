@@ -2,7 +2,7 @@
 use Rattle.std.specs.Prelude.{◌≡◌, ℕ, ◌<◌, Bool, IsTrue, List, length, slice_index_or, All, if◌then◌else◌}
 use Rattle.stair_model.specs.Sum.{sum_below}
 use Rattle.stair_model.specs.Geometry.{Geometry}
-use Rattle.stair_model.specs.Slots.{Slots, has_slot, no_slots, IsSlotSet}
+use Rattle.stair_model.specs.Slots.{Slots, has_slot, no_slots, slot_count, IsSlotSet}
 
 pub record CellSet : Type 0 where
   -- for each row, the slots of its cells in the set
@@ -15,6 +15,10 @@ has_cell set i j = has_slot (slice_index_or set.rows i no_slots) j
 -- cell (i, j) is in the set
 abbrev pub HasCell : CellSet → ℕ → ℕ → Type 0
 HasCell set i j = IsTrue (has_cell set i j)
+
+-- how many cells of row i are in the set
+abbrev pub count_in_row : CellSet → ℕ → ℕ
+count_in_row set i = slot_count (slice_index_or set.rows i no_slots)
 
 -- how many cells of slot j are in the set: its rows i with cell (i, j)
 abbrev pub count_in_slot : CellSet → ℕ → ℕ

@@ -30,7 +30,19 @@ global_sum g w l h = column_sum g (λ i. row_sum g w i (g.m + l)) h
 abbrev pub IsGlobalEquation : Geometry → Word → ℕ → ℕ → Type 0
 IsGlobalEquation g w l h = global_sum g w l h ≡ 0
 
--- at each byte position all row equations and all global equations hold
+-- all row equations hold
+abbrev pub MeetsRowEquations : Geometry → Word → Type 0
+MeetsRowEquations g w = (i k : ℕ) → i < g.r → k < g.m → IsRowEquation g w i k
+
+-- all global equations hold
+abbrev pub MeetsGlobalEquations : Geometry → Word → Type 0
+MeetsGlobalEquations g w = (l h : ℕ) → l < classes g → h < coverage g l → IsGlobalEquation g w l h
+
+-- the word meets all equations
+pub record MeetsEquations (g : Geometry) (w : Word) : Type 0 where
+  pub rows : MeetsRowEquations g w
+  pub globals : MeetsGlobalEquations g w
+
+-- so does the stripe at each byte position
 pub record IsCodeword (g : Geometry) (stripe : Stripe) : Type 0 where
-  pub row_equations : (p i k : ℕ) → p < SECTOR → i < g.r → k < g.m → IsRowEquation g (byte_of stripe p) i k
-  pub global_equations : (p l h : ℕ) → p < SECTOR → l < classes g → h < coverage g l → IsGlobalEquation g (byte_of stripe p) l h
+  pub words : (p : ℕ) → p < SECTOR → MeetsEquations g (byte_of stripe p)

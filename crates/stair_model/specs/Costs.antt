@@ -1,11 +1,9 @@
 -- The steps that the encoders take for one stripe. A step is one known symbol that is used for one solved symbol.
-use Rattle.std.specs.Prelude.{ℕ, ◌+◌, ◌*◌}
-use Rattle.stair_model.specs.Geometry.{Geometry, classes, data_chunks, global_cells, greatest_coverage}
-use Rattle.std.specs.Prelude.{◌≡◌, ◌<◌, ◌==◌, ◌&&◌, not, Bool, true, false, if◌then◌else◌, List, replicate, slice_set}
+use Rattle.std.specs.Prelude.{◌≡◌, ℕ, ◌+◌, ◌*◌, ◌<◌, ◌==◌, ◌&&◌, not, Bool, if◌then◌else◌, List, replicate, slice_set}
 use Rattle.std.specs.List.{list_any}
-use Rattle.stair_model.specs.Geometry.{data_cells}
+use Rattle.stair_model.specs.Geometry.{Geometry, classes, data_cells, data_chunks, global_cells, greatest_coverage}
 use Rattle.stair_model.specs.Sum.{sum_below}
-use Rattle.stair_model.specs.Cell.{Cell, Data, Global, Parity, cell_at}
+use Rattle.stair_model.specs.Cell.{is_parity, cell_at}
 use Rattle.stair_model.specs.Stripe.{Stripe, SECTOR, cell}
 use Rattle.stair_model.specs.Encoding.{IsEncodingOf}
 
@@ -16,12 +14,6 @@ upstairs_cost g = data_chunks g * (g.m * g.r + global_cells g) + g.r * data_chun
 -- downstairs: (n-m)(m+m')·r for the rows, and r·s for the intermediate chunks
 abbrev pub downstairs_cost : Geometry → ℕ
 downstairs_cost g = data_chunks g * (g.m + classes g) * g.r + g.r * global_cells g
-
--- whether a cell is a row parity or a global parity
-abbrev pub is_parity : Cell → Bool
-is_parity (Data d) = false
-is_parity (Global l h) = true
-is_parity (Parity k) = true
 
 -- the blocks of a stripe that are zero but for block d, whose bytes are all 1
 abbrev pub unit_blocks : Geometry → ℕ → List (List ℕ)

@@ -13,6 +13,7 @@ pub mod Encoding
 pub mod Costs
 pub mod Slots
 pub mod CellSet
+pub mod Dependents
 pub mod Coverage
 pub mod Restoring
 pub mod Device

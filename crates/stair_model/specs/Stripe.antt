@@ -21,6 +21,10 @@ pub record Stripe : Type 0 where
 abbrev pub cell : Stripe → ℕ → ℕ → List ℕ
 cell stripe i j = slice_index_or stripe.cells (i * stripe.chunks + j) []
 
+-- byte p of each symbol of a list, a symbol being the bytes of a sector
+abbrev pub symbol_byte : List (List ℕ) → ℕ → ℕ → ℕ
+symbol_byte symbols p place = slice_index (slice_index_or symbols place []) p
+
 -- byte p of cell (i, j)
 abbrev pub byte_of : Stripe → ℕ → ℕ → ℕ → ℕ
 byte_of stripe p i j = slice_index (cell stripe i j) p

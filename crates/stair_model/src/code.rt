@@ -4,19 +4,15 @@
 //! is a parity of those by its row of a Cauchy matrix, whose points are the numbers of the places themselves (J. Blömer,
 //! M. Kalfane, R. Karp, M. Karpinski, M. Luby and D. Zuckerman, An XOR-Based Erasure-Resilient Coding Scheme, 1995).
 
-ghost use Rattle.std.specs.Prelude.{◌≡◌, ℕ, ◌<◌, ◌≤◌, List, slice_index, bit_xor};
+ghost use Rattle.std.specs.Prelude.{◌≡◌, ℕ, ◌<◌, ◌≤◌, List, bit_xor};
 ghost use Rattle.stair_model.specs.Field.{product, inverse};
 ghost use Rattle.stair_model.specs.Sum.{field_sum};
 ghost use Rattle.stair_model.specs.CauchyCode.{
   coefficient,
   AreBytes,
-  AreDistinct,
   IsSystematicCodeword,
   AreKnownPlaces,
   Agree,
-  distances,
-  weight,
-  solving,
   AreCauchyPoints,
 };
 
@@ -24,8 +20,7 @@ ghost use Rattle.stair_model.specs.CauchyCode.{
 ///
 /// Any `held` places determine a codeword, and may hold any bytes. A word is a codeword where its bytes times the weights
 /// of their places are the values of a polynomial of degree below `held`, as in a code of Reed and Solomon (Polynomial
-/// Codes over Certain Finite Fields, 1960), so `formula` is Lagrange's interpolation: it gives the byte at each place with
-/// no system of equations to solve.
+/// Codes over Certain Finite Fields, 1960).
 ///
 /// `nonsingular` says that a square Cauchy matrix, of any size and over any points, takes only zeros to zeros. Each square
 /// part of a code's matrix is such a matrix, over the numbers of its rows' places and its columns' places.
@@ -37,18 +32,7 @@ pub fn cauchy_laws()
         AreKnownPlaces held total known →
         IsSystematicCodeword held total (coefficient held) c → IsSystematicCodeword held total (coefficient held) d →
         Agree known c d → b < total → c b ≡ d b }
-    ensures formula { (held total : ℕ) (known : List ℕ) (c : ℕ → ℕ) (b : ℕ) → held ≤ total → total ≤ 256 →
-        AreKnownPlaces held total known → IsSystematicCodeword held total (coefficient held) c → b < total →
-        c b ≡ field_sum held (λ i. product (solving held known i b) (c (slice_index known i))) }
     ensures nonsingular { (n : ℕ) (x y v : ℕ → ℕ) → AreCauchyPoints n x y → AreBytes n v →
         ((i : ℕ) → i < n → field_sum n (λ j. product (inverse (bit_xor (x i) (y j))) (v j)) ≡ 0) →
         (j : ℕ) → j < n → v j ≡ 0 }
-{}
-
-/// The two factors of the divisor in `formula` aren't 0: the weight of a place, and the distances of a point from the
-/// others, where no two points are the same. It does nothing.
-pub fn divisor_laws()
-    ensures weight_positive { (held p : ℕ) → held ≤ 256 → p < 256 → 0 < weight held p }
-    ensures distances_positive { (n : ℕ) (points : ℕ → ℕ) (i : ℕ) → AreBytes n points → AreDistinct n points → i < n →
-        0 < distances n points i (points i) }
 {}

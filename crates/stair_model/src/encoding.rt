@@ -4,6 +4,7 @@ ghost use Rattle.std.specs.Prelude.{◌≡◌, ℕ, List, length, All};
 ghost use Rattle.stair_model.specs.Geometry.{Geometry, IsWithinLimits, data_cells};
 ghost use Rattle.stair_model.specs.Stripe.{Stripe, IsSector, IsStripeOf, IsWellFormed};
 ghost use Rattle.stair_model.specs.Codeword.{IsCodeword};
+ghost use Rattle.stair_model.specs.Costs.{IsStandardCost};
 ghost use Rattle.stair_model.specs.Encoding.{IsEncodedFrom, IsEncodingOf, SameData};
 
 /// The data cells of a stripe may hold any blocks, and determine its row parities and global parities, for every geometry
@@ -23,4 +24,14 @@ pub fn encoding_laws()
     // two ways to encode one stripe end in one stripe
     ensures same { (g : Geometry) (before a b : Stripe) → IsWithinLimits g →
         IsEncodedFrom g before a → IsEncodedFrom g before b → a ≡ b }
+{}
+
+/// Standard encoding of a stripe takes one number of steps, for every geometry within the limits. It does nothing.
+///
+/// So 'whatever the encoded stripes are', by which the number is defined, is neither a demand that no number meets nor one
+/// that several meet.
+pub fn cost_laws()
+    ensures exists { (g : Geometry) → IsWithinLimits g → (cost : ℕ) × IsStandardCost g cost }
+    ensures unique { (g : Geometry) (a b : ℕ) → IsWithinLimits g →
+        IsStandardCost g a → IsStandardCost g b → a ≡ b }
 {}

@@ -1,6 +1,6 @@
 //! The laws of the cell layout: what each cell of a stripe is, how data cells are numbered, and where blocks lie.
 
-ghost use Rattle.std.specs.Prelude.{◌≡◌, ℕ, ◌+◌, ◌*◌, ◌<◌, ◌≤◌, ◌⊎◌, ◌↔◌};
+ghost use Rattle.std.specs.Prelude.{◌≡◌, ℕ, ◌+◌, ◌<◌, ◌⊎◌, ◌↔◌};
 ghost use Rattle.stair_model.specs.Geometry.{
   Geometry,
   IsWithinLimits,
@@ -17,7 +17,6 @@ ghost use Rattle.stair_model.specs.Cell.{
   global_chunk,
   global_row,
   data_before,
-  globals_before,
   cell_at,
   IsPlaceOf,
 };
@@ -27,8 +26,7 @@ ghost use Rattle.stair_model.specs.Examples.{four_devices, eight_devices};
 ///
 /// The row parities are the chunks from n-m on. The global parities of class l are the bottom e_l cells of chunk
 /// n-m-m'+l. All other cells are data cells, which are numbered row by row, so that each number below u is the number
-/// of exactly one cell. The last three clauses say how to count: the number of a data cell, the u data cells, and the
-/// cells before a cell.
+/// of exactly one cell. There are u of them.
 pub fn cell_laws()
     ensures parity { (g : Geometry) (i j k : ℕ) → IsWithinLimits g → i < g.r → j < g.n →
         ((cell_at g i j ≡ Parity k) ↔ ((k < g.m) × (j ≡ data_chunks g + k))) }
@@ -48,13 +46,7 @@ pub fn cell_laws()
         i < g.r → j < g.n → i' < g.r → j' < g.n →
         cell_at g i j ≡ Data d → cell_at g i' j' ≡ Data d' →
         (i < i') ⊎ ((i ≡ i') × (j < j')) → d < d' }
-    // a data cell's number is its place in the data chunks, less the global parities before it
-    ensures data_number { (g : Geometry) (i j d : ℕ) → IsWithinLimits g → i < g.r → j < g.n →
-        cell_at g i j ≡ Data d → d + globals_before g i j ≡ i * data_chunks g + j }
     ensures data_count { (g : Geometry) → IsWithinLimits g → data_before g g.r 0 ≡ data_cells g }
-    // of the cells before cell (i, j) in the data chunks, each is data or global
-    ensures cells_before { (g : Geometry) (i j : ℕ) → IsWithinLimits g → j ≤ data_chunks g →
-        data_before g i j + globals_before g i j ≡ i * data_chunks g + j }
 {}
 
 /// Where blocks lie, for every geometry within the limits. It does nothing.

@@ -2,10 +2,13 @@
 #![tactic(auto)]
 
 pub mod code;
+pub mod codeword;
 pub mod coverage;
+pub mod dependents;
 pub mod device;
 pub mod encoding;
 pub mod field;
+pub mod geometry;
 pub mod layout;
 pub mod restoring;
 pub mod stripe;

@@ -7,6 +7,7 @@ use Rattle.std.proofs.lemmas.List.{get_or_past}
 use denote.Enum.Bare.{sameb, same_true, same_false}
 use Rattle.stair_rack.specs.contracts.rack.Reply.{the_type}
 use Rattle.stair_model.specs.Slots.{Slots, has_slot, HasSlot, IsSlotSet}
+use Rattle.stair_model.proofs.SetLaws.{same_test}
 use Rattle.stair_rack.specs.Count.{Rose, Rose-kept, kept-Rose}
 use Rattle.stair_rack.specs.RackCounts.{IsLaterCount, NoneFalls}
 use Rattle.stair_rack.specs.History.{Event, SlotCall}
@@ -71,13 +72,6 @@ pub record OneCall (c : SlotCall) (j : ℕ) (honest : Bool) (old new : Seen) : T
   pub told : IsTrue honest → Calls old.history new.history j c
   pub counts : NoneFalls old.bads new.bads old.gones new.gones
   pub reads : new.reads ≡ old.reads
-
-same_test : (a b : Bool) → (IsTrue a ↔ IsTrue b) → a ≡ b
-same_test a b alike =
-    elim (cases_Bool a) [
-      | inl passes ↦ passes ∙ sym (alike.0 passes)
-      | inr fails ↦ fails ∙ sym (false_from_ne_true b (λ passes. false≢true (sym fails ∙ alike.1 passes)))
-    ]
 
 pub pass_start : (call : Reply → SlotCall) (to gone : Slots) (honest : Bool) (s : Seen) → IsSlotSet gone → ((j : ℕ) → ¬ HasSlot gone j)
     → PassSoFar call to gone 0 honest s s

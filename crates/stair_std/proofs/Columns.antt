@@ -4,15 +4,16 @@ use Rattle.std.proofs.lemmas.Bool.{cases_eq, true≢false}
 use Rattle.std.proofs.lemmas.List.{get_or_append_left, get_or-append-add}
 use Rattle.std.proofs.lemmas.Nat.{mul-add-lt}
 use Rattle.stair_model.specs.Geometry.{Geometry, IsWithinLimits, data_cells}
-use Rattle.stair_model.specs.Cell.{Data, cell_at}
-use Rattle.stair_model.specs.Costs.{is_parity, unit_blocks}
+use Rattle.stair_model.specs.Cell.{Data, cell_at, is_parity}
+use Rattle.stair_model.specs.Costs.{unit_blocks}
 use Rattle.stair_model.specs.Encoding.{IsEncodingOf}
 use Rattle.stair_model.specs.Stripe.{Stripe, SECTOR, IsStripeOf, cell}
 use Rattle.stair_model.proofs.CountLaws.{sum_below_longer}
 use Rattle.stair_std.specs.Cells.{is_parity_number, parities_before, byte_of_number}
 use Rattle.stair_std.specs.Coefficients.{IsGenerator, parity_cells}
 use Rattle.stair_std.specs.Units.{AddsParities, AreUnits}
-use Rattle.stair_std.proofs.Numbers.{bytes_at-number, bytes_at, bytes_of-number, cell_at-number, cell_of-number, number_in, row_in, slot_in, parities_before-parity, parities_before-block, parities_in_all, parity_in, is_block}
+use Rattle.stair_model.proofs.StripeLaws.{number_in}
+use Rattle.stair_std.proofs.Numbers.{bytes_at-number, bytes_at, bytes_of-number, cell_at-number, cell_of-number, row_in, slot_in, parities_before-parity, parities_before-block, parities_in_all, parity_in, is_block}
 use Rattle.stair_std.proofs.UnitStripes.{units_agree}
 
 -- ---- one byte of each parity

@@ -1,35 +1,20 @@
 -- The coefficients that aren't zero, counted in three ways: as they stand, parity by parity, and as the standard cost.
-use Rattle.std.proofs.Common.{◌≡◌, ℕ, ◌+◌, ◌*◌, ◌<◌, ◌==◌, ◌&&◌, not, true, false, if◌then◌else◌, List, length, slice_index, inl, inr, sym, ◌∙◌, ap, ap₂, arith}
+use Rattle.std.proofs.Common.{◌≡◌, ℕ, ◌+◌, ◌*◌, ◌<◌, ◌==◌, ◌&&◌, not, true, if◌then◌else◌, slice_index, inl, inr, sym, ◌∙◌, ap, ap₂}
 use Rattle.std.proofs.lemmas.Bool.{cases_Bool, cond-true, cond-false}
-use Rattle.std.proofs.lemmas.List.Elements.{All-from_get_or}
-use Rattle.std.proofs.lemmas.List.Folds.{list_any_at, list_any_none}
 use Rattle.stair_model.specs.Sum.{sum_below}
 use Rattle.stair_model.specs.Geometry.{data_cells}
-use Rattle.stair_model.specs.Cell.{cell_at}
-use Rattle.stair_model.specs.Costs.{is_parity, is_nonzero, nonzero_parities, IsStandardCost, unit_blocks}
+use Rattle.stair_model.specs.Cell.{cell_at, is_parity}
+use Rattle.stair_model.specs.Costs.{is_nonzero, nonzero_parities, IsStandardCost, unit_blocks}
 use Rattle.stair_model.specs.Encoding.{IsEncodingOf}
 use Rattle.stair_model.specs.Stripe.{Stripe, cell}
 use Rattle.stair_model.proofs.CountLaws.{sum_below_same, sum_below_by}
-use Rattle.stair_model.proofs.EncodingLaws.{cell-IsSector}
+use Rattle.stair_model.proofs.StripeLaws.{cell-IsSector}
+use Rattle.stair_model.proofs.UnitLaws.{is_nonzero-same}
 use Rattle.stair_model.proofs.GridLaws.{sum_below_grid, sum_below_exchange, sum_below_passed, sum_below_failed}
 use Rattle.stair_std.specs.Cells.{is_parity_number, parities_before}
 use Rattle.stair_std.specs.Coefficients.{Coefficients, IsGenerator, coefficient, nonzero_coefficients, parity_cells}
 use Rattle.stair_std.specs.Standard.{coefficient_of, step_of, parity_steps}
 use Rattle.stair_std.proofs.Numbers.{cell_of-number, blocks_in_all, parities_in_all}
-
--- whether bytes that are all the same aren't zero
-is_nonzero-same : (bytes : List ℕ) (b : ℕ) → length bytes ≡ 512 → ((p : ℕ) → p < 512 → slice_index bytes p ≡ b)
-    → is_nonzero bytes ≡ not (b == 0)
-is_nonzero-same bytes b count all =
-    elim (cases_Bool (not (b == 0))) [
-      | inl nonzero ↦
-          list_any_at (λ x. not (x == 0)) bytes 0 0 (omega (arith, count))
-          (ap (λ x. not (x == 0)) (all 0 (omega arith)) ∙ nonzero) ∙ sym nonzero
-      | inr zero ↦
-          list_any_none (λ x. not (x == 0)) bytes
-          (All-from_get_or (λ x. not (x == 0) ≡ false) bytes 0
-          (λ p within. ap (λ x. not (x == 0)) (all p (omega (arith, count))) ∙ zero)) ∙ sym zero
-    ]
 
 module _ (c : Coefficients) (generator : IsGenerator c) where
   -- of data cell d, parity by parity

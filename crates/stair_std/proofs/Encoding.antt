@@ -4,23 +4,24 @@ use Rattle.std.proofs.lemmas.Bool.{cases_eq, cases_Bool, true≢false, cond-true
 use Rattle.stair_model.specs.Field.{product}
 use Rattle.stair_model.specs.Sum.{sum_below}
 use Rattle.stair_model.specs.Geometry.{Geometry, IsWithinLimits}
-use Rattle.stair_model.specs.Cell.{Data, cell_at}
-use Rattle.stair_model.specs.Codeword.{Word}
-use Rattle.stair_model.specs.Costs.{is_parity, unit_blocks}
+use Rattle.stair_model.specs.Cell.{Data, cell_at, is_parity}
+use Rattle.stair_model.specs.Codeword.{Word, MeetsEquations}
+use Rattle.stair_model.specs.Costs.{unit_blocks}
 use Rattle.stair_model.specs.Encoding.{IsEncodedFrom, IsEncodingOf}
 use Rattle.stair_model.specs.Stripe.{Stripe, IsStripeOf, IsWellFormed, byte_of, with_cell}
 use Rattle.stair_model.proofs.FieldLaws.{product-zero_left, product-zero_right, product_comm, product-one_right}
 use Rattle.stair_model.proofs.SumLaws.{field_sum_same, field_sum_one_term}
 use Rattle.stair_model.proofs.CountLaws.{sum_below_none, sum_below_next}
 use Rattle.stair_model.proofs.CellLaws.{cell_at_parity}
-use Rattle.stair_model.proofs.CanonicalLaws.{byte_of-lt}
-use Rattle.stair_model.proofs.LinearLaws.{weighted_sum, MeetsEquations, MeetsEquations-codeword, MeetsEquations-weighted, MeetsEquations-same, codeword_from_words}
+use Rattle.stair_model.proofs.StripeLaws.{byte_of-lt, number_in}
+use Rattle.stair_model.proofs.LinearLaws.{weighted_sum, MeetsEquations-weighted, MeetsEquations-same}
+use Rattle.stair_model.proofs.CostLaws.{unit_encoding}
+use Rattle.stair_model.proofs.UnitLaws.{unit_encoding-data}
 use Rattle.stair_std.specs.Cells.{is_parity_number, parities_before, blocks_before, bytes_of, byte_of_number}
 use Rattle.stair_std.specs.Coefficients.{Coefficients, IsGenerator, nonzero_coefficients, parity_cells}
 use Rattle.stair_std.specs.Standard.{coefficient_of, block_byte, parity_byte, parity_steps}
 use Rattle.stair_std.proofs.Counting.{steps_of_cells}
-use Rattle.stair_std.proofs.Numbers.{counts_split, IsNumberOf, bytes_of-put, bytes_of-kept, cell_at-number, parities_before-parity, parities_before-block, parities_in_all, parity_in, bytes_of-number, cell_of-number, number_in, block_cell, block_in, is_block, block_once}
-use Rattle.stair_std.proofs.UnitStripes.{unit_encoding, unit_encoding-data}
+use Rattle.stair_std.proofs.Numbers.{counts_split, IsNumberOf, bytes_of-put, bytes_of-kept, cell_at-number, parities_before-parity, parities_before-block, parities_in_all, parity_in, bytes_of-number, cell_of-number, block_cell, block_in, is_block, block_once}
 
 module _ (c : Coefficients) (generator : IsGenerator c) (old new : Stripe) (old_of : IsStripeOf c.geometry old)
     (of : IsStripeOf c.geometry new) (formed : IsWellFormed new)
@@ -45,7 +46,7 @@ module _ (c : Coefficients) (generator : IsGenerator c) (old new : Stripe) (old_
   summed_word-meets : (p : ℕ) → MeetsEquations c.geometry (summed_word p)
   summed_word-meets p =
       MeetsEquations-weighted c.geometry (c.geometry.r * c.geometry.n) (block_byte c.geometry old p) unit_word
-      (λ t below. MeetsEquations-codeword c.geometry (encoded t) 0 (is_encoded t).codeword (omega arith))
+      (λ t below. (is_encoded t).codeword.words 0 (omega arith))
 
   module _ (p i j : ℕ) (p_in : p < 512) (row : i < c.geometry.r) (chunk : j < c.geometry.n) where
     -- the cell's number
@@ -115,7 +116,7 @@ module _ (c : Coefficients) (generator : IsGenerator c) (old new : Stripe) (old_
 
       block_is : byte_of new p i j ≡ summed_word p i j
       block_is =
-          sym (product-one_right (byte_of new p i j) (byte_of-lt c.geometry new of formed p i j p_in row chunk))
+          sym (product-one_right (byte_of new p i j) (byte_of-lt new formed p i j))
           ∙ ap₂ product (sym block_here)
           (sym (unit_here here
           ∙ cond-true (blocks_before c.geometry here == blocks_before c.geometry here) 1 0
@@ -134,9 +135,11 @@ module _ (c : Coefficients) (generator : IsGenerator c) (old new : Stripe) (old_
   encoded_from_sums = record {
     of = of;
     formed = formed;
-    codeword = codeword_from_words c.geometry new
-        (λ p p_in. MeetsEquations-same c.geometry (byte_of new p) (summed_word p) generator.limits
-        (λ i j row chunk. word_is p i j p_in row chunk) (summed_word-meets p));
+    codeword = record {
+      words = λ p p_in.
+          MeetsEquations-same c.geometry (byte_of new p) (summed_word p) generator.limits
+          (λ i j row chunk. word_is p i j p_in row chunk) (summed_word-meets p);
+    };
     same_data = λ i j d row chunk is.
         bytes_of-number c.geometry old i j old_of chunk
         ∙ sym (kept (i * c.geometry.n + j) (number_in c.geometry i j row chunk)

@@ -1,15 +1,14 @@
 -- The cells of a stripe by their numbers, row by row.
-use Rattle.std.proofs.Common.{◌≡◌, ◌≢◌, ℕ, ◌+◌, ◌*◌, ◌/◌, ◌%◌, ◌<◌, ◌≤◌, Bool, true, false, if◌then◌else◌, List, inl, inr, refl, sym, ◌∙◌, ap, ap₂, subst, arith, add-zero, add-one, mul-one, div-add-mod'}
+use Rattle.std.proofs.Common.{◌≡◌, ◌≢◌, ℕ, ◌+◌, ◌*◌, ◌/◌, ◌%◌, ◌<◌, ◌≤◌, true, false, if◌then◌else◌, List, inl, inr, refl, sym, ◌∙◌, ap, ap₂, subst, arith, add-zero, add-one, mul-one, div-add-mod'}
 use Rattle.std.proofs.lemmas.Bool.{cond-true, cond-false, true≢false}
 use Rattle.std.proofs.lemmas.List.{get_or-set_same, get_or-set_other, length-set}
-use Rattle.std.proofs.lemmas.Nat.{mul-add-lt, div-mul-add, mod-mul-add, div_below, mod_below}
+use Rattle.std.proofs.lemmas.Nat.{div-mul-add, mod-mul-add, div_below, mod_below}
 use Rattle.stair_model.specs.Sum.{sum_below}
 use Rattle.stair_model.specs.Geometry.{Geometry, IsWithinLimits, data_chunks, data_cells}
-use Rattle.stair_model.specs.Cell.{Data, cell_at, is_global, data_in_row, data_before}
-use Rattle.stair_model.specs.Costs.{is_parity}
+use Rattle.stair_model.specs.Cell.{Data, cell_at, is_global, data_in_row, data_before, is_parity}
 use Rattle.stair_model.specs.Stripe.{Stripe, IsStripeOf, IsWellFormed, cell, with_cell}
 use Rattle.stair_model.proofs.CountLaws.{sum_below_more, sum_below_same, sum_below_add, sum_below_constant, sum_below_longer, sum_below_tail}
-use Rattle.stair_model.proofs.CellLaws.{data_mark, is_global_tells, data_in_all, cell_at_parity, cell_at_global, cell_at_data, OfParity, OfGlobal, OfData, kind_of_cell}
+use Rattle.stair_model.proofs.CellLaws.{one_of_two, data_mark, is_global_tells, data_in_all, cell_at_parity, cell_at_global, cell_at_data, OfParity, OfGlobal, OfData, kind_of_cell}
 use Rattle.stair_model.proofs.DataLaws.{data_cell_tells, data_once}
 use Rattle.stair_model.proofs.GridLaws.{sum_below_rows}
 use Rattle.stair_std.specs.Cells.{cell_of_number, is_parity_number, parities_before, blocks_before, bytes_of}
@@ -53,9 +52,6 @@ row_of_number g i j chunk = sym (div-mul-add i g.n j chunk)
 
 pub slot_of_number : (g : Geometry) (i j : ℕ) → j < g.n → j ≡ (i * g.n + j) % g.n
 slot_of_number g i j chunk = sym (mod-mul-add i g.n j chunk)
-
-pub number_in : (g : Geometry) (i j : ℕ) → i < g.r → j < g.n → i * g.n + j < g.r * g.n
-number_in g i j row chunk = omega (arith, mul-add-lt i g.n j g.r row chunk)
 
 pub cell_of-number : (g : Geometry) (i j : ℕ) → j < g.n → cell_at g i j ≡ cell_of_number g (i * g.n + j)
 cell_of-number g i j chunk = cell_at-number g (i * g.n + j) i j (row_of_number g i j chunk) (slot_of_number g i j chunk)
@@ -141,16 +137,12 @@ pub blocks_in_all : (g : Geometry) → IsWithinLimits g → blocks_before g (g.r
 blocks_in_all g limits =
     ap (blocks_before g) (sym (add-zero (g.r * g.n))) ∙ blocks_before-is g g.r 0 (omega arith) ∙ data_in_all g limits
 
-one_of_two : (b : Bool) → (if b then 1 else 0) + (if b then 0 else 1) ≡ 1
-one_of_two true = refl
-one_of_two false = refl
-
 -- each cell is a parity or a data cell
 pub counts_split : (g : Geometry) (c : ℕ) → parities_before g c + blocks_before g c ≡ c
 counts_split g c =
     sym (sum_below_add c (λ t. if is_parity_number g t then 1 else 0) (block_mark g))
     ∙ sum_below_same c (λ t. (if is_parity_number g t then 1 else 0) + block_mark g t) (λ t. 1)
-    (λ t below. one_of_two (is_parity_number g t))
+    (λ t below. omega (arith, one_of_two (is_parity_number g t)))
     ∙ sum_below_constant c 1
     ∙ mul-one c
 

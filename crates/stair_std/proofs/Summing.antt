@@ -5,8 +5,7 @@ use Rattle.std.specs.Int.Bits.{xor_zero_r}
 use Rattle.std.proofs.lemmas.Bool.{cond-true, cond-false, ne_eqb}
 use Rattle.stair_model.specs.Field.{product}
 use Rattle.stair_model.specs.Sum.{field_sum, sum_below}
-use Rattle.stair_model.specs.Cell.{Data, cell_at}
-use Rattle.stair_model.specs.Costs.{is_parity}
+use Rattle.stair_model.specs.Cell.{Data, cell_at, is_parity}
 use Rattle.stair_model.specs.Stripe.{Stripe, IsStripeOf, cell}
 use Rattle.stair_model.proofs.FieldLaws.{product-zero_left, product-zero_right}
 use Rattle.stair_model.proofs.SumLaws.{field_sum_more}

@@ -1,20 +1,18 @@
 -- Stripes of which, at each byte position, one data cell is 1, and the encoded stripes of one block that is filled with 01.
-use Rattle.std.proofs.Common.{◌≡◌, ◌≢◌, ℕ, ◌+◌, ◌-◌, ◌*◌, ◌/◌, ◌%◌, ◌<◌, ◌≤◌, true, false, if◌then◌else◌, ◌==◌, List, [], length, slice_index, slice_index_or, slice_set, replicate, inl, inr, sym, ◌∙◌, ap, ap₂, arith, lit<}
+use Rattle.std.proofs.Common.{◌≡◌, ◌≢◌, ℕ, ◌+◌, ◌-◌, ◌*◌, ◌/◌, ◌%◌, ◌<◌, ◌≤◌, true, false, if◌then◌else◌, ◌==◌, List, slice_index, slice_set, replicate, inl, inr, sym, ◌∙◌, ap, ap₂, arith}
 use Rattle.std.proofs.lemmas.Bool.{cases_eq, cond-true, cond-false, eq-eqb, ne_eqb, true≢false}
-use Rattle.std.proofs.lemmas.List.{get_or-set_same, get_or-set_other, get_or-replicate, length-replicate, length-set}
-use Rattle.std.proofs.lemmas.List.Elements.{All-replicate, All-set}
-use Rattle.stair_model.specs.Geometry.{Geometry, IsWithinLimits, data_cells}
-use Rattle.stair_model.specs.Cell.{Data, cell_at}
-use Rattle.stair_model.specs.Costs.{is_parity, unit_blocks}
+use Rattle.std.proofs.lemmas.List.{get_or-set_same, get_or-set_other, get_or-replicate, length-replicate}
+use Rattle.stair_model.specs.Geometry.{Geometry, IsWithinLimits}
+use Rattle.stair_model.specs.Cell.{Data, cell_at, is_parity}
+use Rattle.stair_model.specs.Costs.{unit_blocks}
 use Rattle.stair_model.specs.Encoding.{IsEncodedFrom, IsEncodingOf}
-use Rattle.stair_model.specs.Stripe.{Stripe, SECTOR, IsSector, IsStripeOf, IsWellFormed, byte_of, with_cell}
-use Rattle.stair_model.proofs.CanonicalLaws.{byte_of-lt}
-use Rattle.stair_model.proofs.DataLaws.{data_in_range}
-use Rattle.stair_model.proofs.EncodingLaws.{encoding_exists}
-use Rattle.stair_model.proofs.LinearLaws.{MeetsEquations-codeword, words_agree}
+use Rattle.stair_model.specs.Stripe.{Stripe, SECTOR, IsStripeOf, IsWellFormed, byte_of, with_cell}
+use Rattle.stair_model.proofs.StripeLaws.{byte_of-lt, number_in}
+use Rattle.stair_model.proofs.LinearLaws.{words_agree}
+use Rattle.stair_model.proofs.UnitLaws.{unit_encoding-data}
 use Rattle.stair_std.specs.Cells.{cell_of_number, is_parity_number, blocks_before, byte_of_number}
 use Rattle.stair_std.specs.Units.{unit_byte, AreUnitBlocks, AreUnits}
-use Rattle.stair_std.proofs.Numbers.{bytes_at-number, bytes_of-put, bytes_of-kept, bytes_of-number, cell_at-number, cell_of-number, number_in, block_number, block_cell, is_block, row_in, slot_in}
+use Rattle.stair_std.proofs.Numbers.{bytes_at-number, bytes_of-put, bytes_of-kept, bytes_of-number, cell_at-number, cell_of-number, block_number, block_cell, is_block, row_in, slot_in}
 
 -- ---- one block of the stripe
 
@@ -110,48 +108,7 @@ AreUnits-encoded g first before after limits units encoded = record {
   codeword = encoded.codeword;
 }
 
--- ---- the blocks that are zero but for one
-
-pub unit_blocks-at : (g : Geometry) (d e p : ℕ) → e < data_cells g → p < 512
-    → slice_index (slice_index_or (unit_blocks g d) e []) p ≡ (if d == e then 1 else 0)
-unit_blocks-at g d e p e_in p_in =
-    elim (cases_eq d e) [
-      | inl here ↦
-          ap (λ (k : ℕ). slice_index (slice_index_or (unit_blocks g d) k []) p) (sym here)
-          ∙ ap (λ (b : List ℕ). slice_index b p)
-          (get_or-set_same zeros d (replicate SECTOR 1) [] (omega (arith, count)))
-          ∙ get_or-replicate 512 p 1 0 p_in ∙ sym (cond-true (d == e) 1 0 (eq-eqb d e here))
-      | inr other ↦
-          ap (λ (b : List ℕ). slice_index b p)
-          (get_or-set_other zeros d e (replicate SECTOR 1) [] (λ same. other (sym same))
-          ∙ get_or-replicate (data_cells g) e (replicate SECTOR 0) [] e_in)
-          ∙ get_or-replicate 512 p 0 0 p_in ∙ sym (cond-false (d == e) 1 0 (ne_eqb d e other))
-    ]
-  where
-    zeros : List (List ℕ)
-    zeros = replicate (data_cells g) (replicate SECTOR 0)
-
-    count : length zeros ≡ data_cells g
-    count = length-replicate (data_cells g) (replicate SECTOR 0)
-
-filled-IsSector : (b : ℕ) → b < 256 → IsSector (replicate SECTOR b)
-filled-IsSector b byte = (length-replicate {A = ℕ} 512 b, All-replicate (λ x. x < 256) 512 b byte)
-
--- they have an encoded stripe, also where d is no data cell
-pub unit_encoding : (g : Geometry) (d : ℕ) → IsWithinLimits g → (stripe : Stripe) × IsEncodingOf g (unit_blocks g d) stripe
-unit_encoding g d limits =
-    encoding_exists g (unit_blocks g d) limits
-    (length-set (replicate (data_cells g) (replicate SECTOR 0)) d (replicate SECTOR 1) ∙ length-replicate (data_cells g) (replicate SECTOR 0))
-    (All-set IsSector (replicate (data_cells g) (replicate SECTOR 0)) d (replicate SECTOR 1) (filled-IsSector 1 (lit< tt))
-    (All-replicate IsSector (data_cells g) (replicate SECTOR 0) (filled-IsSector 0 (lit< tt))))
-
--- its data cells
-pub unit_encoding-data : (g : Geometry) (d p i j e : ℕ) (encoded : Stripe) → IsWithinLimits g
-    → IsEncodingOf g (unit_blocks g d) encoded → p < 512 → i < g.r → j < g.n → cell_at g i j ≡ Data e
-    → byte_of encoded p i j ≡ (if d == e then 1 else 0)
-unit_encoding-data g d p i j e encoded limits is p_in row chunk data_cell =
-    ap (λ (b : List ℕ). slice_index b p) (is.holds i j e row chunk data_cell)
-    ∙ unit_blocks-at g d e p (data_in_range g i j e limits row data_cell).0 p_in
+-- ---- the encoded stripes of one block
 
 -- a stripe with units at a byte has there the bytes of the encoded stripe
 pub units_agree : (g : Geometry) (first byte d p : ℕ) (stripe encoded : Stripe) → IsWithinLimits g → AreUnits g first stripe
@@ -159,10 +116,10 @@ pub units_agree : (g : Geometry) (first byte d p : ℕ) (stripe encoded : Stripe
     → (i j : ℕ) → i < g.r → j < g.n → byte_of stripe byte i j ≡ byte_of encoded p i j
 units_agree g first byte d p stripe encoded limits units here byte_in p_in is =
     words_agree g (byte_of stripe byte) (byte_of encoded p) limits
-    (λ i j row chunk. byte_of-lt g stripe units.units.of units.formed byte i j byte_in row chunk)
-    (MeetsEquations-codeword g stripe byte units.codeword byte_in)
-    (λ i j row chunk. byte_of-lt g encoded is.of is.formed p i j p_in row chunk)
-    (MeetsEquations-codeword g encoded p is.codeword p_in)
+    (λ i j row chunk. byte_of-lt stripe units.formed byte i j)
+    (units.codeword.words byte byte_in)
+    (λ i j row chunk. byte_of-lt encoded is.formed p i j)
+    (is.codeword.words p p_in)
     (λ i j e row chunk data_cell.
     let c = i * g.n + j in
     let cell_is : cell_of_number g (i * g.n + j) ≡ Data e = sym (cell_of-number g i j chunk) ∙ data_cell in

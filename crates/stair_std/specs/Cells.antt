@@ -1,9 +1,8 @@
 -- The cells of a stripe in one row of numbers: cell (i, j) is number i·n + j.
-use Rattle.std.specs.Prelude.{ℕ, ◌/◌, ◌%◌, Bool, List, [], slice_index, slice_index_or, if◌then◌else◌}
+use Rattle.std.specs.Prelude.{ℕ, ◌/◌, ◌%◌, Bool, List, [], slice_index_or, if◌then◌else◌}
 use Rattle.stair_model.specs.Geometry.{Geometry}
-use Rattle.stair_model.specs.Cell.{Cell, cell_at}
-use Rattle.stair_model.specs.Costs.{is_parity}
-use Rattle.stair_model.specs.Stripe.{Stripe}
+use Rattle.stair_model.specs.Cell.{Cell, cell_at, is_parity}
+use Rattle.stair_model.specs.Stripe.{Stripe, symbol_byte}
 use Rattle.stair_model.specs.Sum.{sum_below}
 
 -- what the cell of this number holds
@@ -26,4 +25,4 @@ abbrev pub bytes_of : Stripe → ℕ → List ℕ
 bytes_of stripe c = slice_index_or stripe.cells c []
 
 abbrev pub byte_of_number : Stripe → ℕ → ℕ → ℕ
-byte_of_number stripe p c = slice_index (bytes_of stripe c) p
+byte_of_number stripe = symbol_byte stripe.cells

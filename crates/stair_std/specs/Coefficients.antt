@@ -1,8 +1,8 @@
 -- The coefficients of the parities over the data cells.
-use Rattle.std.specs.Prelude.{◌≡◌, ℕ, ◌+◌, ◌-◌, ◌*◌, ◌<◌, ◌==◌, not, true, List, length, slice_index, count_by}
+use Rattle.std.specs.Prelude.{◌≡◌, ℕ, ◌+◌, ◌-◌, ◌*◌, ◌<◌, ◌==◌, not, IsTrue, List, length, slice_index, count_by}
 use Rattle.stair_model.specs.Geometry.{Geometry, IsWithinLimits, data_cells}
-use Rattle.stair_model.specs.Cell.{cell_at}
-use Rattle.stair_model.specs.Costs.{is_parity, unit_blocks}
+use Rattle.stair_model.specs.Cell.{cell_at, is_parity}
+use Rattle.stair_model.specs.Costs.{unit_blocks}
 use Rattle.stair_model.specs.Encoding.{IsEncodingOf}
 use Rattle.stair_model.specs.Stripe.{Stripe, SECTOR, byte_of}
 use Rattle.stair_std.specs.Cells.{parities_before}
@@ -32,7 +32,7 @@ pub record IsGenerator (c : Coefficients) : Type 0 where
   pub count : length c.bytes ≡ data_cells c.geometry * parity_cells c.geometry
   pub units :
       (d i j p : ℕ) (encoded : Stripe) → d < data_cells c.geometry → i < c.geometry.r → j < c.geometry.n → p < SECTOR →
-      is_parity (cell_at c.geometry i j) ≡ true → IsEncodingOf c.geometry (unit_blocks c.geometry d) encoded →
+      IsTrue (is_parity (cell_at c.geometry i j)) → IsEncodingOf c.geometry (unit_blocks c.geometry d) encoded →
       coefficient c i j d ≡ byte_of encoded p i j
 
 -- how many of them aren't zero

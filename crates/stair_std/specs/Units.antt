@@ -1,5 +1,5 @@
 -- Stripes of which, at each byte position, one data cell is 1 and all others are zero.
-use Rattle.std.specs.Prelude.{◌≡◌, ℕ, ◌+◌, ◌*◌, ◌<◌, ◌==◌, true, false, if◌then◌else◌, List, length, slice_index}
+use Rattle.std.specs.Prelude.{◌≡◌, ℕ, ◌+◌, ◌*◌, ◌<◌, ◌==◌, false, IsTrue, if◌then◌else◌, List, length, slice_index}
 use Rattle.stair_model.specs.Geometry.{Geometry}
 use Rattle.stair_model.specs.Codeword.{IsCodeword}
 use Rattle.stair_model.specs.Stripe.{Stripe, SECTOR, IsStripeOf, IsWellFormed}
@@ -27,5 +27,5 @@ pub record AddsParities (g : Geometry) (stripe : Stripe) (p : ℕ) (old new : Li
   pub count : length new ≡ length old + parities_before g (g.r * g.n)
   pub kept : (k : ℕ) → k < length old → slice_index new k ≡ slice_index old k
   pub added :
-      (c : ℕ) → c < g.r * g.n → is_parity_number g c ≡ true →
+      (c : ℕ) → c < g.r * g.n → IsTrue (is_parity_number g c) →
       slice_index new (length old + parities_before g c) ≡ byte_of_number stripe p c

@@ -1,8 +1,7 @@
 //! The cells of a stripe in one row of numbers: cell (i, j) is number i·n + j.
 
-ghost use Rattle.std.specs.Prelude.{◌≡◌, ◌*◌, ◌/◌, ◌%◌, ◌<◌, ◌≤◌, MatchOption, true};
-ghost use Rattle.stair_model.specs.Cell.{Data, cell_at};
-ghost use Rattle.stair_model.specs.Costs.{is_parity};
+ghost use Rattle.std.specs.Prelude.{◌≡◌, ◌*◌, ◌/◌, ◌%◌, ◌<◌, ◌≤◌, IsTrue, MatchOption};
+ghost use Rattle.stair_model.specs.Cell.{Data, cell_at, is_parity};
 ghost use Rattle.stair_model.specs.Geometry.{IsWithinLimits};
 ghost use Rattle.stair_std.specs.Coefficients.{parity_cells};
 
@@ -43,7 +42,7 @@ pub(crate) fn row_and_slot(geometry: &Geometry, number: u16) -> (u8, u8)
 pub(crate) fn block_at(geometry: &Geometry, row: u8, slot: u8) -> Option<u16>
     requires row_in { row < geometry.now.r }
     requires slot_in { slot < geometry.now.n }
-    ensures { MatchOption result (is_parity (cell_at geometry.now row slot) ≡ true)
+    ensures { MatchOption result (IsTrue (is_parity (cell_at geometry.now row slot)))
         (λ d. cell_at geometry.now row slot ≡ Data d) }
 {
     match geometry.kind(row, slot) {

@@ -1,7 +1,7 @@
 ghost use Rattle.std.specs.Prelude.{◌≡◌, ℕ, ◌+◌, ◌<◌, ◌==◌, not, IfOk, count_by, slice_index};
 ghost use Rattle.stair_model.specs.Costs.{IsStandardCost};
 ghost use Rattle.stair_model.specs.Geometry.{data_cells};
-ghost use Rattle.stair_model.specs.Stripe.{IsStripeOf};
+ghost use Rattle.stair_model.specs.Stripe.{IsStripeOf, SECTOR};
 ghost use Rattle.stair_std.specs.Coefficients.{IsGenerator, nonzero_coefficients, parity_cells, coefficient_number};
 ghost use Rattle.stair_std.specs.Standard.{parity_byte, parity_steps};
 
@@ -107,7 +107,8 @@ impl Generator {
     ) -> [u8; SECTOR]
         requires of { IsStripeOf self.now.geometry stripe.now }
         requires parity_in { parity < parity_cells self.now.geometry }
-        ensures sum { (p : ℕ) → p < 512 → slice_index result p ≡ parity_byte self.now stripe.now p parity }
+        ensures sum { (p : ℕ) → p < SECTOR →
+            slice_index result p ≡ parity_byte self.now stripe.now p parity }
         ensures cost { steps.new ≡ steps.old + parity_steps self.now parity }
     {
         let mut sum = [0; SECTOR];

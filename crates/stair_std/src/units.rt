@@ -3,7 +3,7 @@
 ghost use Rattle.std.specs.Prelude.{◌≡◌, ℕ, ◌<◌, OnOk, length, slice_index};
 ghost use Rattle.stair_model.specs.Encoding.{IsEncodedFrom};
 ghost use Rattle.stair_model.specs.Geometry.{IsWithinLimits};
-ghost use Rattle.stair_model.specs.Stripe.{IsStripeOf};
+ghost use Rattle.stair_model.specs.Stripe.{IsStripeOf, SECTOR};
 ghost use Rattle.stair_std.specs.Units.{AddsParities, AreUnitBlocks, AreUnits, unit_byte};
 
 use crate::cells::{block_at, cell_count, row_and_slot};
@@ -17,8 +17,8 @@ use std::sync::ledger::{Blank, Ledger};
 
 /// The bytes of this block: zero, but for the byte whose place is the block's number less `first`, which is 1.
 fn unit_block(block: u16, first: u16) -> [u8; SECTOR]
-    ensures count { length result ≡ 512 }
-    ensures bytes { (p : ℕ) → p < 512 → slice_index result p ≡ unit_byte first p block }
+    ensures count { length result ≡ SECTOR }
+    ensures bytes { (p : ℕ) → p < SECTOR → slice_index result p ≡ unit_byte first p block }
 {
     let mut bytes = [0; SECTOR];
     if first <= block && usize::from(block - first) < SECTOR {
@@ -72,7 +72,7 @@ pub(crate) fn push_parities(
     bytes: &mut Vec<u8>,
 ) -> Result<(), AllocError>
     requires of { IsStripeOf geometry.now stripe.now }
-    requires byte_in { byte < 512 }
+    requires byte_in { byte < SECTOR }
     ensures { OnOk result (AddsParities geometry.now stripe.now byte bytes.old.items bytes.new.items) }
 {
     for number in 0..cell_count(geometry) {

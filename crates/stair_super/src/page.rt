@@ -1,4 +1,5 @@
 ghost use Rattle.std.specs.Prelude.{◌≡◌, ◌+◌, ◌-◌, ◌≤◌, ◌++◌, [], length};
+ghost use Rattle.stair_model.specs.Stripe.{SECTOR};
 ghost use Rattle.stair_super.specs.Spelling.{zeros, number32, number64};
 
 use byteorder::{BigEndian, ByteOrder};
@@ -36,7 +37,7 @@ impl Page {
 
     /// Writes the bytes behind those that are written.
     pub fn put(&mut self, field: &[u8])
-        requires { length self.old + length field.now ≤ 512 }
+        requires { length self.old + length field.now ≤ SECTOR }
         ensures text { self.new ≡ self.old ++ field.now }
         ensures len { length self.new ≡ length self.old + length field.now }
     {
@@ -48,7 +49,7 @@ impl Page {
     /// Writes a number in four bytes, the highest first.
     #[tactic(auto, unfolding(crate::specs::Spelling::number32))]
     pub fn put_u32(&mut self, number: u32)
-        requires { length self.old + 4 ≤ 512 }
+        requires { length self.old + 4 ≤ SECTOR }
         ensures text { self.new ≡ self.old ++ number32 number }
         ensures len { length self.new ≡ length self.old + 4 }
     {
@@ -60,7 +61,7 @@ impl Page {
     /// Writes a number in eight bytes, the highest first.
     #[tactic(auto, unfolding(crate::specs::Spelling::number64))]
     pub fn put_u64(&mut self, number: u64)
-        requires { length self.old + 8 ≤ 512 }
+        requires { length self.old + 8 ≤ SECTOR }
         ensures text { self.new ≡ self.old ++ number64 number }
         ensures len { length self.new ≡ length self.old + 8 }
     {
@@ -71,7 +72,7 @@ impl Page {
 
     /// Leaves so many bytes zero.
     pub fn skip(&mut self, count: usize)
-        requires { length self.old + count ≤ 512 }
+        requires { length self.old + count ≤ SECTOR }
         ensures text { self.new ≡ self.old ++ zeros count }
         ensures len { length self.new ≡ length self.old + count }
     {
@@ -80,7 +81,7 @@ impl Page {
 
     /// The 512 bytes of the page.
     pub fn bytes(self) -> [u8; 512]
-        ensures { result ≡ self ++ zeros (512 - length self) }
+        ensures { result ≡ self ++ zeros (SECTOR - length self) }
     {
         let Page { bytes, len: _ } = self;
         bytes

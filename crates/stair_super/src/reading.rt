@@ -1,5 +1,6 @@
 ghost use Rattle.std.specs.Prelude.{◌≡◌, ℕ, ◌+◌, ◌<◌, ◌≤◌, ◌↔◌, IsTrue, IfSome, length, take, drop, slice_index, slice_index_or};
 ghost use Rattle.std.specs.Int.{w32, w64, from_be_bytes};
+ghost use Rattle.stair_model.specs.Stripe.{SECTOR};
 ghost use Rattle.stair_super.specs.Superblock.{Superblock, superblock_of, IsWellFormed, IsJoined, mark_at, joined_at};
 ghost use Rattle.stair_super.specs.Spelling.{code, Spells};
 ghost use Rattle.stair_super.specs.declared.mark.Mark.TheVariants.{Down};
@@ -10,14 +11,14 @@ use crate::writing::write_super;
 use stair_base::Geometry;
 
 fn u32_at(bytes: &[u8; 512], at: usize) -> u32
-    requires { at + 4 ≤ 512 }
+    requires { at + 4 ≤ SECTOR }
     ensures { result ≡ from_be_bytes w32 (take 4 (drop at bytes.now)) }
 {
     u32::from_be_bytes([bytes[at], bytes[at + 1], bytes[at + 2], bytes[at + 3]])
 }
 
 fn u64_at(bytes: &[u8; 512], at: usize) -> u64
-    requires { at + 8 ≤ 512 }
+    requires { at + 8 ≤ SECTOR }
     ensures { result ≡ from_be_bytes w64 (take 8 (drop at bytes.now)) }
 {
     let mut number = [0; 8];

@@ -1,4 +1,5 @@
 ghost use Rattle.std.specs.Prelude.{◌≡◌, ◌+◌, ◌≤◌, ◌++◌, length};
+ghost use Rattle.stair_model.specs.Stripe.{SECTOR};
 ghost use Rattle.stair_super.specs.Spelling.{Spells, padded, geometry_part, numbers_part, entries, code};
 
 use crate::block::Super;
@@ -18,7 +19,7 @@ fn code_of(mark: Mark) -> u8
 
 /// The coverage vector, with zeros behind it.
 fn put_coverage(page: &mut Page, geometry: &Geometry)
-    requires { length page.old + 32 ≤ 512 }
+    requires { length page.old + 32 ≤ SECTOR }
     ensures text { page.new ≡ page.old ++ padded geometry.now.e }
     ensures len { length page.new ≡ length page.old + 32 }
 {
@@ -30,7 +31,7 @@ fn put_coverage(page: &mut Page, geometry: &Geometry)
 
 /// The mark and the joined number of each slot.
 fn put_entries(page: &mut Page, block: &Super)
-    requires { length page.old + 288 ≤ 512 }
+    requires { length page.old + 288 ≤ SECTOR }
     ensures text { page.new ≡ page.old ++ entries block.now 32 }
     ensures len { length page.new ≡ length page.old + 288 }
 {
@@ -49,7 +50,7 @@ fn put_entries(page: &mut Page, block: &Super)
 
 /// The array: its identity, its numbers, its coverage vector and its stripes.
 fn put_geometry(page: &mut Page, geometry: &Geometry)
-    requires { length page.old + 56 ≤ 512 }
+    requires { length page.old + 56 ≤ SECTOR }
     ensures text { page.new ≡ page.old ++ geometry_part geometry.now }
     ensures len { length page.new ≡ length page.old + 56 }
 {
@@ -61,7 +62,7 @@ fn put_geometry(page: &mut Page, geometry: &Geometry)
 
 /// The slot, and the numbers of the device and of the epoch.
 fn put_numbers(page: &mut Page, block: &Super)
-    requires { length page.old + 32 ≤ 512 }
+    requires { length page.old + 32 ≤ SECTOR }
     ensures text { page.new ≡ page.old ++ numbers_part block.now }
     ensures len { length page.new ≡ length page.old + 32 }
 {

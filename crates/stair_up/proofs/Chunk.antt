@@ -15,7 +15,7 @@ use Rattle.stair_canon.specs.Solving.{SolvesChunk, column_shape}
 use Rattle.stair_canon.proofs.Rows.{rows_few}
 use Rattle.stair_up.specs.Rows.{AreRowsByNeed}
 use Rattle.stair_up.specs.Finding.{IsFound, FindsChunk, Keeps}
-use Rattle.stair_up.proofs.Stretches.{IsStretch, IsStretch-take, IsStretch-range, known_stretch, wanted_stretch, ArePlacesOnce, place_in_stretch}
+use Rattle.stair_mds.proofs.Stretches.{IsStretch, IsStretch-take, IsStretch-range, known_stretch, wanted_stretch, ArePlacesOnce, place_in_stretch}
 use Rattle.stair_up.proofs.Finds.{chunk_found, chunk_stays, Keeps-changes}
 
 module _ (old : CanonicalStripe) (erased : CellSet) (slot height : ℕ) (rows : List ℕ) (limits : IsWithinLimits old.geometry)

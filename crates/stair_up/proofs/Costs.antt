@@ -1,5 +1,5 @@
 -- The steps so far, and the erased cells of the chunks in another order.
-use Rattle.std.proofs.Common.{◌≡◌, ℕ, zero, suc, ◌+◌, ◌-◌, ◌*◌, ◌<◌, ◌≤◌, Bool, true, false, cond, List, length, take, slice_index, refl, sym, subst, ap, ◌∙◌, arith}
+use Rattle.std.proofs.Common.{◌≡◌, ℕ, zero, suc, ◌+◌, ◌-◌, ◌*◌, ◌<◌, ◌≤◌, Bool, cond, List, length, take, slice_index, sym, subst, ap, ◌∙◌, arith}
 use Rattle.std.specs.List.{range_with_len}
 use Rattle.std.proofs.lemmas.List.{get_or-take, length-take-le}
 use Rattle.std.proofs.lemmas.List.FromFn.{length-map-range_with_len, length-range_with_len, get_or-range_with_len}
@@ -10,7 +10,8 @@ use Rattle.stair_model.specs.CellSet.{CellSet, has_cell, IsInStripe, count_in_sl
 use Rattle.stair_model.specs.Coverage.{AreSortedCounts, erased_counts}
 use Rattle.stair_model.proofs.CountLaws.{sum_below_none, sum_below_more, sum_below_same, sum_below_tail, sum_below_zeros, sum_below_by}
 use Rattle.stair_model.proofs.GridLaws.{sum_below_exchange}
-use Rattle.stair_model.proofs.SortedLaws.{count_above-le, le-from_count_above, count_above-permutation}
+use Rattle.stair_model.proofs.SetLaws.{unmarked}
+use Rattle.stair_model.proofs.CoverageLaws.{sorted_same}
 use Rattle.stair_up.specs.Order.{AreInOrder, erased_in_row, erased_in_last}
 use Rattle.stair_up.specs.declared.order.Order.{Order}
 use Rattle.stair_up.proofs.Columns.{sorted_counts, counts_of, counts_of_at}
@@ -84,17 +85,13 @@ sum_below_last n (suc k) f within =
 abbrev pub one_if : Bool → ℕ
 one_if b = cond b 1 0
 
-pub one_if-fails : (b : Bool) → ¬ (b ≡ true) → one_if b ≡ 0
-one_if-fails true apart = absurd (apart refl)
-one_if-fails false apart = refl
-
 -- ---- the erased cells, chunk by chunk in order
 
 module _ (g : Geometry) (erased : CellSet) (limits : IsWithinLimits g) (inside : IsInStripe g erased) where
   slot_count_is : (j : ℕ) → count_in_slot erased j ≡ sum_below g.r (λ i. one_if (has_cell erased i j))
   slot_count_is j =
       sum_below_tail g.r 32 (λ i. one_if (has_cell erased i j)) limits.rows.1
-      (λ i from to. one_if-fails (has_cell erased i j) (λ has. let place = inside i j has in omega (arith, place.0)))
+      (λ i from to. unmarked (has_cell erased i j) (λ has. let place = inside i j has in omega (arith, place.0)))
 
   pub cell_count_is : cell_count erased ≡ sum_below g.n (count_in_slot erased)
   cell_count_is =
@@ -102,15 +99,15 @@ module _ (g : Geometry) (erased : CellSet) (limits : IsWithinLimits g) (inside :
       ∙ sum_below_tail g.n 32 (count_in_slot erased) limits.devices.1
       (λ j from to.
       sum_below_zeros 32 (λ i. one_if (has_cell erased i j))
-      (λ i below. one_if-fails (has_cell erased i j) (λ has. let place = inside i j has in omega (arith, place.1))))
+      (λ i below. unmarked (has_cell erased i j) (λ has. let place = inside i j has in omega (arith, place.1))))
 
 module _ (g : Geometry) (order : Order) (limits : IsWithinLimits g) (inside : IsInStripe g order.erased)
-    (in_order : AreInOrder g order.erased order.columns) where
+    (in_order : AreInOrder g (count_in_slot order.erased) order.columns) where
   count : ℕ → ℕ
   count p = count_in_slot order.erased (slice_index order.columns p)
 
   long : g.n ≤ length order.columns
-  long = omega (arith, in_order.count, limits.devices.1)
+  long = omega (arith, in_order.long, limits.devices.1)
 
   -- the chunks in slot order, and in this order
   moved : sum_below g.n (count_in_slot order.erased) ≡ sum_below g.n count
@@ -154,31 +151,8 @@ module _ (g : Geometry) (order : Order) (limits : IsWithinLimits g) (inside : Is
         cell_count_is g order.erased limits inside,
       )
 
--- ---- falling counts are the same in each order
-
-same_le : (g : Geometry) (erased : CellSet) (c d : List ℕ) → AreSortedCounts g erased c → AreSortedCounts g erased d
-    → (p : ℕ) → p < length c → slice_index c p ≤ slice_index d p
-same_le g erased c d first second p within =
-    let x = slice_index d p in
-    le-from_count_above x c first.falling p within
-    (omega (
-      arith,
-      count_above-permutation x (erased_counts g erased) c first.permutation,
-      count_above-permutation x (erased_counts g erased) d second.permutation,
-      count_above-le x d second.falling p (omega arith),
-    ))
-
-pub sorted_same : (g : Geometry) (erased : CellSet) (c d : List ℕ) → AreSortedCounts g erased c → AreSortedCounts g erased d
-    → (p : ℕ) → p < length c → slice_index c p ≡ slice_index d p
-sorted_same g erased c d first second p within =
-    let long : length d ≡ length c =
-    length_permutation (erased_counts g erased) d second.permutation ∙ sym (length_permutation (erased_counts g erased) c first.permutation) in
-    let up = same_le g erased c d first second p within in
-    let down = same_le g erased d c second first p (omega (arith, long)) in
-    omega (arith, up, down)
-
 -- the count at a place of the order is that of each sorted list
-pub count_at_is : (g : Geometry) (erased : CellSet) (columns c : List ℕ) → IsWithinLimits g → AreInOrder g erased columns
+pub count_at_is : (g : Geometry) (erased : CellSet) (columns c : List ℕ) → IsWithinLimits g → AreInOrder g (count_in_slot erased) columns
     → AreSortedCounts g erased c → (p : ℕ) → p < g.n → count_in_slot erased (slice_index columns p) ≡ slice_index c p
 count_at_is g erased columns c limits order sorted p below =
     sym (counts_of_at g erased columns limits order p below)

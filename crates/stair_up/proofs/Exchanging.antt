@@ -10,6 +10,7 @@ use Rattle.std.proofs.lemmas.List.Sorted.{IsPermutation-refl, IsPermutation-swap
 use Rattle.stair_model.specs.Sum.{sum_below}
 use Rattle.stair_model.specs.CellSet.{CellSet, has_cell, HasCell, count_in_slot}
 use Rattle.stair_model.proofs.CountLaws.{sum_below_none, sum_below_more, sum_below_tail}
+use Rattle.stair_model.proofs.SetLaws.{unmarked}
 use Rattle.stair_up.specs.Rows.{AreRowsByNeed}
 
 -- how many of the first rows are erased
@@ -137,14 +138,10 @@ AreRowsByNeed-all erased slot r row next rows small all inside before = record {
   rest = λ i from below. before.rest i (omega (arith, end)) below;
 }
   where
-    absent : (b : Bool) → ¬ (b ≡ true) → ◌≡◌ {A = ℕ} (cond b 1 0) 0
-    absent true apart = absurd (apart refl)
-    absent false apart = refl
-
     counted : count_in_slot erased slot ≡ erased_before erased slot row
     counted =
         sum_below_tail row 32 (λ i. cond (has_cell erased i slot) 1 0) (omega arith)
-        (λ i from to. absent (has_cell erased i slot) (λ has. omega (arith, inside i has)))
+        (λ i from to. unmarked (has_cell erased i slot) (λ has. omega (arith, inside i has)))
 
     end : next ≡ r + count_in_slot erased slot
     end = omega (arith, before.count, counted)

@@ -5,16 +5,16 @@ use Rattle.std.proofs.lemmas.Bool.{cases_eq, cases_lt}
 use Rattle.stair_model.specs.Geometry.{Geometry, IsWithinLimits, data_chunks}
 use Rattle.stair_model.specs.Canonical.{canonical_chunks}
 use Rattle.stair_model.specs.CauchyCode.{AreKnownPlaces}
-use Rattle.stair_model.specs.CellSet.{CellSet, HasCell}
+use Rattle.stair_model.specs.CellSet.{CellSet, HasCell, count_in_slot}
 use Rattle.stair_model.specs.Codeword.{Word}
 use Rattle.stair_mds.specs.Solving.{AreWantedPlaces}
 use Rattle.stair_canon.specs.Canonical.{CanonicalStripe}
 use Rattle.stair_canon.specs.Solving.{SolvesRow, row_shape}
 use Rattle.stair_up.specs.Order.{AreInOrder}
 use Rattle.stair_up.specs.Finding.{AreCanonical, IsFound, HasGiven, StaysFound, FindsRow, Keeps}
-use Rattle.stair_up.proofs.Stretches.{IsStretch, IsStretch-range, known_stretch, wanted_stretch, place_in_stretch}
+use Rattle.stair_mds.proofs.Stretches.{IsStretch, IsStretch-range, wanted_stretch, place_in_stretch}
 use Rattle.stair_up.proofs.Finds.{row_found, row_stays, Keeps-changes}
-use Rattle.stair_up.proofs.Columns.{columns_once, chunk_at}
+use Rattle.stair_up.proofs.Columns.{columns_once, chunk_at, last_chunks, last_chunks_known}
 
 -- of a row whose cells in the chunks from place m on were found, those before this place are found too
 abbrev pub FindsBefore : CellSet → List ℕ → ℕ → ℕ → CanonicalStripe → CanonicalStripe → Type 0
@@ -24,28 +24,24 @@ FindsBefore erased columns row place old new =
     StaysFound x old new × ((p : ℕ) → p < place → IsFound x new row (slice_index columns p))
 
 module _ (old : CanonicalStripe) (erased : CellSet) (columns : List ℕ) (limits : IsWithinLimits old.geometry)
-    (order : AreInOrder old.geometry erased columns) (place : ℕ) (before : place < old.geometry.m)
+    (order : AreInOrder old.geometry (count_in_slot erased) columns) (place : ℕ) (before : place < old.geometry.m)
     (n m row : ℕ) (is_n : n ≡ old.geometry.n) (is_m : m ≡ old.geometry.m) (row_in : row < old.geometry.r) where
   long : canonical_chunks old.geometry ≤ length columns
-  long = (columns_once old.geometry erased columns limits order).long
+  long = (columns_once old.geometry (count_in_slot erased) columns limits order).long
 
   pub is_known : IsStretch old.geometry.m (data_chunks old.geometry) columns (take (n - m) (drop m columns))
-  is_known =
-      IsStretch-range columns old.geometry.m (data_chunks old.geometry) m n is_m (omega (arith, limits.majority, is_n))
-      (omega (arith, limits.majority, long))
+  is_known = last_chunks old.geometry (count_in_slot erased) columns limits order n m is_n is_m
 
   pub is_wanted : IsStretch place 1 columns (take (place + 1 - place) (drop place columns))
   is_wanted = IsStretch-range columns place 1 place (place + 1) (omega arith) (omega arith) (omega (arith, limits.majority, long))
 
   pub may_know : AreKnownPlaces (data_chunks old.geometry) (canonical_chunks old.geometry) (take (n - m) (drop m columns))
-  may_know =
-      known_stretch (canonical_chunks old.geometry) (data_chunks old.geometry) (canonical_chunks old.geometry) old.geometry.m columns _
-      (columns_once old.geometry erased columns limits order) is_known (omega (arith, limits.majority))
+  may_know = last_chunks_known old.geometry (count_in_slot erased) columns limits order n m is_n is_m
 
   pub may_want : AreWantedPlaces (row_shape old.geometry) (take (n - m) (drop m columns)) (take (place + 1 - place) (drop place columns))
   may_want =
       wanted_stretch (canonical_chunks old.geometry) (row_shape old.geometry) old.geometry.m (data_chunks old.geometry) place 1 columns _ _
-      (columns_once old.geometry erased columns limits order) is_known is_wanted (omega (arith, limits.majority))
+      (columns_once old.geometry (count_in_slot erased) columns limits order) is_known is_wanted (omega (arith, limits.majority))
       (omega (arith, limits.majority)) (inl (omega arith))
 
   pub cell_cost : (steps : ℕ) → steps + length (take (n - m) (drop m columns)) * length (take (place + 1 - place) (drop place columns))
@@ -82,7 +78,7 @@ FindsBefore-none erased columns row c x canonical given known = (λ i j found. f
 module _ (erased : CellSet) (columns : List ℕ) (row place : ℕ) (old mid : CanonicalStripe) (same : mid.geometry ≡ old.geometry)
     (before : FindsBefore erased columns row place old mid) where
   -- a cell that isn't erased
-  pub FindsBefore-held : IsWithinLimits old.geometry → AreInOrder old.geometry erased columns → row < old.geometry.r → place < old.geometry.n
+  pub FindsBefore-held : IsWithinLimits old.geometry → AreInOrder old.geometry (count_in_slot erased) columns → row < old.geometry.r → place < old.geometry.n
       → ¬ HasCell erased row (slice_index columns place) → FindsBefore erased columns row (place + 1) old mid
   FindsBefore-held limits order row_in place_in held x canonical given known =
       let earlier = before x canonical given known in (
@@ -92,13 +88,13 @@ module _ (erased : CellSet) (columns : List ℕ) (row place : ℕ) (old mid : Ca
               | inl here ↦
                   subst (λ (t : ℕ). IsFound x mid row (slice_index columns t)) (sym here)
                   (earlier.0 row (slice_index columns place)
-                  (given.held row (slice_index columns place) row_in (chunk_at old.geometry erased columns limits order place place_in) held))
+                  (given.held row (slice_index columns place) row_in (chunk_at old.geometry (count_in_slot erased) columns limits order place place_in) held))
               | inr apart ↦ earlier.1 p (omega arith)
             ],
       )
 
   -- a cell that was solved
-  pub FindsBefore-solved : (n m : ℕ) (new : CanonicalStripe) → IsWithinLimits mid.geometry → AreInOrder mid.geometry erased columns
+  pub FindsBefore-solved : (n m : ℕ) (new : CanonicalStripe) → IsWithinLimits mid.geometry → AreInOrder mid.geometry (count_in_slot erased) columns
       → place < mid.geometry.m → n ≡ mid.geometry.n → m ≡ mid.geometry.m → row < mid.geometry.r
       → SolvesRow row (take (n - m) (drop m columns)) (take (place + 1 - place) (drop place columns)) mid new
       → FindsBefore erased columns row (place + 1) old new

@@ -1,12 +1,11 @@
-pub mod Stretches
 pub mod Finds
 pub mod Columns
 pub mod VirtualRow
 pub mod Chunk
 pub mod FirstCells
 pub mod Exchanging
-pub mod Sorting
 pub mod Ordering
+pub mod LightRows
 pub mod LastChunks
 pub mod Costs
 pub mod Stripes

@@ -1,20 +1,22 @@
 -- The cells that are no data: how many each chunk has, that they are covered, and what they cost.
 use Rattle.std.proofs.Common.{◌≡◌, ℕ, ◌+◌, ◌-◌, ◌*◌, ◌<◌, ◌≤◌, ◌↔◌, List, slice_index, nat_lt, if◌then◌else◌, inl, inr, refl, ap, ap₂, ◌∙◌, arith}
 use Rattle.std.proofs.lemmas.Bool.{cases_lt, lt-ltb, le-ltb, cond-true, cond-false}
+use Rattle.std.specs.Prelude.{IsTrue}
 use Rattle.stair_model.specs.Sum.{sum_below}
 use Rattle.stair_model.specs.Geometry.{Geometry, IsWithinLimits, classes, coverage, data_chunks, global_cells, greatest_coverage}
-use Rattle.stair_model.specs.Cell.{Data, cell_at, class_of}
+use Rattle.stair_model.specs.Cell.{Data, is_parity, cell_at}
 use Rattle.stair_model.specs.CellSet.{CellSet, has_cell, HasCell, IsInStripe, count_in_slot, cell_count}
 use Rattle.stair_model.specs.Costs.{upstairs_cost}
-use Rattle.stair_model.specs.Coverage.{AreSortedCounts, AreWithinCoverage, IsCovered}
-use Rattle.stair_model.proofs.CellLaws.{coverage_le, kind_of_cell, OfParity, OfGlobal, OfData}
+use Rattle.stair_model.specs.Coverage.{AreSortedCounts, AreWithinCoverage, HasCoveredChunks}
+use Rattle.stair_model.proofs.CellLaws.{parity_is_no_data, no_data_is_parity, coverage_le}
 use Rattle.stair_model.proofs.DataLaws.{data_cell_tells}
-use Rattle.stair_model.proofs.EncodingLaws.{data_is_above as above_globals}
+use Rattle.stair_model.proofs.EncodingLaws.{above_is_data, data_is_above as above_globals}
 use Rattle.stair_model.proofs.CountLaws.{sum_below_none, sum_below_same, sum_below_zeros, sum_below_tail, sum_below_constant, sum_below_marks, sum_below_list}
 use Rattle.stair_model.proofs.CoverageLaws.{chunks_above, covered_from_counts, AreCountsInOrder-sorted}
 use Rattle.stair_model.proofs.KnownSymbolLaws.{globals_of, globals_of_first, globals_of_last, globals_of_le}
+use Rattle.stair_model.proofs.SetLaws.{mark_small, unmarked}
 use Rattle.stair_model.proofs.SortedLaws.{mark, mark_above, mark_not_above, count_above, count_above-le}
-use Rattle.stair_up.proofs.Costs.{one_if, one_if-fails, sum_below_last, cell_count_is}
+use Rattle.stair_up.proofs.Costs.{one_if, sum_below_last, cell_count_is}
 
 -- how many cells of chunk j are no data: the bottom ones
 pub parities_of : Geometry → ℕ → ℕ
@@ -36,14 +38,11 @@ parities_of_le g limits j =
     ]
 
 -- a cell above these is data
-pub above_is_data : (g : Geometry) (i j : ℕ) → i < g.r - parities_of g j → (d : ℕ) × (cell_at g i j ≡ Data d)
-above_is_data g i j above =
-    elim (kind_of_cell g i j) [
-      | OfParity from is ↦ absurd (omega (arith, parities_of_parity g j from))
-      | OfGlobal below place is ↦
-          let count : globals_of g j ≡ coverage g (class_of g j) = globals_of_last g j (omega (arith, place.chunk)) in
-          absurd (omega (arith, parities_of_data g j below, count, place.row))
-      | OfData below place is ↦ (_, is)
+pub data_above : (g : Geometry) (i j : ℕ) → i < g.r - parities_of g j → (d : ℕ) × (cell_at g i j ≡ Data d)
+data_above g i j above =
+    elim (cases_lt j (data_chunks g)) [
+      | inl data_chunk ↦ (_, above_is_data g i j data_chunk (omega (arith, parities_of_data g j data_chunk)))
+      | inr parity ↦ absurd (omega (arith, parities_of_parity g j parity))
     ]
 
 -- and no other
@@ -54,7 +53,7 @@ data_is_above g i j d row is =
 
 -- the set of these cells
 module _ (g : Geometry) (cells : CellSet) (limits : IsWithinLimits g) (inside : IsInStripe g cells)
-    (members : (i j : ℕ) → i < g.r → j < g.n → HasCell cells i j ↔ ((d : ℕ) → ¬ (cell_at g i j ≡ Data d))) where
+    (members : (i j : ℕ) → i < g.r → j < g.n → HasCell cells i j ↔ IsTrue (is_parity (cell_at g i j))) where
   -- a chunk's rows from the first of them on
   counted : (j : ℕ) → j < g.n → count_in_slot cells j ≡ parities_of g j
   counted j chunk =
@@ -63,16 +62,18 @@ module _ (g : Geometry) (cells : CellSet) (limits : IsWithinLimits g) (inside : 
       let within : k ≤ g.r = parities_of_le g limits j in
       let all : count_in_slot cells j ≡ sum_below g.r f =
       sum_below_tail g.r 32 f limits.rows.1
-      (λ i from to. one_if-fails (has_cell cells i j) (λ has. let place = inside i j has in omega (arith, place.0))) in
+      (λ i from to. unmarked (has_cell cells i j) (λ has. let place = inside i j has in omega (arith, place.0))) in
       let top : sum_below (g.r - k) f ≡ 0 =
       sum_below_zeros (g.r - k) f
-      (λ i above. one_if-fails (has_cell cells i j)
-      (λ has. let is_data = above_is_data g i j above in (members i j (omega arith) chunk).0 has is_data.0 is_data.1)) in
+      (λ i above. unmarked (has_cell cells i j)
+      (λ has. let is_data = data_above g i j above in
+      parity_is_no_data (cell_at g i j) is_data.0 ((members i j (omega arith) chunk).0 has) is_data.1)) in
       let bottom : sum_below k (λ t. f (g.r - 1 - t)) ≡ k * 1 =
       sum_below_same k (λ t. f (g.r - 1 - t)) (λ t. 1)
       (λ t below.
       ap one_if ((members (g.r - 1 - t) j (omega arith) chunk).1
-      (λ d is_data. let above = (data_is_above g (g.r - 1 - t) j d (omega arith) is_data).1 in omega (arith, above))))
+      (no_data_is_parity (cell_at g (g.r - 1 - t) j)
+      (λ d is_data. let above = (data_is_above g (g.r - 1 - t) j d (omega arith) is_data).1 in omega (arith, above)))))
       ∙ sum_below_constant k 1 in
       omega (arith, all, sum_below_last g.r k f within, top, bottom)
 
@@ -92,23 +93,16 @@ module _ (g : Geometry) (cells : CellSet) (limits : IsWithinLimits g) (inside : 
   none_before j before =
       counted j (omega arith) ∙ parities_of_data g j (omega arith) ∙ globals_of_first g j (omega arith)
 
-  mark_small : (x v : ℕ) → mark x v ≤ 1
-  mark_small x v =
-      elim (cases_lt x v) [
-        | inl above ↦ omega (arith, mark_above x v above)
-        | inr below ↦ omega (arith, mark_not_above x v below)
-      ]
-
   -- where the first chunks are not above x, at most the others are
   at_most : (x k : ℕ) → k ≤ g.n → ((j : ℕ) → j < g.n - k → count_in_slot cells j ≤ x) → chunks_above cells g.n x ≤ k
   at_most x k within low =
       let f : ℕ → ℕ = λ j. mark x (count_in_slot cells j) in
       let first : sum_below (g.n - k) f ≡ 0 = sum_below_zeros (g.n - k) f (λ j below. mark_not_above x (count_in_slot cells j) (low j below)) in
       let last : sum_below k (λ t. f (g.n - 1 - t)) ≤ k =
-      sum_below_marks k (λ t. f (g.n - 1 - t)) (λ t below. mark_small x (count_in_slot cells (g.n - 1 - t))) in
+      sum_below_marks k (λ t. f (g.n - 1 - t)) (λ t below. mark_small (nat_lt x (count_in_slot cells (g.n - 1 - t)))) in
       omega (arith, sum_below_last g.n k f within, first, last)
 
-  pub parities_covered : IsCovered g cells
+  pub parities_covered : HasCoveredChunks g cells
   parities_covered =
       covered_from_counts g cells
       (record {

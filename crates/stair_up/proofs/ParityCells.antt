@@ -1,13 +1,14 @@
 -- The parities among the cells so far, row by row.
 use Rattle.std.proofs.Common.{◌≡◌, ℕ, ◌+◌, ◌<◌, ◌⊎◌, ◌↔◌, inl, inr, refl, sym, arith}
+use Rattle.std.specs.Prelude.{IsTrue}
 use Rattle.stair_model.specs.Geometry.{Geometry}
-use Rattle.stair_model.specs.Cell.{Data, cell_at}
+use Rattle.stair_model.specs.Cell.{cell_at, is_parity}
 use Rattle.stair_model.specs.CellSet.{CellSet, HasCell, IsInStripe}
 use Rattle.stair_model.proofs.CellOrder.{IsBefore, IsBefore-apart, IsBefore-longer, IsBefore-turn, HoldsBefore, HoldsBefore-none, HoldsBefore-turn, HoldsBefore-more}
 
--- the cell holds no data
+-- the cell is a row parity or a global parity
 abbrev pub IsParity : Geometry → ℕ → ℕ → Type 0
-IsParity g i j = (d : ℕ) → ¬ (cell_at g i j ≡ Data d)
+IsParity g i j = IsTrue (is_parity (cell_at g i j))
 
 -- the cell is in the set exactly if it is a parity
 abbrev pub IsSorted : Geometry → CellSet → ℕ → ℕ → Type 0
@@ -39,7 +40,7 @@ HasParitiesBefore-turn g cells row slot all so_far = record {
 pub HasParitiesBefore-parity : (g : Geometry) (old new : CellSet) (row slot : ℕ) → row < g.r → slot < g.n → IsParity g row slot
     → ((i j : ℕ) → HasCell new i j ↔ (HasCell old i j ⊎ ((i ≡ row) × (j ≡ slot)))) → HasParitiesBefore g old row slot
     → HasParitiesBefore g new row (slot + 1)
-HasParitiesBefore-parity g old new row slot row_in slot_in is_parity added so_far = record {
+HasParitiesBefore-parity g old new row slot row_in slot_in parity_here added so_far = record {
   inside = λ i j has.
       elim ((added i j).0 has) [
         | inl earlier ↦ so_far.inside i j earlier
@@ -59,7 +60,7 @@ HasParitiesBefore-parity g old new row slot row_in slot_in is_parity added so_fa
         ],
         λ parity. (added i j).1 (inl (was.1 parity)),
       ))
-      (λ has. is_parity, λ parity. (added row slot).1 (inr (refl, refl)));
+      (λ has. parity_here, λ parity. (added row slot).1 (inr (refl, refl)));
 }
 
 -- or which isn't

@@ -3,14 +3,15 @@ use Rattle.std.proofs.Common.{◌≡◌, ℕ, ◌+◌, ◌<◌, ◌≤◌, List,
 use Rattle.std.proofs.lemmas.Bool.{cases_eq}
 use Rattle.std.proofs.lemmas.List.{get_or-replicate}
 use Rattle.stair_model.specs.Geometry.{Geometry, IsWithinLimits}
-use Rattle.stair_model.specs.CellSet.{CellSet, HasCell}
+use Rattle.stair_model.specs.CellSet.{CellSet, HasCell, count_in_slot}
+use Rattle.stair_model.specs.Coverage.{rest}
 use Rattle.stair_model.specs.Codeword.{Word}
 use Rattle.stair_model.specs.Stripe.{Stripe, SECTOR, byte_of, cell}
 use Rattle.stair_model.proofs.CanonicalLaws.{coverage_le_greatest}
 use Rattle.stair_canon.specs.Canonical.{CanonicalStripe, symbol}
 use Rattle.stair_canon.specs.Solving.{Loads}
 use Rattle.stair_up.specs.Order.{AreInOrder}
-use Rattle.stair_up.specs.Finding.{AreCanonical, IsFound, HasGiven, StaysFound, FindsLastChunks, FindsRow, FindsStripe}
+use Rattle.stair_up.specs.Finding.{AreCanonical, IsFound, HasGiven, StaysFound, FindsCells, FindsLastChunks, FindsLightRows, FindsRow, FindsStripe}
 use Rattle.stair_up.proofs.Columns.{place_of}
 use Rattle.stair_up.proofs.Finds.{HasGiven-stays}
 
@@ -64,34 +65,48 @@ HasGiven-loaded erased stripe old new x limits loads canonical held = record {
       ∙ get_or-replicate SECTOR q 0 0 q_in ∙ sym ((canonical q q_in).zeros l h l_in covers);
 }
 
--- all cells of the stripe are found
-pub FindsStripe-from : (erased : CellSet) (columns : List ℕ) (before after : Stripe) (row : ℕ) (old loaded mid new : CanonicalStripe)
-    → IsWithinLimits old.geometry → AreInOrder old.geometry erased columns → Loads before old loaded
-    → FindsLastChunks erased columns loaded mid → mid.geometry ≡ old.geometry → FindsRowsBefore erased columns row mid new
-    → old.geometry.r ≤ row → ((i j : ℕ) → i < old.geometry.r → j < old.geometry.n → cell after i j ≡ symbol new i j)
-    → FindsStripe old.geometry erased before after
-FindsStripe-from erased columns before after row old loaded mid new limits order loads last same_mid rows all stored x canonical held q i j q_in i_in j_in =
-    ap (λ (bytes : List ℕ). slice_index bytes q) (stored i j i_in j_in) ∙ found q q_in
+-- all cells are found
+pub FindsCells-from : (erased : CellSet) (columns : List ℕ) (row : ℕ) (old mid new : CanonicalStripe) → IsWithinLimits old.geometry
+    → AreInOrder old.geometry (count_in_slot erased) columns → FindsLastChunks erased columns old mid → mid.geometry ≡ old.geometry
+    → FindsRowsBefore erased columns row mid new → old.geometry.r ≤ row → FindsCells erased old new
+FindsCells-from erased columns row old mid new limits order last same_mid rows all x canonical given i j i_in j_in =
+    let one = place_of old.geometry (count_in_slot erased) columns limits order j j_in in
+    subst (λ (t : ℕ). IsFound x new i t) one.2 (rows_found.1 one.0 i one.1 (omega arith))
   where
-    given : HasGiven old.geometry erased x loaded
-    given = HasGiven-loaded erased before old loaded x limits loads canonical held
-
-    last_found : StaysFound x loaded mid × ((p s : ℕ) → old.geometry.m ≤ p → p < old.geometry.n → s < old.geometry.r → IsFound x mid s (slice_index columns p))
-    last_found =
-        subst (λ (g : Geometry). AreCanonical g x → HasGiven g erased x loaded → StaysFound x loaded mid
-        × ((p s : ℕ) → g.m ≤ p → p < g.n → s < g.r → IsFound x mid s (slice_index columns p))) loads.geometry (last x) canonical given
-
-    given_mid : HasGiven old.geometry erased x mid
-    given_mid = HasGiven-stays old.geometry erased x loaded mid last_found.0 given
+    last_found : StaysFound x old mid × ((p s : ℕ) → old.geometry.m ≤ p → p < old.geometry.n → s < old.geometry.r → IsFound x mid s (slice_index columns p))
+    last_found = last x canonical given
 
     rows_found : StaysFound x mid new × ((p s : ℕ) → p < old.geometry.n → s < row → IsFound x new s (slice_index columns p))
     rows_found =
         subst (λ (g : Geometry). AreCanonical g x → HasGiven g erased x mid
         → ((p s : ℕ) → g.m ≤ p → p < g.n → s < g.r → IsFound x mid s (slice_index columns p))
         → StaysFound x mid new × ((p s : ℕ) → p < g.n → s < row → IsFound x new s (slice_index columns p))) same_mid (rows x)
-        canonical given_mid last_found.1
+        canonical (HasGiven-stays old.geometry erased x old mid last_found.0 given) last_found.1
 
-    found : IsFound x new i j
-    found =
-        let one = place_of old.geometry erased columns limits order j j_in in
-        subst (λ (t : ℕ). IsFound x new i t) one.2 (rows_found.1 one.0 i one.1 (omega arith))
+-- of a canonical stripe of the same geometry
+pub FindsCells-same : (erased : CellSet) (old loaded new : CanonicalStripe) → loaded.geometry ≡ old.geometry → FindsCells erased loaded new
+    → (x : ℕ → Word) → AreCanonical old.geometry x → HasGiven old.geometry erased x loaded
+    → (i j : ℕ) → i < old.geometry.r → j < old.geometry.n → IsFound x new i j
+FindsCells-same erased old loaded new same finds x =
+    subst (λ (g : Geometry). AreCanonical g x → HasGiven g erased x loaded → (i j : ℕ) → i < g.r → j < g.n → IsFound x new i j) same (finds x)
+
+-- after rows with at most m erased cells, those of the rest
+pub FindsCells-rest : (erased left : CellSet) (old loaded mid new : CanonicalStripe) → loaded.geometry ≡ old.geometry
+    → mid.geometry ≡ old.geometry → left ≡ rest old.geometry erased → FindsLightRows erased loaded mid → FindsCells left mid new
+    → (x : ℕ → Word) → AreCanonical old.geometry x → HasGiven old.geometry erased x loaded
+    → (i j : ℕ) → i < old.geometry.r → j < old.geometry.n → IsFound x new i j
+FindsCells-rest erased left old loaded mid new same same_mid is_rest rows finds x canonical given =
+    FindsCells-same left old mid new same_mid finds x canonical
+    (subst (λ (cells : CellSet). HasGiven old.geometry cells x mid) (sym is_rest)
+    (subst (λ (g : Geometry). AreCanonical g x → HasGiven g erased x loaded → HasGiven g (rest g erased) x mid) same (rows x) canonical given))
+
+-- and so are those of the stripe in which they are stored
+pub FindsStripe-stored : (erased : CellSet) (before after : Stripe) (old loaded new : CanonicalStripe) → IsWithinLimits old.geometry
+    → Loads before old loaded
+    → ((x : ℕ → Word) → AreCanonical old.geometry x → HasGiven old.geometry erased x loaded
+    → (i j : ℕ) → i < old.geometry.r → j < old.geometry.n → IsFound x new i j)
+    → ((i j : ℕ) → i < old.geometry.r → j < old.geometry.n → cell after i j ≡ symbol new i j)
+    → FindsStripe old.geometry erased before after
+FindsStripe-stored erased before after old loaded new limits loads found stored x canonical held q i j q_in i_in j_in =
+    ap (λ (bytes : List ℕ). slice_index bytes q) (stored i j i_in j_in)
+    ∙ found x canonical (HasGiven-loaded erased before old loaded x limits loads canonical held) i j i_in j_in q q_in

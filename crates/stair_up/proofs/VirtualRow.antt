@@ -6,18 +6,18 @@ use Rattle.stair_model.specs.Geometry.{Geometry, IsWithinLimits, classes, data_c
 use Rattle.stair_model.specs.Canonical.{canonical_chunks, canonical_rows}
 use Rattle.stair_model.specs.CauchyCode.{AreKnownPlaces}
 use Rattle.stair_model.specs.CellSet.{CellSet, count_in_slot}
-use Rattle.stair_model.specs.Coverage.{IsCovered}
+use Rattle.stair_model.specs.Coverage.{HasCoveredChunks}
 use Rattle.stair_mds.specs.Solving.{AreWantedPlaces}
 use Rattle.stair_canon.specs.Canonical.{CanonicalStripe}
 use Rattle.stair_canon.specs.Solving.{SolvesRow, row_shape}
 use Rattle.stair_up.specs.Order.{AreInOrder}
 use Rattle.stair_up.specs.Finding.{AreCanonical, IsFound, HasGiven, StaysFound, FindsVirtualRow, FindsVirtualRows}
-use Rattle.stair_up.proofs.Stretches.{IsStretch, IsStretch-range, known_stretch, wanted_stretch}
+use Rattle.stair_mds.proofs.Stretches.{IsStretch, IsStretch-range, known_stretch, wanted_stretch}
 use Rattle.stair_up.proofs.Finds.{row_found, row_stays, HasGiven-stays}
 use Rattle.stair_up.proofs.Columns.{columns_once, count_le_greatest, class_covers, intermediate_at}
 
 module _ (old : CanonicalStripe) (erased : CellSet) (columns : List ℕ) (limits : IsWithinLimits old.geometry)
-    (order : AreInOrder old.geometry erased columns) (covered : IsCovered old.geometry erased) (place h : ℕ)
+    (order : AreInOrder old.geometry (count_in_slot erased) columns) (covered : HasCoveredChunks old.geometry erased) (place h : ℕ)
     (from : old.geometry.m ≤ place) (to : place < old.geometry.n) (above : h < count_in_slot erased (slice_index columns place))
     (n m row : ℕ) (is_n : n ≡ old.geometry.n) (is_m : m ≡ old.geometry.m) (is_row : row ≡ old.geometry.r + h) where
   g : Geometry
@@ -33,7 +33,7 @@ module _ (old : CanonicalStripe) (erased : CellSet) (columns : List ℕ) (limits
       )
 
   long : canonical_chunks old.geometry ≤ length columns
-  long = (columns_once old.geometry erased columns limits order).long
+  long = (columns_once old.geometry (count_in_slot erased) columns limits order).long
 
   pub is_known : IsStretch (place + 1) (data_chunks old.geometry) columns
       (take (place + 1 + (n - m) - (place + 1)) (drop (place + 1) columns))
@@ -52,14 +52,14 @@ module _ (old : CanonicalStripe) (erased : CellSet) (columns : List ℕ) (limits
       (take (place + 1 + (n - m) - (place + 1)) (drop (place + 1) columns))
   may_know =
       known_stretch (canonical_chunks old.geometry) (data_chunks old.geometry) (canonical_chunks old.geometry) (place + 1) columns _
-      (columns_once old.geometry erased columns limits order) is_known fits
+      (columns_once old.geometry (count_in_slot erased) columns limits order) is_known fits
 
   pub may_want : AreWantedPlaces (row_shape old.geometry)
       (take (place + 1 + (n - m) - (place + 1)) (drop (place + 1) columns)) (take (place + 1 - m) (drop m columns))
   may_want =
       wanted_stretch (canonical_chunks old.geometry) (row_shape old.geometry) (place + 1) (data_chunks old.geometry) old.geometry.m
       (place + 1 - old.geometry.m) columns _ _
-      (columns_once old.geometry erased columns limits order) is_known is_wanted fits (omega (arith, fits)) (inl (omega arith))
+      (columns_once old.geometry (count_in_slot erased) columns limits order) is_known is_wanted fits (omega (arith, fits)) (inl (omega arith))
 
   pub finds_row : (new : CanonicalStripe)
       → SolvesRow row (take (place + 1 + (n - m) - (place + 1)) (drop (place + 1) columns)) (take (place + 1 - m) (drop m columns)) old new
@@ -78,7 +78,7 @@ module _ (old : CanonicalStripe) (erased : CellSet) (columns : List ℕ) (limits
                 class_covers old.geometry erased columns limits order covered k place h (omega (arith, limits.majority)) to above in
                 let class : classes old.geometry - 1 - k ≡ canonical_chunks old.geometry - 1 - p = omega (arith, fits) in
                 let column : slice_index columns p ≡ old.geometry.n + (classes old.geometry - 1 - k) =
-                intermediate_at old.geometry erased columns limits order p past (omega (arith, fits)) ∙ ap (λ (l : ℕ). old.geometry.n + l) (sym class) in
+                intermediate_at old.geometry (count_in_slot erased) columns limits order p past (omega (arith, fits)) ∙ ap (λ (l : ℕ). old.geometry.n + l) (sym class) in
                 subst (λ (j : ℕ). IsFound x old (old.geometry.r + h) j) (sym column)
                 (given.zeros (classes old.geometry - 1 - k) h (omega (arith, limits.covered_chunks.0)) covers.1)
           ])

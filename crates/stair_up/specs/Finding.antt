@@ -5,6 +5,7 @@ use Rattle.stair_model.specs.Codeword.{Word}
 use Rattle.stair_model.specs.Canonical.{IsCanonicalCodeword}
 use Rattle.stair_model.specs.Stripe.{Stripe, SECTOR, byte_of}
 use Rattle.stair_model.specs.CellSet.{CellSet, HasCell, count_in_slot}
+use Rattle.stair_model.specs.Coverage.{rest}
 use Rattle.stair_canon.specs.Canonical.{CanonicalStripe, symbol, byte_at}
 
 -- a canonical codeword at each byte position
@@ -66,6 +67,24 @@ FindsRow erased columns row old new =
     (x : ℕ → Word) → AreCanonical old.geometry x → HasGiven old.geometry erased x old →
     ((p : ℕ) → old.geometry.m ≤ p → p < old.geometry.n → IsFound x old row (slice_index columns p)) →
     StaysFound x old new × ((p : ℕ) → p < old.geometry.n → IsFound x new row (slice_index columns p))
+
+-- all cells are found
+abbrev pub FindsCells : CellSet → CanonicalStripe → CanonicalStripe → Type 0
+FindsCells erased old new =
+    (x : ℕ → Word) → AreCanonical old.geometry x → HasGiven old.geometry erased x old →
+    (i j : ℕ) → i < old.geometry.r → j < old.geometry.n → IsFound x new i j
+
+-- all cells of a row are found
+abbrev pub FindsLightRow : CellSet → ℕ → CanonicalStripe → CanonicalStripe → Type 0
+FindsLightRow erased row old new =
+    (x : ℕ → Word) → AreCanonical old.geometry x → HasGiven old.geometry erased x old →
+    StaysFound x old new × ((j : ℕ) → j < old.geometry.n → IsFound x new row j)
+
+-- all cells but those of the rest are found
+abbrev pub FindsLightRows : CellSet → CanonicalStripe → CanonicalStripe → Type 0
+FindsLightRows erased old new =
+    (x : ℕ → Word) → AreCanonical old.geometry x → HasGiven old.geometry erased x old →
+    HasGiven old.geometry (rest old.geometry erased) x new
 
 -- the stripe has the cells of all codewords with the held cells of the old one
 abbrev pub FindsStripe : Geometry → CellSet → Stripe → Stripe → Type 0

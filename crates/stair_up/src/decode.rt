@@ -6,15 +6,15 @@ ghost use Rattle.stair_model.specs.Restoring.{IsRestored, SameHeld};
 ghost use Rattle.stair_model.specs.Stripe.{IsStripeOf, IsWellFormed};
 ghost use Rattle.stair_up.specs.Finding.{FindsStripe};
 
-use crate::solve::solve_erased;
+use crate::solve::solve_rows_and_rest;
 use stair_base::{CellSet, NotCovered, Stripe, covered};
 use stair_canon::Canon;
 use stair_gf::Steps;
 use std::marker::Brand;
 use std::sync::ledger::{Blank, Ledger};
 
-/// Restores the erased cells of a stripe of the canonical stripe's geometry, by upstairs decoding (Li and Lee, STAIR Codes,
-/// FAST 2014).
+/// Restores the erased cells of a stripe of the canonical stripe's geometry: those of each row with at most m of them by its
+/// own parities, and the rest by upstairs decoding (Li and Lee, STAIR Codes, FAST 2014).
 ///
 /// What stands in the erased cells before doesn't matter. After Ok the stripe is the codeword that has the cells that
 /// weren't erased, if there is one; these stay as they were in any case. The error comes exactly where the erased cells
@@ -63,5 +63,5 @@ fn solve_uncounted<L: Ledger>(
     ensures limits { IsWithinLimits canon.old.geometry }
 {
     let mut steps = Steps::<L>::new(blank);
-    solve_erased(canon, stripe, erased, &mut steps);
+    solve_rows_and_rest(canon, stripe, erased, &mut steps);
 }

@@ -1,5 +1,5 @@
 ghost use Rattle.std.specs.Prelude.{◌≡◌, ℕ, ◌+◌, ◌<◌, ◌↔◌, IsTrue};
-ghost use Rattle.stair_model.specs.Cell.{cell_at, Data};
+ghost use Rattle.stair_model.specs.Cell.{cell_at, is_parity};
 ghost use Rattle.stair_model.specs.CellSet.{HasCell, IsInStripe};
 ghost use Rattle.stair_model.specs.Costs.{upstairs_cost};
 ghost use Rattle.stair_model.specs.Encoding.{IsEncodedFrom};
@@ -25,21 +25,21 @@ pub fn encode_upstairs<L: Ledger>(canon: &mut Canon, stripe: &mut Stripe, steps:
     ensures cost { steps.new ≡ steps.old + upstairs_cost canon.old.geometry }
     ensures geometry { canon.new.geometry ≡ canon.old.geometry }
 {
-    let parities = parity_cells(&canon.geometry());
+    let parities = set_of_parities(&canon.geometry());
     solve_erased(canon, stripe, &parities, steps);
 }
 
 /// The cells of the row parities and the global parities.
-fn parity_cells(geometry: &Geometry) -> CellSet
+fn set_of_parities(geometry: &Geometry) -> CellSet
     ensures limits { IsWithinLimits geometry.now }
     ensures inside { IsInStripe geometry.now result }
     ensures cells { (i j : ℕ) → i < geometry.now.r → j < geometry.now.n →
-        HasCell result i j ↔ ((d : ℕ) → ¬ (cell_at geometry.now i j ≡ Data d)) }
+        HasCell result i j ↔ IsTrue (is_parity (cell_at geometry.now i j)) }
 {
     let mut cells = CellSet::empty();
     for row in 0..geometry.r() {
         for slot in 0..geometry.n() {
-            if is_parity(geometry.kind(row, slot)) {
+            if holds_parity(geometry.kind(row, slot)) {
                 cells.add(row, slot);
             }
         }
@@ -47,9 +47,9 @@ fn parity_cells(geometry: &Geometry) -> CellSet
     cells
 }
 
-/// Whether it is no block.
-fn is_parity(kind: Kind) -> bool
-    ensures { IsTrue result ↔ ((d : ℕ) → ¬ (cell_of kind ≡ Data d)) }
+/// Whether it is a row parity or a global parity.
+fn holds_parity(kind: Kind) -> bool
+    ensures { result ≡ is_parity (cell_of kind) }
 {
     match kind {
         Kind::Block(_) => false,

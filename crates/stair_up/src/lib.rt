@@ -1,4 +1,4 @@
-//! Restores the erased cells of a stripe, and encodes a stripe, by upstairs decoding.
+//! Restores the erased cells of a stripe, rows with few of them first, and encodes a stripe, by upstairs decoding.
 //!
 //! The code and the way are those of Li and Lee, STAIR Codes (FAST 2014). No call takes memory.
 #![tactic(auto)]
@@ -8,6 +8,7 @@ pub use encode::encode_upstairs;
 
 mod decode;
 mod encode;
+mod light_rows;
 mod order;
 mod rows;
 mod solve;

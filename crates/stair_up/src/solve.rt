@@ -1,11 +1,13 @@
 ghost use Rattle.std.specs.Prelude.{◌≡◌, ℕ, ◌+◌, ◌-◌, ◌*◌, ◌<◌, ◌≤◌, List, slice_index};
-ghost use Rattle.stair_model.specs.CellSet.{HasCell, IsInStripe, cell_count, count_in_slot};
-ghost use Rattle.stair_model.specs.Coverage.{AreSortedCounts, IsCovered};
+ghost use Rattle.stair_model.specs.CellSet.{IsInStripe, cell_count, count_in_slot};
+ghost use Rattle.stair_model.specs.Coverage.{AreSortedCounts, HasCoveredChunks, IsCovered};
 ghost use Rattle.stair_model.specs.Geometry.{IsWithinLimits, data_chunks, greatest_coverage};
-ghost use Rattle.stair_model.specs.Stripe.{IsStripeOf, IsWellFormed, cell};
+ghost use Rattle.stair_model.specs.Restoring.{SameHeld};
+ghost use Rattle.stair_model.specs.Stripe.{IsStripeOf, IsWellFormed};
 ghost use Rattle.stair_up.specs.Order.{IsOrderOf, count_at, erased_in_last, erased_in_row};
-ghost use Rattle.stair_up.specs.Finding.{FindsChunk, FindsLastChunks, FindsRow, FindsStripe, FindsVirtualRow, FindsVirtualRows, Keeps};
+ghost use Rattle.stair_up.specs.Finding.{FindsCells, FindsChunk, FindsLastChunks, FindsRow, FindsStripe, FindsVirtualRow, FindsVirtualRows, Keeps};
 
+use crate::light_rows::solve_light_rows;
 use crate::order::Order;
 use crate::rows::rows_by_need;
 use stair_base::{CellSet, Stripe};
@@ -25,10 +27,9 @@ pub(crate) fn solve_erased<L: Ledger>(
 )
     requires stripe { IsStripeOf canon.old.geometry stripe.old }
     requires cells { IsInStripe canon.old.geometry erased.now }
-    requires covered { IsCovered canon.old.geometry erased.now }
+    requires covered { HasCoveredChunks canon.old.geometry erased.now }
     ensures found { FindsStripe canon.old.geometry erased.now stripe.old stripe.new }
-    ensures held { (i j : ℕ) → i < canon.old.geometry.r → j < canon.old.geometry.n → ¬ HasCell erased.now i j →
-        cell stripe.new i j ≡ cell stripe.old i j }
+    ensures held { SameHeld canon.old.geometry erased.now stripe.new stripe.old }
     ensures shape { IsStripeOf canon.old.geometry stripe.new }
     ensures well_formed { IsWellFormed stripe.new }
     ensures geometry { canon.new.geometry ≡ canon.old.geometry }
@@ -37,14 +38,53 @@ pub(crate) fn solve_erased<L: Ledger>(
         steps.new ≡ steps.old + data_chunks canon.old.geometry
         * (canon.old.geometry.r * slice_index c canon.old.geometry.m + cell_count erased.now) }
 {
+    canon.load(stripe);
+    solve_loaded(canon, erased, steps);
+    canon.store(stripe);
+}
+
+/// Solves the erased cells of a stripe from all others: first those of each row with at most m of them, by its own
+/// parities, and then the rest.
+pub(crate) fn solve_rows_and_rest<L: Ledger>(
+    canon: &mut Canon,
+    stripe: &mut Stripe,
+    erased: &CellSet,
+    steps: &mut Steps<L>,
+)
+    requires stripe { IsStripeOf canon.old.geometry stripe.old }
+    requires cells { IsInStripe canon.old.geometry erased.now }
+    requires covered { IsCovered canon.old.geometry erased.now }
+    ensures found { FindsStripe canon.old.geometry erased.now stripe.old stripe.new }
+    ensures held { SameHeld canon.old.geometry erased.now stripe.new stripe.old }
+    ensures shape { IsStripeOf canon.old.geometry stripe.new }
+    ensures well_formed { IsWellFormed stripe.new }
+    ensures geometry { canon.new.geometry ≡ canon.old.geometry }
+    ensures limits { IsWithinLimits canon.old.geometry }
+{
+    canon.load(stripe);
+    solve_light_rows(canon, erased, steps);
+    let rest = erased.rest(&canon.geometry());
+    solve_loaded(canon, &rest, steps);
+    canon.store(stripe);
+}
+
+/// Solves the erased cells of the loaded stripe from all others, by as many steps as `solve_erased` says.
+fn solve_loaded<L: Ledger>(canon: &mut Canon, erased: &CellSet, steps: &mut Steps<L>)
+    requires cells { IsInStripe canon.old.geometry erased.now }
+    requires covered { HasCoveredChunks canon.old.geometry erased.now }
+    ensures kept { Keeps erased.now canon.old canon.new }
+    ensures found { FindsCells erased.now canon.old canon.new }
+    ensures limits { IsWithinLimits canon.old.geometry }
+    ensures cost { (c : List ℕ) → AreSortedCounts canon.old.geometry erased.now c →
+        steps.new ≡ steps.old + data_chunks canon.old.geometry
+        * (canon.old.geometry.r * slice_index c canon.old.geometry.m + cell_count erased.now) }
+{
     let geometry = canon.geometry();
     let order = Order::new(&geometry, erased);
-    canon.load(stripe);
     solve_last_chunks(canon, &order, steps);
     for row in 0..geometry.r() {
         solve_first_cells(canon, &order, row, steps);
     }
-    canon.store(stripe);
 }
 
 /// Solves all chunks of the order but the first m, with as many virtual symbols as one of them has erased cells at most.
@@ -53,7 +93,7 @@ pub(crate) fn solve_erased<L: Ledger>(
 /// symbols, one for each erased cell, and these from the chunks that were solved before it.
 fn solve_last_chunks<L: Ledger>(canon: &mut Canon, order: &Order, steps: &mut Steps<L>)
     requires order { IsOrderOf canon.old.geometry order.now }
-    requires covered { IsCovered canon.old.geometry order.now.erased }
+    requires covered { HasCoveredChunks canon.old.geometry order.now.erased }
     ensures kept { Keeps order.now.erased canon.old canon.new }
     ensures found { FindsLastChunks order.now.erased order.now.columns canon.old canon.new }
     ensures cost { let g = canon.old.geometry in steps.new ≡ steps.old
@@ -89,7 +129,7 @@ fn solve_virtual_rows<L: Ledger>(
     steps: &mut Steps<L>,
 )
     requires order { IsOrderOf canon.old.geometry order.now }
-    requires covered { IsCovered canon.old.geometry order.now.erased }
+    requires covered { HasCoveredChunks canon.old.geometry order.now.erased }
     requires place_from { canon.old.geometry.m ≤ place }
     requires place_in { place < canon.old.geometry.n }
     requires from { from ≤ to }
@@ -113,7 +153,7 @@ fn solve_virtual_row<L: Ledger>(
     steps: &mut Steps<L>,
 )
     requires order { IsOrderOf canon.old.geometry order.now }
-    requires covered { IsCovered canon.old.geometry order.now.erased }
+    requires covered { HasCoveredChunks canon.old.geometry order.now.erased }
     requires place_from { canon.old.geometry.m ≤ place }
     requires place_in { place < canon.old.geometry.n }
     requires symbol { h < count_at order.now place }

@@ -7,11 +7,11 @@ use Rattle.stair_base.proofs.equations.first_broken_global.Given as goal
 
 abbrev pub invariant-loop-l : goal.invariant-loop-l
 invariant-loop-l l =
-    (p c h : ℕ) → p < 512 → c < l.l → h < coverage l.geometry c → IsGlobalEquation l.geometry (byte_of l.stripe p) c h
+    (p : ℕ) → p < 512 → (c h : ℕ) → c < l.l → h < coverage l.geometry c → IsGlobalEquation l.geometry (byte_of l.stripe p) c h
 
 abbrev pub invariant-loop-h : goal.invariant-loop-h
 invariant-loop-h l = record {
   classes :
-      (p c h : ℕ) → p < 512 → c < l.l → h < coverage l.geometry c → IsGlobalEquation l.geometry (byte_of l.stripe p) c h;
+      (p : ℕ) → p < 512 → (c h : ℕ) → c < l.l → h < coverage l.geometry c → IsGlobalEquation l.geometry (byte_of l.stripe p) c h;
   numbers : (p h : ℕ) → p < 512 → h < l.h → IsGlobalEquation l.geometry (byte_of l.stripe p) l.l h;
 }

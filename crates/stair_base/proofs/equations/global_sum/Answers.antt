@@ -1,7 +1,7 @@
 -- No row, and one row more.
 use Rattle.std.proofs.Common.{ap, ap₂}
 use Rattle.stair_model.specs.Field.{product}
-use Rattle.stair_base.specs.Equations.{symbol_byte}
+use Rattle.stair_model.specs.Stripe.{symbol_byte}
 use Rattle.stair_gf.proofs.SectorSums.{IsSumOf-none, IsSumOf-more}
 use Rattle.stair_base.proofs.equations.global_sum.Goals as goal
 

@@ -1,7 +1,7 @@
 -- The sum over the rows so far.
 use Rattle.stair_model.specs.Field.{product}
 use Rattle.stair_model.specs.Matrix.{column_coefficient}
-use Rattle.stair_base.specs.Equations.{symbol_byte}
+use Rattle.stair_model.specs.Stripe.{symbol_byte}
 use Rattle.stair_gf.proofs.SectorSums.{IsSumOf}
 use Rattle.stair_base.proofs.equations.global_sum.Given as goal
 

@@ -2,7 +2,7 @@
 use Rattle.std.proofs.Common.{◌≡◌, ℕ, ◌+◌, ◌<◌, length}
 use Rattle.stair_model.specs.Codeword.{row_sum}
 use Rattle.stair_model.specs.Stripe.{byte_of}
-use Rattle.stair_base.specs.Equations.{symbol_byte}
+use Rattle.stair_model.specs.Stripe.{symbol_byte}
 use Rattle.stair_base.proofs.equations.intermediate_chunk.Given as goal
 
 abbrev pub invariant-loop-row : goal.invariant-loop-row

@@ -1,6 +1,7 @@
 -- No class, and one class more.
 use Rattle.std.proofs.Common.{◌≡◌, ◌-◌, ℕ, ap₂, ◌∙◌, arith}
-use Rattle.stair_model.specs.Cell.{global_chunk, rows_before}
+use Rattle.stair_model.specs.Cell.{global_chunk}
+use Rattle.stair_base.specs.Globals.{rows_before}
 use Rattle.stair_base.proofs.GlobalCounts.{HasCounted-none, HasCounted-more, rows_before-passed, rows_before-ahead}
 use Rattle.stair_base.proofs.kind.count_globals_before.Goals as goal
 use Rattle.stair_base.proofs.kind.count_globals_before.Goals.{then-first_global_chunk-l, else-first_global_chunk-l}

@@ -2,7 +2,7 @@
 use Rattle.std.proofs.Common.{◌≡◌, refl, ap, ◌∙◌, arith, length}
 use Rattle.std.specs.Prelude.{bit_xor, slice_index}
 use Rattle.stair_model.specs.Sum.{product_except}
-use Rattle.stair_model.specs.CauchyCode.{distances}
+use Rattle.stair_mds.specs.Lagrange.{distances}
 use Rattle.stair_mds.proofs.Products.{IsProductOf-none, IsProductOf-same, IsProductOf-more}
 use Rattle.stair_mds.proofs.distances.distances.Goals as goal
 use Rattle.stair_mds.proofs.distances.distances.Goals.{then-j-i, else-j-i}

@@ -2,7 +2,7 @@
 use Rattle.std.proofs.Common.{◌≡◌, refl, ap, ◌∙◌, arith}
 use Rattle.std.specs.Prelude.{bit_xor}
 use Rattle.stair_model.specs.Sum.{product_except}
-use Rattle.stair_model.specs.CauchyCode.{weight}
+use Rattle.stair_mds.specs.Lagrange.{weight}
 use Rattle.stair_mds.proofs.Products.{IsProductOf-none, IsProductOf-same, IsProductOf-more}
 use Rattle.stair_mds.proofs.distances.weight.Goals as goal
 use Rattle.stair_mds.proofs.distances.weight.Goals.{then-c-place, else-c-place}

@@ -1,5 +1,5 @@
-use Rattle.stair_model.proofs.CellLaws.{parity_law, global_law, data_in_all, cells_before}
-use Rattle.stair_model.proofs.DataLaws.{data_in_range, data_reached, data_once, data_order, data_number}
+use Rattle.stair_model.proofs.CellLaws.{parity_law, global_law, data_in_all}
+use Rattle.stair_model.proofs.DataLaws.{data_in_range, data_reached, data_once, data_order}
 use Rattle.stair_model.proofs.layout.cell_laws.Goals as goal
 
 pub returns-clause-parity : goal.returns-clause-parity
@@ -20,11 +20,5 @@ returns-clause-data_once c g i j i' j' d limits row chunk row' chunk' = data_onc
 pub returns-clause-data_order : goal.returns-clause-data_order
 returns-clause-data_order c g i j i' j' d d' limits row chunk row' chunk' = data_order g i j i' j' d d'
 
-pub returns-clause-data_number : goal.returns-clause-data_number
-returns-clause-data_number c g i j d limits row chunk = data_number g i j d limits
-
 pub returns-clause-data_count : goal.returns-clause-data_count
 returns-clause-data_count c = data_in_all
-
-pub returns-clause-cells_before : goal.returns-clause-cells_before
-returns-clause-cells_before c g i j limits = cells_before g limits i j

@@ -1,8 +1,7 @@
 -- A parity more, or a data cell.
 use Rattle.std.proofs.Common.{◌≡◌, ◌*◌, true, ap, ◌∙◌, subst, arith}
 use Rattle.std.specs.Prelude.{not}
-use Rattle.stair_model.specs.Cell.{Data, cell_at}
-use Rattle.stair_model.specs.Costs.{is_parity}
+use Rattle.stair_model.specs.Cell.{Data, cell_at, is_parity}
 use Rattle.stair_model.specs.Stripe.{IsWellFormed}
 use Rattle.stair_std.proofs.Blocks.{from_none, from_some}
 use Rattle.stair_std.proofs.Counting.{IsStandardCost-nonzero}

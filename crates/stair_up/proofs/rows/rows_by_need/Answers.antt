@@ -7,9 +7,9 @@ use Rattle.stair_up.proofs.rows.rows_by_need.Goals.{then-has, else-has}
 
 pub loop-row-init : goal.loop-row-init
 loop-row-init c =
-    subst (λ (next : ℕ). HasExchanged c.args.erased.now c.args.slot c.args.r 0 next c.row_numbers-rows.result) (sym c.from-virtual_row.ensures)
-    (HasExchanged-none c.args.erased.now c.args.slot c.args.r c.row_numbers-rows.result c.requires.rows
-    c.row_numbers-rows.ensures.count c.row_numbers-rows.ensures.each)
+    subst (λ (next : ℕ). HasExchanged c.args.erased.now c.args.slot c.args.r 0 next c.numbers_from-rows.result) (sym c.from-virtual_row.ensures)
+    (HasExchanged-none c.args.erased.now c.args.slot c.args.r c.numbers_from-rows.result c.requires.rows
+    c.numbers_from-rows.ensures.count (λ i below. omega (arith, c.numbers_from-rows.ensures.each i below)))
 
 pub loop-row-preserved : goal.loop-row-preserved
 loop-row-preserved c =

@@ -1,96 +1,15 @@
--- A row more, and all of them.
-use Rattle.std.proofs.Common.{◌≡◌, ℕ, ◌+◌, ◌*◌, ◌<◌, add-one, slice_index, sym, subst, ap, ◌∙◌, arith}
-use Rattle.stair_model.specs.CellSet.{CellSet, cell_count}
-use Rattle.stair_model.specs.Coverage.{AreSortedCounts}
-use Rattle.stair_model.specs.Geometry.{Geometry, IsWithinLimits, data_chunks}
-use Rattle.stair_model.specs.Sum.{sum_below}
-use Rattle.stair_model.proofs.CountLaws.{sum_below_none, sum_below_more}
-use Rattle.stair_up.specs.Order.{AreInOrder, IsOrderOf, count_at, erased_in_row, erased_in_last}
-use Rattle.stair_up.specs.Finding.{FindsStripe}
-use Rattle.stair_up.proofs.Costs.{cell_start, row_more, all_steps, all_counted, count_at_is}
-use Rattle.stair_up.proofs.Finds.{Keeps-none, Keeps-both}
-use Rattle.stair_up.proofs.Stripes.{FindsRowsBefore-none, FindsRowsBefore-more, FindsStripe-from}
+-- What is found is stored.
+use Rattle.std.proofs.Common.{◌<◌, ◌∙◌, sym, subst}
+use Rattle.stair_model.specs.Geometry.{Geometry, IsWithinLimits}
+use Rattle.stair_up.proofs.Stripes.{FindsStripe-stored, FindsCells-same}
 use Rattle.stair_up.proofs.solve.solve_erased.Goals as goal
-
-pub loop-row-init : goal.loop-row-init
-loop-row-init g c = record {
-  kept = Keeps-none c.new-order.result.erased c.solve_last_chunks.new.canon;
-  found = FindsRowsBefore-none c.new-order.result.erased c.new-order.result.columns c.solve_last_chunks.new.canon;
-  cost = cell_start c.solve_last_chunks.new.steps (data_chunks c.solve_last_chunks.new.canon.geometry) _
-      (sum_below_none (erased_in_row c.new-order.result c.solve_last_chunks.new.canon.geometry.m));
-}
-
-pub loop-row-preserved : goal.loop-row-preserved
-loop-row-preserved g c =
-    let order = c.new-order.result in
-    let mid = c.solve_last_chunks.new.canon in
-    let before = c.loop-row.invariant in
-    let same = before.kept.geometry in
-    let start = c.solve_last_chunks.ensures.kept.geometry ∙ c.load.ensures.loaded.geometry in
-    let row_in : c.loop-row.row < mid.geometry.r =
-    omega (arith, c.loop-row-test.true, c.r-row-end.ensures.value, ap (λ x. x.r) c.geometry-geometry.ensures, ap (λ x. x.r) start) in
-    record {
-      kept = Keeps-both _ _ _ _ before.kept c.solve_first_cells.ensures.kept;
-      found = FindsRowsBefore-more order.erased order.columns c.loop-row.row mid c.loop-row.canon c.solve_first_cells.new.canon same
-          row_in before.found c.solve_first_cells.ensures.found;
-      cost = row_more c.solve_last_chunks.new.steps c.loop-row.steps c.solve_first_cells.new.steps (data_chunks mid.geometry)
-          (sum_below c.loop-row.row (erased_in_row order mid.geometry.m)) (erased_in_row order mid.geometry.m c.loop-row.row) _ before.cost
-          (subst (λ (x : Geometry). c.solve_first_cells.new.steps ≡ c.loop-row.steps + data_chunks x * erased_in_row order x.m c.loop-row.row)
-          same c.solve_first_cells.ensures.cost)
-          (ap (λ (k : ℕ). sum_below k (erased_in_row order mid.geometry.m)) (add-one c.loop-row.row)
-          ∙ sum_below_more c.loop-row.row (erased_in_row order mid.geometry.m));
-    }
 
 pub returns-clause-found : goal.returns-clause-found
 returns-clause-found g c =
-    let order = c.new-order.result in
-    let old = c.args.canon.now in
-    let here = c.geometry-geometry.ensures in
-    let start = c.solve_last_chunks.ensures.kept.geometry ∙ c.load.ensures.loaded.geometry in
-    let same = c.loop-row.invariant.kept.geometry ∙ start in
-    let limits : IsWithinLimits old.geometry = subst IsWithinLimits here c.r-row-end.ensures.limits in
-    let in_order : AreInOrder old.geometry order.erased order.columns =
-    subst (λ (x : Geometry). AreInOrder x order.erased order.columns) here c.new-order.ensures.order.columns in
-    subst (λ (e : CellSet). FindsStripe old.geometry e c.args.stripe.now c.store.new.stripe) c.new-order.ensures.erased
-    (FindsStripe-from order.erased order.columns c.args.stripe.now c.store.new.stripe c.loop-row.row old c.load.new.self
-    c.solve_last_chunks.new.canon c.loop-row.canon limits in_order c.load.ensures.loaded c.solve_last_chunks.ensures.found start
-    c.loop-row.invariant.found
-    (omega (arith, c.loop-row-test.false, c.r-row-end.ensures.value, ap (λ x. x.r) here))
+    let loaded = c.load.ensures.loaded in
+    let same = c.solve_loaded.ensures.kept.geometry ∙ loaded.geometry in
+    FindsStripe-stored c.args.erased.now c.args.stripe.now c.store.new.stripe c.args.canon.now c.load.new.self c.solve_loaded.new.canon
+    (subst IsWithinLimits loaded.geometry c.solve_loaded.ensures.limits) loaded
+    (FindsCells-same c.args.erased.now c.args.canon.now c.load.new.self c.solve_loaded.new.canon loaded.geometry c.solve_loaded.ensures.found)
     (λ i j row chunk.
-    c.store.ensures.cells i j (subst (λ (x : Geometry). i < x.r) (sym same) row) (subst (λ (x : Geometry). j < x.n) (sym same) chunk)))
-
-pub returns-clause-cost : goal.returns-clause-cost
-returns-clause-cost g c counts sorted =
-    let order = c.new-order.result in
-    let old = c.args.canon.now.geometry in
-    let here = c.geometry-geometry.ensures in
-    let loaded = c.load.ensures.loaded.geometry in
-    let start = c.solve_last_chunks.ensures.kept.geometry ∙ loaded in
-    let limits : IsWithinLimits old = subst IsWithinLimits here c.r-row-end.ensures.limits in
-    let made : IsOrderOf old order = subst (λ (x : Geometry). IsOrderOf x order) here c.new-order.ensures.order in
-    let same_erased : order.erased ≡ c.args.erased.now = c.new-order.ensures.erased in
-    let all : c.loop-row.row ≡ old.r =
-    omega (arith, c.loop-row-test.false, c.loop-row.auto.row-end, c.r-row-end.ensures.value, ap (λ x. x.r) here) in
-    let height : count_at order old.m ≡ slice_index counts old.m =
-    count_at_is old order.erased order.columns counts limits made.columns
-    (subst (λ (e : CellSet). AreSortedCounts old e counts) (sym same_erased) sorted) old.m (omega (arith, limits.majority)) in
-    let first : c.solve_last_chunks.new.steps ≡ c.args.steps.now
-    + data_chunks old * (old.r * slice_index counts old.m + erased_in_last order old.n (data_chunks old)) =
-    subst
-    (λ (k : ℕ). c.solve_last_chunks.new.steps ≡ c.args.steps.now
-    + data_chunks old * (old.r * k + erased_in_last order old.n (data_chunks old)))
-    height
-    (subst
-    (λ (x : Geometry). c.solve_last_chunks.new.steps ≡ c.args.steps.now
-    + data_chunks x * (x.r * count_at order x.m + erased_in_last order x.n (data_chunks x)))
-    loaded c.solve_last_chunks.ensures.cost) in
-    let second : c.loop-row.steps ≡ c.solve_last_chunks.new.steps + data_chunks old * sum_below old.r (erased_in_row order old.m) =
-    subst
-    (λ (k : ℕ). c.loop-row.steps ≡ c.solve_last_chunks.new.steps + data_chunks old * sum_below k (erased_in_row order old.m))
-    all
-    (subst
-    (λ (x : Geometry). c.loop-row.steps ≡ c.solve_last_chunks.new.steps + data_chunks x * sum_below c.loop-row.row (erased_in_row order x.m))
-    start c.loop-row.invariant.cost) in
-    all_steps c.args.steps.now c.solve_last_chunks.new.steps c.loop-row.steps (data_chunks old) (old.r * slice_index counts old.m)
-    (erased_in_last order old.n (data_chunks old)) (sum_below old.r (erased_in_row order old.m)) (cell_count c.args.erased.now) first second
-    (ap cell_count (sym same_erased) ∙ sym (all_counted old order limits made.inside made.columns))
+    c.store.ensures.cells i j (subst (λ (x : Geometry). i < x.r) (sym same) row) (subst (λ (x : Geometry). j < x.n) (sym same) chunk))

@@ -2,12 +2,13 @@
 use Rattle.std.proofs.Common.{◌≡◌, ℕ, ◌+◌, ◌*◌, ◌<◌, Bool, add-one, sym, subst, ap, ◌∙◌, arith}
 use Rattle.std.specs.Prelude.{slice_index}
 use Rattle.std.proofs.lemmas.Bool.{false≢true}
-use Rattle.stair_model.specs.CellSet.{HasCell, has_cell}
+use Rattle.stair_model.specs.CellSet.{HasCell, has_cell, count_in_slot}
 use Rattle.stair_model.specs.Geometry.{Geometry, IsWithinLimits, data_chunks}
 use Rattle.stair_model.proofs.CountLaws.{sum_below_none, sum_below_more}
 use Rattle.stair_canon.specs.Solving.{SolvesRow}
 use Rattle.stair_up.specs.Order.{AreInOrder, erased_in_row}
-use Rattle.stair_up.proofs.Costs.{cell_start, cell_none, cell_more, one_if, one_if-fails}
+use Rattle.stair_model.proofs.SetLaws.{unmarked}
+use Rattle.stair_up.proofs.Costs.{cell_start, cell_none, cell_more, one_if}
 use Rattle.stair_up.proofs.Finds.{Keeps-both, Keeps-none}
 use Rattle.stair_up.proofs.FirstCells.{may_know, may_want, keeps_cell, cell_cost, FindsBefore-none, FindsBefore-held, FindsBefore-solved, FindsRow-all}
 use Rattle.stair_up.proofs.solve.solve_first_cells.Goals as goal
@@ -19,7 +20,7 @@ solve_row-requires-clause-known g c =
     let same = c.geometry-geometry.ensures ∙ sym kept in
     let is_m = c.from-m.ensures ∙ c.m.ensures.value ∙ ap (λ x. x.m) same in
     may_know c.loop-place.canon c.args.order.now.erased c.args.order.now.columns (subst IsWithinLimits same c.m.ensures.limits)
-    (subst (λ (x : Geometry). AreInOrder x c.args.order.now.erased c.args.order.now.columns) (sym kept) c.requires.order.columns)
+    (subst (λ (x : Geometry). AreInOrder x (count_in_slot c.args.order.now.erased) c.args.order.now.columns) (sym kept) c.requires.order.columns)
     c.loop-place.place (omega (arith, c.loop-place-test.true, is_m)) c.from-n.result c.from-m.result c.args.row
     (c.from-n.ensures ∙ c.n.ensures.value ∙ ap (λ x. x.n) same) is_m
     (subst (λ (x : Geometry). c.args.row < x.r) (sym kept) c.requires.row)
@@ -30,7 +31,7 @@ solve_row-requires-clause-wanted g c =
     let same = c.geometry-geometry.ensures ∙ sym kept in
     let is_m = c.from-m.ensures ∙ c.m.ensures.value ∙ ap (λ x. x.m) same in
     may_want c.loop-place.canon c.args.order.now.erased c.args.order.now.columns (subst IsWithinLimits same c.m.ensures.limits)
-    (subst (λ (x : Geometry). AreInOrder x c.args.order.now.erased c.args.order.now.columns) (sym kept) c.requires.order.columns)
+    (subst (λ (x : Geometry). AreInOrder x (count_in_slot c.args.order.now.erased) c.args.order.now.columns) (sym kept) c.requires.order.columns)
     c.loop-place.place (omega (arith, c.loop-place-test.true, is_m)) c.from-n.result c.from-m.result c.args.row
     (c.from-n.ensures ∙ c.n.ensures.value ∙ ap (λ x. x.n) same) is_m
     (subst (λ (x : Geometry). c.args.row < x.r) (sym kept) c.requires.row)
@@ -47,8 +48,8 @@ loop-place-preserved g c =
     let is_m = c.from-m.ensures ∙ c.m.ensures.value ∙ ap (λ x. x.m) same in
     let is_n = c.from-n.ensures ∙ c.n.ensures.value ∙ ap (λ x. x.n) same in
     let limits : IsWithinLimits c.args.canon.now.geometry = subst IsWithinLimits here c.m.ensures.limits in
-    let order : AreInOrder c.loop-place.canon.geometry erased columns =
-    subst (λ (x : Geometry). AreInOrder x erased columns) (sym kept) c.requires.order.columns in
+    let order : AreInOrder c.loop-place.canon.geometry (count_in_slot erased) columns =
+    subst (λ (x : Geometry). AreInOrder x (count_in_slot erased) columns) (sym kept) c.requires.order.columns in
     let row_in : c.args.row < c.loop-place.canon.geometry.r = subst (λ (x : Geometry). c.args.row < x.r) (sym kept) c.requires.row in
     let d = data_chunks c.args.canon.now.geometry in
     let next : erased_in_row c.args.order.now (place + 1) c.args.row
@@ -87,7 +88,7 @@ loop-place-preserved g c =
             cost = rw w.steps-is (cell_none c.args.steps.now c.loop-place.steps d
                 (erased_in_row c.args.order.now place c.args.row) (erased_in_row c.args.order.now (place + 1) c.args.row) before.cost
                 (next ∙ ap (λ (k : ℕ). erased_in_row c.args.order.now place c.args.row + k)
-                (one_if-fails (has_cell erased c.args.row (slice_index columns place))
+                (unmarked (has_cell erased c.args.row (slice_index columns place))
                 (λ has. false≢true (sym w.if-has.false
                 ∙ c.has.ensures.member.1 (subst (λ (j : ℕ). HasCell erased c.args.row j) (sym c.slot_at.ensures.value) has))))));
           }

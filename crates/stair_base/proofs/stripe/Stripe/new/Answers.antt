@@ -1,8 +1,9 @@
 -- One zero cell more; and a stripe of zero cells is well formed.
-use Rattle.std.proofs.Common.{ℕ, ◌<◌, rules, replicate, lit<}
+use Rattle.std.proofs.Common.{rules, replicate, lit<}
 use Rattle.std.proofs.lemmas.List.{replicate-append-replicate, length-replicate}
 use Rattle.std.proofs.lemmas.List.Elements.{All-replicate}
 use Rattle.stair_model.specs.Stripe.{IsSector}
+use Rattle.stair_model.proofs.StripeLaws.{filled-IsSector}
 use Rattle.stair_base.proofs.stripe.Stripe.new.Goals as goal
 
 pub loop-made-preserved : goal.loop-made-preserved
@@ -13,7 +14,7 @@ pub invariant_of-result : goal.invariant_of-result
 invariant_of-result c = rw c.loop-made.invariant
     (record {
       count = rw length-replicate (search rules);
-      sectors = All-replicate IsSector c.loop-made._made (replicate 512 0) (length-replicate {A = ℕ} 512 0, All-replicate (λ b. b < 256) 512 0 (lit< tt));
+      sectors = All-replicate IsSector c.loop-made._made (replicate 512 0) (filled-IsSector 0 (lit< tt));
     })
 
 pub returns-clause-well_formed : goal.returns-clause-well_formed

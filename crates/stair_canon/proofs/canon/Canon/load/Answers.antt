@@ -1,11 +1,11 @@
 -- A symbol more, a row more, and all of them.
-use Rattle.std.proofs.Common.{◌≡◌, ◌<◌, refl, subst, ap, replicate, arith}
+use Rattle.std.proofs.Common.{◌≡◌, ◌<◌, refl, subst, ap, replicate, lit<, arith}
 use Rattle.stair_model.specs.Geometry.{IsWithinLimits}
 use Rattle.stair_model.specs.Canonical.{canonical_chunks, canonical_rows}
-use Rattle.stair_canon.specs.Canonical.{IsWellFormed}
-use Rattle.stair_canon.specs.Kept.{shown}
+use Rattle.stair_canon.specs.Kept.{shown, AreKeptRows}
 use Rattle.stair_canon.specs.Solving.{IsCell}
-use Rattle.stair_canon.proofs.Rows.{IsSector-zero, columns_few}
+use Rattle.stair_model.proofs.StripeLaws.{filled-IsSector}
+use Rattle.stair_canon.proofs.Rows.{columns_few}
 use Rattle.stair_canon.proofs.Symbols.{HasLoaded-cell, HasLoaded-other, HasLoaded-turn, Loads-all}
 use Rattle.stair_canon.proofs.canon.Canon.load.Goals as goal
 use Rattle.stair_canon.proofs.canon.Canon.load.Goals.{then-row-r+then-column-n, else-row-r, else-row-r-via-then-row-r+else-column-n, else-row-r-via-else-row-r}
@@ -35,7 +35,7 @@ loop-column-preserved c =
           rw w.self-inside-is
           (record {
             loaded = now;
-            kept = record { well_formed = now.formed; row_code = kept.row_code; column_code = kept.column_code; room = kept.room };
+            kept = record { kept_rows = now.formed; row_code = kept.row_code; column_code = kept.column_code; room = kept.room };
           })
       | else-row-r w ↦
           let no_cell : ¬ IsCell g c.loop-row.row c.loop-column.column =
@@ -47,12 +47,12 @@ loop-column-preserved c =
           let now =
           HasLoaded-other g c.args.stripe.now before c.loop-row.row c.loop-column.column c.from.result w.from-else-row-r.result
           (replicate 512 0) c.index_mut-symbols.result.now w.clear.new.self c.loop-column.invariant.loaded row_in column_in
-          few IsSector-zero c.from.ensures w.from-else-row-r.ensures c.index_mut-symbols.ensures.value
+          few (filled-IsSector 0 (lit< tt)) c.from.ensures w.from-else-row-r.ensures c.index_mut-symbols.ensures.value
           w.clear.ensures.symbols no_cell refl w.clear.ensures.known in
           rw w.self-inside-is
           (record {
             loaded = now;
-            kept = record { well_formed = now.formed; row_code = kept.row_code; column_code = kept.column_code; room = kept.room };
+            kept = record { kept_rows = now.formed; row_code = kept.row_code; column_code = kept.column_code; room = kept.room };
           })
     ]
 
@@ -74,4 +74,4 @@ returns-clause-loaded c =
     ap (λ x. canonical_rows x.geometry) c.self.view_is in
     Loads-all c.args.stripe.now c.args.self.now (shown c.loop-row.self-inside) c.loop-row.row
     (omega (arith, same, c.loop-row-test.false, c.loop-row.auto.row-end, c.r.ensures.value, c.e_max.ensures.value))
-    (subst IsWellFormed c.self.view_is c.self.invariant.well_formed) c.loop-row.invariant.loaded
+    (subst AreKeptRows c.self.view_is c.self.invariant.kept_rows) c.loop-row.invariant.loaded

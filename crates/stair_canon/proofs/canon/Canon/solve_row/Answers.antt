@@ -1,10 +1,10 @@
 -- The row that was read, solved by the row code.
 use Rattle.std.proofs.Common.{ℕ, ◌<◌, sym, ap, subst}
 use Rattle.stair_model.specs.Canonical.{canonical_rows}
-use Rattle.stair_canon.specs.Canonical.{CanonicalStripe, IsRowOf}
-use Rattle.stair_canon.specs.Kept.{shown}
+use Rattle.stair_canon.specs.Canonical.{CanonicalStripe}
+use Rattle.stair_canon.specs.Kept.{shown, IsKeptRow}
 use Rattle.stair_canon.specs.Solving.{SolvesRow}
-use Rattle.stair_canon.proofs.Rows.{with_row, SolvesRow-read, IsWellFormed-with_row}
+use Rattle.stair_canon.proofs.Rows.{with_row, SolvesRow-read, IsWellFormed-kept, AreKeptRows-with_row}
 use Rattle.stair_canon.proofs.canon.Canon.solve_row.Goals as goal
 
 pub returns-clause-solved : goal.returns-clause-solved
@@ -12,11 +12,13 @@ returns-clause-solved g c =
     let before = shown c.self.inside in
     subst (λ (x : CanonicalStripe). SolvesRow c.args.row c.args.known.now c.args.wanted.now x (with_row before c.from.result c.solve.new.self)) c.self.view_is
     (SolvesRow-read before c.args.row c.from.result c.self.inside.row_code c.args.known.now c.args.wanted.now _ c.solve.new.self
-    c.self.invariant.well_formed
+    c.self.invariant.kept_rows
     (subst (λ (x : CanonicalStripe). c.args.row < canonical_rows x.geometry) (sym c.self.view_is) c.requires.row_in)
     c.from.ensures c.self.invariant.row_code c.index_mut-symbols.ensures.value c.solve.ensures.solved c.solve.ensures.known)
 
 pub returns-clause-well_formed : goal.returns-clause-well_formed
 returns-clause-well_formed g c =
-    IsWellFormed-with_row (shown c.self.inside) c.from.result c.solve.new.self c.self.invariant.well_formed
-    (subst (λ (n : ℕ). IsRowOf n c.solve.new.self) (ap (λ code. code.total) c.self.invariant.row_code) c.solve.ensures.row)
+    let before = shown c.self.inside in
+    IsWellFormed-kept (with_row before c.from.result c.solve.new.self)
+    (AreKeptRows-with_row before c.from.result c.solve.new.self c.self.invariant.kept_rows
+    (subst (λ (n : ℕ). IsKeptRow n c.solve.new.self) (ap (λ code. code.total) c.self.invariant.row_code) c.solve.ensures.row))

@@ -12,7 +12,7 @@ loop-slot-preserved c =
     let row_in : c.loop-row.row < c.self.inside.geometry.r = omega (arith, c.loop-row-test.true, c.r-row-end.ensures.value) in
     let read =
     row_read kept c.loop-row.row c.from.result c.index-symbols.result.now
-    (omega (arith, row_in, c.self.invariant.well_formed.count)) c.from.ensures c.index-symbols.ensures in
+    (omega (arith, row_in, c.self.invariant.kept_rows.count)) c.from.ensures c.index-symbols.ensures in
     rw c.put.ensures.value
     (HasStored-more c.self.inside.geometry kept c.loop-slot.stripe c.loop-row.row c.loop-slot.slot c.symbol.result.now c.loop-slot.invariant
     row_in (omega (arith, c.loop-slot-test.true, c.n-slot-end.ensures.value))

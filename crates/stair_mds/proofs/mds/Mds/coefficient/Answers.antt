@@ -1,13 +1,12 @@
 -- The weights and distances of the formula, none of which is zero.
-use Rattle.std.proofs.Common.{◌≡◌, ℕ, ◌<◌, ◌≤◌, List, length, slice_index, get_or, sym, ap, ap₂, ◌∙◌, arith}
+use Rattle.std.proofs.Common.{◌≡◌, ℕ, ◌<◌, List, length, slice_index, get_or, sym, ap, ap₂, ◌∙◌, arith}
 use Rattle.std.proofs.lemmas.List.{get_or_read}
 use Rattle.stair_model.specs.Field.{product, inverse}
-use Rattle.stair_model.specs.CauchyCode.{AreKnownPlaces, weight, distances, solving}
-use Rattle.stair_model.proofs.FieldLaws.{product-pos}
-use Rattle.stair_model.proofs.LagrangeLaws.{distances-lt, own_distances-pos}
-use Rattle.stair_model.proofs.CodeLaws.{weight-lt, weight-pos, known_bytes, known_distinct}
+use Rattle.stair_model.specs.CauchyCode.{AreKnownPlaces}
+use Rattle.stair_mds.specs.Lagrange.{weight, distances, solving}
 use Rattle.stair_mds.specs.Solving.{Shape}
 use Rattle.stair_mds.specs.Weights.{HasWeights}
+use Rattle.stair_mds.proofs.Formula.{divisor-pos}
 use Rattle.stair_mds.proofs.mds.Mds.coefficient.Goals as goal
 
 module _ (code : Shape) (held : ℕ) (weights known : List ℕ) (kept : HasWeights held weights) (is_held : held ≡ code.held)
@@ -26,12 +25,8 @@ module _ (code : Shape) (held : ℕ) (weights known : List ℕ) (kept : HasWeigh
   term-pos : (i b : ℕ) → i < code.held → b < code.total
       → 0 < product (weight code.held b) (distances code.held (slice_index known) i (slice_index known i))
   term-pos i b in_known in_code =
-      let small : code.total ≤ 256 = omega (arith, is_total, kept.bytes) in
-      let within : code.held ≤ 256 = omega (arith, is_held, kept.within, kept.bytes) in
-      product-pos (weight code.held b) (distances code.held (slice_index known) i (slice_index known i))
-      (weight-pos code.held b within (omega arith)) (weight-lt code.held b)
-      (own_distances-pos code.held (slice_index known) i (known_bytes code.held code.total known small places) (known_distinct code.held code.total known places) in_known)
-      (distances-lt code.held (slice_index known) i (slice_index known i))
+      divisor-pos code.held code.total known i b (omega (arith, is_held, kept.within, kept.bytes))
+      (omega (arith, is_total, kept.bytes)) places in_known in_code
 
 pub inv-requires : goal.inv-requires
 inv-requires c =

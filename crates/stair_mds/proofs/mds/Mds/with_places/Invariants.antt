@@ -1,6 +1,6 @@
 -- The weights of the places so far.
 use Rattle.std.proofs.Common.{◌≡◌, ℕ, ◌<◌, length, slice_index}
-use Rattle.stair_model.specs.CauchyCode.{weight}
+use Rattle.stair_mds.specs.Lagrange.{weight}
 use Rattle.stair_mds.proofs.mds.Mds.with_places.Given as goal
 
 abbrev pub invariant-loop-place : goal.invariant-loop-place

@@ -1,8 +1,9 @@
 -- One zero symbol more.
-use Rattle.std.proofs.Common.{ℕ, ◌<◌, replicate, lit<}
-use Rattle.std.proofs.lemmas.List.{replicate-append-replicate, length-replicate}
+use Rattle.std.proofs.Common.{replicate, lit<}
+use Rattle.std.proofs.lemmas.List.{replicate-append-replicate}
 use Rattle.std.proofs.lemmas.List.Elements.{All-replicate}
 use Rattle.stair_model.specs.Stripe.{IsSector}
+use Rattle.stair_model.proofs.StripeLaws.{filled-IsSector}
 use Rattle.stair_mds.proofs.symbols.Symbols.new.Goals as goal
 
 pub loop-made-preserved : goal.loop-made-preserved
@@ -12,4 +13,4 @@ loop-made-preserved c =
 pub invariant_of-result : goal.invariant_of-result
 invariant_of-result c = rw c.loop-made.invariant
     (All-replicate IsSector c.loop-made._made (replicate 512 0)
-    (length-replicate {A = ℕ} 512 0, All-replicate (λ b. b < 256) 512 0 (lit< tt)))
+    (filled-IsSector 0 (lit< tt)))

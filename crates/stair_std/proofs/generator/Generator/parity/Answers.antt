@@ -1,7 +1,6 @@
 -- A parity, a data cell with a coefficient that is zero, and one with another.
 use Rattle.std.proofs.Common.{◌≡◌, ◌<◌, ◌*◌, true, ◌∙◌, ap, subst, arith}
-use Rattle.stair_model.specs.Cell.{Data, cell_at}
-use Rattle.stair_model.specs.Costs.{is_parity}
+use Rattle.stair_model.specs.Cell.{Data, cell_at, is_parity}
 use Rattle.stair_model.specs.Geometry.{data_cells}
 use Rattle.stair_model.proofs.DataLaws.{data_in_range}
 use Rattle.stair_gf.specs.AddsMultiple.{AddsMultiple}

@@ -1,9 +1,0 @@
--- The numbers so far.
-use Rattle.std.proofs.Common.{◌≡◌, ℕ, ◌+◌, ◌<◌, length, slice_index}
-use Rattle.stair_down.proofs.places.numbers_from.Given as goal
-
-abbrev pub invariant-loop-k : goal.invariant-loop-k
-invariant-loop-k l = record {
-  long : length l.numbers ≡ 32;
-  so_far : (k : ℕ) → k < l.k → slice_index l.numbers k ≡ l.first + k;
-}

@@ -1,0 +1,163 @@
+-- Vectors of 32 bytes, lane by lane, and the products that a shuffle finds.
+use Rattle.std.proofs.Common.{◌≡◌, ℕ, ◌+◌, ◌*◌, ◌/◌, ◌%◌, ◌^◌, ◌<◌, ◌≤◌, Bool, true, false, cond, eqb, List, map, length, replicate, slice_index, get_or, refl, sym, ap, ap₂, ◌∙◌, arith, w8, Fits, eqb-true, mod-lt}
+use Rattle.std.specs.Prelude.{bit_xor, bit_and, ◌==◌, if◌then◌else◌}
+use Rattle.std.proofs.lemmas.Bool.{agree_below_at}
+use Rattle.std.proofs.lemmas.List.{get_or-replicate, length-replicate}
+use Rattle.std.specs.Int.Bits.{xor_zero_r}
+use Rattle.std.proofs.lemmas.Nat.{and_mask, xor_block, xor_comm}
+use Rattle.std.proofs.lemmas.Simd.{Each1-get_or, Each1-from_get_or, get_or-zip2, length-zip2, length-chunk, get_or-chunk, get_or-sel_l, length-sel_l, tops_compared, SwzOk, SwzOk-from_below, swz_l, length-swz_l, get_or-swz_l_below}
+use Rattle.std.specs.Simd.Lanes.{Each1, chunk, zip2, sel_l, top}
+use Rattle.stair_model.specs.Field.{product}
+use Rattle.stair_model.proofs.FieldLaws.{product-xor_right, product-zero_right}
+use Rattle.stair_gf.specs.declared.lanes.TheConstants.{HALVES}
+use Rattle.stair_gf.specs.Lanes.{AreLanes, HasProducts}
+
+-- an operation on two vectors
+pub AreLanes-zip2 : (g : ℕ → ℕ → ℕ) {u v : List ℕ} {e f : ℕ → ℕ} → AreLanes u e → AreLanes v f → AreLanes (zip2 g u v) (λ k. g (e k) (f k))
+AreLanes-zip2 g {u} {v} a b = record {
+  long = length-zip2 g u v (a.long ∙ sym b.long) ∙ a.long;
+  lane = λ k h. get_or-zip2 g u v k 0 0 0 (omega (arith, a.long)) (omega (arith, b.long)) ∙ ap₂ g (a.lane k h) (b.lane k h);
+}
+
+pub AreLanes-splat : (x : ℕ) → AreLanes (replicate 32 x) (λ k. x)
+AreLanes-splat x = record { long = length-replicate {A = ℕ} 32 x; lane = λ k h. get_or-replicate 32 k x 0 h }
+
+-- the same lanes, told otherwise
+pub AreLanes-same : {v : List ℕ} {e f : ℕ → ℕ} → AreLanes v e → ((k : ℕ) → k < 32 → e k ≡ f k) → AreLanes v f
+AreLanes-same a same = record { long = a.long; lane = λ k h. a.lane k h ∙ same k h }
+
+pub AreLanes-itself : (v : List ℕ) → length v ≡ 32 → AreLanes v (slice_index v)
+AreLanes-itself v long = record { long = long; lane = λ k h. refl }
+
+-- a load
+pub AreLanes-chunk : (start : ℕ) (bytes : List ℕ) → start + 32 ≤ length bytes → AreLanes (chunk start 32 bytes) (λ k. slice_index bytes (start + k))
+AreLanes-chunk start bytes within = record {
+  long = length-chunk start 32 bytes within;
+  lane = λ k h. get_or-chunk start 32 bytes k 0 h;
+}
+
+-- ---- one term of a table: a multiple in the lanes whose number has the bit
+
+numbers : AreLanes HALVES (λ k. k % 16)
+numbers = record {
+  long = refl;
+  lane = λ k h. eqb-true _ _ (agree_below_at (λ j. slice_index HALVES j == j % 16) (λ j. true) 32 k refl h);
+}
+
+abbrev marks : ℕ → List ℕ → List Bool
+marks bit v = map (top 7) (zip2 (λ a b. cond (eqb a b) 255 0) v (replicate 32 bit))
+
+pub where_bit_lanes : (bit multiple : ℕ) → AreLanes (sel_l (marks bit (zip2 bit_and HALVES (replicate 32 bit))) (replicate 32 multiple) (replicate 32 0))
+    (λ k. if bit_and (k % 16) bit == bit then multiple else 0)
+where_bit_lanes bit multiple =
+    let v = zip2 bit_and HALVES (replicate 32 bit) in
+    let b = replicate 32 bit in
+    let has : AreLanes v (λ k. bit_and (k % 16) bit) = AreLanes-zip2 bit_and numbers (AreLanes-splat bit) in
+    let compared : marks bit v ≡ zip2 eqb v b = tops_compared w8 eqb v b in
+    let b_long : length b ≡ 32 = length-replicate {A = ℕ} 32 bit in
+    let long : length (marks bit v) ≡ 32 = ap length compared ∙ length-zip2 eqb v b (has.long ∙ sym b_long) ∙ has.long in
+    let whole : length (replicate 32 multiple) ≡ 32 = length-replicate {A = ℕ} 32 multiple in
+    let none : length {A = ℕ} (replicate 32 0) ≡ 32 = length-replicate {A = ℕ} 32 0 in record {
+      long = length-sel_l (marks bit v) (replicate 32 multiple) (replicate 32 0) (long ∙ sym whole) (long ∙ sym none) ∙ long;
+      lane = λ k h.
+          let mark : get_or (marks bit v) k false ≡ eqb (bit_and (k % 16) bit) bit =
+          ap (λ l. get_or l k false) compared ∙ get_or-zip2 eqb v b k 0 0 false (omega (arith, has.long)) (omega (arith, b_long))
+          ∙ ap₂ eqb (has.lane k h) (get_or-replicate 32 k bit 0 h) in
+          get_or-sel_l (marks bit v) (replicate 32 multiple) (replicate 32 0) k 0 (omega (arith, long)) (omega (arith, whole)) (omega (arith, none))
+          ∙ ap₂ (λ t x. cond t x (get_or (replicate 32 0) k 0)) mark (get_or-replicate 32 k multiple 0 h)
+          ∙ ap (cond (eqb (bit_and (k % 16) bit) bit) multiple) (get_or-replicate 32 k 0 0 h);
+    }
+
+-- ---- a table, as a sum of four terms
+
+-- what is made of lane k where the four bits' multiples are these
+abbrev pub by_bits : ℕ → ℕ → ℕ → ℕ → ℕ → ℕ
+by_bits k w x y z =
+    bit_xor (bit_xor (bit_xor (if bit_and (k % 16) 1 == 1 then w else 0) (if bit_and (k % 16) 2 == 2 then x else 0)) (if bit_and (k % 16) 4 == 4 then y else 0))
+    (if bit_and (k % 16) 8 == 8 then z else 0)
+
+either : (by x : ℕ) (t : Bool) → (if t then product by x else 0) ≡ product by (if t then x else 0)
+either by x true = refl
+either by x false = sym (product-zero_right by)
+
+-- a product with each is the product with the sum
+pub product_by_bits : (by k w x y z : ℕ) → by_bits k (product by w) (product by x) (product by y) (product by z) ≡ product by (by_bits k w x y z)
+product_by_bits by k w x y z =
+    let W = if bit_and (k % 16) 1 == 1 then w else 0 in
+    let X = if bit_and (k % 16) 2 == 2 then x else 0 in
+    let Y = if bit_and (k % 16) 4 == 4 then y else 0 in
+    let Z = if bit_and (k % 16) 8 == 8 then z else 0 in
+    ap₂ bit_xor
+    (ap₂ bit_xor (ap₂ bit_xor (either by w (bit_and (k % 16) 1 == 1)) (either by x (bit_and (k % 16) 2 == 2))) (either by y (bit_and (k % 16) 4 == 4)))
+    (either by z (bit_and (k % 16) 8 == 8))
+    ∙ sym (product-xor_right by (bit_xor (bit_xor W X) Y) Z
+    ∙ ap (λ s. bit_xor s (product by Z)) (product-xor_right by (bit_xor W X) Y ∙ ap (λ s. bit_xor s (product by Y)) (product-xor_right by W X)))
+
+pub low_by_bits : (k : ℕ) → k < 32 → by_bits k 1 2 4 8 ≡ k % 16
+low_by_bits k h = eqb-true _ _ (agree_below_at (λ j. by_bits j 1 2 4 8 == j % 16) (λ j. true) 32 k refl h)
+
+pub high_by_bits : (k : ℕ) → k < 32 → by_bits k 16 32 64 128 ≡ k % 16 * 16
+high_by_bits k h = eqb-true _ _ (agree_below_at (λ j. by_bits j 16 32 64 128 == j % 16 * 16) (λ j. true) 32 k refl h)
+
+-- the four terms together
+pub table_by_bits : (by w x y z : ℕ) (f : ℕ → ℕ) {s t u v : List ℕ}
+    → AreLanes s (λ k. if bit_and (k % 16) 1 == 1 then product by w else 0) → AreLanes t (λ k. if bit_and (k % 16) 2 == 2 then product by x else 0)
+    → AreLanes u (λ k. if bit_and (k % 16) 4 == 4 then product by y else 0) → AreLanes v (λ k. if bit_and (k % 16) 8 == 8 then product by z else 0)
+    → ((k : ℕ) → k < 32 → by_bits k w x y z ≡ f k) → AreLanes (zip2 bit_xor (zip2 bit_xor (zip2 bit_xor s t) u) v) (λ k. product by (f k))
+table_by_bits by w x y z f a b c d whole =
+    AreLanes-same (AreLanes-zip2 bit_xor (AreLanes-zip2 bit_xor (AreLanes-zip2 bit_xor a b) c) d)
+    (λ k h. product_by_bits by k w x y z ∙ ap (product by) (whole k h))
+
+-- ---- a look-up by the halves of a byte
+
+pub low_halves : (v : List ℕ) → length v ≡ 32 → AreLanes (zip2 bit_and v (replicate 32 15)) (λ k. slice_index v k % 16)
+low_halves v long =
+    AreLanes-same (AreLanes-zip2 bit_and (AreLanes-itself v long) (AreLanes-splat 15)) (λ k h. and_mask (slice_index v k) 4)
+
+pub high_halves : (v : List ℕ) → length v ≡ 32 → AreLanes (zip2 (λ a b. a / 2 ^ b) v (replicate 32 4)) (λ k. slice_index v k / 16)
+high_halves v long = AreLanes-zip2 (λ a b. a / 2 ^ b) (AreLanes-itself v long) (AreLanes-splat 4)
+
+-- a shuffle may read at places below 16
+pub places_ok : {at : List ℕ} {f : ℕ → ℕ} → AreLanes at f → ((k : ℕ) → k < 32 → f k < 16) → SwzOk w8 16 32 0 at
+places_ok {at} a below =
+    SwzOk-from_below w8 16 2 32 0 at refl (omega (arith, a.long))
+    (Each1-from_get_or (λ j. j < 16) at 0 (λ k h.
+    let within : k < 32 = omega (arith, a.long) in
+    omega (arith, a.lane k within, below k within)))
+
+-- what it reads there, of a table that stands twice
+pub looked_up : (e : ℕ → ℕ) {table at : List ℕ} {f : ℕ → ℕ} → AreLanes table (λ k. e (k % 16)) → AreLanes at f → ((k : ℕ) → k < 32 → f k < 16)
+    → AreLanes (swz_l w8 16 table 0 at) (λ k. e (f k))
+looked_up e {table} {at} {f} t a below = record {
+  long = length-swz_l w8 16 table 0 at ∙ a.long;
+  lane = λ k h.
+      let is = a.lane k h in
+      let small : slice_index at k < 16 = omega (arith, is, below k h) in
+      let within : 16 * ((0 + k) / 16) + slice_index at k < 32 = omega arith in
+      let half : (16 * ((0 + k) / 16) + slice_index at k) % 16 ≡ slice_index at k = omega arith in
+      get_or-swz_l_below w8 16 table 0 at k (omega (arith, a.long)) small ∙ t.lane _ within ∙ ap e (half ∙ is);
+}
+
+-- a byte is the sum of its halves
+halves : (a : ℕ) → bit_xor (a % 16) (a / 16 * 16) ≡ a
+halves a =
+    let low : a % 16 ≡ 0 * 2 ^ 4 + a % 16 = omega arith in
+    let high : a / 16 * 16 ≡ a / 16 * 2 ^ 4 + 0 = omega arith in
+    ap₂ bit_xor low high ∙ xor_block 4 0 (a / 16) (a % 16) 0 (mod-lt a (omega arith)) (omega arith)
+    ∙ ap₂ (λ x y. x * 16 + y) (xor_comm 0 (a / 16) ∙ xor_zero_r (a / 16)) (xor_zero_r (a % 16)) ∙ omega arith
+
+-- a byte's high half is below 16
+pub high_half_below : (v : List ℕ) → length v ≡ 32 → Each1 (Fits w8) v → (k : ℕ) → k < 32 → slice_index v k / 16 < 16
+high_half_below v long bytes k h =
+    let byte = (Each1-get_or (Fits w8) v k 0 (omega (arith, long)) bytes).fits in
+    omega (arith, byte)
+
+-- the products with 32 bytes, by their halves
+pub products_by_halves : (by : ℕ) {low high : List ℕ} (v : List ℕ) → HasProducts by low high → length v ≡ 32 → Each1 (Fits w8) v
+    → AreLanes (zip2 bit_xor (swz_l w8 16 low 0 (zip2 bit_and v (replicate 32 15))) (swz_l w8 16 high 0 (zip2 (λ a b. a / 2 ^ b) v (replicate 32 4))))
+    (λ k. product by (slice_index v k))
+products_by_halves by v tables long bytes =
+    AreLanes-same (AreLanes-zip2 bit_xor
+    (looked_up (product by) tables.low_halves (low_halves v long) (λ k h. mod-lt (slice_index v k) (omega arith)))
+    (looked_up (λ j. product by (j * 16)) tables.high_halves (high_halves v long) (high_half_below v long bytes)))
+    (λ k h. sym (product-xor_right by (slice_index v k % 16) (slice_index v k / 16 * 16)) ∙ ap (product by) (halves (slice_index v k)))

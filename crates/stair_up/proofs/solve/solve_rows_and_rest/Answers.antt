@@ -1,0 +1,48 @@
+-- The rows are found first and then the rest, and what is found is stored.
+use Rattle.std.proofs.Common.{◌≡◌, ◌<◌, ◌∙◌, sym, subst, ap}
+use Rattle.stair_model.specs.CellSet.{CellSet, HasCell, IsInStripe}
+use Rattle.stair_model.specs.Coverage.{rest}
+use Rattle.stair_model.specs.Geometry.{Geometry, IsWithinLimits}
+use Rattle.stair_model.proofs.RestLaws.{rest_inside, rest_within}
+use Rattle.stair_up.proofs.Stripes.{FindsStripe-stored, FindsCells-rest}
+use Rattle.stair_up.proofs.solve.solve_rows_and_rest.Given.{Over}
+use Rattle.stair_up.proofs.solve.solve_rows_and_rest.Goals as goal
+use Rattle.stair_up.proofs.solve.solve_rows_and_rest.Goals.{After-rest-rest}
+
+same_loaded : (g : Over) (c : After-rest-rest g) → c.solve_light_rows.new.canon.geometry ≡ c.args.canon.now.geometry
+same_loaded g c = c.solve_light_rows.ensures.kept.geometry ∙ c.load.ensures.loaded.geometry
+
+is_rest : (g : Over) (c : After-rest-rest g) → c.rest-rest.result ≡ rest c.args.canon.now.geometry c.args.erased.now
+is_rest g c = c.rest-rest.ensures.value ∙ ap (λ (x : Geometry). rest x c.args.erased.now) (c.geometry.ensures ∙ same_loaded g c)
+
+pub solve_loaded-requires-clause-cells : goal.solve_loaded-requires-clause-cells
+solve_loaded-requires-clause-cells g c =
+    let here = (goal.at.solve_loaded-requires-clause-cells g c).After-rest-rest in
+    subst (λ (x : Geometry). IsInStripe x c.rest-rest.result) (sym (same_loaded g here))
+    (subst (IsInStripe c.args.canon.now.geometry) (sym (is_rest g here)) (rest_inside c.args.canon.now.geometry c.args.erased.now c.requires.cells))
+
+pub returns-clause-found : goal.returns-clause-found
+returns-clause-found g c =
+    let here = (goal.at.returns-clause-found g c).After-rest-rest in
+    let loaded = c.load.ensures.loaded in
+    let same = c.solve_loaded.ensures.kept.geometry ∙ same_loaded g here in
+    FindsStripe-stored c.args.erased.now c.args.stripe.now c.store.new.stripe c.args.canon.now c.load.new.self c.solve_loaded.new.canon
+    (subst IsWithinLimits (same_loaded g here) c.solve_loaded.ensures.limits) loaded
+    (FindsCells-rest c.args.erased.now c.rest-rest.result c.args.canon.now c.load.new.self c.solve_light_rows.new.canon c.solve_loaded.new.canon
+    loaded.geometry (same_loaded g here) (is_rest g here) c.solve_light_rows.ensures.found c.solve_loaded.ensures.found)
+    (λ i j row chunk.
+    c.store.ensures.cells i j (subst (λ (x : Geometry). i < x.r) (sym same) row) (subst (λ (x : Geometry). j < x.n) (sym same) chunk))
+
+pub returns-clause-held : goal.returns-clause-held
+returns-clause-held g c i j row chunk held =
+    let here = (goal.at.returns-clause-held g c).After-rest-rest in
+    let loaded = c.load.ensures.loaded in
+    let same = same_loaded g here in
+    let all = c.solve_loaded.ensures.kept.geometry ∙ same in
+    c.store.ensures.cells i j (subst (λ (x : Geometry). i < x.r) (sym all) row) (subst (λ (x : Geometry). j < x.n) (sym all) chunk)
+    ∙ c.solve_loaded.ensures.kept.held i j (subst (λ (x : Geometry). i < x.r) (sym same) row) (subst (λ (x : Geometry). j < x.n) (sym same) chunk)
+    (λ left. held (rest_within c.args.canon.now.geometry c.args.erased.now i j
+    (subst (λ (cells : CellSet). HasCell cells i j) (is_rest g here) left)))
+    ∙ c.solve_light_rows.ensures.kept.held i j (subst (λ (x : Geometry). i < x.r) (sym loaded.geometry) row)
+    (subst (λ (x : Geometry). j < x.n) (sym loaded.geometry) chunk) held
+    ∙ loaded.cells i j (row, chunk)
