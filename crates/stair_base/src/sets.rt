@@ -1,7 +1,7 @@
-ghost use Rattle.std.specs.Prelude.{◌≡◌, ℕ, ◌<◌, ◌⊎◌, ◌↔◌, IsTrue, slice_index};
+ghost use Rattle.std.specs.Prelude.{◌≡◌, ℕ, ◌+◌, ◌<◌, ◌⊎◌, ◌↔◌, IsTrue, if◌then◌else◌, slice_index};
 ghost use Rattle.stair_model.specs.CellSet.{HasCell, cell_count, count_in_row, count_in_slot, IsCellSet};
 ghost use Rattle.stair_model.specs.Coverage.{rest};
-ghost use Rattle.stair_model.specs.Slots.{HasSlot, slot_count, IsSlotSet};
+ghost use Rattle.stair_model.specs.Slots.{HasSlot, has_slot, slot_count, IsSlotSet};
 
 use crate::geometry::Geometry;
 use std::marker::Model;
@@ -156,10 +156,20 @@ impl CellSet {
         ensures well_formed { IsCellSet self.now }
     {
         let mut counts = [0; 32];
-        for slot in 0..32u8 {
-            let count = self.rows.iter().filter(|row| row.has(slot)).count();
-            counts[usize::from(slot)] = count as u8;
+        for row in 0..32 {
+            count_slots(&mut counts, &self.rows[row]);
         }
         counts
+    }
+}
+
+/// Adds 1 to the count of each slot of the set.
+fn count_slots(counts: &mut [u8; 32], slots: &Slots)
+    requires { (j : ℕ) → j < 32 → slice_index counts.old j < 32 }
+    ensures { (j : ℕ) → j < 32 → slice_index counts.new j ≡
+        slice_index counts.old j + (if has_slot slots.now j then 1 else 0) }
+{
+    for slot in 0..32 {
+        counts[slot] += u8::from(slots.marks[slot]);
     }
 }

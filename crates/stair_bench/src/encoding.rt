@@ -10,7 +10,7 @@ use std::alloc::{AllocError, Global};
 use std::sync::ledger::{Blank, Ledger};
 
 /// What stands in each parity before the first round.
-const BEFORE: [u8; SECTOR] = [0xA5; SECTOR];
+pub(crate) const BEFORE: [u8; SECTOR] = [0xA5; SECTOR];
 
 /// Encodes a stripe so many times, and gives a check of all its cells.
 pub(crate) fn check_of_encoding<L: Ledger>(
@@ -33,6 +33,29 @@ pub(crate) fn check_of_encoding<L: Ledger>(
     Ok(check_of_stripe(geometry, &stripe))
 }
 
+/// Encodes a stripe once, sets its middle block to the same other bytes so many times, and gives a check of all its cells.
+pub(crate) fn check_of_updating<L: Ledger>(
+    alloc: Global,
+    geometry: &Geometry,
+    rounds: u32,
+    blank: Blank,
+) -> Result<u64, AllocError>
+    requires name { blank.name ≡ L.name }
+    requires parts { blank.parts ≡ L.parts }
+    requires some { 0 < L.parts }
+{
+    let mut stripe = varied_stripe(alloc, geometry)?;
+    let mut codec = Codec::new(alloc, geometry, By::Fewest)?;
+    let mut steps = Steps::<L>::new(blank);
+    codec.encode(&mut stripe, &mut steps);
+    let middle = geometry.place_of(geometry.blocks() / 2);
+    let bytes = varied(1023);
+    for _round in 0..rounds {
+        codec.update(&mut stripe, middle.row, middle.slot, &bytes, &mut steps);
+    }
+    Ok(check_of_stripe(geometry, &stripe))
+}
+
 /// Copies all data cells of a stripe, so many times, and gives a check of the copies.
 pub(crate) fn check_of_copying_cells(
     alloc: Global,
@@ -48,7 +71,7 @@ pub(crate) fn check_of_copying_cells(
 }
 
 /// A stripe whose data cells vary, each with its number, row by row through all cells.
-fn varied_stripe(alloc: Global, geometry: &Geometry) -> Result<Stripe, AllocError>
+pub(crate) fn varied_stripe(alloc: Global, geometry: &Geometry) -> Result<Stripe, AllocError>
     ensures { IfOk result (λ stripe. IsStripeOf geometry.now stripe) }
 {
     let mut stripe = Stripe::new(alloc, geometry)?;

@@ -43,12 +43,20 @@ impl Row {
 /// What is run and timed.
 #[derive(Clone, Copy)]
 pub(crate) enum Kernel {
+    /// A multiple of one symbol added to another.
+    MultiplyAdd,
     /// All parities of a row, from its held symbols.
     Solve(Row),
     /// A copy of the symbols that those are solved from.
     CopySymbols(Row),
     /// All parities of a stripe, from its data cells.
     Encode(By, Layout),
+    /// The cells of the worst pattern that is covered, always of the same chunks.
+    Restore(Layout),
+    /// The same cells of other chunks in each round.
+    RestoreInTurn(Layout),
+    /// The middle block of an encoded stripe, set to other bytes.
+    Update(Layout),
     /// A copy of the data cells that those are encoded from.
     CopyCells(Layout),
     /// Sectors of an image file, written and then synced.
@@ -59,7 +67,8 @@ pub(crate) enum Kernel {
 
 impl Kernel {
     /// Those that need no file.
-    pub(crate) const IN_MEMORY: [Kernel; 20] = [
+    pub(crate) const IN_MEMORY: [Kernel; 30] = [
+        Kernel::MultiplyAdd,
         Kernel::Solve(Row::EightTwo),
         Kernel::CopySymbols(Row::EightTwo),
         Kernel::Solve(Row::ThirtyTwoThree),
@@ -67,18 +76,27 @@ impl Kernel {
         Kernel::Encode(By::Downstairs, Layout::FourDevices),
         Kernel::Encode(By::Upstairs, Layout::FourDevices),
         Kernel::Encode(By::Standard, Layout::FourDevices),
+        Kernel::Restore(Layout::FourDevices),
+        Kernel::RestoreInTurn(Layout::FourDevices),
         Kernel::CopyCells(Layout::FourDevices),
         Kernel::Encode(By::Downstairs, Layout::EightDevices),
         Kernel::Encode(By::Upstairs, Layout::EightDevices),
         Kernel::Encode(By::Standard, Layout::EightDevices),
+        Kernel::Restore(Layout::EightDevices),
+        Kernel::RestoreInTurn(Layout::EightDevices),
+        Kernel::Update(Layout::EightDevices),
         Kernel::CopyCells(Layout::EightDevices),
         Kernel::Encode(By::Downstairs, Layout::SixteenDevices),
         Kernel::Encode(By::Upstairs, Layout::SixteenDevices),
         Kernel::Encode(By::Standard, Layout::SixteenDevices),
+        Kernel::Restore(Layout::SixteenDevices),
+        Kernel::RestoreInTurn(Layout::SixteenDevices),
         Kernel::CopyCells(Layout::SixteenDevices),
         Kernel::Encode(By::Downstairs, Layout::ThirtyTwoDevices),
         Kernel::Encode(By::Upstairs, Layout::ThirtyTwoDevices),
         Kernel::Encode(By::Standard, Layout::ThirtyTwoDevices),
+        Kernel::Restore(Layout::ThirtyTwoDevices),
+        Kernel::RestoreInTurn(Layout::ThirtyTwoDevices),
         Kernel::CopyCells(Layout::ThirtyTwoDevices),
     ];
 
@@ -88,9 +106,13 @@ impl Kernel {
     /// What it does, and the numbers that it does it for.
     fn words(self) -> (&'static str, &'static str) {
         match self {
+            Kernel::MultiplyAdd => ("multiply", "add"),
             Kernel::Solve(row) => ("solve", row.name()),
             Kernel::CopySymbols(row) => ("copy", row.name()),
             Kernel::Encode(by, layout) => (name_of(by), layout.name()),
+            Kernel::Restore(layout) => ("restore", layout.name()),
+            Kernel::RestoreInTurn(layout) => ("restore-in-turn", layout.name()),
+            Kernel::Update(layout) => ("update", layout.name()),
             Kernel::CopyCells(layout) => ("copy-cells", layout.name()),
             Kernel::WriteSectors => ("write", "sectors"),
             Kernel::ReadSectors => ("read", "sectors"),

@@ -6,6 +6,7 @@ mod encoding;
 mod fault;
 mod kernel;
 mod layout;
+mod restoring;
 mod rounds;
 mod sectors;
 mod varied;

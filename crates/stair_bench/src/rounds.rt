@@ -1,13 +1,15 @@
 ghost use Rattle.std.specs.Prelude.{◌≡◌, ◌-◌, ◌<◌, ◌≤◌, IfOk, length};
 ghost use Rattle.std.specs.List.{range_with_len};
 
-use crate::check::check_of;
-use crate::encoding::{check_of_copying_cells, check_of_encoding};
+use crate::check::{check_of, check_of_blocks};
+use crate::encoding::{check_of_copying_cells, check_of_encoding, check_of_updating};
 use crate::fault::Fault;
 use crate::kernel::{Code, Kernel};
+use crate::restoring::check_of_restoring;
 use crate::sectors::{check_of_reading, check_of_writing};
 use crate::varied::varied;
-use stair_gf::Steps;
+use stair_base::SECTOR;
+use stair_gf::{Steps, mul_add};
 use stair_mds::{Mds, Symbols};
 use std::alloc::{AllocError, Global};
 use std::fs::Files;
@@ -23,15 +25,41 @@ pub(crate) fn check_of_rounds<F: Files + Drop>(
 ) -> Result<u64, Fault> {
     let steps = Blank::new(1);
     Ok(match kernel {
+        Kernel::MultiplyAdd => check_of_adding(rounds),
         Kernel::Solve(row) => check_of_solving::<Brand>(alloc, row.code(), rounds, steps)?,
         Kernel::CopySymbols(row) => check_of_copying(alloc, row.code(), rounds)?,
         Kernel::Encode(by, layout) => {
             check_of_encoding::<Brand>(alloc, by, &layout.geometry(), rounds, steps)?
         }
+        Kernel::Restore(layout) => {
+            check_of_restoring::<Brand>(alloc, &layout.geometry(), 1, rounds, steps)?
+        }
+        Kernel::RestoreInTurn(layout) => {
+            let geometry = layout.geometry();
+            check_of_restoring::<Brand>(alloc, &geometry, geometry.n(), rounds, steps)?
+        }
+        Kernel::Update(layout) => {
+            check_of_updating::<Brand>(alloc, &layout.geometry(), rounds, steps)?
+        }
         Kernel::CopyCells(layout) => check_of_copying_cells(alloc, &layout.geometry(), rounds)?,
         Kernel::WriteSectors => check_of_writing(rt, alloc, rounds)?,
         Kernel::ReadSectors => check_of_reading(rt, alloc, rounds)?,
     })
+}
+
+/// Adds multiples of a symbol to another, by each byte in turn, so many times, and one more that makes all of them together
+/// twice that symbol.
+fn check_of_adding(rounds: u32) -> u64 {
+    let from = varied(1);
+    let mut into = [0; SECTOR];
+    let mut lacking = 2;
+    for round in 0..rounds {
+        let by = (round % 256) as u8;
+        mul_add(&mut into, &from, by);
+        lacking ^= by;
+    }
+    mul_add(&mut into, &from, lacking);
+    check_of_blocks(&[into])
 }
 
 /// Solves every parity from all held symbols, so many times.

@@ -20,11 +20,12 @@ pub(crate) fn check_of_writing<F: Files + Drop>(
     let sectors = varied_sectors(alloc)?;
     let mut rack = attached(rt, alloc)?;
     for _round in 0..rounds {
-        for number in 0..SECTORS {
-            let written = rack.write(0, u32::from(number), &varied(number));
-            if written == Reply::Gone {
+        let mut number = 0;
+        for sector in &sectors {
+            if rack.write(0, number, sector) == Reply::Gone {
                 return Err(Fault::Image);
             }
+            number = number.wrapping_add(1);
         }
     }
     if rack.sync(0) == Reply::Gone {

@@ -3,3 +3,4 @@ pub mod Places
 pub mod Rows
 pub mod Symbols
 pub mod Storing
+pub mod SolvedRows

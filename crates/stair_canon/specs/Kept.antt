@@ -22,9 +22,9 @@ pub record AreKeptRows (c : CanonicalStripe) : Type 0 where
   pub count : length c.rows ≡ canonical_rows c.geometry
   pub rows : All (IsKeptRow (canonical_chunks c.geometry)) c.rows
 
--- both codes are those of its geometry, and there is room for a chunk
+-- the codes are those of its geometry, and there is room for a chunk
 pub record IsKept (a : Inside) : Type 0 where
   pub kept_rows : AreKeptRows (shown a)
-  pub row_code : a.row_code ≡ row_shape a.geometry
-  pub column_code : a.column_code ≡ column_shape a.geometry
+  pub row_codes : a.row_codes ≡ row_shape a.geometry
+  pub column_codes : a.column_codes ≡ column_shape a.geometry
   pub room : length a.chunk ≡ canonical_rows a.geometry

@@ -2,3 +2,4 @@
 pub mod Canonical
 pub mod Solving
 pub mod Kept
+pub mod Patterns

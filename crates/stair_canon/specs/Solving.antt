@@ -1,5 +1,5 @@
 -- What the calls make of a canonical stripe.
-use Rattle.std.specs.Prelude.{◌≡◌, ℕ, ◌<◌, ◌≤◌, ◌⊎◌, ◌↔◌, List, replicate, Contains}
+use Rattle.std.specs.Prelude.{◌≡◌, ℕ, ◌<◌, ◌≤◌, ◌⊎◌, ◌↔◌, List, replicate, All, Contains}
 use Rattle.stair_model.specs.Canonical.{canonical_chunks, canonical_rows, IsRowCodeword, IsColumnCodeword}
 use Rattle.stair_model.specs.CauchyCode.{AreSolved}
 use Rattle.stair_model.specs.Geometry.{Geometry, data_chunks}
@@ -39,6 +39,11 @@ pub record ChangesOnly (IsSolved : ℕ → ℕ → Type 0) (old new : CanonicalS
 pub record SolvesRow (row : ℕ) (known wanted : List ℕ) (old new : CanonicalStripe) : Type 0 where
   pub symbols : AreSolved (IsRowCodeword old.geometry) known wanted (λ q j. byte_at old q row j) (λ q j. byte_at new q row j)
   pub changes : ChangesOnly (λ i j. (i ≡ row) × Contains wanted j) old new
+
+-- the same of each of these rows
+pub record SolvesRows (rows known wanted : List ℕ) (old new : CanonicalStripe) : Type 0 where
+  pub symbols : All (λ row. AreSolved (IsRowCodeword old.geometry) known wanted (λ q j. byte_at old q row j) (λ q j. byte_at new q row j)) rows
+  pub changes : ChangesOnly (λ i j. Contains rows i × Contains wanted j) old new
 
 -- the wanted symbols of a chunk are those of the one codeword of the column code that has the known ones
 pub record SolvesChunk (column : ℕ) (known wanted : List ℕ) (old new : CanonicalStripe) : Type 0 where

@@ -1,16 +1,17 @@
-ghost use Rattle.std.specs.Prelude.{◌≡◌, ℕ, ◌*◌, ◌+◌, ◌<◌, ◌↔◌, IfOk, IfSome, IsSome, length, replicate};
+ghost use Rattle.std.specs.Prelude.{◌≡◌, ℕ, ◌*◌, ◌+◌, ◌<◌, ◌↔◌, IfOk, IfSome, IsSome, All, length, replicate, slice_index};
 ghost use Rattle.stair_model.specs.Canonical.{canonical_chunks, canonical_rows};
-ghost use Rattle.stair_model.specs.CauchyCode.{AreKnownPlaces};
+ghost use Rattle.stair_model.specs.CauchyCode.{AreDistinct, AreKnownPlaces};
 ghost use Rattle.stair_model.specs.Geometry.{data_chunks, greatest_coverage};
 ghost use Rattle.stair_model.specs.Stripe.{IsStripeOf, IsWellFormed as IsWellFormedStripe, IsSector, SECTOR, cell};
 ghost use Rattle.stair_mds.specs.Solving.{AreWantedPlaces};
 ghost use Rattle.stair_canon.specs.Canonical.{IsKnown, IsWellFormed, symbol};
-ghost use Rattle.stair_canon.specs.Solving.{ExtendsChunk, Loads, SolvesChunk, SolvesRow, column_shape, row_shape};
+ghost use Rattle.stair_canon.specs.Solving.{ExtendsChunk, Loads, SolvesChunk, SolvesRow, SolvesRows, column_shape, row_shape};
 
+use crate::codes::Codes;
 use crate::row::Row;
 use stair_base::{Geometry, Stripe};
 use stair_gf::Steps;
-use stair_mds::{Mds, SYMBOL, Symbols, numbers_from};
+use stair_mds::{SYMBOL, Symbols, numbers_from};
 use std::alloc::{AllocError, Global};
 use std::marker::Model;
 use std::sync::ledger::Ledger;
@@ -23,8 +24,8 @@ use std::sync::ledger::Ledger;
 #[derive(Drop)]
 pub struct Canon {
     geometry: Geometry,
-    row_code: Mds,
-    column_code: Mds,
+    row_codes: Codes,
+    column_codes: Codes,
     rows: Vec<Row>,
     // Where the symbols of a chunk are solved.
     chunk: Symbols,
@@ -45,7 +46,9 @@ impl Model for Canon {
 impl Canon {
     /// The canonical stripe of this geometry in which every symbol is zero and none is known.
     ///
-    /// The error comes only for want of memory. All memory that later calls use is taken here.
+    /// The error comes only for want of memory. All memory that later calls use is taken here: that of the symbols, and for
+    /// each of 16 patterns of rows and 16 of chunks that of its coefficients, 65 bytes each. A pattern has up to (n-m)(m+m')
+    /// of them for a row and r·e_max for a chunk, so each of these takes up to about a megabyte.
     pub fn new(alloc: Global, geometry: &Geometry) -> Result<Canon, AllocError>
         ensures geometry { IfOk result (λ canon. canon.geometry ≡ geometry.now) }
         ensures zero { IfOk result (λ canon. (i j : ℕ) →
@@ -64,8 +67,8 @@ impl Canon {
         }
         Ok(Canon {
             geometry: *geometry,
-            row_code: Mds::row(alloc, geometry.n(), geometry.m(), geometry.classes())?,
-            column_code: Mds::column(alloc, geometry.r(), geometry.e_max())?,
+            row_codes: Codes::rows(alloc, geometry.n(), geometry.m(), geometry.classes())?,
+            column_codes: Codes::columns(alloc, geometry.r(), geometry.e_max())?,
             rows,
             chunk: Symbols::new(alloc, u16::from(count))?,
         })
@@ -165,7 +168,33 @@ impl Canon {
         ensures cost { steps.new ≡ steps.old + length known.now * length wanted.now }
     {
         let symbols = &mut self.rows[usize::from(row)];
-        symbols.solve(&mut self.row_code, known, wanted, steps);
+        symbols.solve(&mut self.row_codes, known, wanted, steps);
+    }
+
+    /// Solves the wanted symbols of each of these rows, in their order, as [`Canon::solve_row`] does.
+    ///
+    /// The rows are distinct, and the columns as for one row. They are one pattern, which is prepared at most once. It takes
+    /// a step for each known symbol of each wanted one of each row.
+    pub fn solve_rows<L: Ledger>(
+        &mut self,
+        rows: &[u16],
+        known: &[u16],
+        wanted: &[u16],
+        steps: &mut Steps<L>,
+    )
+        requires rows_in { All (λ row. row < canonical_rows self.old.geometry) rows.now }
+        requires distinct { AreDistinct (length rows.now) (slice_index rows.now) }
+        requires known { AreKnownPlaces (data_chunks self.old.geometry) (canonical_chunks self.old.geometry) known.now }
+        requires wanted { AreWantedPlaces (row_shape self.old.geometry) known.now wanted.now }
+        ensures solved { SolvesRows rows.now known.now wanted.now self.old self.new }
+        ensures well_formed { IsWellFormed self.new }
+        ensures cost { steps.new ≡ steps.old + length rows.now * (length known.now * length wanted.now) }
+    {
+        for row in rows {
+            self.solve_row(*row, known, wanted, steps);
+        }
+        // What the rows keep is known from here on.
+        let _ = &self.rows;
     }
 
     /// Solves the wanted symbols of a chunk, which is a column below n+m', by the column code: they are those of the one
@@ -191,7 +220,7 @@ impl Canon {
             self.chunk
                 .put(*row, self.rows[usize::from(*row)].symbol(column));
         }
-        self.column_code
+        self.column_codes
             .solve(known, wanted, &mut self.chunk, steps);
         for row in wanted {
             self.rows[usize::from(*row)].put(column, self.chunk.symbol(*row));

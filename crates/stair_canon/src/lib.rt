@@ -7,6 +7,7 @@
 pub use canon::Canon;
 
 mod canon;
+mod codes;
 pub mod laws;
 mod row;
 #[cfg(test)]

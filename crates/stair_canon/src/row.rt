@@ -5,8 +5,9 @@ ghost use Rattle.stair_mds.specs.Solving.{AreWantedPlaces, Solves};
 ghost use Rattle.stair_canon.specs.Canonical.{IsMarked};
 ghost use Rattle.stair_canon.specs.Kept.{IsKeptRow};
 
+use crate::codes::Codes;
 use stair_gf::Steps;
-use stair_mds::{MAX_PLACES, Mds, SYMBOL, Symbols};
+use stair_mds::{MAX_PLACES, SYMBOL, Symbols};
 use std::alloc::{AllocError, Global};
 use std::marker::Model;
 use std::sync::ledger::Ledger;
@@ -81,25 +82,25 @@ impl Row {
         self.known[usize::from(column)] = false;
     }
 
-    /// Solves the wanted symbols by this code, which are known from now on.
+    /// Solves the wanted symbols by these codes, which are known from now on.
     pub(crate) fn solve<L: Ledger>(
         &mut self,
-        code: &mut Mds,
+        codes: &mut Codes,
         known: &[u16],
         wanted: &[u16],
         steps: &mut Steps<L>,
     )
-        requires known { AreKnownPlaces code.old.held code.old.total known.now }
-        requires wanted { AreWantedPlaces code.old known.now wanted.now }
-        requires row { IsKeptRow code.old.total self.old }
-        requires few { code.old.total ≤ 64 }
-        ensures solved { Solves code.old known.now wanted.now self.old.symbols self.new.symbols }
+        requires known { AreKnownPlaces codes.old.held codes.old.total known.now }
+        requires wanted { AreWantedPlaces codes.old known.now wanted.now }
+        requires row { IsKeptRow codes.old.total self.old }
+        requires few { codes.old.total ≤ 64 }
+        ensures solved { Solves codes.old known.now wanted.now self.old.symbols self.new.symbols }
         ensures known { (j : ℕ) → IsMarked self.new.known j ↔ (IsMarked self.old.known j ⊎ Contains wanted.now j) }
-        ensures row { IsKeptRow code.old.total self.new }
+        ensures row { IsKeptRow codes.old.total self.new }
         ensures cost { steps.new ≡ steps.old + length known.now * length wanted.now }
-        ensures code { code.new ≡ code.old }
+        ensures codes { codes.new ≡ codes.old }
     {
-        code.solve(known, wanted, &mut self.symbols, steps);
+        codes.solve(known, wanted, &mut self.symbols, steps);
         for column in wanted {
             self.known[usize::from(*column)] = true;
         }

@@ -1,33 +1,21 @@
 -- What a code keeps.
 use Rattle.std.specs.Prelude.{◌≡◌, ℕ}
 use Rattle.stair_model.specs.Costs.{downstairs_cost, upstairs_cost}
-use Rattle.stair_model.specs.Geometry.{Geometry}
-use Rattle.stair_std.specs.Coefficients.{nonzero_coefficients}
+use Rattle.stair_std.specs.Coefficients.{StandardCode}
 use Rattle.stair_codec.specs.Choice.{ChosenCode}
 use Rattle.stair_codec.specs.declared.choice.Encoder.{Encoder}
-use Rattle.stair_codec.specs.declared.choice.Encoder.TheVariants as encoder
+use Rattle.stair_codec.specs.declared.choice.Encoder.TheVariants.{Standard, Upstairs, Downstairs}
 use Rattle.stair_codec.specs.declared.codec.Codec.TheInside.{Inside}
-use Rattle.stair_codec.specs.declared.codec.Way.{Way}
-use Rattle.stair_codec.specs.declared.codec.Way.TheVariants.{Standard, Upstairs, Downstairs}
 
-abbrev pub encoder_of : Way → Encoder
-encoder_of (Standard generator) = encoder.Standard
-encoder_of Upstairs = encoder.Upstairs
-encoder_of Downstairs = encoder.Downstairs
-
-abbrev pub steps_of : Geometry → Way → ℕ
-steps_of g (Standard generator) = nonzero_coefficients generator
-steps_of g Upstairs = upstairs_cost g
-steps_of g Downstairs = downstairs_cost g
-
--- a generator is one of this geometry
-abbrev pub IsWayOf : Geometry → Way → Type 0
-IsWayOf g (Standard generator) = generator.geometry ≡ g
-IsWayOf g Upstairs = Unit {0}
-IsWayOf g Downstairs = Unit {0}
+-- the steps in which the encoder encodes a stripe of the generator's geometry
+abbrev pub steps_of : StandardCode → Encoder → ℕ
+steps_of generator Standard = generator.cost
+steps_of generator Upstairs = upstairs_cost generator.geometry
+steps_of generator Downstairs = downstairs_cost generator.geometry
 
 abbrev pub shown : Inside → ChosenCode
-shown a = record { geometry = a.canon.geometry; encoder = encoder_of a.way; cost = steps_of a.canon.geometry a.way }
+shown a = record { geometry = a.canon.geometry; encoder = a.encoder; cost = steps_of a.generator a.encoder }
 
+-- the generator is one of the same geometry
 abbrev pub IsKept : Inside → Type 0
-IsKept a = IsWayOf a.canon.geometry a.way
+IsKept a = a.generator.geometry ≡ a.canon.geometry

@@ -1,10 +1,9 @@
 ghost use Rattle.std.specs.Prelude.{◌≡◌, IfOk};
-ghost use Rattle.stair_codec.specs.Choice.{IsChosen, IsCostOf, IsFewest};
-ghost use Rattle.stair_codec.specs.Kept.{encoder_of, steps_of, IsWayOf};
+ghost use Rattle.stair_codec.specs.Choice.{IsChosen, IsCostOf};
 
 use crate::choice::{By, Encoder, fewest};
 use crate::costs::{downstairs_steps, upstairs_steps};
-use stair_base::{CellSet, Geometry, NotCovered, Stripe, StripeCode};
+use stair_base::{CellSet, Geometry, NotCovered, SECTOR, Stripe, StripeCode};
 use stair_canon::Canon;
 use stair_down::encode_downstairs;
 use stair_gf::Steps;
@@ -14,22 +13,15 @@ use std::alloc::{AllocError, Global};
 use std::marker::Model;
 use std::sync::ledger::Ledger;
 
-/// An encoder with what it needs beside a canonical stripe.
-#[derive(Drop)]
-enum Way {
-    Standard(Generator),
-    Upstairs,
-    Downstairs,
-}
-
 /// The code of a geometry by one of the three encoders.
 ///
-/// The stripes that it encodes are the same by each of them; the encoder decides the steps alone. Erased cells are restored
-/// by upstairs decoding.
+/// The stripes that it encodes are the same by each of them; the encoder decides the steps alone. A stripe is updated by the
+/// coefficients of its parities, and erased cells are restored by upstairs decoding.
 #[derive(Drop)]
 pub struct Codec {
     canon: Canon,
-    way: Way,
+    generator: Generator,
+    encoder: Encoder,
 }
 
 impl Model for Codec {
@@ -47,37 +39,38 @@ impl Codec {
     /// The code of this geometry, which encodes as `by` says.
     ///
     /// The error comes only for want of memory. All memory that later calls use is taken here: that of a canonical stripe,
-    /// and for `Standard` and `Fewest` that of the coefficients.
+    /// and, for every choice of encoder, that of a [`Generator`], by which stripes are updated.
     pub fn new(alloc: Global, geometry: &Geometry, by: By) -> Result<Codec, AllocError>
         ensures geometry { IfOk result (λ codec. codec.geometry ≡ geometry.now) }
         ensures chosen { IfOk result (λ codec. IsChosen by geometry.now codec.encoder) }
         ensures cost { IfOk result (λ codec. IsCostOf codec.encoder geometry.now codec.cost) }
     {
         let canon = Canon::new(alloc, geometry)?;
-        let way = way_of(alloc, geometry, by)?;
-        Ok(Codec { canon, way })
+        let generator = Generator::new(alloc, geometry)?;
+        let encoder = chosen(by, geometry, &generator);
+        Ok(Codec {
+            canon,
+            generator,
+            encoder,
+        })
     }
 
     /// The encoder by which it encodes.
     pub fn encoder(&self) -> Encoder
         ensures { result ≡ self.now.encoder }
     {
-        match &self.way {
-            Way::Standard(_) => Encoder::Standard,
-            Way::Upstairs => Encoder::Upstairs,
-            Way::Downstairs => Encoder::Downstairs,
-        }
+        self.encoder
     }
 
-    /// The steps in which it encodes a stripe. Those of the standard encoder are counted at each call.
+    /// The steps in which it encodes a stripe.
     pub fn cost(&self) -> u64
         ensures value { result ≡ self.now.cost }
         ensures of_encoder { IsCostOf self.now.encoder self.now.geometry result }
     {
-        match &self.way {
-            Way::Standard(generator) => generator.cost(),
-            Way::Upstairs => upstairs_steps(&self.canon.geometry()),
-            Way::Downstairs => downstairs_steps(&self.canon.geometry()),
+        match self.encoder {
+            Encoder::Standard => self.generator.cost(),
+            Encoder::Upstairs => upstairs_steps(&self.canon.geometry()),
+            Encoder::Downstairs => downstairs_steps(&self.canon.geometry()),
         }
     }
 }
@@ -92,11 +85,26 @@ impl StripeCode for Codec {
     }
 
     fn encode<L: Ledger>(&mut self, stripe: &mut Stripe, steps: &mut Steps<L>) {
-        match &self.way {
-            Way::Standard(generator) => encode_standard(generator, stripe, steps),
-            Way::Upstairs => encode_upstairs(&mut self.canon, stripe, steps),
-            Way::Downstairs => encode_downstairs(&mut self.canon, stripe, steps),
+        match self.encoder {
+            Encoder::Standard => encode_standard(&self.generator, stripe, steps),
+            Encoder::Upstairs => encode_upstairs(&mut self.canon, stripe, steps),
+            Encoder::Downstairs => encode_downstairs(&mut self.canon, stripe, steps),
         }
+    }
+
+    fn dependents(&self, row: u8, slot: u8) -> CellSet {
+        self.generator.dependents(row, slot)
+    }
+
+    fn update<L: Ledger>(
+        &mut self,
+        stripe: &mut Stripe,
+        row: u8,
+        slot: u8,
+        from: &[u8; SECTOR],
+        steps: &mut Steps<L>,
+    ) {
+        self.generator.update(stripe, row, slot, from, steps);
     }
 
     fn restore(&mut self, stripe: &mut Stripe, erased: &CellSet) -> Result<(), NotCovered> {
@@ -104,35 +112,19 @@ impl StripeCode for Codec {
     }
 }
 
-/// The encoder that was asked for, with what it needs.
-fn way_of(alloc: Global, geometry: &Geometry, by: By) -> Result<Way, AllocError>
-    ensures of { IfOk result (λ way. IsWayOf geometry.now way) }
-    ensures chosen { IfOk result (λ way. IsChosen by geometry.now (encoder_of way)) }
-    ensures cost { IfOk result (λ way. IsCostOf (encoder_of way) geometry.now (steps_of geometry.now way)) }
+/// The encoder that was asked for; the standard one encodes by this generator.
+fn chosen(by: By, geometry: &Geometry, generator: &Generator) -> Encoder
+    requires { generator.now.geometry ≡ geometry.now }
+    ensures { IsChosen by geometry.now result }
 {
     match by {
-        By::Standard => Ok(Way::Standard(Generator::new(alloc, geometry)?)),
-        By::Upstairs => Ok(Way::Upstairs),
-        By::Downstairs => Ok(Way::Downstairs),
-        By::Fewest => Ok(fewest_way(geometry, Generator::new(alloc, geometry)?)),
-    }
-}
-
-/// The encoder that takes the fewest steps, of the standard one with these coefficients and the two others.
-fn fewest_way(geometry: &Geometry, generator: Generator) -> Way
-    requires of { generator.geometry ≡ geometry.now }
-    ensures of { IsWayOf geometry.now result }
-    ensures fewest { IsFewest geometry.now (encoder_of result) }
-    ensures cost { IsCostOf (encoder_of result) geometry.now (steps_of geometry.now result) }
-{
-    let standard = generator.cost();
-    match fewest(
-        standard,
-        upstairs_steps(geometry),
-        downstairs_steps(geometry),
-    ) {
-        Encoder::Standard => Way::Standard(generator),
-        Encoder::Upstairs => Way::Upstairs,
-        Encoder::Downstairs => Way::Downstairs,
+        By::Standard => Encoder::Standard,
+        By::Upstairs => Encoder::Upstairs,
+        By::Downstairs => Encoder::Downstairs,
+        By::Fewest => fewest(
+            generator.cost(),
+            upstairs_steps(geometry),
+            downstairs_steps(geometry),
+        ),
     }
 }

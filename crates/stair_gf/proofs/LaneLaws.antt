@@ -1,16 +1,16 @@
 -- Vectors of 32 bytes, lane by lane, and the products that a shuffle finds.
-use Rattle.std.proofs.Common.{◌≡◌, ℕ, ◌+◌, ◌*◌, ◌/◌, ◌%◌, ◌^◌, ◌<◌, ◌≤◌, Bool, true, false, cond, eqb, List, map, length, replicate, slice_index, get_or, refl, sym, ap, ap₂, ◌∙◌, arith, w8, Fits, eqb-true, mod-lt}
+use Rattle.std.proofs.Common.{◌≡◌, ℕ, ◌+◌, ◌*◌, ◌/◌, ◌%◌, ◌^◌, ◌<◌, ◌≤◌, Bool, true, false, cond, eqb, List, ◌++◌, map, length, replicate, slice_index, get_or, refl, sym, ap, ap₂, ◌∙◌, arith, w8, Fits, eqb-true, mod-lt}
 use Rattle.std.specs.Prelude.{bit_xor, bit_and, ◌==◌, if◌then◌else◌}
 use Rattle.std.proofs.lemmas.Bool.{agree_below_at}
-use Rattle.std.proofs.lemmas.List.{get_or-replicate, length-replicate}
+use Rattle.std.proofs.lemmas.List.{get_or-map, get_or-replicate, get_or_append_left, length-replicate}
 use Rattle.std.specs.Int.Bits.{xor_zero_r}
 use Rattle.std.proofs.lemmas.Nat.{and_mask, xor_block, xor_comm}
 use Rattle.std.proofs.lemmas.Simd.{Each1-get_or, Each1-from_get_or, get_or-zip2, length-zip2, length-chunk, get_or-chunk, get_or-sel_l, length-sel_l, tops_compared, SwzOk, SwzOk-from_below, swz_l, length-swz_l, get_or-swz_l_below}
-use Rattle.std.specs.Simd.Lanes.{Each1, chunk, zip2, sel_l, top}
+use Rattle.std.specs.Simd.Lanes.{Each1, chunk, pick_l, zip2, sel_l, top}
 use Rattle.stair_model.specs.Field.{product}
 use Rattle.stair_model.proofs.FieldLaws.{product-xor_right, product-zero_right}
 use Rattle.stair_gf.specs.declared.lanes.TheConstants.{HALVES}
-use Rattle.stair_gf.specs.Lanes.{AreLanes, HasProducts}
+use Rattle.stair_gf.specs.Lanes.{AreLanes, HasDoublings, HasProducts, by_bits}
 
 -- an operation on two vectors
 pub AreLanes-zip2 : (g : ℕ → ℕ → ℕ) {u v : List ℕ} {e f : ℕ → ℕ} → AreLanes u e → AreLanes v f → AreLanes (zip2 g u v) (λ k. g (e k) (f k))
@@ -47,34 +47,28 @@ numbers = record {
 abbrev marks : ℕ → List ℕ → List Bool
 marks bit v = map (top 7) (zip2 (λ a b. cond (eqb a b) 255 0) v (replicate 32 bit))
 
-pub where_bit_lanes : (bit multiple : ℕ) → AreLanes (sel_l (marks bit (zip2 bit_and HALVES (replicate 32 bit))) (replicate 32 multiple) (replicate 32 0))
-    (λ k. if bit_and (k % 16) bit == bit then multiple else 0)
-where_bit_lanes bit multiple =
+pub where_bit_lanes : (bit : ℕ) (bytes : List ℕ) → length bytes ≡ 32
+    → AreLanes (sel_l (marks bit (zip2 bit_and HALVES (replicate 32 bit))) bytes (replicate 32 0))
+    (λ k. if bit_and (k % 16) bit == bit then slice_index bytes k else 0)
+where_bit_lanes bit bytes whole =
     let v = zip2 bit_and HALVES (replicate 32 bit) in
     let b = replicate 32 bit in
     let has : AreLanes v (λ k. bit_and (k % 16) bit) = AreLanes-zip2 bit_and numbers (AreLanes-splat bit) in
     let compared : marks bit v ≡ zip2 eqb v b = tops_compared w8 eqb v b in
     let b_long : length b ≡ 32 = length-replicate {A = ℕ} 32 bit in
     let long : length (marks bit v) ≡ 32 = ap length compared ∙ length-zip2 eqb v b (has.long ∙ sym b_long) ∙ has.long in
-    let whole : length (replicate 32 multiple) ≡ 32 = length-replicate {A = ℕ} 32 multiple in
     let none : length {A = ℕ} (replicate 32 0) ≡ 32 = length-replicate {A = ℕ} 32 0 in record {
-      long = length-sel_l (marks bit v) (replicate 32 multiple) (replicate 32 0) (long ∙ sym whole) (long ∙ sym none) ∙ long;
+      long = length-sel_l (marks bit v) bytes (replicate 32 0) (long ∙ sym whole) (long ∙ sym none) ∙ long;
       lane = λ k h.
           let mark : get_or (marks bit v) k false ≡ eqb (bit_and (k % 16) bit) bit =
           ap (λ l. get_or l k false) compared ∙ get_or-zip2 eqb v b k 0 0 false (omega (arith, has.long)) (omega (arith, b_long))
           ∙ ap₂ eqb (has.lane k h) (get_or-replicate 32 k bit 0 h) in
-          get_or-sel_l (marks bit v) (replicate 32 multiple) (replicate 32 0) k 0 (omega (arith, long)) (omega (arith, whole)) (omega (arith, none))
-          ∙ ap₂ (λ t x. cond t x (get_or (replicate 32 0) k 0)) mark (get_or-replicate 32 k multiple 0 h)
-          ∙ ap (cond (eqb (bit_and (k % 16) bit) bit) multiple) (get_or-replicate 32 k 0 0 h);
+          get_or-sel_l (marks bit v) bytes (replicate 32 0) k 0 (omega (arith, long)) (omega (arith, whole)) (omega (arith, none))
+          ∙ ap (λ t. cond t (slice_index bytes k) (get_or (replicate 32 0) k 0)) mark
+          ∙ ap (cond (eqb (bit_and (k % 16) bit) bit) (slice_index bytes k)) (get_or-replicate 32 k 0 0 h);
     }
 
 -- ---- a table, as a sum of four terms
-
--- what is made of lane k where the four bits' multiples are these
-abbrev pub by_bits : ℕ → ℕ → ℕ → ℕ → ℕ → ℕ
-by_bits k w x y z =
-    bit_xor (bit_xor (bit_xor (if bit_and (k % 16) 1 == 1 then w else 0) (if bit_and (k % 16) 2 == 2 then x else 0)) (if bit_and (k % 16) 4 == 4 then y else 0))
-    (if bit_and (k % 16) 8 == 8 then z else 0)
 
 either : (by x : ℕ) (t : Bool) → (if t then product by x else 0) ≡ product by (if t then x else 0)
 either by x true = refl
@@ -99,14 +93,49 @@ low_by_bits k h = eqb-true _ _ (agree_below_at (λ j. by_bits j 1 2 4 8 == j % 1
 pub high_by_bits : (k : ℕ) → k < 32 → by_bits k 16 32 64 128 ≡ k % 16 * 16
 high_by_bits k h = eqb-true _ _ (agree_below_at (λ j. by_bits j 16 32 64 128 == j % 16 * 16) (λ j. true) 32 k refl h)
 
--- the four terms together
-pub table_by_bits : (by w x y z : ℕ) (f : ℕ → ℕ) {s t u v : List ℕ}
-    → AreLanes s (λ k. if bit_and (k % 16) 1 == 1 then product by w else 0) → AreLanes t (λ k. if bit_and (k % 16) 2 == 2 then product by x else 0)
-    → AreLanes u (λ k. if bit_and (k % 16) 4 == 4 then product by y else 0) → AreLanes v (λ k. if bit_and (k % 16) 8 == 8 then product by z else 0)
-    → ((k : ℕ) → k < 32 → by_bits k w x y z ≡ f k) → AreLanes (zip2 bit_xor (zip2 bit_xor (zip2 bit_xor s t) u) v) (λ k. product by (f k))
-table_by_bits by w x y z f a b c d whole =
-    AreLanes-same (AreLanes-zip2 bit_xor (AreLanes-zip2 bit_xor (AreLanes-zip2 bit_xor a b) c) d)
-    (λ k h. product_by_bits by k w x y z ∙ ap (product by) (whole k h))
+-- one lane in all places
+picked : (xs ys : List ℕ) (i k : ℕ) → length xs ≡ 16 → i < 16 → k < 32
+    → slice_index (pick_l 0 (xs ++ ys) (replicate 32 i)) k ≡ slice_index xs i
+picked xs ys i k long in_first h =
+    get_or-map (λ j. get_or (xs ++ ys) j 0) (replicate 32 i) k 0 0 (omega (arith, length-replicate {A = ℕ} 32 i))
+    ∙ ap (λ j. get_or (xs ++ ys) j 0) (get_or-replicate 32 k i 0 h) ∙ get_or_append_left xs ys 0 i (omega arith)
+
+-- the four terms together, each from one lane of these bytes
+pub sum_of_four : (xs ys : List ℕ) {s t u v : List ℕ} → length xs ≡ 16
+    → AreLanes s (λ k. if bit_and (k % 16) 1 == 1 then slice_index (pick_l 0 (xs ++ ys) (replicate 32 0)) k else 0)
+    → AreLanes t (λ k. if bit_and (k % 16) 2 == 2 then slice_index (pick_l 0 (xs ++ ys) (replicate 32 1)) k else 0)
+    → AreLanes u (λ k. if bit_and (k % 16) 4 == 4 then slice_index (pick_l 0 (xs ++ ys) (replicate 32 2)) k else 0)
+    → AreLanes v (λ k. if bit_and (k % 16) 8 == 8 then slice_index (pick_l 0 (xs ++ ys) (replicate 32 3)) k else 0)
+    → AreLanes (zip2 bit_xor (zip2 bit_xor (zip2 bit_xor s t) u) v) (λ k. by_bits k (slice_index xs 0) (slice_index xs 1) (slice_index xs 2) (slice_index xs 3))
+sum_of_four xs ys long a b c d =
+    AreLanes-zip2 bit_xor (AreLanes-zip2 bit_xor (AreLanes-zip2 bit_xor
+    (AreLanes-same a (λ k h. ap (λ x. if bit_and (k % 16) 1 == 1 then x else 0) (picked xs ys 0 k long (omega arith) h)))
+    (AreLanes-same b (λ k h. ap (λ x. if bit_and (k % 16) 2 == 2 then x else 0) (picked xs ys 1 k long (omega arith) h))))
+    (AreLanes-same c (λ k h. ap (λ x. if bit_and (k % 16) 4 == 4 then x else 0) (picked xs ys 2 k long (omega arith) h))))
+    (AreLanes-same d (λ k h. ap (λ x. if bit_and (k % 16) 8 == 8 then x else 0) (picked xs ys 3 k long (omega arith) h)))
+
+-- such a sum of products of by is its product
+sum_is_product : (by k w x y z i j l m : ℕ) → w ≡ product by i → x ≡ product by j → y ≡ product by l → z ≡ product by m
+    → by_bits k w x y z ≡ product by (by_bits k i j l m)
+sum_is_product by k w x y z i j l m w_is x_is y_is z_is =
+    ap₂ (λ a b. by_bits k a b y z) w_is x_is ∙ ap₂ (by_bits k (product by i) (product by j)) y_is z_is ∙ product_by_bits by k i j l m
+
+-- both tables, from the doublings and from these moved on by four
+pub products_of_sums : (by : ℕ) (xs ys : List ℕ) {low high : List ℕ} → HasDoublings by xs
+    → AreLanes low (λ k. by_bits k (slice_index xs 0) (slice_index xs 1) (slice_index xs 2) (slice_index xs 3))
+    → AreLanes high (λ k. by_bits k (slice_index (xs ++ ys) 4) (slice_index (xs ++ ys) 5) (slice_index (xs ++ ys) 6) (slice_index (xs ++ ys) 7))
+    → HasProducts by low high
+products_of_sums by xs ys doublings low high =
+    let moved : (i : ℕ) → i < 8 → slice_index (xs ++ ys) i ≡ product by (2 ^ i) =
+    λ i h. get_or_append_left xs ys 0 i (omega (arith, doublings.long)) ∙ doublings.each i h in
+    record {
+      low_halves = AreLanes-same low (λ k h.
+          sum_is_product by k _ _ _ _ 1 2 4 8 (doublings.each 0 (omega arith)) (doublings.each 1 (omega arith)) (doublings.each 2 (omega arith)) (doublings.each 3 (omega arith))
+          ∙ ap (product by) (low_by_bits k h));
+      high_halves = AreLanes-same high (λ k h.
+          sum_is_product by k _ _ _ _ 16 32 64 128 (moved 4 (omega arith)) (moved 5 (omega arith)) (moved 6 (omega arith)) (moved 7 (omega arith))
+          ∙ ap (product by) (high_by_bits k h));
+    }
 
 -- ---- a look-up by the halves of a byte
 

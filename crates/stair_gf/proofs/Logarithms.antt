@@ -1,10 +1,14 @@
 -- The powers of 2 in the field, and what the two tables say of them.
-use Rattle.std.proofs.Common.{◌≡◌, ℕ, zero, suc, ◌+◌, ◌-◌, ◌<◌, true, ◌||◌, inl, inr, refl, sym, ap, ap₂, ◌∙◌, eqb-true, ltb, ltb-true, arith}
+use Rattle.std.proofs.Common.{◌≡◌, ℕ, zero, suc, ◌+◌, ◌-◌, ◌^◌, ◌<◌, ◌≤◌, replicate, true, ◌||◌, inl, inr, refl, sym, ap, ap₂, ◌∙◌, eqb-true, ltb, ltb-true, arith}
 use Rattle.std.specs.Prelude.{◌==◌, slice_index}
 use Rattle.std.proofs.lemmas.Bool.{agree_below_at, or_cases}
+use Rattle.std.proofs.lemmas.List.{get_or-replicate, length-replicate}
+use Rattle.std.proofs.lemmas.Simd.{length-chunk, get_or-chunk}
+use Rattle.std.specs.Simd.Lanes.{chunk}
 use Rattle.stair_model.specs.Field.{times_x, product, inverse}
-use Rattle.stair_model.proofs.FieldLaws.{product-one_left, product-times_x_left, times_x-lt, inverse_only}
+use Rattle.stair_model.proofs.FieldLaws.{product-one_left, product-zero_left, product-times_x_left, times_x-lt, inverse_only}
 use Rattle.stair_gf.specs.declared.tables.TheConstants.{POWER, LOGARITHM}
+use Rattle.stair_gf.specs.Lanes.{HasDoublings}
 
 -- the power of 2, which is x, with this exponent
 unfoldable pub power : ℕ → ℕ
@@ -62,6 +66,28 @@ product_by_tables a b a_positive a_byte b_positive b_byte =
     POWER_at _ (omega (arith, LOGARITHM-lt a a_byte, LOGARITHM-lt b b_byte))
     ∙ sym (power-add (slice_index LOGARITHM a) (slice_index LOGARITHM b))
     ∙ ap₂ product (power_of_LOGARITHM a a_positive a_byte) (power_of_LOGARITHM b b_positive b_byte)
+
+-- the lowest powers are those of the number 2
+low_power : (i : ℕ) → i < 8 → power i ≡ 2 ^ i
+low_power i h =
+    sym (POWER_at i (omega arith)) ∙ eqb-true _ _ (agree_below_at (λ j. slice_index POWER j == 2 ^ j) (λ j. true) 8 i refl h)
+
+-- the powers from a byte's on are its products with them
+pub doublings_by_tables : (a : ℕ) → 0 < a → a < 256 → HasDoublings a (chunk (slice_index LOGARITHM a) 16 POWER)
+doublings_by_tables a positive byte =
+    let start = slice_index LOGARITHM a in
+    let within : start + 16 ≤ 512 = omega (arith, LOGARITHM-lt a byte) in record {
+      long = length-chunk start 16 POWER within;
+      each = λ i h.
+          get_or-chunk start 16 POWER i 0 (omega arith) ∙ POWER_at (start + i) (omega arith) ∙ sym (power-add start i)
+          ∙ ap₂ product (power_of_LOGARITHM a positive byte) (low_power i h);
+    }
+
+pub doublings_of_none : HasDoublings 0 (replicate 16 0)
+doublings_of_none = record {
+  long = length-replicate {A = ℕ} 16 0;
+  each = λ i h. get_or-replicate 16 i 0 0 (omega arith) ∙ sym (product-zero_left (2 ^ i));
+}
 
 -- the 255th power is 1
 power_255 : power 255 ≡ 1

@@ -1,13 +1,19 @@
 -- Multiples that are added stretch by stretch.
-use Rattle.std.proofs.Common.{◌≡◌, ℕ, ◌+◌, ◌-◌, ◌*◌, ◌<◌, ◌≤◌, List, length, slice_index, refl, sym, ap, ap₂, ◌∙◌, inl, inr, arith}
-use Rattle.std.specs.Prelude.{bit_xor}
-use Rattle.std.specs.Simd.Lanes.{chunk, put_chunk, zip2}
+use Rattle.std.proofs.Common.{◌≡◌, ◌≢◌, ℕ, ◌+◌, ◌-◌, ◌*◌, ◌<◌, ◌≤◌, List, [], length, slice_index, slice_index_or, slice_set, refl, sym, ap, ap₂, subst, ◌∙◌, inl, inr, arith, add-one}
+use Rattle.std.specs.Prelude.{Contains, bit_xor}
+use Rattle.std.specs.Simd.Lanes.{put_chunk, zip2}
+use Rattle.std.specs.Int.Bits.{xor_assoc, xor_zero_r}
+use Rattle.std.proofs.lemmas.List.{get_or-set_same, get_or-set_other, length-set}
+use Rattle.std.proofs.lemmas.List.Elements.{Contains-get_or}
 use Rattle.std.proofs.lemmas.Bool.{cases_lt}
 use Rattle.std.proofs.lemmas.Simd.{length-put_chunk, get_or-put_chunk_below, get_or-put_chunk_at, get_or-put_chunk_above}
 use Rattle.stair_model.specs.Field.{product}
+use Rattle.stair_model.specs.Stripe.{symbol_byte}
 use Rattle.stair_gf.specs.AddsMultiple.{AddsMultiple, AddsMultipleWithin}
-use Rattle.stair_gf.specs.Lanes.{AreLanes}
-use Rattle.stair_gf.proofs.LaneLaws.{AreLanes-zip2, AreLanes-chunk}
+use Rattle.stair_model.proofs.SumLaws.{field_sum_none, field_sum_more, field_sum_same}
+use Rattle.stair_gf.specs.AddsMultiples.{AddsMultiplesBelow, AreOtherPlaces, multiples, sum_with}
+use Rattle.stair_gf.specs.Lanes.{AreLanes, HasLanesAt}
+use Rattle.stair_gf.proofs.LaneLaws.{AreLanes-same, AreLanes-zip2}
 
 pub AddsMultipleWithin-none : (bytes from : List ℕ) (by start : ℕ) → AddsMultipleWithin bytes bytes from by start start
 AddsMultipleWithin-none bytes from by start = record {
@@ -31,34 +37,116 @@ AddsMultiple-from_two old middle new from by start end first second whole = reco
       ];
 }
 
--- one block more, from the vector that is stored there
-pub AddsMultipleWithin-block : (old new from products : List ℕ) (by n : ℕ) → AddsMultipleWithin old new from by 0 (32 * n) → 32 * n + 32 ≤ length new
-    → AreLanes products (λ k. product by (slice_index (chunk (32 * n) 32 from) k)) → length new ≡ length from
-    → AddsMultipleWithin old (put_chunk (32 * n) new (zip2 bit_xor (chunk (32 * n) 32 new) products)) from by 0 (32 * (n + 1))
-AddsMultipleWithin-block old new from products by n so_far within lanes same =
-    let start = 32 * n in
-    let sum = zip2 bit_xor (chunk start 32 new) products in
-    let sums : AreLanes sum (λ k. bit_xor (slice_index new (start + k)) (product by (slice_index (chunk start 32 from) k))) =
-    AreLanes-zip2 bit_xor (AreLanes-chunk start new within) lanes in
-    let from_within : start + 32 ≤ length from = omega arith in
-    record {
-      same_length = length-put_chunk start new sum ∙ so_far.same_length;
-      added = λ k low high.
-          elim (cases_lt k start) [
-            | inl done ↦ get_or-put_chunk_below start new sum k 0 done ∙ so_far.added k low done
-            | inr here ↦
-                let lane = k - start in
-                let lane_below : lane < 32 = omega arith in
-                let place : start + lane ≡ k = omega arith in
-                let stored : slice_index (put_chunk start new sum) (start + lane) ≡ slice_index sum lane =
-                get_or-put_chunk_at start new sum lane 0 (omega (arith, sums.long)) (omega (arith, sums.long)) in
-                ap (slice_index (put_chunk start new sum)) (sym place) ∙ stored ∙ sums.lane lane lane_below
-                ∙ ap₂ (λ x y. bit_xor x (product by y))
-                (ap (slice_index new) place ∙ so_far.above k (omega arith))
-                ((AreLanes-chunk start from from_within).lane lane lane_below ∙ ap (slice_index from) place)
-          ];
+-- one block more of what the bytes are to become
+pub more : (new newer sum : List ℕ) (start : ℕ) (f : ℕ → ℕ) → ((k : ℕ) → k < start → slice_index new k ≡ f k) → AreLanes sum (λ k. f (start + k))
+    → HasLanesAt new newer start sum → (k : ℕ) → k < start + 32 → slice_index newer k ≡ f k
+more new newer sum start f done sums stored k h =
+    elim (cases_lt k start) [
+      | inl low ↦ stored.below k low ∙ done k low
+      | inr high ↦
+          let lane = k - start in
+          let lane_below : lane < 32 = omega arith in
+          let place : start + lane ≡ k = omega arith in
+          subst (λ j. slice_index newer j ≡ f j) place (stored.here lane lane_below ∙ sums.lane lane lane_below)
+    ]
+
+-- a vector that is stored
+pub stored_lanes : (start : ℕ) (bytes v : List ℕ) → start + 32 ≤ length bytes → length v ≡ 32 → HasLanesAt bytes (put_chunk start bytes v) start v
+stored_lanes start bytes v within long = record {
+  same_length = length-put_chunk start bytes v;
+  here = λ k h. get_or-put_chunk_at start bytes v k 0 (omega (arith, long)) (omega (arith, long));
+  below = λ k h. get_or-put_chunk_below start bytes v k 0 h;
+  above = λ k h. get_or-put_chunk_above start bytes v k 0 (omega (arith, long));
+}
+
+-- one block more of multiples
+pub AddsMultipleWithin-block : (old new newer from sum : List ℕ) (by n : ℕ) → AddsMultipleWithin old new from by 0 (32 * n)
+    → AreLanes sum (λ k. bit_xor (slice_index new (32 * n + k)) (product by (slice_index from (32 * n + k))))
+    → HasLanesAt new newer (32 * n) sum → AddsMultipleWithin old newer from by 0 (32 * (n + 1))
+AddsMultipleWithin-block old new newer from sum by n so_far sums stored =
+    let added = λ (k : ℕ). bit_xor (slice_index old k) (product by (slice_index from k)) in record {
+      same_length = stored.same_length ∙ so_far.same_length;
+      added = λ k low h.
+          more new newer sum (32 * n) added (λ j before. so_far.added j (omega arith) before)
+          (AreLanes-same sums (λ j lane. ap (λ x. bit_xor x (product by (slice_index from (32 * n + j)))) (so_far.above (32 * n + j) (omega arith))))
+          stored k (omega arith);
       below = λ k h. absurd (omega arith);
-      above = λ k h.
-          let past : start + length sum ≤ k = omega (arith, sums.long) in
-          get_or-put_chunk_above start new sum k 0 past ∙ so_far.above k (omega arith);
+      above = λ k h. stored.above k (omega arith) ∙ so_far.above k (omega arith);
+    }
+
+-- ---- several multiples
+
+-- the multiples of other symbols are the same where those are
+multiples_same : (old new : List (List ℕ)) (into : ℕ) (from by : List ℕ) (k n : ℕ) → AreOtherPlaces (length old) into from → n ≤ length from
+    → ((p : ℕ) → p ≢ into → slice_index_or new p [] ≡ slice_index_or old p []) → multiples new from by k n ≡ multiples old from by k n
+multiples_same old new into from by k n places within same =
+    field_sum_same n _ _
+    (λ i h. ap (λ symbol. product (slice_index by i) (slice_index symbol k))
+    (same (slice_index from i) (λ is. places.others (subst (Contains from) is (Contains-get_or from i 0 (omega arith))))))
+
+-- no multiple is added yet
+pub sums_none : (symbols : List (List ℕ)) (start into : ℕ) (from by : List ℕ) {sum : List ℕ}
+    → AreLanes sum (λ k. slice_index (slice_index_or symbols into []) (start + k))
+    → AreLanes sum (λ k. bit_xor (symbol_byte symbols (start + k) into) (multiples symbols from by (start + k) 0))
+sums_none symbols start into from by loaded =
+    AreLanes-same loaded (λ k h.
+    sym (ap (bit_xor (symbol_byte symbols (start + k) into)) (field_sum_none _) ∙ xor_zero_r (symbol_byte symbols (start + k) into)))
+
+-- one multiple more
+pub sums_more : (symbols : List (List ℕ)) (start into place i : ℕ) (from by : List ℕ) {sum loaded products : List ℕ}
+    → AreLanes sum (λ k. bit_xor (symbol_byte symbols (start + k) into) (multiples symbols from by (start + k) i))
+    → place ≡ slice_index from i → AreLanes loaded (λ k. slice_index (slice_index_or symbols place []) (start + k))
+    → AreLanes products (λ k. product (slice_index by i) (slice_index loaded k))
+    → AreLanes (zip2 bit_xor sum products) (λ k. bit_xor (symbol_byte symbols (start + k) into) (multiples symbols from by (start + k) (i + 1)))
+sums_more symbols start into place i from by so_far is loads factors =
+    AreLanes-same (AreLanes-zip2 bit_xor so_far factors) (λ k h.
+    let old = symbol_byte symbols (start + k) into in
+    let sum = multiples symbols from by (start + k) i in
+    ap (λ byte. bit_xor (bit_xor old sum) (product (slice_index by i) byte))
+    (loads.lane k h ∙ ap (symbol_byte symbols (start + k)) is)
+    ∙ xor_assoc old sum (product (slice_index by i) (symbol_byte symbols (start + k) (slice_index from i)))
+    ∙ ap (bit_xor old) (sym (field_sum_more i (λ j. product (slice_index by j) (symbol_byte symbols (start + k) (slice_index from j)))))
+    ∙ ap (λ n. bit_xor old (multiples symbols from by (start + k) n)) (sym (add-one i)))
+
+-- no block yet
+pub AddsMultiplesBelow-none : (symbols : List (List ℕ)) (into : ℕ) (from by : List ℕ) → length (slice_index_or symbols into []) ≡ 512
+    → AddsMultiplesBelow symbols symbols into from by 0
+AddsMultiplesBelow-none symbols into from by long = record {
+  count = refl;
+  others = λ p other. refl;
+  long = long;
+  added = λ k h. absurd (omega arith);
+  rest = λ k h. refl;
+}
+
+-- sums of what is still to be done are those of what there was
+pub sums_of_old : (old new : List (List ℕ)) (into start end : ℕ) (from by : List ℕ) {sum : List ℕ}
+    → AreOtherPlaces (length old) into from → AddsMultiplesBelow old new into from by end → end ≤ start
+    → AreLanes sum (λ k. sum_with new into from by (start + k)) → AreLanes sum (λ k. sum_with old into from by (start + k))
+sums_of_old old new into start end from by places so_far past sums =
+    AreLanes-same sums (λ k h.
+    ap₂ bit_xor (so_far.rest (start + k) (omega arith)) (multiples_same old new into from by (start + k) (length from) places (omega arith) so_far.others))
+
+-- two blocks more
+pub AddsMultiplesBelow-pair : (old new : List (List ℕ)) (into start : ℕ) (from by bytes both first second : List ℕ)
+    → AreOtherPlaces (length old) into from → into < length old → AddsMultiplesBelow old new into from by start
+    → AreLanes first (λ k. sum_with new into from by (start + k)) → AreLanes second (λ k. sum_with new into from by (start + 32 + k))
+    → HasLanesAt (slice_index_or new into []) bytes start first → HasLanesAt bytes both (start + 32) second
+    → AddsMultiplesBelow old (slice_set new into both) into from by (start + 64)
+AddsMultiplesBelow-pair old new into start from by bytes both first second places within so_far first_sums second_sums stored_first stored_second =
+    let same : slice_index_or (slice_set new into both) into [] ≡ both = get_or-set_same new into both [] (omega (arith, so_far.count)) in
+    let added = sum_with old into from by in
+    let first_done : (k : ℕ) → k < start + 32 → slice_index bytes k ≡ added k =
+    more (slice_index_or new into []) bytes first start added so_far.added
+    (sums_of_old old new into start start from by places so_far (omega arith) first_sums) stored_first in
+    record {
+      count = length-set new into both ∙ so_far.count;
+      others = λ p other. get_or-set_other new into p both [] other ∙ so_far.others p other;
+      long = ap length same ∙ stored_second.same_length ∙ stored_first.same_length ∙ so_far.long;
+      added = λ k h.
+          ap (λ symbol. slice_index symbol k) same
+          ∙ more bytes both second (start + 32) added first_done
+          (sums_of_old old new into (start + 32) start from by places so_far (omega arith) second_sums) stored_second k (omega arith);
+      rest = λ k h.
+          ap (λ symbol. slice_index symbol k) same ∙ stored_second.above k (omega arith) ∙ stored_first.above k (omega arith) ∙ so_far.rest k (omega arith);
     }

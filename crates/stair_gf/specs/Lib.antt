@@ -1,2 +1,3 @@
 pub mod AddsMultiple
+pub mod AddsMultiples
 pub mod Lanes

@@ -1,9 +1,9 @@
 //! Products of 32 bytes at a time.
-ghost use Rattle.std.specs.Prelude.{◌≡◌, ◌*◌, ◌%◌, ◌==◌, if◌then◌else◌, slice_index, bit_and};
+ghost use Rattle.std.specs.Prelude.{◌≡◌, ◌+◌, ◌*◌, ◌%◌, ◌≤◌, ◌==◌, if◌then◌else◌, length, slice_index, bit_and};
 ghost use Rattle.stair_model.specs.Field.{product};
-ghost use Rattle.stair_gf.specs.Lanes.{AreLanes};
+ghost use Rattle.stair_gf.specs.Lanes.{AreLanes, HasLanesAt, by_bits};
 
-use crate::tables::mul;
+use crate::tables::doublings;
 use std::marker::Model;
 use std::simd::prelude::*;
 
@@ -18,7 +18,7 @@ static HALVES: [u8; 32] = [
 /// Of another byte each half has 16 values, so the products with them make two tables, which a
 /// shuffle of bytes reads at 16 lanes at once; each stands twice, for 32 lanes.
 #[derive(Drop)]
-pub(crate) struct Factor {
+pub struct Factor {
     by: u8,
     low: u8x32,
     high: u8x32,
@@ -38,13 +38,14 @@ impl Model for Factor {
 impl Factor {
     /// The factor that is this byte.
     #[inline(always)]
-    pub(crate) fn new(by: u8) -> Factor
+    pub fn new(by: u8) -> Factor
         ensures { result ≡ by }
     {
+        let multiples = doublings(by);
         Factor {
             by,
-            low: low_products(by),
-            high: high_products(by),
+            low: sums(multiples),
+            high: sums(multiples.rotate_elements_left::<4>()),
         }
     }
 
@@ -59,35 +60,44 @@ impl Factor {
     }
 }
 
-/// The products with the bytes below 16.
+/// The 32 bytes from this place on.
 #[inline(always)]
-fn low_products(by: u8) -> u8x32
-    ensures { AreLanes result (λ k. product by (k % 16)) }
+pub(crate) fn load(bytes: &[u8], start: usize) -> u8x32
+    requires { start + 32 ≤ length bytes.now }
+    ensures { AreLanes result (λ k. slice_index bytes.now (start + k)) }
 {
-    where_bit(1, mul(by, 1))
-        ^ where_bit(2, mul(by, 2))
-        ^ where_bit(4, mul(by, 4))
-        ^ where_bit(8, mul(by, 8))
+    u8x32::from_slice(&bytes[start..])
 }
 
-/// The products with the bytes whose low half is 0.
+/// Puts these 32 bytes at this place.
 #[inline(always)]
-fn high_products(by: u8) -> u8x32
-    ensures { AreLanes result (λ k. product by (k % 16 * 16)) }
+pub(crate) fn store(bytes: &mut [u8], start: usize, lanes: u8x32)
+    requires { start + 32 ≤ length bytes.old }
+    ensures { HasLanesAt bytes.old bytes.new start lanes }
 {
-    where_bit(1, mul(by, 16))
-        ^ where_bit(2, mul(by, 32))
-        ^ where_bit(4, mul(by, 64))
-        ^ where_bit(8, mul(by, 128))
+    lanes.copy_to_slice(&mut bytes[start..]);
 }
 
-/// This multiple in the lanes whose number has the bit, and 0 in the others.
+/// In each lane the sum of those of the first four multiples whose bits its number has.
 #[inline(always)]
-fn where_bit(bit: u8, multiple: u8) -> u8x32
-    ensures { AreLanes result (λ k. if bit_and (k % 16) bit == bit then multiple else 0) }
+fn sums(multiples: u8x16) -> u8x32
+    ensures { AreLanes result (λ k. by_bits k (slice_index multiples 0) (slice_index multiples 1)
+        (slice_index multiples 2) (slice_index multiples 3)) }
+{
+    where_bit(1, multiples.swizzle([0; 32]))
+        ^ where_bit(2, multiples.swizzle([1; 32]))
+        ^ where_bit(4, multiples.swizzle([2; 32]))
+        ^ where_bit(8, multiples.swizzle([3; 32]))
+}
+
+/// These bytes in the lanes whose number has the bit, and 0 in the others.
+#[inline(always)]
+fn where_bit(bit: u8, bytes: u8x32) -> u8x32
+    requires { length bytes ≡ 32 }
+    ensures { AreLanes result (λ k. if bit_and (k % 16) bit == bit then slice_index bytes k else 0) }
 {
     let numbers = u8x32::from_array(HALVES);
     (numbers & u8x32::splat(bit))
         .simd_eq(u8x32::splat(bit))
-        .select(u8x32::splat(multiple), u8x32::splat(0))
+        .select(bytes, u8x32::splat(0))
 }

@@ -11,7 +11,8 @@ mod plain;
 mod steps;
 mod tables;
 
-pub use multiples::mul_add;
+pub use lanes::Factor;
+pub use multiples::{SYMBOL, mul_add, mul_add_sum};
 pub use plain::{mul_add_plain, mul_plain};
 pub use steps::Steps;
 pub use tables::{inv, mul};

@@ -1,7 +1,11 @@
 //! Products by logarithms: the powers of x, which is the byte 2, run through the 255 bytes other
 //! than 0.
-ghost use Rattle.std.specs.Prelude.{◌≡◌, ◌<◌, slice_index};
+ghost use Rattle.std.specs.Prelude.{◌≡◌, ◌<◌, ◌≤◌, slice_index};
+ghost use Rattle.std.specs.Simd.Lanes.{chunk};
 ghost use Rattle.stair_model.specs.Field.{product, inverse};
+ghost use Rattle.stair_gf.specs.Lanes.{HasDoublings};
+
+use std::simd::prelude::*;
 
 /// The powers of 2 in the field by their exponents, far enough for any sum of two logarithms.
 static POWER: [u8; 512] = [
@@ -73,6 +77,27 @@ pub fn mul(a: u8, b: u8) -> u8
         return 0;
     }
     power(usize::from(logarithm(a)) + usize::from(logarithm(b)))
+}
+
+#[inline(always)]
+fn powers_from(exponent: usize) -> u8x16
+    requires { exponent ≤ 496 }
+    ensures { result ≡ chunk exponent 16 POWER }
+{
+    u8x16::from_slice(&POWER[exponent..])
+}
+
+/// The products of a byte with 1, 2, 4 and so on, of which eight mean something: they follow each
+/// other among the powers.
+#[inline(always)]
+pub(crate) fn doublings(by: u8) -> u8x16
+    ensures { HasDoublings by result }
+{
+    if by == 0 {
+        u8x16::splat(0)
+    } else {
+        powers_from(usize::from(logarithm(by)))
+    }
 }
 
 /// The inverse 1/a, the byte whose product with `a` is 1.

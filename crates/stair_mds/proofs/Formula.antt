@@ -1,24 +1,70 @@
--- Lagrange's formula gives each place of a codeword, and its divisor isn't 0.
-use Rattle.std.proofs.Common.{◌≡◌, ℕ, ◌<◌, ◌≤◌, List, slice_index, sym, ap, ◌∙◌, arith}
+-- Lagrange's formula gives each place of a codeword, and is worked out by two parts.
+use Rattle.std.proofs.Common.{◌≡◌, ◌≢◌, ℕ, ◌<◌, ◌≤◌, List, slice_index, sym, subst, ap, ◌∙◌, arith}
+use Rattle.std.specs.Prelude.{Contains, bit_xor}
+use Rattle.std.proofs.lemmas.List.Elements.{Contains-get_or}
+use Rattle.std.proofs.lemmas.Nat.{xor_lt}
 use Rattle.stair_model.specs.Field.{product, inverse}
 use Rattle.stair_model.specs.Sum.{field_sum}
 use Rattle.stair_model.specs.CauchyCode.{coefficient, IsSystematicCodeword, AreKnownPlaces}
-use Rattle.stair_model.proofs.FieldLaws.{product-pos, product_assoc, product_left_comm, product_right_comm, product-inverse_product, inverse-product}
+use Rattle.stair_model.proofs.FieldLaws.{xor-pos, product_comm, product_assoc, product_left_comm, product_right_comm, product-one_right, product-inverse_right, product-inverse_product, inverse-product}
+use Rattle.stair_model.proofs.ProductLaws.{product_except_whole}
 use Rattle.stair_model.proofs.SumLaws.{field_sum_same, field_sum-product_left}
 use Rattle.stair_model.proofs.LagrangeLaws.{distances, distances-lt, own_distances-pos, combination, combination-polynomial, lagrange}
 use Rattle.stair_model.proofs.CodeLaws.{weight, weight-lt, weight-pos, codeword_polynomial, known_below, known_bytes, known_distinct}
 use Rattle.stair_mds.specs.Lagrange as words
 
--- the divisor for a place isn't 0
-pub divisor-pos : (held total : ℕ) (known : List ℕ) (i b : ℕ) → held ≤ 256 → total ≤ 256 → AreKnownPlaces held total known
-    → i < held → b < total
-    → 0 < product (words.weight held b) (words.distances held (slice_index known) i (slice_index known i))
-unfolding weight distances words.weight words.distances
-divisor-pos held total known i b small few places i_in b_in =
-    product-pos (weight held b) (distances held (slice_index known) i (slice_index known i))
-    (weight-pos held b small (omega arith)) (weight-lt held b)
-    (own_distances-pos held (slice_index known) i (known_bytes held total known few places) (known_distinct held total known places) i_in)
-    (distances-lt held (slice_index known) i (slice_index known i))
+-- no part of the formula divides by 0
+pub own_distance-pos : (held total : ℕ) (known : List ℕ) (i : ℕ) → total ≤ 256 → AreKnownPlaces held total known → i < held
+    → 0 < words.distances held (slice_index known) i (slice_index known i)
+unfolding distances words.distances
+own_distance-pos held total known i few places =
+    own_distances-pos held (slice_index known) i (known_bytes held total known few places) (known_distinct held total known places)
+
+pub weight_of-pos : (held p : ℕ) → held ≤ 256 → p < 256 → 0 < words.weight held p
+unfolding weight words.weight
+weight_of-pos held p few byte = weight-pos held p few byte
+
+-- ((w·l)·((d·x)·v))·y is (w·d)·(v·l) where x·y is 1
+cancel : (w l d x v y : ℕ) → d < 256 → product x y ≡ 1
+    → product (product (product w l) (product (product d x) v)) y ≡ product (product w d) (product v l)
+cancel w l d x v y byte one =
+    product_assoc (product w l) (product (product d x) v) y
+    ∙ ap (product (product w l))
+    (product_right_comm (product d x) v y
+    ∙ ap (λ z. product z v) (product_assoc d x y ∙ ap (product d) one ∙ product-one_right d byte))
+    ∙ product_assoc w l (product d v) ∙ ap (product w) (product_left_comm l d v) ∙ sym (product_assoc w d (product l v))
+    ∙ ap (product (product w d)) (product_comm l v)
+
+-- the formula by its two parts: their product over the sum of both places
+pub solving_by_parts : (held total : ℕ) (known : List ℕ) (i b : ℕ) → held ≤ 256 → total ≤ 256
+    → AreKnownPlaces held total known → i < held → b < 256 → (Contains known b → ⊥)
+    → product (product (words.known_part held known i) (words.wanted_part held known b)) (inverse (bit_xor b (slice_index known i)))
+    ≡ words.solving held known i b
+unfolding weight distances words.solving words.known_part words.wanted_part words.weight words.distances
+solving_by_parts held total known i b few small places within byte unknown =
+    ap (λ p. product (product (product (weight held a) (inverse own)) (product p (inverse (weight held b)))) (inverse between))
+    (product_except_whole held i (λ j. bit_xor b (slice_index known j)) within)
+    ∙ cancel (weight held a) (inverse own) there between (inverse (weight held b)) (inverse between)
+    (distances-lt held (slice_index known) i b)
+    (product-inverse_right between (xor-pos b a apart) (xor_lt 8 b a byte (known_bytes held total known small places i within)))
+    ∙ ap (product (product (weight held a) there))
+    (sym (inverse-product (weight held b) own (weight-pos held b few byte) (weight-lt held b)
+    (own_distance-pos held total known i small places within) (distances-lt held (slice_index known) i a)))
+  where
+    a : ℕ
+    a = slice_index known i
+
+    own : ℕ
+    own = distances held (slice_index known) i a
+
+    there : ℕ
+    there = distances held (slice_index known) i b
+
+    between : ℕ
+    between = bit_xor b a
+
+    apart : b ≢ a
+    apart same = unknown (subst (λ (p : ℕ). Contains known p) (sym same) (Contains-get_or known i 0 (omega (arith, places.count))))
 
 -- u·(((w·c)·v)·d) is ((w·d)·(u·v))·c
 regroup : (u w c v d : ℕ) → product u (product (product (product w c) v) d) ≡ product (product (product w d) (product u v)) c

@@ -1,7 +1,6 @@
 -- The wanted places that were solved so far.
-use Rattle.std.proofs.Common.{◌≡◌, ◌≢◌, ℕ, ◌+◌, ◌<◌, ◌≤◌, List, [], length, set, slice_index, refl, sym, subst, ap, ◌∙◌, arith}
+use Rattle.std.proofs.Common.{◌≡◌, ◌≢◌, ℕ, ◌+◌, ◌<◌, ◌≤◌, List, [], length, slice_index, refl, sym, subst, ap, ◌∙◌, arith}
 use Rattle.std.specs.Prelude.{All, Contains, slice_index_or}
-use Rattle.std.proofs.lemmas.List.{get_or-set_same, get_or-set_other, length-set}
 use Rattle.std.proofs.lemmas.List.Elements.{All-from_get_or, Contains-get_or}
 use borrow.Author.Count.{below_more}
 use Rattle.stair_model.specs.Field.{product}
@@ -43,25 +42,24 @@ module _ (code : Shape) (known wanted : List ℕ) (places : AreKnownPlaces code.
       (λ j below same. asked.unknown j 0 (omega arith)
       (subst (λ (p : ℕ). Contains known p) (sym same) (Contains-get_or known i 0 in_known))))
 
-  pub HasSolved-more : (symbol : List ℕ) → k < length wanted → HasSolved code known wanted old now k
-      → ((q : ℕ) → q < 512 → slice_index symbol q ≡ solution code known now q (slice_index wanted k))
-      → HasSolved code known wanted old (set now (slice_index wanted k) symbol) (k + 1)
-  HasSolved-more symbol in_wanted before is =
+  pub HasSolved-more : (new : List (List ℕ)) → k < length wanted → HasSolved code known wanted old now k → length new ≡ length now
+      → ((p : ℕ) → p ≢ slice_index wanted k → slice_index_or new p [] ≡ slice_index_or now p [])
+      → ((q : ℕ) → q < 512 → symbol_byte new q (slice_index wanted k) ≡ solution code known now q (slice_index wanted k))
+      → HasSolved code known wanted old new (k + 1)
+  HasSolved-more new in_wanted before same_count stays is =
       let place = slice_index wanted k in
-      let in_work : place < length now = omega (arith, asked.below k 0 in_wanted, before.count, count) in
       record {
-        count = length-set now place symbol ∙ before.count;
+        count = same_count ∙ before.count;
         others = λ p apart.
-            get_or-set_other now place p symbol [] (λ same. apart k (omega arith) (sym same))
-            ∙ before.others p (λ j below. apart j (omega arith));
+            stays p (λ same. apart k (omega arith) (sym same)) ∙ before.others p (λ j below. apart j (omega arith));
         solved = λ j q below in_sector.
-            below_more (λ i. symbol_byte (set now place symbol) q (slice_index wanted i) ≡ solution code known old q (slice_index wanted i)) k
+            below_more (λ i. symbol_byte new q (slice_index wanted i) ≡ solution code known old q (slice_index wanted i)) k
             (λ i earlier.
             ap (λ s. slice_index s q)
-            (get_or-set_other now place (slice_index wanted i) symbol []
+            (stays (slice_index wanted i)
             (λ same. let one : i ≡ k = asked.distinct i k (omega arith) in_wanted same in omega arith))
             ∙ before.solved i q earlier in_sector)
-            (ap (λ s. slice_index s q) (get_or-set_same now place symbol [] in_work) ∙ is q in_sector
+            (is q in_sector
             ∙ field_sum_same (length known) (λ i. product (solving code.held known i place) (symbol_byte now q (slice_index known i)))
             (λ i. product (solving code.held known i place) (symbol_byte old q (slice_index known i)))
             (λ i in_known. ap (product (solving code.held known i place)) (known_stays i q in_known (omega arith) before)))

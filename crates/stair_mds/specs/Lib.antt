@@ -2,3 +2,4 @@
 pub mod Solving
 pub mod Lagrange
 pub mod Weights
+pub mod Kept

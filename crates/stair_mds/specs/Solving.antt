@@ -8,6 +8,16 @@ pub record Shape : Type 0 where
   pub held : ℕ
   pub total : ℕ
 
+-- a code and the places of the pattern that was prepared last; none where none was
+pub record Code : Type 0 where
+  pub shape : Shape
+  pub known : List ℕ
+  pub wanted : List ℕ
+
+-- a pattern is prepared: as many places are known as the code holds
+abbrev pub IsPrepared : Code → Type 0
+IsPrepared code = length code.known ≡ code.shape.held
+
 -- the word is a codeword of the Cauchy code
 abbrev pub IsCodewordOf : Shape → (ℕ → ℕ) → Type 0
 IsCodewordOf code w = IsSystematicCodeword code.held code.total (coefficient code.held) w

@@ -1,6 +1,7 @@
 //! Solving symbols of a systematic Cauchy code from any known ones.
 #![tactic(auto)]
 
+mod coefficients;
 mod distances;
 mod mds;
 mod places;
@@ -8,7 +9,8 @@ mod symbols;
 
 pub use mds::Mds;
 pub use places::{MAX_PLACES, numbers_from};
-pub use symbols::{SYMBOL, Symbols};
+pub use stair_gf::SYMBOL;
+pub use symbols::Symbols;
 
 #[cfg(test)]
 mod tests;

@@ -1,14 +1,13 @@
-ghost use Rattle.std.specs.Prelude.{◌≡◌, ℕ, ◌+◌, ◌-◌, ◌*◌, ◌<◌, ◌≤◌, IfOk, All, length, slice_index};
+ghost use Rattle.std.specs.Prelude.{◌≡◌, ℕ, ◌+◌, ◌-◌, ◌*◌, ◌<◌, ◌≤◌, ◌↔◌, IfOk, IsTrue, All, [], length, slice_index, vec_len};
+ghost use Rattle.std.specs.Vec.{vec_capacity};
 ghost use Rattle.stair_model.specs.CauchyCode.{AreKnownPlaces};
-ghost use Rattle.stair_model.specs.Sum.{field_sum};
-ghost use Rattle.stair_model.specs.Field.{product};
-ghost use Rattle.stair_model.specs.Stripe.{IsSector, SECTOR, symbol_byte};
-ghost use Rattle.stair_mds.specs.Lagrange.{solving};
-ghost use Rattle.stair_mds.specs.Solving.{AreWantedPlaces, Solves};
+ghost use Rattle.stair_model.specs.Stripe.{IsSector};
+ghost use Rattle.stair_mds.specs.Solving.{AreWantedPlaces, IsPrepared, Solves};
 
-use crate::distances::{distances, weight};
-use crate::symbols::{SYMBOL, Symbols};
-use stair_gf::{Steps, inv, mul, mul_add};
+use crate::coefficients::{known_parts, push_coefficients, wanted_part};
+use crate::distances::weight;
+use crate::symbols::Symbols;
+use stair_gf::{Factor, Steps};
 use std::alloc::{AllocError, Global};
 use std::marker::Model;
 use std::sync::ledger::Ledger;
@@ -16,22 +15,29 @@ use std::sync::ledger::Ledger;
 /// A systematic code over GF(2^8), whose first places hold symbols as they are and whose further places hold parities by
 /// a Cauchy matrix (Blömer et al., An XOR-Based Erasure-Resilient Coding Scheme, 1995), the points of which are the
 /// places' own numbers. Any places as many as are held determine all others.
+///
+/// Which places are known and which are wanted is a pattern. A pattern is prepared once, and then applied to the symbols
+/// of any number of codewords.
 #[derive(Drop)]
 pub struct Mds {
     held: u8,
     weights: Vec<u8>,
+    // The pattern that is prepared, and its coefficients, wanted place by wanted place.
+    known: Vec<u16>,
+    wanted: Vec<u16>,
+    coefficients: Vec<Factor>,
 }
 
 impl Model for Mds {
-    ghost use Rattle.std.specs.Prelude.{vec_len};
-    ghost use Rattle.stair_mds.specs.Solving.{Shape};
-    ghost use Rattle.stair_mds.specs.Weights.{HasWeights};
+    ghost use Rattle.stair_mds.specs.Solving.{Code};
 
-    ghost Value = { Shape };
+    ghost Value = { Code };
 
-    ghost view = { λ a. record { held = a.held; total = vec_len a.weights } };
+    ghost use Rattle.stair_mds.specs.Kept.{shown, IsKept};
 
-    ghost invariant = { λ a. HasWeights a.held a.weights.items };
+    ghost view = { shown };
+
+    ghost invariant = { IsKept };
 }
 
 impl Mds {
@@ -41,7 +47,11 @@ impl Mds {
         requires parity { 1 ≤ m }
         requires majority { 2 * m < n }
         requires classes { (1 ≤ classes) × (classes ≤ n - m) }
-        ensures { IfOk result (λ code. code ≡ record { held = n - m; total = n + classes }) }
+        ensures { IfOk result (λ code. code ≡ record {
+          shape = record { held = n - m; total = n + classes };
+          known = [];
+          wanted = [];
+        }) }
     {
         Mds::with_places(alloc, n - m, n + classes)
     }
@@ -51,7 +61,11 @@ impl Mds {
         requires some { 1 ≤ e_max }
         requires within { e_max ≤ r }
         requires rows { r ≤ 32 }
-        ensures { IfOk result (λ code. code ≡ record { held = r; total = r + e_max }) }
+        ensures { IfOk result (λ code. code ≡ record {
+          shape = record { held = r; total = r + e_max };
+          known = [];
+          wanted = [];
+        }) }
     {
         Mds::with_places(alloc, r, r + e_max)
     }
@@ -59,20 +73,91 @@ impl Mds {
     fn with_places(alloc: Global, held: u8, total: u8) -> Result<Mds, AllocError>
         requires some { 1 ≤ held }
         requires within { held ≤ total }
-        ensures { IfOk result (λ code. code ≡ record { held = held; total = total }) }
+        requires few { held ≤ 32 }
+        ensures { IfOk result (λ code. code ≡ record {
+          shape = record { held = held; total = total };
+          known = [];
+          wanted = [];
+        }) }
     {
         let mut weights = Vec::with_capacity(alloc, usize::from(total))?;
         for place in 0..total {
             weights.push(weight(held, place))?;
         }
-        Ok(Mds { held, weights })
+        let most_known = usize::from(held);
+        let most_wanted = usize::from(total - held);
+        Ok(Mds {
+            held,
+            weights,
+            known: Vec::with_capacity(alloc, most_known)?,
+            wanted: Vec::with_capacity(alloc, most_wanted)?,
+            coefficients: Vec::with_capacity(alloc, most_wanted * most_known)?,
+        })
+    }
+
+    /// Prepares a pattern, so that [`Mds::apply`] solves the wanted symbols from the known ones, for any symbols.
+    ///
+    /// The known places are distinct and as many as the code has held symbols; the wanted ones are distinct and none of
+    /// them is known. It takes no memory.
+    pub fn prepare(&mut self, known: &[u16], wanted: &[u16])
+        requires known { AreKnownPlaces self.old.shape.held self.old.shape.total known.now }
+        requires wanted { AreWantedPlaces self.old.shape known.now wanted.now }
+        ensures { self.new ≡ record { shape = self.old.shape; known = known.now; wanted = wanted.now } }
+    {
+        let parts = known_parts(&self.weights, known);
+        self.coefficients.clear();
+        for place in wanted {
+            let part = wanted_part(&self.weights, known, *place);
+            push_coefficients(&mut self.coefficients, known, &parts, *place, part);
+        }
+        replace(&mut self.known, known);
+        replace(&mut self.wanted, wanted);
+    }
+
+    /// Whether a pattern is prepared.
+    pub fn prepared(&self) -> bool
+        ensures { IsTrue result ↔ IsPrepared self.now }
+    {
+        self.known.len() == usize::from(self.held)
+    }
+
+    /// Whether the pattern that was prepared last is this one.
+    pub fn has_prepared(&self, known: &[u16], wanted: &[u16]) -> bool
+        ensures { IsTrue result ↔ ((self.now.known ≡ known.now) × (self.now.wanted ≡ wanted.now)) }
+    {
+        self.known.as_slice() == known && self.wanted.as_slice() == wanted
+    }
+
+    /// Sets the wanted symbols of the pattern that is prepared to those of the one codeword that has the known ones, and
+    /// leaves all others.
+    ///
+    /// `work` has as many symbols as the code has places. It takes a step for each known symbol of each wanted one, and no
+    /// memory.
+    pub fn apply<L: Ledger>(&self, work: &mut Symbols, steps: &mut Steps<L>)
+        requires prepared { IsPrepared self.now }
+        requires count { length work.old ≡ self.now.shape.total }
+        ensures solved { Solves self.now.shape self.now.known self.now.wanted work.old work.new }
+        ensures sectors { All IsSector work.new }
+        ensures cost { steps.new ≡ steps.old + length self.now.known * length self.now.wanted }
+    {
+        // What the code and the symbols keep is known from here on.
+        let _ = &self.weights;
+        let _ = &work.symbols;
+        let held = usize::from(self.held);
+        for (number, place) in self.wanted.iter().enumerate() {
+            let start = number * held;
+            let by = &self.coefficients[start..start + held];
+            work.sum_up(*place, &self.known, by, steps);
+        }
+        // And what the symbols keep is known again.
+        let _ = &work.symbols;
     }
 
     /// Sets the wanted symbols to those of the one codeword that has the known ones, and leaves all others.
     ///
-    /// The known places are distinct and as many as the code has held symbols; the wanted ones are distinct and none of
-    /// them is known; `work` has as many symbols as the code has places. It takes a step for each known symbol of each
-    /// wanted one, and no memory.
+    /// The places are as [`Mds::prepare`] takes them, and `work` has as many symbols as the code has places. It takes a
+    /// step for each known symbol of each wanted one, and no memory. The pattern is prepared only where it isn't the one
+    /// that was prepared last.
     pub fn solve<L: Ledger>(
         &mut self,
         known: &[u16],
@@ -80,67 +165,27 @@ impl Mds {
         work: &mut Symbols,
         steps: &mut Steps<L>,
     )
-        requires known { AreKnownPlaces self.old.held self.old.total known.now }
-        requires wanted { AreWantedPlaces self.old known.now wanted.now }
-        requires count { length work.old ≡ self.old.total }
-        ensures solved { Solves self.old known.now wanted.now work.old work.new }
+        requires known { AreKnownPlaces self.old.shape.held self.old.shape.total known.now }
+        requires wanted { AreWantedPlaces self.old.shape known.now wanted.now }
+        requires count { length work.old ≡ self.old.shape.total }
+        ensures solved { Solves self.old.shape known.now wanted.now work.old work.new }
         ensures sectors { All IsSector work.new }
         ensures cost { steps.new ≡ steps.old + length known.now * length wanted.now }
-        ensures code { self.new ≡ self.old }
+        ensures code { self.new ≡ record { shape = self.old.shape; known = known.now; wanted = wanted.now } }
     {
-        // What the code and the symbols keep is known from here on.
-        let _ = &self.weights;
-        let _ = &work.symbols;
-        for place in wanted {
-            let symbol = self.solved(known, *place, work, steps);
-            work.put(*place, &symbol);
+        if !self.has_prepared(known, wanted) {
+            self.prepare(known, wanted);
         }
-        // And what the symbols keep is known again.
-        let _ = &work.symbols;
+        self.apply(work, steps);
     }
+}
 
-    /// The symbol at a wanted place, from the known ones.
-    fn solved<L: Ledger>(
-        &self,
-        known: &[u16],
-        wanted: u16,
-        work: &Symbols,
-        steps: &mut Steps<L>,
-    ) -> [u8; SYMBOL]
-        requires known { AreKnownPlaces self.now.held self.now.total known.now }
-        requires wanted { wanted < self.now.total }
-        requires count { length work.now ≡ self.now.total }
-        ensures symbol { (q : ℕ) → q < SECTOR →
-            slice_index result q ≡ field_sum (length known.now) (λ i.
-            product (solving self.now.held known.now i wanted)
-            (symbol_byte work.now q (slice_index known.now i))) }
-        ensures cost { steps.new ≡ steps.old + length known.now }
-    {
-        let mut sum = [0; SYMBOL];
-        for i in 0..known.len() {
-            let coefficient = self.coefficient(known, i, wanted);
-            mul_add(&mut sum, work.symbol(known[i]), coefficient);
-            steps.tick();
-        }
-        sum
-    }
-
-    /// What known place number `i` contributes to a wanted place, by Lagrange's formula.
-    fn coefficient(&self, known: &[u16], i: usize, wanted: u16) -> u8
-        requires known { AreKnownPlaces self.now.held self.now.total known.now }
-        requires i_in { i < length known.now }
-        requires wanted { wanted < self.now.total }
-        ensures { result ≡ solving self.now.held known.now i wanted }
-    {
-        let place = known[i];
-        let above = mul(
-            self.weights[usize::from(place)],
-            distances(known, i, wanted),
-        );
-        let below = mul(
-            self.weights[usize::from(wanted)],
-            distances(known, i, place),
-        );
-        mul(above, inv(below))
-    }
+/// Replaces the places of a list, which has room for the new ones.
+fn replace(places: &mut Vec<u16>, by: &[u16])
+    requires { length by.now ≤ vec_capacity places.old }
+    ensures items { places.new.items ≡ by.now }
+    ensures capacity { vec_capacity places.old ≤ vec_capacity places.new }
+{
+    places.clear();
+    let _ = places.extend_from_slice(by);
 }

@@ -48,18 +48,21 @@ fn are_unknown(known: &[u16], wanted: &[u16]) -> bool
     true
 }
 
-// Solves on this ledger.
+// Solves on this ledger, and once more by the pattern that is prepared then.
 fn solve<L: Ledger>(blank: Blank, code: &mut Mds, known: &[u16], wanted: &[u16], work: &mut Symbols)
     requires name { blank.name ≡ L.name }
     requires parts { blank.parts ≡ L.parts }
     requires some { 0 < L.parts }
-    requires known { AreKnownPlaces code.old.held code.old.total known.now }
-    requires wanted { AreWantedPlaces code.old known.now wanted.now }
-    requires count { length work.old ≡ code.old.total }
+    requires known { AreKnownPlaces code.old.shape.held code.old.shape.total known.now }
+    requires wanted { AreWantedPlaces code.old.shape known.now wanted.now }
+    requires count { length work.old ≡ code.old.shape.total }
     ensures { length work.new ≡ length work.old }
 {
     let mut steps = Steps::<L>::new(blank);
     code.solve(known, wanted, work, &mut steps);
+    if code.prepared() {
+        code.apply(work, &mut steps);
+    }
 }
 
 // The symbols of a codeword, each filled with its byte, but for the wanted ones.
@@ -86,8 +89,8 @@ fn compare(
     wanted: &[u16],
 ) -> Result<(), AllocError>
     requires few { length codeword.now ≤ 64 }
-    requires total { code.old.total ≡ length codeword.now }
-    requires held { code.old.held ≡ length known.now }
+    requires total { code.old.shape.total ≡ length codeword.now }
+    requires held { code.old.shape.held ≡ length known.now }
 {
     assert!(rt; are_places(codeword.len(), known));
     assert!(rt; are_places(codeword.len(), wanted));
@@ -110,8 +113,6 @@ fn known_codewords(rt: HostRuntime) -> Result<(), Fail> {
     let four = [0x01, 0x00, 0x00, 0xF4, 0x47];
     let mut row = Mds::row(rt.alloc(), 4, 1, 1)?;
     compare(&rt, rt.alloc(), &mut row, &four, &[0, 1, 2], &[3, 4])?;
-    let mut row = Mds::row(rt.alloc(), 4, 1, 1)?;
-    compare(&rt, rt.alloc(), &mut row, &four, &[1, 3, 4], &[0])?;
     let eight = [
         0x07, 0x24, 0x41, 0x5E, 0x7B, 0x98, 0xA4, 0xE6, 0x2A, 0x05, 0xC8,
     ];

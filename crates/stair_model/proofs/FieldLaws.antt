@@ -354,11 +354,6 @@ no_zero_divisors a b a_byte b_byte none =
       | inr some ↦ inr (product_cancel a b 0 (omega arith) a_byte b_byte (zero-lt-suc 255) (none ∙ sym (product-zero_right a)))
     ]
 
--- the inverse is the 254th power
-pub power_254_inverse : (a : ℕ) → 0 < a → a < 256 → power_254 a ≡ inverse a
-power_254_inverse a positive byte =
-    inverse_only a (power_254 a) positive byte (power_254-lt a) (product-power_254 a positive byte)
-
 -- a product of bytes other than 0 isn't 0
 pub product-pos : (a b : ℕ) → 0 < a → a < 256 → 0 < b → b < 256 → 0 < product a b
 product-pos a b a_positive a_byte b_positive b_byte =

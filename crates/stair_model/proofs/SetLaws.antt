@@ -7,7 +7,7 @@ use Rattle.std.proofs.lemmas.List.{get_or-replicate, get_or_past, get_or_default
 use Rattle.std.proofs.lemmas.List.Elements.{All-get_or, All-replicate}
 use Rattle.stair_model.specs.Sum.{sum_below}
 use Rattle.stair_model.specs.Slots.{Slots, has_slot, HasSlot, slot_count, no_slots, IsSlotSet}
-use Rattle.stair_model.specs.CellSet.{CellSet, has_cell, HasCell, count_in_row, count_in_slot, cell_count, IsCellSet}
+use Rattle.stair_model.specs.CellSet.{CellSet, HasCell, count_in_row, cell_count, IsCellSet}
 use Rattle.stair_model.proofs.CountLaws.{sum_below_by, sum_below_le, sum_below_same, sum_below_changed, sum_below_marks, sum_below_zeros, sum_below_part, sum_below_more, sum_below_constant}
 
 -- two tests that pass alike are one
@@ -69,12 +69,6 @@ pub slot_count-marks : (set : Slots) → IsSlotSet set → slot_count set ≡ co
 slot_count-marks set long =
     ap (λ (n : ℕ). sum_below n (λ j. if has_slot set j then 1 else 0)) (sym long)
     ∙ sum_below_by (λ (mark : Bool). cond mark 1 0) false set.marks
-
--- the cells of a slot, counted in the list of rows
-pub count_in_slot-rows : (set : CellSet) (j : ℕ) → IsCellSet set → count_in_slot set j ≡ count_by (λ row. has_slot row j) set.rows
-count_in_slot-rows set j of =
-    ap (λ (n : ℕ). sum_below n (λ i. if has_cell set i j then 1 else 0)) (sym of.count)
-    ∙ sum_below_by (λ (row : Slots). cond (has_slot row j) 1 0) no_slots set.rows
 
 -- marks of two tests, where the second passes wherever the first does
 pub mark_le : (a b : Bool) → (IsTrue a → IsTrue b) → cond a 1 0 ≤ cond b 1 0

@@ -12,8 +12,8 @@ use Rattle.stair_model.proofs.StripeLaws.{cell-IsSector}
 use Rattle.stair_model.proofs.UnitLaws.{is_nonzero-same}
 use Rattle.stair_model.proofs.GridLaws.{sum_below_grid, sum_below_exchange, sum_below_passed, sum_below_failed}
 use Rattle.stair_std.specs.Cells.{is_parity_number, parities_before}
-use Rattle.stair_std.specs.Coefficients.{Coefficients, IsGenerator, coefficient, nonzero_coefficients, parity_cells}
-use Rattle.stair_std.specs.Standard.{coefficient_of, step_of, parity_steps}
+use Rattle.stair_std.specs.Coefficients.{Coefficients, IsGenerator, coefficient, coefficient_of, nonzero_coefficients, parity_cells}
+use Rattle.stair_std.specs.Standard.{step_of, parity_steps}
 use Rattle.stair_std.proofs.Numbers.{cell_of-number, blocks_in_all, parities_in_all}
 
 module _ (c : Coefficients) (generator : IsGenerator c) where
@@ -22,11 +22,12 @@ module _ (c : Coefficients) (generator : IsGenerator c) where
   steps_of_block d = sum_below (parity_cells c.geometry) (λ a. step_of (coefficient_of c a d))
 
   -- as they stand
-  as_kept : nonzero_coefficients c ≡ sum_below (data_cells c.geometry) steps_of_block
+  as_kept : nonzero_coefficients c
+      ≡ sum_below (parity_cells c.geometry) (λ a. sum_below (data_cells c.geometry) (λ d. step_of (coefficient_of c a d)))
   as_kept =
       sym (sum_below_by step_of 0 c.bytes)
       ∙ ap (λ n. sum_below n (λ k. step_of (slice_index c.bytes k))) generator.count
-      ∙ sum_below_grid (data_cells c.geometry) (parity_cells c.geometry) (λ k. step_of (slice_index c.bytes k))
+      ∙ sum_below_grid (parity_cells c.geometry) (data_cells c.geometry) (λ k. step_of (slice_index c.bytes k))
 
   -- of one parity
   steps_of_parity : (a : ℕ) → parity_steps c a ≡ sum_below (data_cells c.geometry) (λ d. step_of (coefficient_of c a d))
@@ -43,7 +44,6 @@ module _ (c : Coefficients) (generator : IsGenerator c) where
       ∙ ap (λ n. sum_below n (parity_steps c)) (parities_in_all c.geometry generator.limits)
       ∙ sum_below_same (parity_cells c.geometry) (parity_steps c)
       (λ a. sum_below (data_cells c.geometry) (λ d. step_of (coefficient_of c a d))) (λ a below. steps_of_parity a)
-      ∙ sum_below_exchange (parity_cells c.geometry) (data_cells c.geometry) (λ a d. step_of (coefficient_of c a d))
       ∙ sym as_kept
 
   module _ (d : ℕ) (d_in : d < data_cells c.geometry) (encoded : Stripe)
@@ -57,7 +57,7 @@ module _ (c : Coefficients) (generator : IsGenerator c) where
         → is_nonzero (cell encoded i j) ≡ not (coefficient c i j d == 0)
     nonzero_cell i j row chunk parity =
         is_nonzero-same (cell encoded i j) (coefficient c i j d) (cell-IsSector c.geometry encoded i j is.of is.formed row chunk).0
-        (λ p p_in. sym (generator.units d i j p encoded d_in row chunk p_in parity is))
+        (λ p p_in. generator.factors d i j d_in row chunk parity encoded p p_in is)
 
     mark_is : (i j : ℕ) → i < c.geometry.r → j < c.geometry.n
         → (if is_parity (cell_at c.geometry i j) && is_nonzero (cell encoded i j) then 1 else 0) ≡ step_in (i * c.geometry.n + j)
@@ -88,5 +88,6 @@ module _ (c : Coefficients) (generator : IsGenerator c) where
   pub IsStandardCost-nonzero : IsStandardCost c.geometry (nonzero_coefficients c)
   IsStandardCost-nonzero encoded are =
       as_kept
+      ∙ sum_below_exchange (parity_cells c.geometry) (data_cells c.geometry) (λ a d. step_of (coefficient_of c a d))
       ∙ sym (sum_below_same (data_cells c.geometry) (λ d. nonzero_parities c.geometry (encoded d)) steps_of_block
       (λ d below. parities_of_block d below (encoded d) (are d below)))

@@ -1,5 +1,5 @@
 -- A stripe whose parities are the sums of coefficient times block is the encoded stripe of its blocks.
-use Rattle.std.proofs.Common.{◌≡◌, ◌≢◌, ℕ, ◌+◌, ◌-◌, ◌*◌, ◌<◌, ◌≤◌, ◌==◌, true, false, if◌then◌else◌, List, slice_index, inl, inr, refl, sym, ◌∙◌, ap, ap₂, arith}
+use Rattle.std.proofs.Common.{◌≡◌, ◌≢◌, ℕ, ◌+◌, ◌-◌, ◌*◌, ◌<◌, ◌≤◌, ◌==◌, true, false, if◌then◌else◌, List, slice_index, inl, inr, refl, sym, ◌∙◌, ap, ap₂, subst, arith, add-zero}
 use Rattle.std.proofs.lemmas.Bool.{cases_eq, cases_Bool, true≢false, cond-true, cond-false, eq-eqb, ne_eqb}
 use Rattle.stair_model.specs.Field.{product}
 use Rattle.stair_model.specs.Sum.{sum_below}
@@ -17,11 +17,12 @@ use Rattle.stair_model.proofs.StripeLaws.{byte_of-lt, number_in}
 use Rattle.stair_model.proofs.LinearLaws.{weighted_sum, MeetsEquations-weighted, MeetsEquations-same}
 use Rattle.stair_model.proofs.CostLaws.{unit_encoding}
 use Rattle.stair_model.proofs.UnitLaws.{unit_encoding-data}
-use Rattle.stair_std.specs.Cells.{is_parity_number, parities_before, blocks_before, bytes_of, byte_of_number}
-use Rattle.stair_std.specs.Coefficients.{Coefficients, IsGenerator, nonzero_coefficients, parity_cells}
-use Rattle.stair_std.specs.Standard.{coefficient_of, block_byte, parity_byte, parity_steps}
+use Rattle.stair_std.specs.Cells.{is_parity_number, parities_before, blocks_before, bytes_of, byte_of_number, IsPart}
+use Rattle.stair_std.specs.Coefficients.{Coefficients, IsGenerator, coefficient_of, nonzero_coefficients, parity_cells}
+use Rattle.stair_std.specs.Standard.{block_byte, parity_byte, parity_steps}
+use Rattle.stair_std.specs.declared.cells.Part.TheVariants.{Parity}
 use Rattle.stair_std.proofs.Counting.{steps_of_cells}
-use Rattle.stair_std.proofs.Numbers.{counts_split, IsNumberOf, bytes_of-put, bytes_of-kept, cell_at-number, parities_before-parity, parities_before-block, parities_in_all, parity_in, bytes_of-number, cell_of-number, block_cell, block_in, is_block, block_once}
+use Rattle.stair_std.proofs.Numbers.{counts_split, IsNumberOf, IsNumberOf-at, next_row, next_slot, bytes_of-put, bytes_of-kept, cell_at-number, parities_before-parity, parities_before-block, parities_in_all, parity_in, bytes_of-number, cell_of-number, block_cell, block_in, is_block, block_once}
 
 module _ (c : Coefficients) (generator : IsGenerator c) (old new : Stripe) (old_of : IsStripeOf c.geometry old)
     (of : IsStripeOf c.geometry new) (formed : IsWellFormed new)
@@ -72,8 +73,8 @@ module _ (c : Coefficients) (generator : IsGenerator c) (old new : Stripe) (old_
               ∙ sym (ap (λ (a : ℕ). product a (unit_word t i j)) zero ∙ product-zero_left (unit_word t i j))
           | inr block ↦
               ap (λ (a : ℕ). product a (block_byte c.geometry old p t))
-              (generator.units (blocks_before c.geometry t) i j 0 (encoded t) (block_in c.geometry t generator.limits below block) row chunk
-              (omega arith) is (is_encoded t))
+              (sym (generator.factors (blocks_before c.geometry t) i j (block_in c.geometry t generator.limits below block) row chunk is
+              (encoded t) 0 (omega arith) (is_encoded t)))
               ∙ product_comm (unit_word t i j) (block_byte c.geometry old p t)
         ]
 
@@ -149,10 +150,9 @@ module _ (c : Coefficients) (generator : IsGenerator c) (old new : Stripe) (old_
 
 -- ---- the parities so far
 
-pub record HasEncoded (c : Coefficients) (old : Stripe) (start number parity : ℕ) (stripe : Stripe) (steps : ℕ) : Type 0 where
+pub record HasEncoded (c : Coefficients) (old : Stripe) (start number : ℕ) (stripe : Stripe) (steps : ℕ) : Type 0 where
   pub of : IsStripeOf c.geometry stripe
-  pub formed : 0 < parity → IsWellFormed stripe
-  pub parities : parity ≡ parities_before c.geometry number
+  pub formed : 0 < parities_before c.geometry number → IsWellFormed stripe
   pub kept : (t : ℕ) → is_parity_number c.geometry t ≡ false → bytes_of stripe t ≡ bytes_of old t
   pub summed :
       (t p : ℕ) → p < 512 → t < number → is_parity_number c.geometry t ≡ true →
@@ -162,11 +162,10 @@ pub record HasEncoded (c : Coefficients) (old : Stripe) (start number parity : �
       ≡ start
       + sum_below number (λ t. if is_parity_number c.geometry t then parity_steps c (parities_before c.geometry t) else 0)
 
-pub HasEncoded-none : (c : Coefficients) (old : Stripe) (start : ℕ) → IsStripeOf c.geometry old → HasEncoded c old start 0 0 old start
+HasEncoded-none : (c : Coefficients) (old : Stripe) (start : ℕ) → IsStripeOf c.geometry old → HasEncoded c old start 0 old start
 HasEncoded-none c old start of = record {
   of = of;
-  formed = λ some. absurd (omega arith);
-  parities = sym (sum_below_none (λ t. if is_parity_number c.geometry t then 1 else 0));
+  formed = λ some. absurd (omega (arith, sum_below_none (λ t. if is_parity_number c.geometry t then 1 else 0)));
   kept = λ t no. refl;
   summed = λ t p p_in before. absurd (omega arith);
   counted = omega (
@@ -175,14 +174,13 @@ HasEncoded-none c old start of = record {
   );
 }
 
-module _ (c : Coefficients) (old stripe : Stripe) (start number parity steps row slot : ℕ) (at : IsNumberOf c.geometry number row slot)
-    (so_far : HasEncoded c old start number parity stripe steps) where
+module _ (c : Coefficients) (old stripe : Stripe) (start number steps row slot : ℕ) (at : IsNumberOf c.geometry number row slot)
+    (so_far : HasEncoded c old start number stripe steps) where
   -- a data cell stays
-  pub HasEncoded-block : (d : ℕ) → cell_at c.geometry row slot ≡ Data d → HasEncoded c old start (number + 1) parity stripe steps
+  HasEncoded-block : (d : ℕ) → cell_at c.geometry row slot ≡ Data d → HasEncoded c old start (number + 1) stripe steps
   HasEncoded-block d is = record {
     of = so_far.of;
-    formed = so_far.formed;
-    parities = so_far.parities ∙ sym (parities_before-block c.geometry number here);
+    formed = λ some. so_far.formed (omega (arith, parities_before-block c.geometry number here));
     kept = so_far.kept;
     summed = λ t p p_in before is_t.
         elim (cases_eq t number) [
@@ -221,13 +219,13 @@ module _ (c : Coefficients) (old stripe : Stripe) (start number parity steps row
           ]
 
   -- a parity more
-  pub HasEncoded-parity : (bytes : List ℕ) → is_parity (cell_at c.geometry row slot) ≡ true → IsWellFormed (with_cell stripe row slot bytes)
+  HasEncoded-parity : (parity : ℕ) (bytes : List ℕ) → is_parity (cell_at c.geometry row slot) ≡ true
+      → parity ≡ parities_before c.geometry number → IsWellFormed (with_cell stripe row slot bytes)
       → ((p : ℕ) → p < 512 → slice_index bytes p ≡ parity_byte c stripe p parity)
-      → HasEncoded c old start (number + 1) (parity + 1) (with_cell stripe row slot bytes) (steps + parity_steps c parity)
-  HasEncoded-parity bytes is formed sums = record {
+      → HasEncoded c old start (number + 1) (with_cell stripe row slot bytes) (steps + parity_steps c parity)
+  HasEncoded-parity parity bytes is parity_is formed sums = record {
     of = record { rows = so_far.of.rows; chunks = so_far.of.chunks };
     formed = λ some. formed;
-    parities = ap (λ (k : ℕ). k + 1) so_far.parities ∙ sym (parities_before-parity c.geometry number here);
     kept = λ t no.
         bytes_of-kept c.geometry stripe number t row slot bytes so_far.of at.row_is at.slot_is
         (λ e. true≢false (sym here ∙ ap (is_parity_number c.geometry) (sym e) ∙ no))
@@ -239,7 +237,7 @@ module _ (c : Coefficients) (old stripe : Stripe) (start number parity steps row
               ∙ ap (λ (b : List ℕ). slice_index b p)
               (bytes_of-put c.geometry stripe number row slot bytes so_far.of at.row_is at.slot_is at.within formed)
               ∙ sums p p_in ∙ parity_of_old p parity
-              ∙ ap (parity_byte c old p) (so_far.parities ∙ ap (parities_before c.geometry) (sym last))
+              ∙ ap (parity_byte c old p) (parity_is ∙ ap (parities_before c.geometry) (sym last))
           | inr other ↦
               ap (λ (b : List ℕ). slice_index b p)
               (bytes_of-kept c.geometry stripe number t row slot bytes so_far.of at.row_is at.slot_is other)
@@ -250,13 +248,45 @@ module _ (c : Coefficients) (old stripe : Stripe) (start number parity steps row
       so_far.counted,
       sum_below_next number _ (parity_steps c parity)
           (λ t. if is_parity_number c.geometry t then parity_steps c (parities_before c.geometry t) else 0) refl
-          (ap (parity_steps c) so_far.parities
+          (ap (parity_steps c) parity_is
           ∙ sym (cond-true (is_parity_number c.geometry number) (parity_steps c (parities_before c.geometry number)) 0 here)),
     );
   }
     where
       here : is_parity_number c.geometry number ≡ true
       here = ap is_parity (sym (cell_at-number c.geometry number row slot at.row_is at.slot_is)) ∙ is
+
+-- ---- row by row
+
+pub HasEncoded-start : (c : Coefficients) (old : Stripe) (start n : ℕ) → IsStripeOf c.geometry old
+    → HasEncoded c old start (0 * n + 0) old start
+HasEncoded-start c old start n of =
+    let zero : 0 ≡ 0 * n + 0 = omega arith in
+    subst (λ (k : ℕ). HasEncoded c old start k old start) zero (HasEncoded-none c old start of)
+
+module _ (c : Coefficients) (old stripe : Stripe) (start row slot steps : ℕ) (row_below : row < c.geometry.r)
+    (slot_below : slot < c.geometry.n) (so_far : HasEncoded c old start (row * c.geometry.n + slot) stripe steps) where
+  pub HasEncoded-slot_block : (d : ℕ) → cell_at c.geometry row slot ≡ Data d
+      → HasEncoded c old start (row * c.geometry.n + (slot + 1)) stripe steps
+  HasEncoded-slot_block d is =
+      subst (λ (k : ℕ). HasEncoded c old start k stripe steps) (sym (next_slot row slot c.geometry.n))
+      (HasEncoded-block c old stripe start (row * c.geometry.n + slot) steps row slot
+      (IsNumberOf-at c.geometry row slot row_below slot_below) so_far d is)
+
+  pub HasEncoded-slot_parity : (parity : ℕ) (bytes : List ℕ) → IsPart c.geometry row slot (Parity parity)
+      → IsWellFormed (with_cell stripe row slot bytes) → ((p : ℕ) → p < 512 → slice_index bytes p ≡ parity_byte c stripe p parity)
+      → HasEncoded c old start (row * c.geometry.n + (slot + 1)) (with_cell stripe row slot bytes) (steps + parity_steps c parity)
+  HasEncoded-slot_parity parity bytes is formed sums =
+      subst (λ (k : ℕ). HasEncoded c old start k (with_cell stripe row slot bytes) (steps + parity_steps c parity))
+      (sym (next_slot row slot c.geometry.n))
+      (HasEncoded-parity c old stripe start (row * c.geometry.n + slot) steps row slot
+      (IsNumberOf-at c.geometry row slot row_below slot_below) so_far parity bytes is.0 is.1 formed sums)
+
+pub HasEncoded-turn : (c : Coefficients) (old stripe : Stripe) (start row slot steps : ℕ) → slot ≡ c.geometry.n
+    → HasEncoded c old start (row * c.geometry.n + slot) stripe steps
+    → HasEncoded c old start ((row + 1) * c.geometry.n + 0) stripe steps
+HasEncoded-turn c old stripe start row slot steps end so_far =
+    subst (λ (k : ℕ). HasEncoded c old start k stripe steps) (next_row row slot c.geometry.n end) so_far
 
 -- a stripe has a parity
 some_parity : (g : Geometry) → IsWithinLimits g → 0 < parity_cells g
@@ -267,38 +297,38 @@ some_parity g limits =
     let within : 0 * g.n + (g.n - g.m) < g.r * g.n = number_in g 0 (g.n - g.m) (omega (arith, limits.rows.0)) last in
     omega (arith, parity_in g (0 * g.n + (g.n - g.m)) limits within is)
 
-pub IsEncodedFrom-all : (c : Coefficients) (old stripe : Stripe) (start number parity steps : ℕ) → IsGenerator c
-    → IsStripeOf c.geometry old → number ≡ c.geometry.r * c.geometry.n → HasEncoded c old start number parity stripe steps
-    → IsEncodedFrom c.geometry old stripe
-IsEncodedFrom-all c old stripe start number parity steps generator old_of all so_far =
+pub IsEncodedFrom-all : (c : Coefficients) (old stripe : Stripe) (start row steps : ℕ) → IsGenerator c → IsStripeOf c.geometry old
+    → row ≡ c.geometry.r → HasEncoded c old start (row * c.geometry.n + 0) stripe steps → IsEncodedFrom c.geometry old stripe
+IsEncodedFrom-all c old stripe start row steps generator old_of end so_far =
     encoded_from_sums c generator old stripe old_of so_far.of
-    (so_far.formed
-    (omega (arith, so_far.parities ∙ ap (parities_before c.geometry) all ∙ parities_in_all c.geometry generator.limits, some_parity c.geometry generator.limits)))
+    (so_far.formed (omega (
+      arith,
+      ap (parities_before c.geometry) all ∙ parities_in_all c.geometry generator.limits,
+      some_parity c.geometry generator.limits,
+    )))
     (λ t within no. so_far.kept t no)
     (λ t p within p_in is. so_far.summed t p p_in (omega (arith, all)) is)
+  where
+    all : row * c.geometry.n + 0 ≡ c.geometry.r * c.geometry.n
+    all = ap (λ (k : ℕ). k * c.geometry.n + 0) end ∙ add-zero (c.geometry.r * c.geometry.n)
 
 -- all steps are the coefficients that aren't zero
-pub steps_in_all : (c : Coefficients) (old stripe : Stripe) (start number parity steps : ℕ) → IsGenerator c
-    → number ≡ c.geometry.r * c.geometry.n → HasEncoded c old start number parity stripe steps
-    → steps ≡ start + nonzero_coefficients c
-steps_in_all c old stripe start number parity steps generator all so_far =
+pub steps_in_all : (c : Coefficients) (old stripe : Stripe) (start row steps : ℕ) → IsGenerator c → row ≡ c.geometry.r
+    → HasEncoded c old start (row * c.geometry.n + 0) stripe steps → steps ≡ start + nonzero_coefficients c
+steps_in_all c old stripe start row steps generator end so_far =
     so_far.counted
     ∙ ap (λ s. start + s)
-    (ap (λ n. sum_below n (λ t. if is_parity_number c.geometry t then parity_steps c (parities_before c.geometry t) else 0)) all
+    (ap (λ n. sum_below n (λ t. if is_parity_number c.geometry t then parity_steps c (parities_before c.geometry t) else 0))
+    (ap (λ (k : ℕ). k * c.geometry.n + 0) end ∙ add-zero (c.geometry.r * c.geometry.n))
     ∙ steps_of_cells c generator)
 
 -- the parity at a cell
-pub parity_below : (c : Coefficients) (old stripe : Stripe) (start number parity steps row slot : ℕ) → IsNumberOf c.geometry number row slot
-    → HasEncoded c old start number parity stripe steps → IsGenerator c → is_parity (cell_at c.geometry row slot) ≡ true
-    → parity < parity_cells c.geometry
-parity_below c old stripe start number parity steps row slot at so_far generator is =
+pub parity_below : (g : Geometry) (row slot a : ℕ) → IsWithinLimits g → row < g.r → slot < g.n → is_parity (cell_at g row slot) ≡ true
+    → a ≡ parities_before g (row * g.n + slot) → a < parity_cells g
+parity_below g row slot a limits row_below slot_below is a_is =
     omega (
       arith,
-      so_far.parities,
-      parity_in c.geometry number generator.limits at.within
-          (ap is_parity (sym (cell_at-number c.geometry number row slot at.row_is at.slot_is)) ∙ is),
+      a_is,
+      parity_in g (row * g.n + slot) limits (number_in g row slot row_below slot_below)
+          (ap is_parity (sym (cell_of-number g row slot slot_below)) ∙ is),
     )
-
-pub parity_few : (c : Coefficients) (old stripe : Stripe) (start number parity steps : ℕ) → HasEncoded c old start number parity stripe steps
-    → parity ≤ number
-parity_few c old stripe start number parity steps so_far = omega (arith, so_far.parities, counts_split c.geometry number)

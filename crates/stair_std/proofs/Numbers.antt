@@ -11,6 +11,7 @@ use Rattle.stair_model.proofs.CountLaws.{sum_below_more, sum_below_same, sum_bel
 use Rattle.stair_model.proofs.CellLaws.{one_of_two, data_mark, is_global_tells, data_in_all, cell_at_parity, cell_at_global, cell_at_data, OfParity, OfGlobal, OfData, kind_of_cell}
 use Rattle.stair_model.proofs.DataLaws.{data_cell_tells, data_once}
 use Rattle.stair_model.proofs.GridLaws.{sum_below_rows}
+use Rattle.stair_model.proofs.StripeLaws.{number_in}
 use Rattle.stair_std.specs.Cells.{cell_of_number, is_parity_number, parities_before, blocks_before, bytes_of}
 use Rattle.stair_std.specs.Coefficients.{parity_cells}
 
@@ -21,12 +22,6 @@ pub record IsNumberOf (g : Geometry) (c row slot : ℕ) : Type 0 where
   pub row_is : row ≡ c / g.n
   pub slot_is : slot ≡ c % g.n
   pub within : c < g.r * g.n
-
--- as it was found by another name of the geometry
-pub IsNumberOf-found : (h g : Geometry) (cells c row slot : ℕ) → h ≡ g → cells ≡ h.r * h.n → c < cells → row ≡ c / h.n
-    → slot ≡ c % h.n → IsNumberOf g c row slot
-IsNumberOf-found h g cells c row slot same count within row_is slot_is =
-    subst (λ x. IsNumberOf x c row slot) same (record { row_is = row_is; slot_is = slot_is; within = omega (arith, count) })
 
 -- the row and the slot of a number make the number
 pub number_at : (g : Geometry) (stripe : Stripe) (c row slot : ℕ) → IsStripeOf g stripe → row ≡ c / g.n → slot ≡ c % g.n
@@ -60,6 +55,21 @@ pub bytes_of-number : (g : Geometry) (stripe : Stripe) (i j : ℕ) → IsStripeO
     → cell stripe i j ≡ bytes_of stripe (i * g.n + j)
 bytes_of-number g stripe i j of chunk =
     bytes_at g stripe (i * g.n + j) i j of (row_of_number g i j chunk) (slot_of_number g i j chunk)
+
+-- so a cell has its number
+pub IsNumberOf-at : (g : Geometry) (row slot : ℕ) → row < g.r → slot < g.n → IsNumberOf g (row * g.n + slot) row slot
+IsNumberOf-at g row slot row_below slot_below = record {
+  row_is = row_of_number g row slot slot_below;
+  slot_is = slot_of_number g row slot slot_below;
+  within = number_in g row slot row_below slot_below;
+}
+
+-- behind the last cell of a row comes the first one of the next
+pub next_row : (row slot n : ℕ) → slot ≡ n → row * n + slot ≡ (row + 1) * n + 0
+next_row row slot n end = omega arith
+
+pub next_slot : (row slot n : ℕ) → row * n + (slot + 1) ≡ row * n + slot + 1
+next_slot row slot n = omega arith
 
 pub row_in : (g : Geometry) (c : ℕ) → IsWithinLimits g → c < g.r * g.n → c / g.n < g.r
 row_in g c limits within = div_below c g.n g.r (omega (arith, limits.devices.0)) within

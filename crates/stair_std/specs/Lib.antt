@@ -1,5 +1,7 @@
--- What contracts see of the coefficients, and of the stripes that they come from.
+-- What contracts see of a generator, its coefficients, and the stripes that they come from.
 pub mod Cells
 pub mod Coefficients
+pub mod Kept
+pub mod KeptCoefficients
 pub mod Standard
 pub mod Units

@@ -1,15 +1,11 @@
 -- A parity of the blocks of a stripe, as it is summed up cell by cell.
-use Rattle.std.specs.Prelude.{ℕ, ◌*◌, ◌==◌, not, if◌then◌else◌, slice_index}
+use Rattle.std.specs.Prelude.{ℕ, ◌*◌, ◌==◌, not, if◌then◌else◌}
 use Rattle.stair_model.specs.Field.{product}
 use Rattle.stair_model.specs.Geometry.{Geometry}
 use Rattle.stair_model.specs.Stripe.{Stripe}
 use Rattle.stair_model.specs.Sum.{field_sum, sum_below}
 use Rattle.stair_std.specs.Cells.{is_parity_number, blocks_before, byte_of_number}
-use Rattle.stair_std.specs.Coefficients.{Coefficients, coefficient_number}
-
--- of this parity over this data cell
-abbrev pub coefficient_of : Coefficients → ℕ → ℕ → ℕ
-coefficient_of c parity d = slice_index c.bytes (coefficient_number c.geometry parity d)
+use Rattle.stair_std.specs.Coefficients.{Coefficients, coefficient_of}
 
 -- byte p of the cell of this number where it is a data cell, or 0
 abbrev pub block_byte : Geometry → Stripe → ℕ → ℕ → ℕ

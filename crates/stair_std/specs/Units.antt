@@ -1,9 +1,10 @@
 -- Stripes of which, at each byte position, one data cell is 1 and all others are zero.
-use Rattle.std.specs.Prelude.{◌≡◌, ℕ, ◌+◌, ◌*◌, ◌<◌, ◌==◌, false, IsTrue, if◌then◌else◌, List, length, slice_index}
-use Rattle.stair_model.specs.Geometry.{Geometry}
+use Rattle.std.specs.Prelude.{◌≡◌, ◌≢◌, ℕ, ◌+◌, ◌*◌, ◌<◌, ◌==◌, false, IsTrue, if◌then◌else◌, List, length, slice_index}
+use Rattle.stair_model.specs.Geometry.{Geometry, data_cells}
 use Rattle.stair_model.specs.Codeword.{IsCodeword}
 use Rattle.stair_model.specs.Stripe.{Stripe, SECTOR, IsStripeOf, IsWellFormed}
 use Rattle.stair_std.specs.Cells.{is_parity_number, parities_before, blocks_before, byte_of_number}
+use Rattle.stair_std.specs.Coefficients.{coefficient_number}
 
 -- byte p of data cell d: 1 where d is first + p
 abbrev pub unit_byte : ℕ → ℕ → ℕ → ℕ
@@ -22,10 +23,12 @@ pub record AreUnits (g : Geometry) (first : ℕ) (stripe : Stripe) : Type 0 wher
   pub formed : IsWellFormed stripe
   pub codeword : IsCodeword g stripe
 
--- byte p of each parity of the stripe stands behind the old bytes, row by row
-pub record AddsParities (g : Geometry) (stripe : Stripe) (p : ℕ) (old new : List ℕ) : Type 0 where
-  pub count : length new ≡ length old + parities_before g (g.r * g.n)
-  pub kept : (k : ℕ) → k < length old → slice_index new k ≡ slice_index old k
-  pub added :
+-- the coefficients over data cell d are those bytes of the parities of the stripe, and all others are as they were
+pub record HasColumnSet (g : Geometry) (stripe : Stripe) (p d : ℕ) (old new : List ℕ) : Type 0 where
+  pub count : length new ≡ length old
+  pub set :
       (c : ℕ) → c < g.r * g.n → IsTrue (is_parity_number g c) →
-      slice_index new (length old + parities_before g c) ≡ byte_of_number stripe p c
+      slice_index new (coefficient_number g (parities_before g c) d) ≡ byte_of_number stripe p c
+  pub kept :
+      (a e : ℕ) → e < data_cells g → e ≢ d →
+      slice_index new (coefficient_number g a e) ≡ slice_index old (coefficient_number g a e)

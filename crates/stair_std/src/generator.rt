@@ -1,127 +1,160 @@
-ghost use Rattle.std.specs.Prelude.{◌≡◌, ℕ, ◌+◌, ◌<◌, ◌==◌, not, IfOk, count_by, slice_index};
+ghost use Rattle.std.specs.Prelude.{◌≡◌, ℕ, ◌+◌, ◌<◌, IfOk, slice_index, bit_xor};
+ghost use Rattle.stair_model.specs.Cell.{Data, cell_at};
+ghost use Rattle.stair_model.specs.CellSet.{CellSet as Cells, IsCellSet, cell_count};
 ghost use Rattle.stair_model.specs.Costs.{IsStandardCost};
+ghost use Rattle.stair_model.specs.Dependents.{AreDependents, IsFactor, IsUpdatedFrom};
 ghost use Rattle.stair_model.specs.Geometry.{data_cells};
 ghost use Rattle.stair_model.specs.Stripe.{IsStripeOf, SECTOR};
-ghost use Rattle.stair_std.specs.Coefficients.{IsGenerator, nonzero_coefficients, parity_cells, coefficient_number};
-ghost use Rattle.stair_std.specs.Standard.{parity_byte, parity_steps};
 
-use crate::cells::{block_at, cell_count, parity_count, row_and_slot};
-use crate::units::{encode_units, push_parities};
-use stair_base::{Geometry, SECTOR, Stripe};
-use stair_canon::Canon;
+use crate::cells::Part;
+use crate::coefficients::Coefficients;
+use stair_base::{CellSet, Geometry, SECTOR, Stripe};
 use stair_gf::{Steps, mul_add};
 use std::alloc::{AllocError, Global};
 use std::marker::Model;
 use std::sync::ledger::Ledger;
 
-/// The coefficients of each row parity and each global parity over the u data cells of a stripe.
+/// How the parities of a stripe depend on its data cells.
 ///
-/// A parity is the sum over the data cells of its coefficients times their blocks (Li and Lee, STAIR Codes, FAST 2014). So
-/// its coefficient over data cell d is each of its bytes in the encoded stripe whose data cell d is filled with 01, and all
-/// others with zeros.
+/// The factor of a cell over a data cell is each of its bytes in the encoded stripe whose data cell is filled with 01, and
+/// all others with zeros. A parity is the sum over the data cells of its factors times their blocks (Li and Lee, STAIR
+/// Codes, FAST 2014).
 #[derive(Drop)]
 pub struct Generator {
-    geometry: Geometry,
-    // Data cell by data cell, and for each the parities row by row.
-    coefficients: Vec<u8>,
+    pub(crate) coefficients: Coefficients,
+    cost: u64,
 }
 
 impl Model for Generator {
-    ghost use Rattle.stair_std.specs.Coefficients.{Coefficients, IsGenerator};
+    ghost use Rattle.stair_std.specs.Coefficients.{StandardCode};
+    ghost use Rattle.stair_std.specs.Kept.{shown, IsKept};
 
-    ghost Value = { Coefficients };
+    ghost Value = { StandardCode };
 
-    ghost view = { λ a. record { geometry = a.geometry; bytes = a.coefficients.items } };
+    ghost view = { shown };
 
-    ghost invariant = { λ a. IsGenerator (record { geometry = a.geometry; bytes = a.coefficients.items }) };
-}
-
-/// How many of the bytes aren't zero.
-fn nonzero_count(bytes: &[u8]) -> u64
-    ensures { result ≡ count_by (λ b. not (b == 0)) bytes.now }
-{
-    bytes.iter().filter(|byte| **byte != 0).count() as u64
+    ghost invariant = { IsKept };
 }
 
 impl Generator {
-    /// The coefficients of this geometry, of which there are u times the number of row parities and global parities.
+    /// The generator of this geometry. The error comes only for want of memory.
     ///
-    /// The error comes only for want of memory. Beside the bytes that are kept, in one allocation, it takes a stripe and a
-    /// canonical stripe, and lets both go. A stripe whose data cells are 1 at one byte position each is encoded for each 512
-    /// data cells, since the byte positions of a stripe don't touch each other.
+    /// It keeps a coefficient of each row parity and each global parity over each of the u data cells, a byte each, and what
+    /// each cell is. Beside these it takes a stripe and a canonical stripe, and lets both go.
     pub fn new(alloc: Global, geometry: &Geometry) -> Result<Generator, AllocError>
         ensures geometry { IfOk result (λ generator. generator.geometry ≡ geometry.now) }
-        ensures coefficients { IfOk result IsGenerator }
-        ensures standard { IfOk result (λ generator. IsStandardCost geometry.now (nonzero_coefficients generator)) }
+        ensures standard { IfOk result (λ generator. IsStandardCost geometry.now generator.cost) }
     {
-        let blocks = geometry.u();
-        let count = usize::from(blocks) * usize::from(parity_count(geometry));
-        let mut coefficients = Vec::with_capacity(alloc, count)?;
-        let mut canon = Canon::new(alloc, geometry)?;
-        let mut stripe = Stripe::new(alloc, geometry)?;
-        for block in 0..blocks {
-            let byte = block % SECTOR as u16;
-            if byte == 0 {
-                encode_units(&mut canon, &mut stripe, block);
-            }
-            push_parities(geometry, &stripe, byte, &mut coefficients)?;
-        }
-        Ok(Generator {
-            geometry: *geometry,
-            coefficients,
-        })
+        let coefficients = Coefficients::new(alloc, geometry)?;
+        let cost = coefficients.nonzero_count();
+        Ok(Generator { coefficients, cost })
     }
 
-    /// The steps that encoding a stripe takes: the coefficients that aren't zero. They are counted at each call.
+    /// The steps that encoding a stripe takes: the coefficients that aren't zero.
     pub fn cost(&self) -> u64
-        ensures value { result ≡ nonzero_coefficients self.now }
+        ensures value { result ≡ self.now.cost }
         ensures standard { IsStandardCost self.now.geometry result }
     {
-        nonzero_count(&self.coefficients)
+        self.cost
     }
 
-    /// The geometry of the stripes that it encodes.
-    pub(crate) fn geometry(&self) -> Geometry
-        ensures value { result ≡ self.now.geometry }
-        ensures well_formed { IsGenerator self.now }
+    /// The factor of the cell in this row of this slot's chunk over the data cell with this number.
+    ///
+    /// For a data cell it is 1 where it is this one, and otherwise 0.
+    pub fn factor(&self, number: u16, row: u8, slot: u8) -> u8
+        requires number_in { number < data_cells self.now.geometry }
+        requires row_in { row < self.now.geometry.r }
+        requires slot_in { slot < self.now.geometry.n }
+        ensures { IsFactor self.now.geometry number row slot result }
     {
-        self.geometry
+        self.coefficients.factor(number, row, slot)
     }
 
-    /// The coefficient of this parity, counted row by row, over this data cell.
-    fn coefficient(&self, parity: u16, block: u16) -> u8
-        requires parity_in { parity < parity_cells self.now.geometry }
-        requires block_in { block < data_cells self.now.geometry }
-        ensures { result ≡ slice_index self.now.bytes (coefficient_number self.now.geometry parity block) }
+    /// The dependents of the data cell in this row of this slot's chunk: the cells with a factor over it that isn't zero.
+    pub fn dependents(&self, row: u8, slot: u8) -> CellSet
+        requires row_in { row < self.now.geometry.r }
+        requires slot_in { slot < self.now.geometry.n }
+        requires data { (d : ℕ) × (cell_at self.now.geometry row slot ≡ Data d) }
+        ensures dependents { (d : ℕ) → cell_at self.now.geometry row slot ≡ Data d →
+            AreDependents self.now.geometry d result }
+        ensures well_formed { IsCellSet result }
     {
-        let parities = parity_count(&self.geometry);
-        self.coefficients[usize::from(block) * usize::from(parities) + usize::from(parity)]
+        let block = number_of(&self.coefficients, row, slot);
+        let geometry = self.coefficients.geometry();
+        let mut dependents = CellSet::empty();
+        for i in 0..geometry.r() {
+            for j in 0..geometry.n() {
+                if self.coefficients.factor(block, i, j) != 0 {
+                    dependents.add(i, j);
+                }
+            }
+        }
+        dependents
     }
 
-    /// This parity, counted row by row, of the stripe's blocks: a step for each coefficient of it that isn't zero.
-    pub(crate) fn parity<L: Ledger>(
+    /// Sets the block in this row of this slot's chunk to `from`, and adds to each other dependent its factor times the
+    /// difference, a step each.
+    ///
+    /// Where the dependents were those of a codeword, they are then those of that codeword with this block set; all other
+    /// cells stay, and aren't looked at. It takes no memory.
+    pub fn update<L: Ledger>(
         &self,
-        parity: u16,
-        stripe: &Stripe,
+        stripe: &mut Stripe,
+        row: u8,
+        slot: u8,
+        from: &[u8; SECTOR],
         steps: &mut Steps<L>,
-    ) -> [u8; SECTOR]
-        requires of { IsStripeOf self.now.geometry stripe.now }
-        requires parity_in { parity < parity_cells self.now.geometry }
-        ensures sum { (p : ℕ) → p < SECTOR →
-            slice_index result p ≡ parity_byte self.now stripe.now p parity }
-        ensures cost { steps.new ≡ steps.old + parity_steps self.now parity }
+    )
+        requires of { IsStripeOf self.now.geometry stripe.old }
+        requires row_in { row < self.now.geometry.r }
+        requires slot_in { slot < self.now.geometry.n }
+        requires data { (d : ℕ) × (cell_at self.now.geometry row slot ≡ Data d) }
+        ensures updated { (d : ℕ) → cell_at self.now.geometry row slot ≡ Data d →
+            IsUpdatedFrom self.now.geometry d from.now stripe.old stripe.new }
+        ensures takes { (d : ℕ) (dependents : Cells) → cell_at self.now.geometry row slot ≡ Data d →
+            AreDependents self.now.geometry d dependents →
+            steps.new + 1 ≡ steps.old + cell_count dependents }
     {
-        let mut sum = [0; SECTOR];
-        for number in 0..cell_count(&self.geometry) {
-            let (row, slot) = row_and_slot(&self.geometry, number);
-            if let Some(block) = block_at(&self.geometry, row, slot) {
-                let by = self.coefficient(parity, block);
+        let block = number_of(&self.coefficients, row, slot);
+        let geometry = self.coefficients.geometry();
+        let change = difference(stripe.cell(row, slot), from);
+        for i in 0..geometry.r() {
+            for j in 0..geometry.n() {
+                let by = self.coefficients.coefficient_at(i, j, block);
                 if by != 0 {
-                    mul_add(&mut sum, stripe.cell(row, slot), by);
+                    let mut sum = *stripe.cell(i, j);
+                    mul_add(&mut sum, &change, by);
+                    stripe.put(i, j, &sum);
                     steps.tick();
                 }
             }
         }
-        sum
+        stripe.put(row, slot, from);
     }
+}
+
+/// The number of the data cell in this row of this slot's chunk.
+fn number_of(coefficients: &Coefficients, row: u8, slot: u8) -> u16
+    requires row_in { row < coefficients.now.geometry.r }
+    requires slot_in { slot < coefficients.now.geometry.n }
+    requires data { (d : ℕ) × (cell_at coefficients.now.geometry row slot ≡ Data d) }
+    ensures cell { cell_at coefficients.now.geometry row slot ≡ Data result }
+    ensures below { result < data_cells coefficients.now.geometry }
+{
+    match coefficients.part(row, slot) {
+        Part::Block(block) => block,
+        Part::Parity(_) => unreachable!(),
+    }
+}
+
+/// By what a block changes from the old bytes to the new ones, at each byte.
+fn difference(old: &[u8; SECTOR], new: &[u8; SECTOR]) -> [u8; SECTOR]
+    ensures { (p : ℕ) → p < SECTOR →
+        slice_index result p ≡ bit_xor (slice_index new.now p) (slice_index old.now p) }
+{
+    let mut change = *new;
+    for (p, byte) in change.iter_mut().enumerate() {
+        *byte ^= old[p];
+    }
+    change
 }

@@ -8,6 +8,7 @@ pub use generator::Generator;
 pub use standard::encode_standard;
 
 mod cells;
+mod coefficients;
 mod generator;
 mod standard;
 mod units;

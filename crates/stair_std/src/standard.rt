@@ -2,9 +2,8 @@ ghost use Rattle.std.specs.Prelude.{◌≡◌, ◌+◌};
 ghost use Rattle.stair_model.specs.Costs.{IsStandardCost};
 ghost use Rattle.stair_model.specs.Encoding.{IsEncodedFrom};
 ghost use Rattle.stair_model.specs.Stripe.{IsStripeOf};
-ghost use Rattle.stair_std.specs.Coefficients.{nonzero_coefficients};
 
-use crate::cells::{block_at, cell_count, row_and_slot};
+use crate::cells::Part;
 use crate::generator::Generator;
 use stair_base::Stripe;
 use stair_gf::Steps;
@@ -18,17 +17,17 @@ use std::sync::ledger::Ledger;
 pub fn encode_standard<L: Ledger>(generator: &Generator, stripe: &mut Stripe, steps: &mut Steps<L>)
     requires { IsStripeOf generator.now.geometry stripe.old }
     ensures encoded { IsEncodedFrom generator.now.geometry stripe.old stripe.new }
-    ensures cost { steps.new ≡ steps.old + nonzero_coefficients generator.now }
-    ensures standard { IsStandardCost generator.now.geometry (nonzero_coefficients generator.now) }
+    ensures cost { steps.new ≡ steps.old + generator.now.cost }
+    ensures standard { IsStandardCost generator.now.geometry generator.now.cost }
 {
-    let geometry = generator.geometry();
-    let mut parity = 0;
-    for number in 0..cell_count(&geometry) {
-        let (row, slot) = row_and_slot(&geometry, number);
-        if block_at(&geometry, row, slot).is_none() {
-            let sum = generator.parity(parity, stripe, steps);
-            stripe.put(row, slot, &sum);
-            parity += 1;
+    let coefficients = &generator.coefficients;
+    let geometry = coefficients.geometry();
+    for row in 0..geometry.r() {
+        for slot in 0..geometry.n() {
+            if let Part::Parity(parity) = coefficients.part(row, slot) {
+                let sum = coefficients.parity(parity, stripe, steps);
+                stripe.put(row, slot, &sum);
+            }
         }
     }
 }

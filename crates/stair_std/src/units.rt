@@ -1,17 +1,18 @@
 //! Stripes of which, at each byte position, one data cell is 1 and all others are zero.
 
-ghost use Rattle.std.specs.Prelude.{◌≡◌, ℕ, ◌<◌, OnOk, length, slice_index};
+ghost use Rattle.std.specs.Prelude.{◌≡◌, ℕ, ◌*◌, ◌%◌, ◌<◌, length, slice_index};
 ghost use Rattle.stair_model.specs.Encoding.{IsEncodedFrom};
-ghost use Rattle.stair_model.specs.Geometry.{IsWithinLimits};
+ghost use Rattle.stair_model.specs.Geometry.{IsWithinLimits, data_cells};
 ghost use Rattle.stair_model.specs.Stripe.{IsStripeOf, SECTOR};
-ghost use Rattle.stair_std.specs.Units.{AddsParities, AreUnitBlocks, AreUnits, unit_byte};
+ghost use Rattle.stair_std.specs.Cells.{AreParts};
+ghost use Rattle.stair_std.specs.Coefficients.{parity_cells};
+ghost use Rattle.stair_std.specs.Units.{AreUnitBlocks, AreUnits, HasColumnSet, unit_byte};
 
-use crate::cells::{block_at, cell_count, row_and_slot};
+use crate::cells::{Part, block_at, cell_count, part_at, row_and_slot};
 use stair_base::{Geometry, SECTOR, Stripe};
 use stair_canon::Canon;
 use stair_down::encode_downstairs;
 use stair_gf::Steps;
-use std::alloc::AllocError;
 use std::marker::Brand;
 use std::sync::ledger::{Blank, Ledger};
 
@@ -64,22 +65,30 @@ pub(crate) fn encode_units(canon: &mut Canon, stripe: &mut Stripe, first: u16)
     encode_uncounted::<Brand>(Blank::new(1), canon, stripe);
 }
 
-/// Adds this byte of each parity, in the order of the cells' numbers. The error comes only for want of memory.
-pub(crate) fn push_parities(
+/// Makes the coefficients of all parities over this data cell those of a stripe in which, at its byte, the data cell is 1
+/// and all others are zero.
+pub(crate) fn set_column(
     geometry: &Geometry,
+    parts: &[Part],
     stripe: &Stripe,
-    byte: u16,
-    bytes: &mut Vec<u8>,
-) -> Result<(), AllocError>
+    block: u16,
+    coefficients: &mut [u8],
+)
     requires of { IsStripeOf geometry.now stripe.now }
-    requires byte_in { byte < SECTOR }
-    ensures { OnOk result (AddsParities geometry.now stripe.now byte bytes.old.items bytes.new.items) }
+    requires parts { AreParts geometry.now parts.now }
+    requires block_in { block < data_cells geometry.now }
+    requires count { length coefficients.old ≡ parity_cells geometry.now * data_cells geometry.now }
+    ensures { HasColumnSet geometry.now stripe.now (block % SECTOR) block coefficients.old coefficients.new }
 {
-    for number in 0..cell_count(geometry) {
-        let (row, slot) = row_and_slot(geometry, number);
-        if block_at(geometry, row, slot).is_none() {
-            bytes.push(stripe.cell(row, slot)[usize::from(byte)])?;
+    let blocks = usize::from(geometry.u());
+    let byte = usize::from(block) % SECTOR;
+    for row in 0..geometry.r() {
+        for slot in 0..geometry.n() {
+            if let Part::Parity(parity) = part_at(geometry, parts, row, slot) {
+                coefficients[usize::from(parity) * blocks + usize::from(block)] = stripe.cell(
+                    row, slot,
+                )[byte];
+            }
         }
     }
-    Ok(())
 }

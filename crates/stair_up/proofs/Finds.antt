@@ -1,13 +1,15 @@
 -- What solving a row or a chunk finds of codewords.
 use Rattle.std.proofs.Common.{◌≡◌, ℕ, ◌+◌, ◌<◌, ◌≤◌, List, slice_index, inl, inr, refl, sym, subst, ap, ◌∙◌}
-use Rattle.std.specs.Prelude.{Contains}
+use Rattle.std.specs.Prelude.{All, Contains}
+use Rattle.std.proofs.lemmas.List.Elements.{All-contains}
 use Rattle.std.proofs.lemmas.Bool.{cases_eq}
-use Rattle.stair_model.specs.Canonical.{canonical_chunks, canonical_rows}
+use Rattle.stair_model.specs.Canonical.{canonical_chunks, canonical_rows, IsRowCodeword}
+use Rattle.stair_model.specs.CauchyCode.{AreSolved}
 use Rattle.stair_model.specs.CellSet.{CellSet, HasCell}
 use Rattle.stair_model.specs.Codeword.{Word}
 use Rattle.stair_model.specs.Geometry.{Geometry}
 use Rattle.stair_canon.specs.Canonical.{CanonicalStripe, byte_at}
-use Rattle.stair_canon.specs.Solving.{ChangesOnly, SolvesRow, SolvesChunk}
+use Rattle.stair_canon.specs.Solving.{ChangesOnly, SolvesRow, SolvesRows, SolvesChunk}
 use Rattle.stair_up.specs.Finding.{AreCanonical, IsFound, HasGiven, StaysFound, Keeps}
 use Rattle.stair_mds.proofs.Stretches.{IsStretch, All-stretch, stretch_each, place_in_stretch}
 
@@ -30,18 +32,27 @@ HasGiven-stays g erased x old new stays given = record {
   zeros = λ l h l_in covers. stays _ _ (given.zeros l h l_in covers);
 }
 
+-- a row whose wanted symbols are those of the codeword that has the known ones
+module _ (x : ℕ → Word) (row : ℕ) (columns known wanted : List ℕ) (a n b k : ℕ) (old new : CanonicalStripe)
+    (is_known : IsStretch a n columns known) (is_wanted : IsStretch b k columns wanted) (canonical : AreCanonical old.geometry x)
+    (row_in : row < canonical_rows old.geometry)
+    (solved : AreSolved (IsRowCodeword old.geometry) known wanted (λ q j. byte_at old q row j) (λ q j. byte_at new q row j))
+    (found : (p : ℕ) → a ≤ p → p < a + n → IsFound x old row (slice_index columns p)) where
+  found_in_row : (p : ℕ) → b ≤ p → p < b + k → IsFound x new row (slice_index columns p)
+  found_in_row p above below q q_in =
+      sym (stretch_each b k columns wanted is_wanted (λ j. x q row j ≡ byte_at new q row j)
+      (solved.each q (λ j. x q row j) q_in ((canonical q q_in).rows row row_in)
+      (All-stretch a n columns known is_known (λ j. x q row j ≡ byte_at old q row j)
+      (λ c from to. sym (found c from to q q_in))))
+      p above below)
+
 -- a row that was solved from known columns
 module _ (x : ℕ → Word) (row : ℕ) (columns known wanted : List ℕ) (a n b k : ℕ) (old new : CanonicalStripe)
     (is_known : IsStretch a n columns known) (is_wanted : IsStretch b k columns wanted) (canonical : AreCanonical old.geometry x)
     (row_in : row < canonical_rows old.geometry) (solves : SolvesRow row known wanted old new)
     (found : (p : ℕ) → a ≤ p → p < a + n → IsFound x old row (slice_index columns p)) where
   pub row_found : (p : ℕ) → b ≤ p → p < b + k → IsFound x new row (slice_index columns p)
-  row_found p above below q q_in =
-      sym (stretch_each b k columns wanted is_wanted (λ j. x q row j ≡ byte_at new q row j)
-      (solves.symbols.each q (λ j. x q row j) q_in ((canonical q q_in).rows row row_in)
-      (All-stretch a n columns known is_known (λ j. x q row j ≡ byte_at old q row j)
-      (λ c from to. sym (found c from to q q_in))))
-      p above below)
+  row_found = found_in_row x row columns known wanted a n b k old new is_known is_wanted canonical row_in solves.symbols found
 
   pub row_stays : StaysFound x old new
   row_stays =
@@ -50,6 +61,27 @@ module _ (x : ℕ → Word) (row : ℕ) (columns known wanted : List ℕ) (a n b
       let one = place_in_stretch b k columns wanted is_wanted j is_solved.1 in
       subst (λ (s : ℕ). IsFound x new s j) (sym is_solved.0)
       (subst (λ (t : ℕ). IsFound x new row t) one.3 (row_found one.0 one.1 one.2)))
+
+-- rows that were solved from the same known columns
+module _ (x : ℕ → Word) (rows columns known wanted : List ℕ) (a n b k : ℕ) (old new : CanonicalStripe)
+    (is_known : IsStretch a n columns known) (is_wanted : IsStretch b k columns wanted) (canonical : AreCanonical old.geometry x)
+    (rows_in : All (λ row. row < canonical_rows old.geometry) rows) (solves : SolvesRows rows known wanted old new)
+    (found : (row p : ℕ) → Contains rows row → a ≤ p → p < a + n → IsFound x old row (slice_index columns p)) where
+  pub rows_found : (row p : ℕ) → Contains rows row → b ≤ p → p < b + k → IsFound x new row (slice_index columns p)
+  rows_found row p is_one =
+      found_in_row x row columns known wanted a n b k old new is_known is_wanted canonical
+      (All-contains (λ i. i < canonical_rows old.geometry) rows row rows_in is_one)
+      (All-contains
+      (λ i. AreSolved (IsRowCodeword old.geometry) known wanted (λ q j. byte_at old q i j) (λ q j. byte_at new q i j)) rows row
+      solves.symbols is_one)
+      (λ c. found row c is_one) p
+
+  pub rows_stay : StaysFound x old new
+  rows_stay =
+      StaysFound-changes x old new (λ i j. Contains rows i × Contains wanted j) solves.changes
+      (λ i j is_solved.
+      let one = place_in_stretch b k columns wanted is_wanted j is_solved.1 in
+      subst (λ (t : ℕ). IsFound x new i t) one.3 (rows_found i one.0 is_solved.0 one.1 one.2))
 
 -- a chunk that was solved from known rows
 module _ (x : ℕ → Word) (column : ℕ) (rows known wanted : List ℕ) (a n b k : ℕ) (old new : CanonicalStripe)

@@ -31,7 +31,7 @@ pub FindsFrom-more : (erased : CellSet) (columns : List ℕ) (height passed solv
     → a.geometry ≡ old.geometry → b.geometry ≡ old.geometry → place + passed + 1 ≡ old.geometry.n → old.geometry.m ≤ place
     → slot ≡ slice_index columns place → count ≡ count_in_slot erased slot → count ≤ height
     → FindsFrom erased columns height passed solved old a
-    → FindsVirtualRows erased columns place solved count count a b → FindsChunk erased slot height b c
+    → FindsVirtualRows erased columns place solved count a b → FindsChunk erased slot height b c
     → FindsFrom erased columns height (passed + 1) count old c
 FindsFrom-more erased columns height passed solved place slot count old a b c same_a same_b at from is_slot is_count small before rows chunk x canonical given =
     record {

@@ -1,6 +1,6 @@
 pub mod Finds
 pub mod Columns
-pub mod VirtualRow
+pub mod VirtualRows
 pub mod Chunk
 pub mod FirstCells
 pub mod Exchanging

@@ -38,21 +38,14 @@ FindsChunk erased slot height old new =
     ((h : ℕ) → h < count_in_slot erased slot → IsFound x old (old.geometry.r + h) slot) →
     StaysFound x old new × ((i : ℕ) → i < old.geometry.r + height → IsFound x new i slot)
 
--- virtual symbol h of the chunks from place m on of the order is found where it was in those behind this place
-abbrev pub FindsVirtualRow : CellSet → List ℕ → ℕ → ℕ → CanonicalStripe → CanonicalStripe → Type 0
-FindsVirtualRow erased columns place h old new =
-    (x : ℕ → Word) → AreCanonical old.geometry x → HasGiven old.geometry erased x old →
-    ((p : ℕ) → place < p → p < old.geometry.n → IsFound x old (old.geometry.r + h) (slice_index columns p)) →
-    StaysFound x old new ×
-    ((p : ℕ) → old.geometry.m ≤ p → p < old.geometry.n → IsFound x new (old.geometry.r + h) (slice_index columns p))
-
--- the same of all virtual symbols below `to`, of those from `from` on and below `end`
-abbrev pub FindsVirtualRows : CellSet → List ℕ → ℕ → ℕ → ℕ → ℕ → CanonicalStripe → CanonicalStripe → Type 0
-FindsVirtualRows erased columns place from to end old new =
+-- the virtual symbols from `from` on and below `to` of the chunks from place m on of the order are found where they were in
+-- those behind this place
+abbrev pub FindsVirtualRows : CellSet → List ℕ → ℕ → ℕ → ℕ → CanonicalStripe → CanonicalStripe → Type 0
+FindsVirtualRows erased columns place from to old new =
     (x : ℕ → Word) → AreCanonical old.geometry x → HasGiven old.geometry erased x old →
     ((p h : ℕ) → place < p → p < old.geometry.n → h < to → IsFound x old (old.geometry.r + h) (slice_index columns p)) →
     StaysFound x old new ×
-    ((p h : ℕ) → old.geometry.m ≤ p → p < old.geometry.n → from ≤ h → h < end → IsFound x new (old.geometry.r + h) (slice_index columns p))
+    ((p h : ℕ) → old.geometry.m ≤ p → p < old.geometry.n → from ≤ h → h < to → IsFound x new (old.geometry.r + h) (slice_index columns p))
 
 -- the cells of all chunks from place m on of the order are found
 abbrev pub FindsLastChunks : CellSet → List ℕ → CanonicalStripe → CanonicalStripe → Type 0

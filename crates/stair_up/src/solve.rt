@@ -5,7 +5,7 @@ ghost use Rattle.stair_model.specs.Geometry.{IsWithinLimits, data_chunks, greate
 ghost use Rattle.stair_model.specs.Restoring.{SameHeld};
 ghost use Rattle.stair_model.specs.Stripe.{IsStripeOf, IsWellFormed};
 ghost use Rattle.stair_up.specs.Order.{IsOrderOf, count_at, erased_in_last, erased_in_row};
-ghost use Rattle.stair_up.specs.Finding.{FindsCells, FindsChunk, FindsLastChunks, FindsRow, FindsStripe, FindsVirtualRow, FindsVirtualRows, Keeps};
+ghost use Rattle.stair_up.specs.Finding.{FindsCells, FindsChunk, FindsLastChunks, FindsRow, FindsStripe, FindsVirtualRows, Keeps};
 
 use crate::light_rows::solve_light_rows;
 use crate::order::Order;
@@ -13,6 +13,7 @@ use crate::rows::rows_by_need;
 use stair_base::{CellSet, Stripe};
 use stair_canon::Canon;
 use stair_gf::Steps;
+use stair_mds::numbers_from;
 use std::sync::ledger::Ledger;
 
 /// Solves the erased cells of a stripe from all others.
@@ -119,7 +120,8 @@ fn solve_last_chunks<L: Ledger>(canon: &mut Canon, order: &Order, steps: &mut St
     }
 }
 
-/// Solves the virtual symbols from `from` on and below `to` of the chunks from place m of the order up to this one.
+/// Solves the virtual symbols from `from` on and below `to` of the chunks from place m of the order up to this one, from
+/// those of all later chunks and the zeros of the intermediate chunks.
 fn solve_virtual_rows<L: Ledger>(
     canon: &mut Canon,
     order: &Order,
@@ -135,39 +137,19 @@ fn solve_virtual_rows<L: Ledger>(
     requires from { from ≤ to }
     requires to { to ≤ count_at order.now place }
     ensures kept { Keeps order.now.erased canon.old canon.new }
-    ensures found { FindsVirtualRows order.now.erased order.now.columns place from to to canon.old canon.new }
+    ensures found { FindsVirtualRows order.now.erased order.now.columns place from to canon.old canon.new }
     ensures cost { steps.new ≡ steps.old + data_chunks canon.old.geometry * (place + 1 - canon.old.geometry.m) * (to - from) }
 {
-    for h in from..to {
-        solve_virtual_row(canon, order, place, h, steps);
+    if from == to {
+        return;
     }
-}
-
-/// Solves virtual symbol h of the chunks from place m of the order up to this one, from those of all later chunks and the
-/// zeros of the intermediate chunks.
-fn solve_virtual_row<L: Ledger>(
-    canon: &mut Canon,
-    order: &Order,
-    place: usize,
-    h: u8,
-    steps: &mut Steps<L>,
-)
-    requires order { IsOrderOf canon.old.geometry order.now }
-    requires covered { HasCoveredChunks canon.old.geometry order.now.erased }
-    requires place_from { canon.old.geometry.m ≤ place }
-    requires place_in { place < canon.old.geometry.n }
-    requires symbol { h < count_at order.now place }
-    ensures kept { Keeps order.now.erased canon.old canon.new }
-    ensures found { FindsVirtualRow order.now.erased order.now.columns place h canon.old canon.new }
-    ensures cost { steps.new ≡ steps.old + data_chunks canon.old.geometry * (place + 1 - canon.old.geometry.m) }
-{
     let geometry = canon.geometry();
     let m = usize::from(geometry.m());
     let next = place + 1;
     let end = next + (usize::from(geometry.n()) - m);
-    let row = u16::from(geometry.r()) + u16::from(h);
-    canon.solve_row(
-        row,
+    let rows = numbers_from(u16::from(geometry.r()) + u16::from(from));
+    canon.solve_rows(
+        &rows[..usize::from(to - from)],
         &order.columns[next..end],
         &order.columns[m..next],
         steps,

@@ -1,28 +1,105 @@
--- A virtual row more.
-use Rattle.std.proofs.Common.{◌≡◌, ℕ, ◌+◌, ◌-◌, ◌*◌, ◌≤◌, subst, arith}
-use Rattle.stair_model.specs.Geometry.{Geometry, data_chunks}
-use Rattle.stair_up.proofs.Finds.{Keeps-both}
-use Rattle.stair_up.proofs.VirtualRow.{FindsVirtualRows-more}
+-- The columns behind this place are known, and those up to it wanted, in each of the rows.
+use Rattle.std.proofs.Common.{◌+◌, ap, ap₂, subst, sym, ◌∙◌, arith}
+use Rattle.stair_model.specs.Geometry.{IsWithinLimits}
+use Rattle.stair_up.proofs.VirtualRows.{small, are_rows, may_know, may_want, rows_in, rows_distinct, keeps_rows, finds_rows, rows_cost}
 use Rattle.stair_up.proofs.solve.solve_virtual_rows.Goals as goal
 
--- a term more
-more : (old now steps a h from : ℕ) → now ≡ old + a * (h - from) → steps ≡ now + a → from ≤ h → steps ≡ old + a * (h + 1 - from)
-more old now steps a h from so_far next above =
-    let count : h + 1 - from ≡ (h - from) + 1 = omega arith in
-    rw count (omega (arith, so_far, next))
+pub numbers_from-rows-requires : goal.numbers_from-rows-requires
+numbers_from-rows-requires g c =
+    let same = c.geometry-geometry.ensures in
+    let fits = small c.args.canon.now c.args.order.now.erased c.args.order.now.columns (subst IsWithinLimits same c.m.ensures.limits)
+    c.requires.order.columns c.requires.covered c.args.place c.args.from c.args.to c.requires.place_from c.requires.place_in
+    (omega (arith, c.if-from-to.false, c.requires.from)) c.requires.to c.from.result c.from-m.result
+    (c.from.ensures ∙ c.n.ensures.value ∙ ap (λ x. x.n) same) (c.from-m.ensures ∙ c.m.ensures.value ∙ ap (λ x. x.m) same) in
+    omega (arith, fits, c.from-2.ensures, c.r.ensures.value, ap (λ x. x.r) same, c.from-3.ensures, c.requires.from)
 
-pub loop-h-preserved : goal.loop-h-preserved
-loop-h-preserved g c =
-    let before = c.loop-h.invariant in
-    let same = before.kept.geometry in
-    record {
-      kept = Keeps-both _ _ _ _ before.kept c.solve_virtual_row.ensures.kept;
-      found = FindsVirtualRows-more c.args.order.now.erased c.args.order.now.columns c.args.place c.args.from c.args.to c.loop-h.h
-          c.args.canon.now c.loop-h.canon c.solve_virtual_row.new.canon same c.loop-h-test.true before.found c.solve_virtual_row.ensures.found;
-      cost = more c.args.steps.now c.loop-h.steps c.solve_virtual_row.new.steps
-          (data_chunks c.args.canon.now.geometry * (c.args.place + 1 - c.args.canon.now.geometry.m)) c.loop-h.h c.args.from
-          before.cost
-          (subst (λ (x : Geometry). c.solve_virtual_row.new.steps ≡ c.loop-h.steps + data_chunks x * (c.args.place + 1 - x.m)) same
-          c.solve_virtual_row.ensures.cost)
-          c.loop-h.auto.h;
-    }
+pub slice_bounds-rows-end : goal.slice_bounds-rows-end
+slice_bounds-rows-end g c =
+    let same = c.geometry-geometry.ensures in
+    let fits = small c.args.canon.now c.args.order.now.erased c.args.order.now.columns (subst IsWithinLimits same c.m.ensures.limits)
+    c.requires.order.columns c.requires.covered c.args.place c.args.from c.args.to c.requires.place_from c.requires.place_in
+    (omega (arith, c.if-from-to.false, c.requires.from)) c.requires.to c.from.result c.from-m.result
+    (c.from.ensures ∙ c.n.ensures.value ∙ ap (λ x. x.n) same) (c.from-m.ensures ∙ c.m.ensures.value ∙ ap (λ x. x.m) same) in
+    omega (arith, fits, c.from-4.ensures, c.numbers_from-rows.ensures.count)
+
+pub slice_bounds-solve_rows-end : goal.slice_bounds-solve_rows-end
+slice_bounds-solve_rows-end g c =
+    let same = c.geometry-geometry.ensures in
+    c.from-4.ensures ∙ sym (are_rows c.args.canon.now c.args.order.now.erased c.args.order.now.columns (subst IsWithinLimits same c.m.ensures.limits)
+    c.requires.order.columns c.requires.covered c.args.place c.args.from c.args.to c.requires.place_from c.requires.place_in
+    (omega (arith, c.if-from-to.false, c.requires.from)) c.requires.to c.from.result c.from-m.result
+    (c.from.ensures ∙ c.n.ensures.value ∙ ap (λ x. x.n) same) (c.from-m.ensures ∙ c.m.ensures.value ∙ ap (λ x. x.m) same)
+    c.numbers_from-rows.result (c.from-2.result + c.from-3.result) c.from-4.result
+    (ap₂ (λ a b. a + b) (c.from-2.ensures ∙ c.r.ensures.value ∙ ap (λ x. x.r) same) c.from-3.ensures) c.from-4.ensures
+    c.numbers_from-rows.ensures.count c.numbers_from-rows.ensures.each).many
+
+pub solve_rows-requires-clause-rows_in : goal.solve_rows-requires-clause-rows_in
+solve_rows-requires-clause-rows_in g c =
+    let same = c.geometry-geometry.ensures in
+    rows_in c.args.canon.now c.args.order.now.erased c.args.order.now.columns (subst IsWithinLimits same c.m.ensures.limits)
+    c.requires.order.columns c.requires.covered c.args.place c.args.from c.args.to c.requires.place_from c.requires.place_in
+    (omega (arith, c.if-from-to.false, c.requires.from)) c.requires.to c.from.result c.from-m.result
+    (c.from.ensures ∙ c.n.ensures.value ∙ ap (λ x. x.n) same) (c.from-m.ensures ∙ c.m.ensures.value ∙ ap (λ x. x.m) same)
+    c.numbers_from-rows.result (c.from-2.result + c.from-3.result) c.from-4.result
+    (ap₂ (λ a b. a + b) (c.from-2.ensures ∙ c.r.ensures.value ∙ ap (λ x. x.r) same) c.from-3.ensures) c.from-4.ensures
+    c.numbers_from-rows.ensures.count c.numbers_from-rows.ensures.each
+
+pub solve_rows-requires-clause-distinct : goal.solve_rows-requires-clause-distinct
+solve_rows-requires-clause-distinct g c =
+    let same = c.geometry-geometry.ensures in
+    rows_distinct c.args.canon.now c.args.order.now.erased c.args.order.now.columns (subst IsWithinLimits same c.m.ensures.limits)
+    c.requires.order.columns c.requires.covered c.args.place c.args.from c.args.to c.requires.place_from c.requires.place_in
+    (omega (arith, c.if-from-to.false, c.requires.from)) c.requires.to c.from.result c.from-m.result
+    (c.from.ensures ∙ c.n.ensures.value ∙ ap (λ x. x.n) same) (c.from-m.ensures ∙ c.m.ensures.value ∙ ap (λ x. x.m) same)
+    c.numbers_from-rows.result (c.from-2.result + c.from-3.result) c.from-4.result
+    (ap₂ (λ a b. a + b) (c.from-2.ensures ∙ c.r.ensures.value ∙ ap (λ x. x.r) same) c.from-3.ensures) c.from-4.ensures
+    c.numbers_from-rows.ensures.count c.numbers_from-rows.ensures.each
+
+pub solve_rows-requires-clause-known : goal.solve_rows-requires-clause-known
+solve_rows-requires-clause-known g c =
+    let same = c.geometry-geometry.ensures in
+    may_know c.args.canon.now c.args.order.now.erased c.args.order.now.columns (subst IsWithinLimits same c.m.ensures.limits)
+    c.requires.order.columns c.requires.covered c.args.place c.args.from c.args.to c.requires.place_from c.requires.place_in
+    (omega (arith, c.if-from-to.false, c.requires.from)) c.requires.to c.from.result c.from-m.result
+    (c.from.ensures ∙ c.n.ensures.value ∙ ap (λ x. x.n) same) (c.from-m.ensures ∙ c.m.ensures.value ∙ ap (λ x. x.m) same)
+
+pub solve_rows-requires-clause-wanted : goal.solve_rows-requires-clause-wanted
+solve_rows-requires-clause-wanted g c =
+    let same = c.geometry-geometry.ensures in
+    may_want c.args.canon.now c.args.order.now.erased c.args.order.now.columns (subst IsWithinLimits same c.m.ensures.limits)
+    c.requires.order.columns c.requires.covered c.args.place c.args.from c.args.to c.requires.place_from c.requires.place_in
+    (omega (arith, c.if-from-to.false, c.requires.from)) c.requires.to c.from.result c.from-m.result
+    (c.from.ensures ∙ c.n.ensures.value ∙ ap (λ x. x.n) same) (c.from-m.ensures ∙ c.m.ensures.value ∙ ap (λ x. x.m) same)
+
+pub returns-clause-kept : goal.returns-clause-kept
+returns-clause-kept g c =
+    let same = c.geometry-geometry.ensures in
+    keeps_rows c.args.canon.now c.args.order.now.erased c.args.order.now.columns (subst IsWithinLimits same c.m.ensures.limits)
+    c.requires.order.columns c.requires.covered c.args.place c.args.from c.args.to c.requires.place_from c.requires.place_in
+    (omega (arith, c.if-from-to.false, c.requires.from)) c.requires.to c.from.result c.from-m.result
+    (c.from.ensures ∙ c.n.ensures.value ∙ ap (λ x. x.n) same) (c.from-m.ensures ∙ c.m.ensures.value ∙ ap (λ x. x.m) same)
+    c.numbers_from-rows.result (c.from-2.result + c.from-3.result) c.from-4.result
+    (ap₂ (λ a b. a + b) (c.from-2.ensures ∙ c.r.ensures.value ∙ ap (λ x. x.r) same) c.from-3.ensures) c.from-4.ensures
+    c.numbers_from-rows.ensures.count c.numbers_from-rows.ensures.each c.solve_rows.new.self c.solve_rows.ensures.solved
+
+pub returns-clause-found : goal.returns-clause-found
+returns-clause-found g c =
+    let same = c.geometry-geometry.ensures in
+    finds_rows c.args.canon.now c.args.order.now.erased c.args.order.now.columns (subst IsWithinLimits same c.m.ensures.limits)
+    c.requires.order.columns c.requires.covered c.args.place c.args.from c.args.to c.requires.place_from c.requires.place_in
+    (omega (arith, c.if-from-to.false, c.requires.from)) c.requires.to c.from.result c.from-m.result
+    (c.from.ensures ∙ c.n.ensures.value ∙ ap (λ x. x.n) same) (c.from-m.ensures ∙ c.m.ensures.value ∙ ap (λ x. x.m) same)
+    c.numbers_from-rows.result (c.from-2.result + c.from-3.result) c.from-4.result
+    (ap₂ (λ a b. a + b) (c.from-2.ensures ∙ c.r.ensures.value ∙ ap (λ x. x.r) same) c.from-3.ensures) c.from-4.ensures
+    c.numbers_from-rows.ensures.count c.numbers_from-rows.ensures.each c.solve_rows.new.self c.solve_rows.ensures.solved
+
+pub returns-clause-cost : goal.returns-clause-cost
+returns-clause-cost g c =
+    let same = c.geometry-geometry.ensures in
+    c.solve_rows.ensures.cost ∙ rows_cost c.args.canon.now c.args.order.now.erased c.args.order.now.columns (subst IsWithinLimits same c.m.ensures.limits)
+    c.requires.order.columns c.requires.covered c.args.place c.args.from c.args.to c.requires.place_from c.requires.place_in
+    (omega (arith, c.if-from-to.false, c.requires.from)) c.requires.to c.from.result c.from-m.result
+    (c.from.ensures ∙ c.n.ensures.value ∙ ap (λ x. x.n) same) (c.from-m.ensures ∙ c.m.ensures.value ∙ ap (λ x. x.m) same)
+    c.numbers_from-rows.result (c.from-2.result + c.from-3.result) c.from-4.result
+    (ap₂ (λ a b. a + b) (c.from-2.ensures ∙ c.r.ensures.value ∙ ap (λ x. x.r) same) c.from-3.ensures) c.from-4.ensures
+    c.numbers_from-rows.ensures.count c.numbers_from-rows.ensures.each c.args.steps.now

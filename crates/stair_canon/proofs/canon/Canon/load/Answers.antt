@@ -35,7 +35,7 @@ loop-column-preserved c =
           rw w.self-inside-is
           (record {
             loaded = now;
-            kept = record { kept_rows = now.formed; row_code = kept.row_code; column_code = kept.column_code; room = kept.room };
+            kept = record { kept_rows = now.formed; row_codes = kept.row_codes; column_codes = kept.column_codes; room = kept.room };
           })
       | else-row-r w ↦
           let no_cell : ¬ IsCell g c.loop-row.row c.loop-column.column =
@@ -52,7 +52,7 @@ loop-column-preserved c =
           rw w.self-inside-is
           (record {
             loaded = now;
-            kept = record { kept_rows = now.formed; row_code = kept.row_code; column_code = kept.column_code; room = kept.room };
+            kept = record { kept_rows = now.formed; row_codes = kept.row_codes; column_codes = kept.column_codes; room = kept.room };
           })
     ]
 

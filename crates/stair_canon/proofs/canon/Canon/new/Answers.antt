@@ -23,12 +23,12 @@ invariant_of-result c =
           (AreKeptRows-zero g c.loop-made._made (c.n.result + c.classes.result) c.n.ensures.limits
           (omega (arith, c.loop-made-test.false, c.loop-made.auto._made-end, c.r.ensures.value, c.e_max.ensures.value))
           (omega (arith, c.n.ensures.value, c.classes.ensures.value)));
-      row_code =
-          c.in_ok-row.ensures
+      row_codes =
+          c.in_ok-rows-2.ensures
           ∙ shape (c.n-2.result - c.m.result) (g.n - g.m) (c.n-2.result + c.classes-2.result) (canonical_chunks g)
           (omega (arith, c.n-2.ensures.value, c.m.ensures.value)) (omega (arith, c.n-2.ensures.value, c.classes-2.ensures.value));
-      column_code =
-          c.in_ok-column.ensures
+      column_codes =
+          c.in_ok-columns.ensures
           ∙ shape c.r-2.result g.r (c.r-2.result + c.e_max-2.result) (canonical_rows g)
           c.r-2.ensures.value (omega (arith, c.r-2.ensures.value, c.e_max-2.ensures.value));
       room =

@@ -55,7 +55,7 @@ returns-clause-solved g c =
     (SolvesChunk-from c.args.column known wanted c.loop-row.self-inside.chunk c.solve.new.work old new
     (subst (λ (k : ℕ). HasTaken old c.args.column known c.loop-row.self-inside.chunk k) all_known c.loop-row.invariant.taken)
     (subst (λ (code : Shape). Solves code known wanted c.loop-row.self-inside.chunk c.solve.new.work)
-    (ap (λ x. x.column_code) c.loop-row.invariant.stays ∙ c.self.invariant.column_code) c.solve.ensures.solved)
+    (ap (λ x. x.column_codes) c.loop-row.invariant.stays ∙ c.self.invariant.column_codes) c.solve.ensures.solved)
     (subst (λ (k : ℕ). HasReturned c.args.column wanted c.solve.new.work old new k) all_wanted
     (subst (λ (x : CanonicalStripe). HasReturned c.args.column wanted c.solve.new.work x new c.loop-row-2.row-index)
     (ap shown c.loop-row.invariant.stays) c.loop-row-2.invariant.returned)))

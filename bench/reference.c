@@ -1,0 +1,76 @@
+// Times plain C beside which bench/run puts the kernels: reference KERNEL ROUNDS runs one so many times and prints its bytes.
+//
+// `add` adds a multiple of 512 bytes to others by a table of 256 products. `encode N M R E..` does as many of these as
+// upstairs encoding takes steps for this geometry, each solved symbol of 512 bytes from as many known ones as it has, which
+// all stand in one array; it copies nothing else. `isal` is `add` by ISA-L's SSE kernel, where that is there.
+#include <stdint.h>
+#include <stdio.h>
+#include <stdlib.h>
+#include <string.h>
+#ifdef ISAL
+#include <isa-l.h>
+void gf_vect_mad_sse(int, int, int, unsigned char *, unsigned char *, unsigned char *);
+#endif
+
+enum { SYMBOL = 512 };
+
+static uint8_t products[256][256];
+
+static uint8_t product(unsigned a, unsigned b) {
+  unsigned sum = 0;
+  for (; b; b >>= 1, a = a << 1 ^ (a & 0x80 ? 0x11D : 0))
+    if (b & 1) sum ^= a;
+  return sum;
+}
+
+static void mul_add(uint8_t *restrict into, const uint8_t *restrict from, uint8_t by) {
+  const uint8_t *row = products[by];
+  for (int k = 0; k < SYMBOL; k++) into[k] ^= row[from[k]];
+}
+
+// The symbol at place `into` from `known` others, of so many in all.
+static void solve(uint8_t (*symbols)[SYMBOL], int count, int into, int known) {
+  memset(symbols[into], 0, SYMBOL);
+  for (int i = 1; i <= known; i++) mul_add(symbols[into], symbols[(into + i) % count], 2 + i);
+}
+
+// Upstairs encoding takes (n-m)(m·r+s) steps for the parities, n-m for each symbol, and r(n-m)·e_max for virtual symbols, r
+// for each.
+static void encode(uint8_t (*symbols)[SYMBOL], int n, int m, int r, int s, int most) {
+  int count = n * r;
+  for (int i = 0; i < m * r + s; i++) solve(symbols, count, i, n - m);
+  for (int i = 0; i < (n - m) * most; i++) solve(symbols, count, i % count, r);
+}
+
+int main(int argc, char **argv) {
+  if (argc < 3) return 2;
+  long rounds = atol(argv[2]);
+  static uint8_t symbols[1024][SYMBOL];
+  for (int i = 0; i < 1024; i++)
+    for (int k = 0; k < SYMBOL; k++) symbols[i][k] = 31 * i + 7 * k + 1;
+  for (int a = 0; a < 256; a++)
+    for (int b = 0; b < 256; b++) products[a][b] = product(a, b);
+  if (!strcmp(argv[1], "add")) {
+    for (long i = 0; i < rounds; i++) mul_add(symbols[0], symbols[1], 2 + i % 254);
+  } else if (!strcmp(argv[1], "encode") && argc > 6) {
+    int n = atoi(argv[3]), m = atoi(argv[4]), r = atoi(argv[5]), s = 0, most = 0;
+    for (int i = 6; i < argc; i++) {
+      int e = atoi(argv[i]);
+      s += e;
+      if (e > most) most = e;
+    }
+    for (long i = 0; i < rounds; i++) encode(symbols, n, m, r, s, most);
+#ifdef ISAL
+  } else if (!strcmp(argv[1], "isal")) {
+    unsigned char tables[254][32];
+    for (int by = 0; by < 254; by++) gf_vect_mul_init(2 + by, tables[by]);
+    for (long i = 0; i < rounds; i++) gf_vect_mad_sse(SYMBOL, 1, 0, tables[i % 254], symbols[1], symbols[0]);
+#endif
+  } else {
+    return 2;
+  }
+  unsigned sum = 0;
+  for (int k = 0; k < SYMBOL; k++) sum = sum * 31 + symbols[0][k];
+  printf("%u\n", sum);
+  return 0;
+}

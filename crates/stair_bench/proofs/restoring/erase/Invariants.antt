@@ -1,0 +1,8 @@
+use Rattle.stair_model.specs.Stripe.{IsStripeOf}
+use Rattle.stair_bench.proofs.restoring.erase.Given as goal
+
+abbrev pub invariant-loop-row : goal.invariant-loop-row
+invariant-loop-row l = IsStripeOf l.geometry l.stripe
+
+abbrev pub invariant-loop-slot : goal.invariant-loop-slot
+invariant-loop-slot l = IsStripeOf l.geometry l.stripe

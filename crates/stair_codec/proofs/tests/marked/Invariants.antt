@@ -1,9 +1,0 @@
--- The cells so far lie in a stripe.
-use Rattle.stair_model.specs.CellSet.{IsInStripe}
-use Rattle.stair_codec.proofs.tests.marked.Given as goal
-
-abbrev pub invariant-loop-row : goal.invariant-loop-row
-invariant-loop-row l = IsInStripe l.geometry l.cells
-
-abbrev pub invariant-loop-slot : goal.invariant-loop-slot
-invariant-loop-slot l = IsInStripe l.geometry l.cells

@@ -1,0 +1,5 @@
+use Rattle.stair_gf.proofs.LaneLaws.{AreLanes-chunk}
+use Rattle.stair_gf.proofs.lanes.load.Goals as goal
+
+pub returns : goal.returns
+returns c = AreLanes-chunk c.args.start c.args.bytes.now c.requires
