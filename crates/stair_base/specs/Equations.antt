@@ -20,10 +20,12 @@ GlobalEquationsHold g stripe = (p : ℕ) → p < SECTOR → MeetsGlobalEquations
 -- the symbols are those of intermediate chunk l
 abbrev pub IsIntermediateChunk : Geometry → Stripe → ℕ → List (List ℕ) → Type 0
 IsIntermediateChunk g stripe l symbols =
-    (i p : ℕ) → i < g.r → p < SECTOR → symbol_byte symbols p i ≡ row_sum g (byte_of stripe p) i (g.m + l)
+    (i p : ℕ) → i < g.r → p < SECTOR → symbol_byte symbols p i
+    ≡ row_sum g (byte_of stripe p) i (g.m + l)
 
 -- the bytes agree, or differ first at this one
 abbrev pub FirstDifference : List ℕ → List ℕ → Option ℕ → Type 0
 FirstDifference a b found =
     MatchOption found ((p : ℕ) → p < SECTOR → slice_index a p ≡ slice_index b p)
-    (λ p. (p < SECTOR) × (slice_index a p ≢ slice_index b p) × ((q : ℕ) → q < p → slice_index a q ≡ slice_index b q))
+    (λ p. (p < SECTOR) × (slice_index a p ≢ slice_index b p)
+    × ((q : ℕ) → q < p → slice_index a q ≡ slice_index b q))

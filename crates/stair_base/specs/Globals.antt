@@ -10,4 +10,5 @@ rows_before i j c = if nat_lt c j then i + 1 else i
 
 -- how many global parities come before cell (i, j), class by class: those rows of its chunk, less the rows above its parities
 abbrev pub globals_before : Geometry → ℕ → ℕ → ℕ
-globals_before g i j = sum_below (classes g) (λ l. rows_before i j (global_chunk g l) - (g.r - coverage g l))
+globals_before g i j = sum_below (classes g) (λ l. rows_before i j (global_chunk g l) -
+    (g.r - coverage g l))

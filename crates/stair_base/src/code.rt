@@ -86,7 +86,8 @@ pub trait StripeCode: Drop {
         ensures covered { IsOk result ↔ IsCovered (shape self.old) erased.now }
         ensures unchanged { IfErr result (λ _. stripe.new ≡ stripe.old) }
         ensures held { SameHeld (shape self.old) erased.now stripe.new stripe.old }
-        ensures restored { IfOk result (λ _. IsRestored (shape self.old) erased.now stripe.old stripe.new) }
+        ensures restored { IfOk result (λ _. IsRestored (shape self.old) erased.now stripe.old
+            stripe.new) }
         ensures of { IsStripeOf (shape self.old) stripe.new }
         ensures well_formed { IfOk result (λ _. IsWellFormed stripe.new) }
         ensures same_shape { shape self.new ≡ shape self.old }

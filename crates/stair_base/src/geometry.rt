@@ -105,7 +105,8 @@ impl Geometry {
     ) -> Result<Geometry, GeometryFault>
         ensures ok { IfOk result (λ geometry. geometry ≡ geometry_of n m r e.now stripes id) }
         ensures within { IsOk result ↔ IsWithinLimits (geometry_of n m r e.now stripes id) }
-        ensures err { IfErr result (λ fault. IsFirstBrokenLimit (geometry_of n m r e.now stripes id) fault.limit) }
+        ensures err { IfErr result (λ fault. IsFirstBrokenLimit (geometry_of n m r e.now stripes id)
+            fault.limit) }
     {
         if n < 3 || n > 32 {
             return Err(GeometryFault { limit: 1 });

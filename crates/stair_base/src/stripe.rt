@@ -51,6 +51,7 @@ impl Stripe {
         requires slot_in { slot < self.now.chunks }
         ensures value { result.now ≡ cell self.now row slot }
         ensures sector { IsSector result.now }
+        ensures well_formed { IsWellFormed self.now }
     {
         &self.cells[usize::from(row) * usize::from(self.chunks) + usize::from(slot)]
     }

@@ -1,6 +1,9 @@
-pub mod Marks
-pub mod Places
-pub mod Rows
-pub mod Symbols
+pub mod Grid
+pub mod Loading
 pub mod Storing
+pub mod Marks
+pub mod SolvedLines
+pub mod Solved
 pub mod SolvedRows
+pub mod Places
+pub mod ParityCells

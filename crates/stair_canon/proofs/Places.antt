@@ -10,7 +10,7 @@ use Rattle.stair_model.proofs.PlaceLaws.{same_codeword}
 use Rattle.stair_mds.specs.Solving.{AreWantedPlaces}
 use Rattle.stair_mds.proofs.Stretches.{IsStretch, IsStretch-take, IsStretch-range, ArePlacesOnce, Contains-stretch, place_in_stretch, known_stretch, wanted_stretch}
 use Rattle.stair_canon.specs.Canonical.{CanonicalStripe, byte_at}
-use Rattle.stair_canon.proofs.Rows.{rows_few}
+use Rattle.stair_canon.proofs.Grid.{rows_few}
 use Rattle.stair_canon.specs.Solving.{column_shape, SolvesChunk, ExtendsChunk}
 
 -- the rows of a stripe, and the virtual rows, out of the 64 numbers

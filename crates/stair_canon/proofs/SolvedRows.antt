@@ -9,8 +9,7 @@ use Rattle.stair_model.specs.CauchyCode.{AreDistinct, AreSolved}
 use Rattle.stair_model.specs.Geometry.{Geometry}
 use Rattle.stair_canon.specs.Canonical.{CanonicalStripe, symbol, byte_at, IsKnown}
 use Rattle.stair_canon.specs.Solving.{SolvesRow, SolvesRows}
-use Rattle.stair_canon.proofs.Marks.{IsAmong}
-use Rattle.stair_canon.proofs.Symbols.{IsAmong-Contains}
+use Rattle.stair_canon.proofs.Marks.{IsAmong, IsAmong-Contains}
 
 -- the first k of these rows are solved, and nothing else has changed
 pub record HasSolvedRows (rows known wanted : List ℕ) (old now : CanonicalStripe) (k : ℕ) : Type 0 where

@@ -23,7 +23,8 @@ pub record Loads (stripe : Stripe) (old new : CanonicalStripe) : Type 0 where
   pub geometry : new.geometry ≡ old.geometry
   pub cells : (i j : ℕ) → IsCell old.geometry i j → symbol new i j ≡ cell stripe i j
   pub others :
-      (i j : ℕ) → i < canonical_rows old.geometry → j < canonical_chunks old.geometry → ¬ IsCell old.geometry i j →
+      (i j : ℕ) → i < canonical_rows old.geometry → j < canonical_chunks old.geometry →
+      ¬ IsCell old.geometry i j →
       symbol new i j ≡ replicate SECTOR 0
   pub known :
       (i j : ℕ) → i < canonical_rows old.geometry → j < canonical_chunks old.geometry →
@@ -37,20 +38,25 @@ pub record ChangesOnly (IsSolved : ℕ → ℕ → Type 0) (old new : CanonicalS
 
 -- the wanted symbols of a row are those of the one codeword of the row code that has the known ones
 pub record SolvesRow (row : ℕ) (known wanted : List ℕ) (old new : CanonicalStripe) : Type 0 where
-  pub symbols : AreSolved (IsRowCodeword old.geometry) known wanted (λ q j. byte_at old q row j) (λ q j. byte_at new q row j)
+  pub symbols : AreSolved (IsRowCodeword old.geometry) known wanted (λ q j. byte_at old q row j)
+      (λ q j. byte_at new q row j)
   pub changes : ChangesOnly (λ i j. (i ≡ row) × Contains wanted j) old new
 
 -- the same of each of these rows
 pub record SolvesRows (rows known wanted : List ℕ) (old new : CanonicalStripe) : Type 0 where
-  pub symbols : All (λ row. AreSolved (IsRowCodeword old.geometry) known wanted (λ q j. byte_at old q row j) (λ q j. byte_at new q row j)) rows
+  pub symbols : All (λ row. AreSolved (IsRowCodeword old.geometry) known wanted
+      (λ q j. byte_at old q row j) (λ q j. byte_at new q row j)) rows
   pub changes : ChangesOnly (λ i j. Contains rows i × Contains wanted j) old new
 
 -- the wanted symbols of a chunk are those of the one codeword of the column code that has the known ones
-pub record SolvesChunk (column : ℕ) (known wanted : List ℕ) (old new : CanonicalStripe) : Type 0 where
-  pub symbols : AreSolved (IsColumnCodeword old.geometry) known wanted (λ q i. byte_at old q i column) (λ q i. byte_at new q i column)
+pub record SolvesChunk (column : ℕ) (known wanted : List ℕ) (old new : CanonicalStripe)
+    : Type 0 where
+  pub symbols : AreSolved (IsColumnCodeword old.geometry) known wanted
+      (λ q i. byte_at old q i column) (λ q i. byte_at new q i column)
   pub changes : ChangesOnly (λ i j. Contains wanted i × (j ≡ column)) old new
 
 -- the chunk's virtual symbols are those of its r real ones
 pub record ExtendsChunk (column : ℕ) (old new : CanonicalStripe) : Type 0 where
   pub symbols : (q : ℕ) → q < SECTOR → IsColumnCodeword old.geometry (λ i. byte_at new q i column)
-  pub changes : ChangesOnly (λ i j. (old.geometry.r ≤ i) × (i < canonical_rows old.geometry) × (j ≡ column)) old new
+  pub changes : ChangesOnly (λ i j. (old.geometry.r ≤ i) × (i < canonical_rows old.geometry)
+      × (j ≡ column)) old new

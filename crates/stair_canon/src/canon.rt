@@ -1,17 +1,20 @@
 ghost use Rattle.std.specs.Prelude.{◌≡◌, ℕ, ◌*◌, ◌+◌, ◌<◌, ◌↔◌, IfOk, IfSome, IsSome, All, length, replicate, slice_index};
 ghost use Rattle.stair_model.specs.Canonical.{canonical_chunks, canonical_rows};
 ghost use Rattle.stair_model.specs.CauchyCode.{AreDistinct, AreKnownPlaces};
-ghost use Rattle.stair_model.specs.Geometry.{data_chunks, greatest_coverage};
-ghost use Rattle.stair_model.specs.Stripe.{IsStripeOf, IsWellFormed as IsWellFormedStripe, IsSector, SECTOR, cell};
-ghost use Rattle.stair_mds.specs.Solving.{AreWantedPlaces};
-ghost use Rattle.stair_canon.specs.Canonical.{IsKnown, IsWellFormed, symbol};
+ghost use Rattle.stair_model.specs.CellSet.{HasCell};
+ghost use Rattle.stair_model.specs.Geometry.{IsWithinLimits, data_chunks, greatest_coverage};
+ghost use Rattle.stair_model.specs.Stripe.{IsStripeOf, IsWellFormed as IsWellFormedStripe, IsSector, SECTOR, cell, with_cell};
+ghost use Rattle.stair_mds.specs.Solving.{AreWantedPlaces, IsLineOf, along};
+ghost use Rattle.stair_canon.specs.Canonical.{IsKnown, IsWellFormed, number, symbol};
+ghost use Rattle.stair_canon.specs.Parities.{AreParities};
 ghost use Rattle.stair_canon.specs.Solving.{ExtendsChunk, Loads, SolvesChunk, SolvesRow, SolvesRows, column_shape, row_shape};
 
 use crate::codes::Codes;
-use crate::row::Row;
-use stair_base::{Geometry, Stripe};
+use crate::known::KnownSymbols;
+use crate::parities::parities;
+use stair_base::{CellSet, Geometry, Stripe};
 use stair_gf::Steps;
-use stair_mds::{SYMBOL, Symbols, numbers_from};
+use stair_mds::{Line, SYMBOL, numbers_from};
 use std::alloc::{AllocError, Global};
 use std::marker::Model;
 use std::sync::ledger::Ledger;
@@ -26,9 +29,9 @@ pub struct Canon {
     geometry: Geometry,
     row_codes: Codes,
     column_codes: Codes,
-    rows: Vec<Row>,
-    // Where the symbols of a chunk are solved.
-    chunk: Symbols,
+    parities: CellSet,
+    // Row by row.
+    symbols: KnownSymbols,
 }
 
 impl Model for Canon {
@@ -59,18 +62,14 @@ impl Canon {
             ¬ IsKnown canon i j) }
         ensures well_formed { IfOk result IsWellFormed }
     {
-        let columns = geometry.n() + geometry.classes();
-        let count = geometry.r() + geometry.e_max();
-        let mut rows = Vec::with_capacity(alloc, usize::from(count))?;
-        for _made in 0..count {
-            rows.push(Row::new(alloc, columns)?)?;
-        }
+        let columns = u16::from(geometry.n() + geometry.classes());
+        let rows = u16::from(geometry.r() + geometry.e_max());
         Ok(Canon {
             geometry: *geometry,
             row_codes: Codes::rows(alloc, geometry.n(), geometry.m(), geometry.classes())?,
             column_codes: Codes::columns(alloc, geometry.r(), geometry.e_max())?,
-            rows,
-            chunk: Symbols::new(alloc, u16::from(count))?,
+            parities: parities(geometry),
+            symbols: KnownSymbols::new(alloc, rows * columns)?,
         })
     }
 
@@ -81,6 +80,14 @@ impl Canon {
         self.geometry
     }
 
+    /// The cells of its stripe's row parities and global parities.
+    pub fn parities(&self) -> &CellSet
+        ensures cells { AreParities self.now.geometry result.now }
+        ensures limits { IsWithinLimits self.now.geometry }
+    {
+        &self.parities
+    }
+
     /// The bytes of the symbol in this row, below r+e_max, of this column, below n+m'. None where it isn't known.
     pub fn symbol(&self, row: u16, column: u16) -> Option<&[u8; SYMBOL]>
         requires row_in { row < canonical_rows self.now.geometry }
@@ -89,9 +96,9 @@ impl Canon {
         ensures value { IfSome result (λ bytes. bytes.now ≡ symbol self.now row column) }
         ensures sector { IfSome result (λ bytes. IsSector bytes.now) }
     {
-        let row = &self.rows[usize::from(row)];
-        if row.is_known(column) {
-            Some(row.symbol(column))
+        let number = self.number(row, column);
+        if self.symbols.is_known(number) {
+            Some(self.symbols.memory(number))
         } else {
             None
         }
@@ -105,14 +112,15 @@ impl Canon {
         ensures well_formed { IsWellFormed self.new }
     {
         let columns = self.geometry.n() + self.geometry.classes();
+        let mut number = 0;
         for row in 0..self.geometry.r() + self.geometry.e_max() {
             for column in 0..columns {
-                let symbols = &mut self.rows[usize::from(row)];
                 if row < self.geometry.r() && column < self.geometry.n() {
-                    symbols.put(u16::from(column), stripe.cell(row, column));
+                    self.symbols.put(number, stripe.cell(row, column));
                 } else {
-                    symbols.clear(u16::from(column));
+                    self.symbols.forget(number);
                 }
+                number += 1;
             }
         }
     }
@@ -126,9 +134,31 @@ impl Canon {
         ensures well_formed { IsWellFormedStripe stripe.new }
     {
         for row in 0..self.geometry.r() {
-            let symbols = &self.rows[usize::from(row)];
             for slot in 0..self.geometry.n() {
-                stripe.put(row, slot, symbols.symbol(u16::from(slot)));
+                self.store_cell(stripe, row, slot);
+            }
+        }
+    }
+
+    /// Copies the symbols of these cells into the stripe, whether they are known or not; all its other cells stay.
+    pub fn store_cells(&self, cells: &CellSet, stripe: &mut Stripe)
+        requires { IsStripeOf self.now.geometry stripe.old }
+        ensures cells { (i j : ℕ) → i < self.now.geometry.r → j < self.now.geometry.n →
+            HasCell cells.now i j → cell stripe.new i j ≡ symbol self.now i j }
+        ensures others { (i j : ℕ) → i < self.now.geometry.r → j < self.now.geometry.n →
+            ¬ HasCell cells.now i j → cell stripe.new i j ≡ cell stripe.old i j }
+        ensures shape { IsStripeOf self.now.geometry stripe.new }
+        ensures well_formed { IsWellFormedStripe stripe.new }
+    {
+        let rows = self.geometry.r();
+        let chunks = self.geometry.n();
+        // What the stripe keeps is known from here on.
+        let _ = stripe.cell(0, 0);
+        for row in 0..rows {
+            for slot in 0..chunks {
+                if cells.has(row, slot) {
+                    self.store_cell(stripe, row, slot);
+                }
             }
         }
     }
@@ -140,7 +170,8 @@ impl Canon {
         requires { column < canonical_chunks self.old.geometry }
         ensures extended { ExtendsChunk column self.old self.new }
         ensures well_formed { IsWellFormed self.new }
-        ensures cost { steps.new ≡ steps.old + greatest_coverage self.old.geometry * self.old.geometry.r }
+        ensures cost { steps.new ≡ steps.old + greatest_coverage self.old.geometry
+            * self.old.geometry.r }
     {
         let r = usize::from(self.geometry.r());
         let e_max = usize::from(self.geometry.e_max());
@@ -161,14 +192,16 @@ impl Canon {
         steps: &mut Steps<L>,
     )
         requires row_in { row < canonical_rows self.old.geometry }
-        requires known { AreKnownPlaces (data_chunks self.old.geometry) (canonical_chunks self.old.geometry) known.now }
+        requires known { AreKnownPlaces (data_chunks self.old.geometry)
+            (canonical_chunks self.old.geometry) known.now }
         requires wanted { AreWantedPlaces (row_shape self.old.geometry) known.now wanted.now }
         ensures solved { SolvesRow row known.now wanted.now self.old self.new }
         ensures well_formed { IsWellFormed self.new }
         ensures cost { steps.new ≡ steps.old + length known.now * length wanted.now }
     {
-        let symbols = &mut self.rows[usize::from(row)];
-        symbols.solve(&mut self.row_codes, known, wanted, steps);
+        let line = self.row(row);
+        self.symbols
+            .solve(&mut self.row_codes, line, known, wanted, steps);
     }
 
     /// Solves the wanted symbols of each of these rows, in their order, as [`Canon::solve_row`] does.
@@ -184,17 +217,19 @@ impl Canon {
     )
         requires rows_in { All (λ row. row < canonical_rows self.old.geometry) rows.now }
         requires distinct { AreDistinct (length rows.now) (slice_index rows.now) }
-        requires known { AreKnownPlaces (data_chunks self.old.geometry) (canonical_chunks self.old.geometry) known.now }
+        requires known { AreKnownPlaces (data_chunks self.old.geometry)
+            (canonical_chunks self.old.geometry) known.now }
         requires wanted { AreWantedPlaces (row_shape self.old.geometry) known.now wanted.now }
         ensures solved { SolvesRows rows.now known.now wanted.now self.old self.new }
         ensures well_formed { IsWellFormed self.new }
-        ensures cost { steps.new ≡ steps.old + length rows.now * (length known.now * length wanted.now) }
+        ensures cost { steps.new ≡ steps.old + length rows.now
+            * (length known.now * length wanted.now) }
     {
         for row in rows {
             self.solve_row(*row, known, wanted, steps);
         }
-        // What the rows keep is known from here on.
-        let _ = &self.rows;
+        // What it keeps is known from here on.
+        let _ = &self.symbols;
     }
 
     /// Solves the wanted symbols of a chunk, which is a column below n+m', by the column code: they are those of the one
@@ -210,20 +245,74 @@ impl Canon {
         steps: &mut Steps<L>,
     )
         requires column_in { column < canonical_chunks self.old.geometry }
-        requires known { AreKnownPlaces self.old.geometry.r (canonical_rows self.old.geometry) known.now }
+        requires known { AreKnownPlaces self.old.geometry.r
+            (canonical_rows self.old.geometry) known.now }
         requires wanted { AreWantedPlaces (column_shape self.old.geometry) known.now wanted.now }
         ensures solved { SolvesChunk column known.now wanted.now self.old self.new }
         ensures well_formed { IsWellFormed self.new }
         ensures cost { steps.new ≡ steps.old + length known.now * length wanted.now }
     {
-        for row in known {
-            self.chunk
-                .put(*row, self.rows[usize::from(*row)].symbol(column));
+        let line = self.chunk(column);
+        self.symbols
+            .solve(&mut self.column_codes, line, known, wanted, steps);
+    }
+
+    /// The line of a row, along which its columns lie.
+    fn row(&self, row: u16) -> Line
+        requires { row < canonical_rows self.now.geometry }
+        ensures within { IsLineOf (row_shape self.now.geometry)
+            (length self.now.symbols.memory) result }
+        ensures along { (j : ℕ) → along result j ≡ number self.now.geometry row j }
+    {
+        Line {
+            start: row * self.columns(),
+            step: 1,
         }
-        self.column_codes
-            .solve(known, wanted, &mut self.chunk, steps);
-        for row in wanted {
-            self.rows[usize::from(*row)].put(column, self.chunk.symbol(*row));
+    }
+
+    /// The line of a chunk, along which its rows lie.
+    fn chunk(&self, column: u16) -> Line
+        requires { column < canonical_chunks self.now.geometry }
+        ensures within { IsLineOf (column_shape self.now.geometry)
+            (length self.now.symbols.memory) result }
+        ensures along { (i : ℕ) → along result i ≡ number self.now.geometry i column }
+    {
+        Line {
+            start: column,
+            step: self.columns(),
         }
+    }
+
+    /// Copies the symbol of a cell into the stripe, whether it is known or not.
+    fn store_cell(&self, stripe: &mut Stripe, row: u8, slot: u8)
+        requires of { IsStripeOf self.now.geometry stripe.old }
+        requires row_in { row < self.now.geometry.r }
+        requires slot_in { slot < self.now.geometry.n }
+        ensures cell { stripe.new ≡ with_cell stripe.old row slot (symbol self.now row slot) }
+        ensures well_formed { IsWellFormedStripe stripe.new }
+    {
+        match self.symbol(u16::from(row), u16::from(slot)) {
+            Some(bytes) => stripe.put(row, slot, bytes),
+            None => stripe.put(row, slot, &[0; SYMBOL]),
+        }
+    }
+
+    /// The number of the symbol in this row of this column.
+    fn number(&self, row: u16, column: u16) -> u16
+        requires row_in { row < canonical_rows self.now.geometry }
+        requires column_in { column < canonical_chunks self.now.geometry }
+        ensures value { result ≡ number self.now.geometry row column }
+        ensures symbol { result < length self.now.symbols.memory }
+        ensures mark { result < length self.now.symbols.known }
+    {
+        row * self.columns() + column
+    }
+
+    /// How many columns it has.
+    fn columns(&self) -> u16
+        ensures value { result ≡ canonical_chunks self.now.geometry }
+        ensures well_formed { IsWellFormed self.now }
+    {
+        u16::from(self.geometry.n() + self.geometry.classes())
     }
 }

@@ -1,10 +1,10 @@
 ghost use Rattle.std.specs.Prelude.{◌≡◌, ℕ, ◌+◌, ◌-◌, ◌*◌, ◌<◌, ◌≤◌, IfOk, IfSome, All, length};
 ghost use Rattle.stair_model.specs.CauchyCode.{AreKnownPlaces};
 ghost use Rattle.stair_model.specs.Stripe.{IsSector};
-ghost use Rattle.stair_mds.specs.Solving.{AreWantedPlaces, Solves};
+ghost use Rattle.stair_mds.specs.Solving.{AreWantedPlaces, IsLineOf, SolvesAlong};
 
 use stair_gf::Steps;
-use stair_mds::{Mds, Symbols};
+use stair_mds::{Line, Mds, Symbols};
 use std::alloc::{AllocError, Global};
 use std::marker::Model;
 use std::sync::ledger::Ledger;
@@ -74,19 +74,22 @@ impl Codes {
         })
     }
 
-    /// Solves the wanted symbols from the known ones, as [`Mds::solve`] does, by a code that has the pattern prepared
-    /// wherever there is one.
-    pub(crate) fn solve<L: Ledger>(
+    /// Solves the wanted symbols along a line from the first `read` known ones, as [`Mds::solve_along`] does, by a code that
+    /// has the pattern prepared wherever there is one.
+    pub(crate) fn solve_along<L: Ledger>(
         &mut self,
         known: &[u16],
         wanted: &[u16],
+        line: Line,
+        read: usize,
         work: &mut Symbols,
         steps: &mut Steps<L>,
     )
         requires known { AreKnownPlaces self.old.held self.old.total known.now }
         requires wanted { AreWantedPlaces self.old known.now wanted.now }
-        requires count { length work.old ≡ self.old.total }
-        ensures solved { Solves self.old known.now wanted.now work.old work.new }
+        requires line { IsLineOf self.old (length work.old) line }
+        requires read { read ≤ length known.now }
+        ensures solved { SolvesAlong self.old line read known.now wanted.now work.old work.new }
         ensures sectors { All IsSector work.new }
         ensures cost { steps.new ≡ steps.old + length known.now * length wanted.now }
         ensures codes { self.new ≡ self.old }
@@ -98,7 +101,7 @@ impl Codes {
         self.next[self.last] = number;
         self.last = number;
         let code = &mut self.codes[number];
-        code.solve(known, wanted, work, steps);
+        code.solve_along(known, wanted, line, read, work, steps);
     }
 }
 

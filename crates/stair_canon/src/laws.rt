@@ -23,7 +23,8 @@ ghost use Rattle.stair_model.specs.Stripe.{IsStripeOf, IsWellFormed, SECTOR, Str
 /// Error-Free Coding, 1954), and `extension` says it of the equations: of bytes that meet the row equations, each virtual
 /// row of their extension is a codeword of the row code.
 pub fn product_law()
-    ensures matrices { (held total depth height : ℕ) (row_matrix column_matrix : ℕ → ℕ → ℕ) (w : Word) →
+    ensures matrices { (held total depth height : ℕ) (row_matrix column_matrix : ℕ → ℕ → ℕ)
+        (w : Word) →
         ((i : ℕ) → i < depth → IsSystematicCodeword held total row_matrix (λ j. w i j)) →
         ((j : ℕ) → j < total → IsSystematicCodeword depth height column_matrix (λ i. w i j)) →
         (i : ℕ) → i < height → IsSystematicCodeword held total row_matrix (λ j. w i j) }
@@ -32,7 +33,8 @@ pub fn product_law()
         ((j : ℕ) → j < canonical_chunks g → IsColumnCodeword g (λ i. x i j)) →
         (h : ℕ) → h < greatest_coverage g → IsRowCodeword g (λ j. x (g.r + h) j) }
     ensures extension { (g : Geometry) (w x : Word) → IsWithinLimits g →
-        ((i j : ℕ) → i < g.r → j < g.n → w i j < 256) → MeetsRowEquations g w → IsExtensionOf g w x →
+        ((i j : ℕ) → i < g.r → j < g.n → w i j < 256) → MeetsRowEquations g w →
+        IsExtensionOf g w x →
         (h : ℕ) → h < greatest_coverage g → IsRowCodeword g (λ j. x (g.r + h) j) }
 {}
 
@@ -63,6 +65,7 @@ pub fn codeword_laws()
         IsExtensionOf g (byte_of stripe p) x → IsCanonicalCodeword g x }
     ensures holds { (g : Geometry) (stripe : Stripe) (x : ℕ → Word) → IsWithinLimits g →
         ((p : ℕ) → p < SECTOR →
-        ((i j : ℕ) → i < g.r → j < g.n → x p i j ≡ byte_of stripe p i j) × IsCanonicalCodeword g (x p)) →
+        ((i j : ℕ) → i < g.r → j < g.n → x p i j ≡ byte_of stripe p i j)
+        × IsCanonicalCodeword g (x p)) →
         IsCodeword g stripe }
 {}

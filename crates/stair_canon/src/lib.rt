@@ -8,7 +8,8 @@ pub use canon::Canon;
 
 mod canon;
 mod codes;
+mod known;
 pub mod laws;
-mod row;
+mod parities;
 #[cfg(test)]
 mod tests;

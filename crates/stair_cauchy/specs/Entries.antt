@@ -22,7 +22,8 @@ IsDistinct xs = AreDistinct (length xs) (slice_index xs)
 pub record IsCauchy (matrix : Entries) (xs ys : List ℕ) : Type 0 where
   pub rows : matrix.rows ≡ length xs
   pub columns : matrix.columns ≡ length ys
-  pub entries : (i j : ℕ) → i < length xs → j < length ys → entry matrix i j ≡ inverse (bit_xor (slice_index xs i) (slice_index ys j))
+  pub entries : (i j : ℕ) → i < length xs → j < length ys →
+      entry matrix i j ≡ inverse (bit_xor (slice_index xs i) (slice_index ys j))
 
 -- equally many rows and columns of a matrix, none of them twice
 pub record IsSquareChoice (matrix : Entries) (rows columns : List ℕ) : Type 0 where
@@ -35,7 +36,9 @@ pub record IsSquareChoice (matrix : Entries) (rows columns : List ℕ) : Type 0 
 -- each square submatrix sends no vector but zero to zero
 abbrev pub SquaresAreNonsingular : Entries → Type 0
 SquaresAreNonsingular matrix =
-    (rows columns : List ℕ) (v : ℕ → ℕ) → IsSquareChoice matrix rows columns → AreBytes (length rows) v
+    (rows columns : List ℕ) (v : ℕ → ℕ) → IsSquareChoice matrix rows columns →
+    AreBytes (length rows) v
     → ((i : ℕ) → i < length rows
-    → field_sum (length rows) (λ j. product (entry matrix (slice_index rows i) (slice_index columns j)) (v j)) ≡ 0)
+    → field_sum (length rows) (λ j. product (entry matrix (slice_index rows i)
+    (slice_index columns j)) (v j)) ≡ 0)
     → (j : ℕ) → j < length rows → v j ≡ 0

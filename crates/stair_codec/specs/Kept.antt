@@ -14,7 +14,11 @@ steps_of generator Upstairs = upstairs_cost generator.geometry
 steps_of generator Downstairs = downstairs_cost generator.geometry
 
 abbrev pub shown : Inside → ChosenCode
-shown a = record { geometry = a.canon.geometry; encoder = a.encoder; cost = steps_of a.generator a.encoder }
+shown a = record {
+  geometry = a.canon.geometry;
+  encoder = a.encoder;
+  cost = steps_of a.generator a.encoder;
+}
 
 -- the generator is one of the same geometry
 abbrev pub IsKept : Inside → Type 0

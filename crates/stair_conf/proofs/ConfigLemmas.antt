@@ -1,5 +1,5 @@
 -- What is found in the table of a geometry text.
-use Rattle.std.proofs.Common.{◌≡◌, ◌∙◌, ◌<◌, ◌↔◌, ℕ, List, [], ◌∷◌, ◌++◌, ◌+◌, Option, Some, None, Err, IfOk, IfErr, length, get_or, map, take, refl, sym, ap, ap₂}
+use Rattle.std.proofs.Common.{◌≡◌, ◌∙◌, ◌<◌, ◌↔◌, ℕ, zero, suc, List, [], ◌∷◌, ◌++◌, ◌+◌, Option, Some, None, Err, IfOk, IfErr, length, get_or, map, take, refl, sym, ap, ap₂, arith}
 use Rattle.std.specs.Prelude.{option_map}
 use Rattle.std.specs.Option.{ok_or}
 use Rattle.std.proofs.lemmas.List.{map-append, map_more}
@@ -83,3 +83,16 @@ pub one_more : (values : List Value) (i : ℕ) (v : Value) (numbers : List ℕ) 
 one_more values i v numbers n within here same is =
     let elem : view (get_or values i v) ≡ number n = sym (ap view here) ∙ is in
     map_more view values i v within ∙ ap₂ (λ a b. a ++ b ∷ []) same elem ∙ sym (map-append number numbers (n ∷ []))
+
+-- an array whose elements are numbers up to some one of them begins with a number
+pub begins_number : (values : List Value) (i : ℕ) (v : Value) (numbers : List ℕ) (n : ℕ) (at_key : Option Data)
+    → at_key ≡ Some (array (items_view values)) → i < length values → v ≡ get_or values i v
+    → map view (take i values) ≡ map number numbers → view v ≡ number n
+    → (x : ℕ) × (rest : Items) × (at_key ≡ Some (array (item (number x) rest)))
+begins_number [] i v numbers n at_key found within here same is = absurd (omega (arith, within))
+begins_number (w ∷ ws) zero v numbers n at_key found within here same is =
+    (n, items_view ws, found ∙ ap (λ d. Some (array (item d (items_view ws)))) (sym (ap view here) ∙ is))
+begins_number (w ∷ ws) (suc i) v [] n at_key found within here same is = cc
+begins_number (w ∷ ws) (suc i) v (x ∷ xs) n at_key found within here same is =
+    let first : view w ≡ number x = ap (λ ds. get_or ds 0 (number x)) same in
+    (x, items_view ws, found ∙ ap (λ d. Some (array (item d (items_view ws)))) first)

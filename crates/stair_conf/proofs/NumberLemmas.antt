@@ -1,5 +1,5 @@
 -- Numbers and the words that are their decimal texts.
-use Rattle.std.proofs.Common.{◌≡◌, ◌≢◌, ℕ, ◌^◌, ◌<◌, ◌↔◌, List, [], ◌∷◌, ◌∙◌, Option, Some, None, Result, Ok, Err, length, get_or, map, refl, sym, ap, subst, arith, lit<, zero, suc}
+use Rattle.std.proofs.Common.{◌≡◌, ◌≢◌, ℕ, ◌^◌, ◌<◌, ◌↔◌, List, [], ◌∷◌, ◌∙◌, Option, Some, None, Result, Ok, Err, length, get_or, map, take, refl, sym, ap, subst, arith, lit<, zero, suc}
 use Rattle.std.specs.Prelude.{All}
 use Rattle.std.specs.Fmt.{decimal}
 use Rattle.std.specs.Str.Parse.{AllDigits, digits_value, ParsesUnsigned}
@@ -103,3 +103,13 @@ map_decimal_injective (x ∷ xs) (y ∷ ys) xs_fit ys_fit same =
     map_decimal_injective xs ys (All-tail (λ n. n < 2 ^ 64) x xs xs_fit)
     (All-tail (λ n. n < 2 ^ 64) y ys ys_fit) tails in
     cc
+
+-- words that are numbers up to some one of them begin with a number
+pub begins_number : {X : Type 0} (text : X → List ℕ) (words : List X) (i : ℕ) (d : X) (numbers : List ℕ) (n : ℕ) → i < length words
+    → AreNumbers (map text (take i words)) numbers → IsNumber (text (get_or words i d)) n
+    → (x : ℕ) × IsNumber (get_or (map text words) 0 []) x
+begins_number text [] i d numbers n within are is = absurd (omega (arith, within))
+begins_number text (w ∷ ws) zero d numbers n within are is = (n, is)
+begins_number text (w ∷ ws) (suc i) d [] n within are is = let none = are.spelled in cc
+begins_number text (w ∷ ws) (suc i) d (x ∷ xs) n within are is =
+    (x, record { spelled = ap (λ texts. get_or texts 0 []) are.spelled; fits = All-head (λ y. y < 2 ^ 64) x xs are.fit })

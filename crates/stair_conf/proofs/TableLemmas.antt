@@ -1,14 +1,16 @@
 -- What a table reads as.
-use Rattle.std.proofs.Common.{◌≡◌, ◌∙◌, ℕ, zero, suc, ◌+◌, List, Result, Ok, Err, refl, sym, ap, subst, None}
+use Rattle.std.proofs.Common.{◌≡◌, ◌∙◌, ℕ, zero, suc, ◌+◌, List, Result, Ok, Err, refl, sym, ap, subst, None, Some}
 use Rattle.std.specs.Prelude.{IsUtf8}
-use Rattle.toml.specs.Data.{Members}
-use Rattle.toml.specs.Parse.{parse_document}
+use Rattle.std.proofs.lemmas.Option.{same_Some}
+use Rattle.toml.specs.Data.{Members, get_member, no_members}
+use Rattle.toml.specs.Errors.{IsBlank}
+use Rattle.toml.specs.Parse.{lines, parse_document}
 use Rattle.stair_model.specs.Geometry.{Geometry, geometry_of, IsWithinLimits, IsFirstBrokenLimit}
 use Rattle.stair_conf.specs.declared.key.Key.{Key}
 use Rattle.stair_conf.specs.declared.key.Key.TheVariants.{N, M, R, E, Stripes, Id}
 use Rattle.stair_conf.specs.declared.fault.ConfigFault.{ConfigFault}
 use Rattle.stair_conf.specs.declared.fault.ConfigFault.TheVariants as fault
-use Rattle.stair_conf.specs.Config.{HasIdentity, HasKey, HasNumber, HasNumbers, Says, TableReadsAs, TextReadsAs, place}
+use Rattle.stair_conf.specs.Config.{HasIdentity, HasKey, HasNumber, HasNumbers, Says, TableReadsAs, TextReadsAs, name_of, number, place}
 use Rattle.stair_model.proofs.FirstLaws.{HoldsBelow, none_below, one_more}
 use Rattle.stair_conf.specs.Config.TableReadsAs.{key, limit, geometry}
 use Rattle.stair_conf.specs.Config.TextReadsAs.{not_toml}
@@ -98,3 +100,15 @@ pub not_toml_read : (text : List ℕ) (answer : Result Geometry ConfigFault) →
 not_toml_read text answer is refused =
     subst (λ (a : Result Geometry ConfigFault). TextReadsAs text a) (sym is)
     (not_toml (λ t toml. let none = refused toml.utf8 in let some = toml.document in cc))
+
+-- the table of a text of blanks alone is empty
+blank_is_empty : (text : List ℕ) → IsBlank text → parse_document text ≡ Some no_members
+unfolding parse_document lines
+blank_is_empty text blank = rw blank refl
+
+pub blank_has_no_number : (text : List ℕ) (table : Members) (here : Key) (n : ℕ) → parse_document text ≡ Some table → IsBlank text
+    → ¬ HasNumber table here n
+blank_has_no_number text table here n document blank has =
+    let empty : table ≡ no_members = same_Some table no_members (sym document ∙ blank_is_empty text blank) in
+    let none : get_member (name_of here) no_members ≡ Some (number n) = subst (λ (t : Members). HasNumber t here n) empty has in
+    cc

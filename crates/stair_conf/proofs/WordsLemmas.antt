@@ -1,5 +1,5 @@
 -- What the words of a job are.
-use Rattle.std.proofs.Common.{◌≡◌, ◌∙◌, ◌<◌, ◌^◌, ℕ, List, [], ◌∷◌, map, drop, get_or, refl, sym, ap, arith}
+use Rattle.std.proofs.Common.{◌≡◌, ◌∙◌, ◌<◌, ◌^◌, ℕ, List, [], ◌∷◌, map, drop, get_or, refl, sym, ap, inl, inr, arith}
 use Rattle.std.specs.Prelude.{codes}
 use Rattle.std.specs.Fmt.{decimal}
 use Rattle.std.proofs.lemmas.Fmt.{decimal_injective}
@@ -10,7 +10,7 @@ use Rattle.stair_conf.specs.declared.job.Method.TheVariants.{Standard, Up, Down,
 use Rattle.stair_conf.specs.declared.job.Job.{Job}
 use Rattle.stair_conf.specs.declared.job.Job.TheVariants.{Check, Stripe, Restore}
 use Rattle.stair_conf.specs.Commands.{HasNoOption, IsPlainWord}
-use Rattle.stair_conf.specs.Words.{Spells, SpellsGeometry, method_word}
+use Rattle.stair_conf.specs.Words.{IsCommandLine, IsCommandWord, Spells, SpellsGeometry, method_word}
 use Rattle.stair_conf.proofs.NumberLemmas.{begins-decimal, map_decimal_injective}
 
 -- ---- the first words
@@ -82,6 +82,15 @@ job_plain words (Stripe method n m r e) spells =
     geometry_plain _ words n m r e
     (All-cons IsPlainWord (codes "stripe") (method_word method ∷ []) (omega arith) (one_plain (method_word method) (method_plain method))) spells
 job_plain words (Restore n m r e) spells = geometry_plain _ words n m r e (one_plain (codes "restore") (omega arith)) spells
+
+command_word : (words : List (List ℕ)) (job : Job) → Spells words job → IsCommandWord (get_or words 0 [])
+command_word words (Check n m r e) spells = inl (ap (λ ws. get_or ws 0 []) spells.spelled)
+command_word words (Stripe method n m r e) spells = inr (inl (ap (λ ws. get_or ws 0 []) spells.spelled))
+command_word words (Restore n m r e) spells = inr (inr (ap (λ ws. get_or ws 0 []) spells.spelled))
+
+-- the words of a job are a command line
+pub job_line : (words : List (List ℕ)) (job : Job) → Spells words job → IsCommandLine words
+job_line words job spells = record { command = command_word words job spells; no_option = job_plain words job spells }
 
 -- ---- words spell one job at most
 

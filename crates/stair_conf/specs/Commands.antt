@@ -18,12 +18,20 @@ one_word id = record (new_rule id) { required = true }
 
 -- a required positional of at least one word
 abbrev pub some_words : Text → Rule
-some_words id = record (one_word id) { range = Some (record { start_inclusive = 1; end_inclusive = usize_max }) }
+some_words id = record (one_word id) {
+  range = Some (record {
+    start_inclusive = 1;
+    end_inclusive = usize_max;
+  });
+}
 
 -- a command with neither help nor version
 abbrev pub bare_app : Text → App
 bare_app name =
-    on_top (λ shape. record shape { disable_help_flag = true; disable_version_flag = true }) (new_app name)
+    on_top (λ shape. record shape {
+      disable_help_flag = true;
+      disable_version_flag = true;
+    }) (new_app name)
 
 -- the command with the words of a geometry
 abbrev pub with_geometry : App → App

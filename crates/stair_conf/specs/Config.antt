@@ -1,7 +1,7 @@
 -- What a geometry text says: a TOML table with the keys n, m, r, e, stripes and id.
 use Rattle.std.specs.Prelude.{◌≡◌, ℕ, ◌<◌, pos, List, map, codes, Some, Result, Ok, Err, IsUtf8}
 use Rattle.hex.specs.Hex.{decode_sized}
-use Rattle.toml.specs.Data.{Data, Members, get_member, string, integer, array}
+use Rattle.toml.specs.Data.{Data, Members, Items, item, get_member, string, integer, array}
 use Rattle.toml.specs.View.{items_of}
 use Rattle.toml.specs.Parse.{parse_document}
 use Rattle.stair_model.specs.Geometry.{Geometry, IsWithinLimits, IsFirstBrokenLimit}
@@ -33,11 +33,13 @@ HasNumber table key n = get_member (name_of key) table ≡ Some (number n)
 
 -- an array of such numbers
 abbrev pub HasNumbers : Members → Key → List ℕ → Type 0
-HasNumbers table key numbers = get_member (name_of key) table ≡ Some (array (items_of (map number numbers)))
+HasNumbers table key numbers = get_member (name_of key) table
+    ≡ Some (array (items_of (map number numbers)))
 
 -- a string of 32 hexadecimal digits, which spell these sixteen bytes
 abbrev pub HasIdentity : Members → Key → List ℕ → Type 0
-HasIdentity table key id = (digits : List ℕ) × (get_member (name_of key) table ≡ Some (string digits)) × (decode_sized digits 16 ≡ Ok id)
+HasIdentity table key id = (digits : List ℕ)
+    × (get_member (name_of key) table ≡ Some (string digits)) × (decode_sized digits 16 ≡ Ok id)
 
 -- the table has the numbers of this geometry, whether or not they keep the limits
 pub record Says (table : Members) (g : Geometry) : Type 0 where
@@ -71,13 +73,27 @@ pub record IsFirstFaultyKey (table : Members) (key : Key) : Type 0 where
   pub faulty : ¬ HasKey table key
   pub before : (other : Key) → place other < place key → HasKey table other
 
+-- an array that begins with such a number
+abbrev pub BeginsNumbers : Members → Key → Type 0
+BeginsNumbers table key = (n : ℕ) × (rest : Items)
+    × (get_member (name_of key) table ≡ Some (array (item (number n) rest)))
+
+-- the tables for which memory is taken: N, M and R have their numbers, and E has one to be kept
+pub record TakesMemory (table : Members) : Type 0 where
+  pub n : HasKey table N
+  pub m : HasKey table M
+  pub r : HasKey table R
+  pub e : BeginsNumbers table E
+
 -- what is answered for a table
 pub data TableReadsAs (table : Members) : Result Geometry ConfigFault → Type 0 where
   key : (key : Key) → IsFirstFaultyKey table key → TableReadsAs table (Err (fault.Key key))
-  limit : (g : Geometry) (k : ℕ) → Says table g → IsFirstBrokenLimit g k → TableReadsAs table (Err (fault.Limit k))
+  limit : (g : Geometry) (k : ℕ) → Says table g → IsFirstBrokenLimit g k →
+      TableReadsAs table (Err (fault.Limit k))
   geometry : (g : Geometry) → Says table g → IsWithinLimits g → TableReadsAs table (Ok g)
 
 -- what is answered for a text
 pub data TextReadsAs (text : List ℕ) : Result Geometry ConfigFault → Type 0 where
   not_toml : ((table : Members) → ¬ IsToml text table) → TextReadsAs text (Err fault.NotToml)
-  table : (table : Members) (answer : Result Geometry ConfigFault) → IsToml text table → TableReadsAs table answer → TextReadsAs text answer
+  table : (table : Members) (answer : Result Geometry ConfigFault) → IsToml text table →
+      TableReadsAs table answer → TextReadsAs text answer

@@ -25,3 +25,9 @@ pub record HasGeometry (rows : List Row) (n m r : ℕ) (e : List ℕ) : Type 0 w
   pub m_word : HasNumberWord rows (codes "M") m
   pub r_word : HasNumberWord rows (codes "R") r
   pub e_words : HasNumberWords rows (codes "E") e
+
+-- the rows N, M and R have some numbers
+pub record HasThreeNumbers (rows : List Row) : Type 0 where
+  pub n_word : (n : ℕ) × HasNumberWord rows (codes "N") n
+  pub m_word : (m : ℕ) × HasNumberWord rows (codes "M") m
+  pub r_word : (r : ℕ) × HasNumberWord rows (codes "R") r

@@ -1,7 +1,8 @@
 -- The jobs that words spell.
-use Rattle.std.specs.Prelude.{◌≡◌, ℕ, ◌^◌, ◌<◌, List, [], ◌∷◌, ◌++◌, All, codes, length, map, slice_index}
+use Rattle.std.specs.Prelude.{◌≡◌, ◌⊎◌, ℕ, ◌^◌, ◌<◌, List, [], ◌∷◌, ◌++◌, All, codes, length, map, slice_index, slice_index_or}
 use Rattle.std.specs.Fmt.{decimal}
 use Rattle.std.specs.Int.{IsInRange}
+use Rattle.stair_conf.specs.Commands.{HasNoOption}
 use Rattle.stair_conf.specs.declared.job.Method.{Method}
 use Rattle.stair_conf.specs.declared.job.Method.TheVariants.{Standard, Up, Down, Fewest}
 use Rattle.stair_conf.specs.declared.job.Job.{Job}
@@ -41,9 +42,19 @@ pub record SpellsGeometry (before words : List (List ℕ)) (n m r : ℕ) (e : Li
 -- the words are those of the job
 abbrev pub Spells : List (List ℕ) → Job → Type 0
 Spells words (Check n m r e) = SpellsGeometry (codes "check" ∷ []) words n m r e
-Spells words (Stripe method n m r e) = SpellsGeometry (codes "stripe" ∷ method_word method ∷ []) words n m r e
+Spells words (Stripe method n m r e) = SpellsGeometry
+    (codes "stripe" ∷ method_word method ∷ []) words n m r e
 Spells words (Restore n m r e) = SpellsGeometry (codes "restore" ∷ []) words n m r e
 
 -- the words spell a job
 abbrev pub IsSpelled : List (List ℕ) → Type 0
 IsSpelled words = (job : Job) × Spells words job
+
+-- the word of a command
+abbrev pub IsCommandWord : List ℕ → Type 0
+IsCommandWord word = (word ≡ codes "check") ⊎ (word ≡ codes "stripe") ⊎ (word ≡ codes "restore")
+
+-- a command's word comes first, and no word begins with a hyphen: memory is taken for such words alone
+pub record IsCommandLine (words : List (List ℕ)) : Type 0 where
+  pub command : IsCommandWord (slice_index_or words 0 [])
+  pub no_option : HasNoOption words

@@ -16,7 +16,8 @@ use std::alloc::{AllocError, Global};
 // Reads `N M R E..` behind the first word.
 pub(crate) fn read_geometry(alloc: Global, words: &[String]) -> Result<GeometryNumbers, WordsFault>
     requires { HasNoOption (map string_bytes words.now) }
-    ensures ok { IfOk result (λ g. SpellsGeometry [] (drop 1 (map string_bytes words.now)) g.n g.m g.r g.e) }
+    ensures ok { IfOk result (λ g. SpellsGeometry []
+        (drop 1 (map string_bytes words.now)) g.n g.m g.r g.e) }
     ensures usage { result ≡ Err WordsFault.Usage → (n m r : ℕ) (e : List ℕ)
         → SpellsGeometry [] (drop 1 (map string_bytes words.now)) n m r e → ⊥ }
 {
@@ -30,10 +31,12 @@ pub(crate) fn read_stripe(
     words: &[String],
 ) -> Result<(Method, GeometryNumbers), WordsFault>
     requires { HasNoOption (map string_bytes words.now) }
-    ensures ok { IfOk result (λ read. SpellsGeometry (method_word read.0 ∷ []) (drop 1 (map string_bytes words.now))
+    ensures ok { IfOk result (λ read. SpellsGeometry (method_word read.0 ∷ [])
+        (drop 1 (map string_bytes words.now))
         read.1.n read.1.m read.1.r read.1.e) }
     ensures usage { result ≡ Err WordsFault.Usage → (method : Method) (n m r : ℕ) (e : List ℕ)
-        → SpellsGeometry (method_word method ∷ []) (drop 1 (map string_bytes words.now)) n m r e → ⊥ }
+        → SpellsGeometry (method_word method ∷ []) (drop 1 (map string_bytes words.now)) n m r e →
+        ⊥ }
 {
     let matches = parse(stripe_command(alloc)?, words)?;
     let method = method_of(&matches, "METHOD").ok_or(WordsFault::Usage)?;
@@ -42,7 +45,8 @@ pub(crate) fn read_stripe(
 
 // Matches the words to the values of the command.
 fn parse<'a>(command: Command<'a>, words: &'a [String]) -> Result<ArgMatches<'a>, WordsFault>
-    ensures ok { IfOk result (HasMatchesOf (app_of command.entry) (map string_bytes words.entry.now)) }
+    ensures ok { IfOk result (HasMatchesOf (app_of command.entry)
+        (map string_bytes words.entry.now)) }
     ensures usage { result ≡ Err WordsFault.Usage
         → takes (app_of command.entry) (map string_bytes words.entry.now) ≡ true → ⊥ }
 {

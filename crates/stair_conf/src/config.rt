@@ -1,6 +1,7 @@
-ghost use Rattle.std.specs.Prelude.{◌≡◌, ◌≢◌, ℕ, List, ◌↔◌, IfOk, IfErr, None, Some};
-ghost use Rattle.stair_conf.specs.Config.{HasIdentity, HasNumber, HasNumbers, TableReadsAs, TextReadsAs, name_of, number};
+ghost use Rattle.std.specs.Prelude.{◌≡◌, ◌≢◌, ℕ, List, ◌↔◌, IfOk, IfErr, IsUtf8, None, Some};
+ghost use Rattle.stair_conf.specs.Config.{BeginsNumbers, HasIdentity, HasNumber, HasNumbers, TableReadsAs, TakesMemory, TextReadsAs, name_of, number};
 ghost use Rattle.toml.specs.Data.{get_member};
+ghost use Rattle.toml.specs.Errors.{IsBlank};
 ghost use Rattle.toml.specs.View.{table_view, view};
 
 use crate::{ConfigFault, Key};
@@ -13,29 +14,46 @@ use toml::{Table, Value};
 ///
 /// `n`, `m`, `r` and `stripes` are whole numbers and `e` is an array of such; none is negative. `id` is a string of 32
 /// hexadecimal digits, in either case. Other keys are ignored. The faults come in this order, unless memory runs out before
-/// one is known:
+/// one is known, which is only where the bytes are text in UTF-8, and not of blanks and comments alone:
 ///
 /// 1. `NotToml`: the bytes are no text in UTF-8, or toml refuses the text. It refuses a whole number of 2^63 or more, or below
 ///    -2^63, under whatever key.
 /// 2. `Key`: the first key, in the order above, that is missing or has another kind of value. A negative number is one.
 /// 3. `Limit`: the first limit of [`Geometry::new`] that is broken. An empty array for `e` breaks limit 4.
 pub fn read_config(alloc: Global, text: &[u8]) -> Result<Geometry, ConfigFault>
-    ensures { result ≢ Err ConfigFault.Memory → TextReadsAs text.now result }
+    ensures answer { result ≢ Err ConfigFault.Memory → TextReadsAs text.now result }
+    ensures memory { result ≡ Err ConfigFault.Memory → IsUtf8 text.now × ¬ IsBlank text.now }
 {
-    read_table(alloc, &toml::table_from_slice(alloc, text)?)
+    let Ok(text) = str::from_utf8(text) else {
+        return Err(ConfigFault::NotToml);
+    };
+    read_table(alloc, &toml::table_from_str(alloc, text)?)
 }
 
-// Reads the geometry that a table has.
+// Reads the geometry that a table has. Memory is taken for the numbers at the key `e` alone.
 fn read_table(alloc: Global, table: &Table) -> Result<Geometry, ConfigFault>
-    ensures { result ≢ Err ConfigFault.Memory → TableReadsAs (table_view table.now) result }
+    ensures answer { result ≢ Err ConfigFault.Memory →
+        TableReadsAs (table_view table.now) result }
+    ensures memory { result ≡ Err ConfigFault.Memory → TakesMemory (table_view table.now) }
 {
     let n = number_at(table, Key::N)?;
     let m = number_at(table, Key::M)?;
     let r = number_at(table, Key::R)?;
     let e = numbers_at(alloc, table, Key::E)?;
+    read_rest(table, n, m, r, e.as_slice())
+}
+
+// Reads the geometry behind the numbers that were read.
+fn read_rest(table: &Table, n: u64, m: u64, r: u64, e: &[u64]) -> Result<Geometry, ConfigFault>
+    requires n { HasNumber (table_view table.now) Key.N n }
+    requires m { HasNumber (table_view table.now) Key.M m }
+    requires r { HasNumber (table_view table.now) Key.R r }
+    requires e { HasNumbers (table_view table.now) Key.E e.now }
+    ensures { TableReadsAs (table_view table.now) result }
+{
     let stripes = number_at(table, Key::Stripes)?;
     let id = identity_at(table, Key::Id)?;
-    Ok(Geometry::new(n, m, r, e.as_slice(), stripes, id)?)
+    Ok(Geometry::new(n, m, r, e, stripes, id)?)
 }
 
 // The whole number at a key.
@@ -50,8 +68,10 @@ fn number_at(table: &Table, key: Key) -> Result<u64, ConfigFault>
 // The whole numbers of the array at a key.
 fn numbers_at(alloc: Global, table: &Table, key: Key) -> Result<Vec<u64>, ConfigFault>
     ensures ok { IfOk result (λ numbers. HasNumbers (table_view table.now) key numbers.items) }
-    ensures faulty { IfErr result (λ fault. fault ≢ ConfigFault.Memory → (fault ≡ ConfigFault.Key key)
+    ensures faulty { IfErr result (λ fault. fault ≢ ConfigFault.Memory →
+        (fault ≡ ConfigFault.Key key)
         × ((numbers : List ℕ) → ¬ HasNumbers (table_view table.now) key numbers)) }
+    ensures memory { result ≡ Err ConfigFault.Memory → BeginsNumbers (table_view table.now) key }
 {
     let values = value_at(table, key)?
         .as_array()
@@ -75,7 +95,8 @@ fn identity_at(table: &Table, key: Key) -> Result<[u8; 16], ConfigFault>
 
 // The value at a key.
 fn value_at(table: &Table, key: Key) -> Result<&Value, ConfigFault>
-    ensures ok { IfOk result (λ value. get_member (name_of key) (table_view table.now) ≡ Some (view value.now)) }
+    ensures ok { IfOk result (λ value. get_member (name_of key) (table_view table.now)
+        ≡ Some (view value.now)) }
     ensures faulty { IfErr result (λ fault. (fault ≡ ConfigFault.Key key)
         × (get_member (name_of key) (table_view table.now) ≡ None)) }
 {

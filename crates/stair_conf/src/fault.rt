@@ -1,8 +1,8 @@
-ghost use Rattle.std.specs.Prelude.{◌≡◌};
+ghost use Rattle.std.specs.Prelude.{◌≡◌, ◌≢◌};
 ghost use Rattle.clap.specs.Words.{kind_of};
 ghost use Rattle.clap.specs.declared.error.kind.ErrorKind.TheVariants.{OutOfMemory};
 ghost use Rattle.stair_conf.specs.declared.fault.ConfigFault.TheVariants as config;
-ghost use Rattle.stair_conf.specs.declared.fault.WordsFault.TheVariants.{Memory};
+ghost use Rattle.stair_conf.specs.declared.fault.WordsFault.TheVariants.{Memory, Usage};
 ghost use Rattle.toml.specs.Errors.{IsMemory};
 
 use crate::Key;
@@ -38,7 +38,8 @@ impl<T: Drop> From<AllocFailed<T>> for WordsFault {
 
 // A parse that was refused for another reason than memory was refused for its words.
 impl From<Error> for WordsFault {
-    ghost from_gives = { λ error fault. kind_of error ≡ OutOfMemory → fault ≡ Memory };
+    ghost from_gives = { λ error fault. (kind_of error ≡ OutOfMemory → fault ≡ Memory)
+        × (kind_of error ≢ OutOfMemory → fault ≡ Usage) };
 
     fn from(error: Error) -> WordsFault {
         match error.kind() {

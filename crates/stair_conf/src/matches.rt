@@ -1,8 +1,8 @@
 //! Reads the words that clap matched.
 
-ghost use Rattle.std.specs.Prelude.{◌≡◌, ℕ, ◌↔◌, List, map, IfOk, IsTrue, Some};
+ghost use Rattle.std.specs.Prelude.{◌≡◌, ℕ, ◌↔◌, List, [], map, slice_index_or, IfOk, IsTrue, Some};
 ghost use Rattle.clap.specs.Words.{found_of, rows_of};
-ghost use Rattle.stair_conf.specs.Rows.{HasGeometry, HasMethodWord, HasNumberWord, HasNumberWords};
+ghost use Rattle.stair_conf.specs.Rows.{HasGeometry, HasThreeNumbers, HasMethodWord, HasNumberWord, HasNumberWords};
 ghost use Rattle.stair_conf.specs.Words.{AreNumbers, BeginsNumber, IsNumber, method_word};
 ghost use Rattle.stair_conf.specs.declared.job.Method.{Method};
 
@@ -27,6 +27,8 @@ pub(crate) fn geometry_of(
     ensures ok { IfOk result (λ g. HasGeometry (rows_of (found_of matches.now)) g.n g.m g.r g.e) }
     ensures usage { result ≡ Err WordsFault.Usage → (n m r : ℕ) (e : List ℕ)
         → HasGeometry (rows_of (found_of matches.now)) n m r e → ⊥ }
+    ensures memory { result ≡ Err WordsFault.Memory →
+        HasThreeNumbers (rows_of (found_of matches.now)) }
 {
     Ok(GeometryNumbers {
         n: number_of(matches, "N").ok_or(WordsFault::Usage)?,
@@ -46,7 +48,8 @@ pub(crate) fn method_of(matches: &ArgMatches<'_>, id: &str) -> Option<Method>
 
 // Reads the number, exactly where the first word of this id is its own.
 fn number_of(matches: &ArgMatches<'_>, id: &str) -> Option<u64>
-    ensures { (n : ℕ) → (result ≡ Some n) ↔ HasNumberWord (rows_of (found_of matches.now)) id.now n }
+    ensures { (n : ℕ) → (result ≡ Some n) ↔ HasNumberWord
+        (rows_of (found_of matches.now)) id.now n }
 {
     read_number(matches.get_str(id)?)
 }
@@ -78,6 +81,8 @@ fn read_numbers(alloc: Global, words: &[&str]) -> Result<Numbers, WordsFault>
     ensures ok { IfOk result (AreNumbers (map (λ word. word.now) words.now)) }
     ensures usage { result ≡ Err WordsFault.Usage
         → (numbers : List ℕ) → AreNumbers (map (λ word. word.now) words.now) numbers → ⊥ }
+    ensures memory { result ≡ Err WordsFault.Memory → (n : ℕ)
+        × IsNumber (slice_index_or (map (λ word. word.now) words.now) 0 []) n }
 {
     let mut numbers = Vec::new(alloc);
     for word in words {

@@ -16,7 +16,8 @@ pub record ArePlacesOfRow (g : Geometry) (i : ℕ) (known wanted : List ℕ) : T
   pub wanted_room : length wanted ≡ 64
   pub first : (k : ℕ) → k < data_chunks g - classes g → slice_index known k ≡ k
   pub parities : (k : ℕ) → k < g.m → slice_index wanted k ≡ data_chunks g + k
-  pub pairs : (l : ℕ) → l < classes g → IsPairOfClass g i l (slice_index known (global_chunk g l)) (slice_index wanted (g.m + l))
+  pub pairs : (l : ℕ) → l < classes g → IsPairOfClass g i l (slice_index known (global_chunk g l))
+      (slice_index wanted (g.m + l))
 
 -- intermediate chunk l: the rows above its global parities and as many virtual rows as it covers, and the rows of these parities
 pub record ArePlacesOfChunk (g : Geometry) (l : ℕ) (known wanted : List ℕ) : Type 0 where

@@ -18,7 +18,8 @@ use std::sync::ledger::Ledger;
 fn solve_intermediate_chunk<L: Ledger>(canon: &mut Canon, class: u8, steps: &mut Steps<L>)
     requires { class < classes canon.old.geometry }
     ensures completes { CompletesChunk canon.old.geometry class canon.old canon.new }
-    ensures cost { steps.new ≡ steps.old + canon.old.geometry.r * coverage canon.old.geometry class }
+    ensures cost { steps.new ≡ steps.old + canon.old.geometry.r
+        * coverage canon.old.geometry class }
 {
     let geometry = canon.geometry();
     let known = usize::from(geometry.r());
@@ -76,5 +77,5 @@ pub fn encode_downstairs<L: Ledger>(canon: &mut Canon, stripe: &mut Stripe, step
         }
         solve_row(canon, row, steps);
     }
-    canon.store(stripe);
+    canon.store_cells(canon.parities(), stripe);
 }

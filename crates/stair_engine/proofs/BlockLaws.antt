@@ -1,32 +1,30 @@
 -- The blocks of a stripe, as bytes, one after the other.
 use Rattle.std.proofs.Common.{◌≡◌, ℕ, ◌+◌, ◌*◌, ◌<◌, inl, inr, List, [], ◌∷◌, ◌++◌, length, refl, sym, ap, ◌∙◌, subst, arith}
-use Rattle.std.specs.Prelude.{Option}
 use Rattle.std.specs.List.{concat}
-use Rattle.std.specs.Io.KnownBytes.{IsAtEnd}
 use Rattle.std.proofs.lemmas.Bool.{cases_lt}
 use Rattle.std.proofs.lemmas.List.{get_or_append_left, get_or_push, length_push}
 use Rattle.std.proofs.lemmas.List.Elements.{All-append, All-nil, All-cons}
-use Rattle.std.proofs.lemmas.Option.{IfSome_then}
 use Rattle.stair_model.specs.Cell.{Data, cell_at}
 use Rattle.stair_model.specs.Encoding.{IsEncodedFrom, IsEncodingOf}
 use Rattle.stair_model.specs.Geometry.{Geometry, IsWithinLimits, data_cells}
 use Rattle.stair_model.specs.Stripe.{Stripe, IsSector, IsStripeOf, IsWellFormed, cell, with_cell}
 use Rattle.stair_model.proofs.DataLaws.{data_in_range, data_once}
 use Rattle.stair_model.proofs.StripeLaws.{cell-IsSector, cell-with_cell_other, cell-with_cell_same}
-use Rattle.stair_engine.specs.Encode.{HoldsBlocks, TookBlocks}
-use Rattle.stair_engine.specs.Taking.{TakesBlocks, TakesBlocksTo, TakesBytes}
+use Rattle.stair_engine.specs.Encode.{HoldsBlocks}
+use Rattle.stair_engine.specs.Outside.{SourceView}
+use Rattle.stair_engine.specs.Taking.{HoldsInput, TakesBlocksTo, TakesBytes}
 use Rattle.stair_engine.specs.declared.intake.Intake.{Intake}
 use Rattle.stair_engine.proofs.CellLaws.{concat-push, length-concat}
-use Rattle.stair_engine.proofs.IntakeLaws.{TakesBytes-none, TakesBytes-more, told_all}
+use Rattle.stair_engine.proofs.IntakeLaws.{TakesBytes-none, TakesBytes-more}
 
-pub TakesBlocksTo-none : (g : Geometry) (intake : Intake) (left : Option (List ℕ)) (stripe : Stripe)
-    → TakesBlocksTo g 0 intake intake left left stripe
-TakesBlocksTo-none g intake left stripe = record {
+pub TakesBlocksTo-none : {S : Type 0} (view : SourceView S) (g : Geometry) (intake : Intake) (stripe : Stripe) (a : S)
+    → TakesBlocksTo view g 0 intake intake stripe a a
+TakesBlocksTo-none view g intake stripe a = record {
   blocks = [];
   as_many = refl;
   sectors = All-nil IsSector;
   held = λ i j d row chunk below is. absurd (omega (arith, below));
-  taken = TakesBytes-none intake left;
+  taken = TakesBytes-none view intake a;
 }
 
 -- data cells of other numbers are other cells
@@ -54,11 +52,11 @@ held_more g stripe blocks count row slot sector of formed many row_in slot_in at
           ∙ sym (get_or_push blocks sector [] d (omega (arith, many, number)))
     ]
 
-pub TakesBlocksTo-more : (g : Geometry) (first now next : Intake) (a b c : Option (List ℕ)) (stripe : Stripe) (count row slot : ℕ) (sector : List ℕ)
+pub TakesBlocksTo-more : {S : Type 0} (view : SourceView S) (g : Geometry) (first now next : Intake) (stripe : Stripe) (count row slot : ℕ) (sector : List ℕ) (a b c : S)
     → IsStripeOf g stripe → IsWellFormed stripe → row < g.r → slot < g.n → cell_at g row slot ≡ Data count
-    → IsWellFormed (with_cell stripe row slot sector) → TakesBlocksTo g count first now a b stripe → TakesBytes now next b c sector
-    → TakesBlocksTo g (count + 1) first next a c (with_cell stripe row slot sector)
-TakesBlocksTo-more g first now next a b c stripe count row slot sector of formed row_in slot_in at well before gives =
+    → IsWellFormed (with_cell stripe row slot sector) → TakesBlocksTo view g count first now stripe a b → TakesBytes view now next sector b c
+    → TakesBlocksTo view g (count + 1) first next (with_cell stripe row slot sector) a c
+TakesBlocksTo-more view g first now next stripe count row slot sector a b c of formed row_in slot_in at well before gives =
     let is_sector : IsSector sector =
     subst IsSector
     (cell-with_cell_same stripe row slot sector formed (omega (arith, of.rows, row_in)) (omega (arith, of.chunks, slot_in)))
@@ -70,29 +68,27 @@ TakesBlocksTo-more g first now next a b c stripe count row slot sector of formed
       sectors = All-append IsSector before.blocks (sector ∷ []) before.sectors (All-cons IsSector sector [] is_sector (All-nil IsSector));
       held = held_more g stripe before.blocks count row slot sector of formed before.as_many row_in slot_in at before.held;
       taken =
-          subst (TakesBytes first next a c) (sym (concat-push before.blocks sector))
-          (TakesBytes-more first now next a b c (concat before.blocks) sector before.taken gives);
+          subst (λ (bytes : List ℕ). TakesBytes view first next bytes a c) (sym (concat-push before.blocks sector))
+          (TakesBytes-more view first now next (concat before.blocks) sector a b c before.taken gives);
     }
 
 -- how many bytes were counted
-pub took_blocks : (g : Geometry) (count : ℕ) (first now : Intake) (a b : Option (List ℕ)) (stripe : Stripe)
-    → TakesBlocksTo g count first now a b stripe → (now.took ≡ first.took + count * 512) × (now.needed ≡ first.needed)
-took_blocks g count first now a b stripe has = (
+pub took_blocks : {S : Type 0} (view : SourceView S) (g : Geometry) (count : ℕ) (first now : Intake) (stripe : Stripe) (a b : S)
+    → TakesBlocksTo view g count first now stripe a b → (now.took ≡ first.took + count * 512) × (now.needed ≡ first.needed)
+took_blocks view g count first now stripe a b has = (
   omega (arith, ap (λ (k : Intake). k.took) has.taken.counted, length-concat has.blocks has.sectors, has.as_many),
   ap (λ (k : Intake). k.needed) has.taken.counted,
 )
 
 -- the bytes of all blocks
-pub length-blocks : (g : Geometry) (first now : Intake) (a b : Option (List ℕ)) (stripe : Stripe) (has : TakesBlocks g first now a b stripe)
-    → length (concat has.blocks) ≡ data_cells g * 512
-length-blocks g first now a b stripe has = length-concat has.blocks has.sectors ∙ ap (λ (n : ℕ). n * 512) has.as_many
+pub length-blocks : {S : Type 0} (view : SourceView S) (g : Geometry) (first now : Intake) (stripe : Stripe) (a b : S)
+    (has : TakesBlocksTo view g (data_cells g) first now stripe a b) → length (concat has.blocks) ≡ data_cells g * 512
+length-blocks view g first now stripe a b has = length-concat has.blocks has.sectors ∙ ap (λ (n : ℕ). n * 512) has.as_many
 
--- the blocks are all that was told
-pub TookBlocks-all : (g : Geometry) (first now : Intake) (a b : Option (List ℕ)) (stripe : Stripe) → TakesBlocks g first now a b stripe
-    → IsAtEnd b → TookBlocks g a stripe
-TookBlocks-all g first now a b stripe has at_end =
-    IfSome_then a (told_all first now a b (concat has.blocks) has.taken at_end)
-    (λ input same. (has.blocks, record { count = has.as_many; sectors = has.sectors; same_bytes = same }, has.held))
+-- the stripe holds the bytes of all blocks
+pub HoldsInput-all : {S : Type 0} (view : SourceView S) (g : Geometry) (first now : Intake) (stripe : Stripe) (a b : S)
+    (has : TakesBlocksTo view g (data_cells g) first now stripe a b) → HoldsInput g stripe (concat has.blocks)
+HoldsInput-all view g first now stripe a b has = (has.blocks, record { count = has.as_many; sectors = has.sectors; same_bytes = refl }, has.held)
 
 -- a stripe that holds the blocks is encoded from it
 pub IsEncodingOf-held : (g : Geometry) (blocks : List (List ℕ)) (before after : Stripe) → IsWithinLimits g

@@ -5,15 +5,14 @@ use Rattle.std.specs.List.{concat}
 use Rattle.std.specs.Io.KnownBytes.{Appends}
 use Rattle.std.proofs.KnownBytes.{Appends-trans}
 use Rattle.std.proofs.lemmas.List.{take_more, take_more_set, take_all}
-use Rattle.std.proofs.lemmas.List.{take-append-le}
 use Rattle.std.proofs.lemmas.List.Elements.{All-head, All-tail}
 use Rattle.std.proofs.lemmas.List.Folds.{concat-append}
-use lib.Seq.{drop_at, take-add}
 use Rattle.stair_model.specs.Geometry.{Geometry}
 use Rattle.stair_model.specs.Stripe.{Stripe, IsSector, IsStripeOf, IsWellFormed, with_cell}
 use Rattle.stair_model.proofs.StripeLaws.{number_in}
 use Rattle.stair_engine.specs.declared.intake.Intake.{Intake}
-use Rattle.stair_engine.specs.Streams.{PutsPart}
+use Rattle.stair_engine.specs.Outside.{SourceView}
+use Rattle.stair_engine.specs.Story.{IsPart}
 use Rattle.stair_engine.specs.Taking.{TakesBytes}
 use Rattle.stair_engine.proofs.IntakeLaws.{TakesBytes-none, TakesBytes-more}
 
@@ -36,28 +35,28 @@ pub length-cell_bytes : (g : Geometry) (stripe : Stripe) → IsStripeOf g stripe
 length-cell_bytes g stripe of well = length-concat stripe.cells well.sectors ∙ ap (λ k. k * 512) (length-cells g stripe of well)
 
 -- the stripe's first `done` cells are what the source gave
-pub record HasTaken (g : Geometry) (first now : Intake) (left left' : Option (List ℕ)) (stripe : Stripe) (done : ℕ) : Type 0 where
+pub record HasTaken {S : Type 0} (view : SourceView S) (g : Geometry) (first now : Intake) (stripe : Stripe) (done : ℕ) (old new : S) : Type 0 where
   pub of : IsStripeOf g stripe
   pub well_formed : IsWellFormed stripe
-  pub taken : TakesBytes first now left left' (concat (take done stripe.cells))
+  pub taken : TakesBytes view first now (concat (take done stripe.cells)) old new
   pub took_is : now.took ≡ first.took + done * 512
   pub needed_is : now.needed ≡ first.needed
 
-pub HasTaken-none : (g : Geometry) (intake : Intake) (left : Option (List ℕ)) (stripe : Stripe) → IsStripeOf g stripe → IsWellFormed stripe
-    → HasTaken g intake intake left left stripe 0
-HasTaken-none g intake left stripe of well = record {
+pub HasTaken-none : {S : Type 0} (view : SourceView S) (g : Geometry) (intake : Intake) (stripe : Stripe) (a : S) → IsStripeOf g stripe → IsWellFormed stripe
+    → HasTaken view g intake intake stripe 0 a a
+HasTaken-none view g intake stripe a of well = record {
   of = of;
   well_formed = well;
-  taken = TakesBytes-none intake left;
+  taken = TakesBytes-none view intake a;
   took_is = omega arith;
   needed_is = refl;
 }
 
-pub HasTaken-more : (g : Geometry) (first now next : Intake) (a b c : Option (List ℕ)) (stripe : Stripe) (row slot : ℕ) (sector : List ℕ)
+pub HasTaken-more : {S : Type 0} (view : SourceView S) (g : Geometry) (first now next : Intake) (stripe : Stripe) (row slot : ℕ) (sector : List ℕ) (a b c : S)
     → row < g.r → slot < g.n → length sector ≡ 512 → IsWellFormed (with_cell stripe row slot sector)
-    → HasTaken g first now a b stripe (row * g.n + slot) → TakesBytes now next b c sector
-    → HasTaken g first next a c (with_cell stripe row slot sector) (row * g.n + (slot + 1))
-HasTaken-more g first now next a b c stripe row slot sector row_in slot_in long well before gives =
+    → HasTaken view g first now stripe (row * g.n + slot) a b → TakesBytes view now next sector b c
+    → HasTaken view g first next (with_cell stripe row slot sector) (row * g.n + (slot + 1)) a c
+HasTaken-more view g first now next stripe row slot sector a b c row_in slot_in long well before gives =
     let cells = stripe.cells in
     let at = row * stripe.chunks + slot in
     let done = row * g.n + slot in
@@ -73,18 +72,18 @@ HasTaken-more g first now next a b c stripe row slot sector row_in slot_in long 
       of = record { rows = before.of.rows; chunks = before.of.chunks };
       well_formed = well;
       taken =
-          subst (TakesBytes first next a c) (sym (ap concat front ∙ concat-push (take done cells) sector))
-          (TakesBytes-more first now next a b c (concat (take done cells)) sector before.taken gives);
+          subst (λ (bytes : List ℕ). TakesBytes view first next bytes a c) (sym (ap concat front ∙ concat-push (take done cells) sector))
+          (TakesBytes-more view first now next (concat (take done cells)) sector a b c before.taken gives);
       took_is = omega (arith, ap (λ (k : Intake). k.took) gives.counted, before.took_is, long);
       needed_is = ap (λ (k : Intake). k.needed) gives.counted ∙ before.needed_is;
     }
 
 -- all cells were taken
-pub HasTaken-all : (g : Geometry) (first now : Intake) (a b : Option (List ℕ)) (stripe : Stripe) (done : ℕ)
-    → done ≡ g.r * g.n → HasTaken g first now a b stripe done → TakesBytes first now a b (concat stripe.cells)
-HasTaken-all g first now a b stripe done all has =
+pub HasTaken-all : {S : Type 0} (view : SourceView S) (g : Geometry) (first now : Intake) (stripe : Stripe) (done : ℕ) (a b : S)
+    → done ≡ g.r * g.n → HasTaken view g first now stripe done a b → TakesBytes view first now (concat stripe.cells) a b
+HasTaken-all view g first now stripe done a b all has =
     let whole : length stripe.cells ≤ done = omega (arith, all, length-cells g stripe has.of has.well_formed) in
-    subst (λ (cells : List (List ℕ)). TakesBytes first now a b (concat cells)) (take_all done stripe.cells whole) has.taken
+    subst (λ (cells : List (List ℕ)). TakesBytes view first now (concat cells) a b) (take_all done stripe.cells whole) has.taken
 
 -- the cells with one more
 cells_more : (g : Geometry) (stripe : Stripe) (row slot : ℕ) (sector : List ℕ) → IsStripeOf g stripe → IsWellFormed stripe
@@ -108,32 +107,19 @@ puts_cell g stripe row slot sector a b c of well row_in slot_in is before more =
     subst (Appends a c) (sym (cells_more g stripe row slot sector of well row_in slot_in is))
     (Appends-trans a b c (concat (take (row * g.n + slot) stripe.cells)) sector before more)
 
--- a front, and a part of what stands behind it
-take-front_more : (front sector rest : List ℕ) (count : ℕ) → count ≤ length sector
-    → take (length front + count) (front ++ (sector ++ rest)) ≡ front ++ take count sector
-take-front_more front sector rest count few =
-    take-add (length front) count (front ++ (sector ++ rest))
-    ∙ ap₂ (λ (a b : List ℕ). a ++ b)
-    (take-append-le (length front) front (sector ++ rest) (omega arith) ∙ take_all (length front) front (omega arith))
-    (ap (take count) (drop_at front (sector ++ rest) (length front) refl) ∙ take-append-le count sector rest few)
-
 -- a part of one cell more was put out, and so a part of all cells
-pub puts_part : (g : Geometry) (stripe : Stripe) (row slot : ℕ) (sector : List ℕ) (a b c : Option (List ℕ)) → IsStripeOf g stripe → IsWellFormed stripe
+pub puts_part : (g : Geometry) (stripe : Stripe) (row slot : ℕ) (sector part : List ℕ) → IsStripeOf g stripe → IsWellFormed stripe
     → row < g.r → slot < g.n → sector ≡ get_or stripe.cells (row * stripe.chunks + slot) []
-    → Appends a b (concat (take (row * g.n + slot) stripe.cells)) → PutsPart b c sector → PutsPart a c (concat stripe.cells)
-puts_part g stripe row slot sector a b c of well row_in slot_in is before part =
+    → IsPart part sector → IsPart (concat (take (row * g.n + slot) stripe.cells) ++ part) (concat stripe.cells)
+puts_part g stripe row slot sector part of well row_in slot_in is in_sector =
     let next = row * g.n + (slot + 1) in
     let front = concat (take (row * g.n + slot) stripe.cells) in
-    let rest = concat (drop next stripe.cells) in
-    let whole : concat stripe.cells ≡ front ++ (sector ++ rest) =
+    let behind = concat (drop next stripe.cells) in
+    let rest = in_sector.0 in
+    let whole : concat stripe.cells ≡ (front ++ part) ++ (rest ++ behind) =
     ap concat (sym (take-append-drop next stripe.cells)) ∙ concat-append (take next stripe.cells) (drop next stripe.cells)
-    ∙ ap (λ x. x ++ rest) (cells_more g stripe row slot sector of well row_in slot_in is) ∙ append_assoc front sector rest
+    ∙ ap (λ x. x ++ behind) (cells_more g stripe row slot sector of well row_in slot_in is) ∙ append_assoc front sector behind
+    ∙ ap (λ x. front ++ (x ++ behind)) in_sector.1 ∙ ap (λ x. front ++ x) (append_assoc part rest behind)
+    ∙ sym (append_assoc front part (rest ++ behind))
     in
-    let count = part.0 in
-    let taken : take (length front + count) (concat stripe.cells) ≡ front ++ take count sector =
-    ap (take (length front + count)) whole ∙ take-front_more front sector rest count (omega (arith, part.1))
-    in (
-      length front + count,
-      omega (arith, ap length whole, length-append front (sector ++ rest), length-append sector rest, part.1),
-      subst (Appends a c) (sym taken) (Appends-trans a b c front (take count sector) before part.2),
-    )
+    (rest ++ behind, whole, omega (arith, in_sector.2, length-append rest behind))

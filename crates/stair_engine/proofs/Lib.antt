@@ -1,7 +1,9 @@
 pub mod StreamLaws
 pub mod IntakeLaws
+pub mod PlanLaws
 pub mod CellLaws
 pub mod BlockLaws
 pub mod MapLaws
 pub mod AnswerLaws
 pub mod RestoreLaws
+pub mod MeaningLaws

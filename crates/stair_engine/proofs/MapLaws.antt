@@ -1,11 +1,11 @@
 -- The erased cells of a map, row by row.
 use Rattle.std.proofs.Common.{◌≡◌, ◌≢◌, ℕ, ◌+◌, ◌*◌, ◌<◌, ◌⊎◌, ◌↔◌, inl, inr, List, [], ◌++◌, length, get_or, refl, sym, ap, ◌∙◌, arith, length-append}
-use Rattle.std.specs.Prelude.{Option}
 use Rattle.std.proofs.lemmas.Bool.{cases_lt}
 use Rattle.std.proofs.lemmas.List.{get_or_append_left, get_or-append-add}
 use Rattle.stair_model.specs.Geometry.{Geometry}
 use Rattle.stair_model.specs.CellSet.{CellSet, HasCell}
 use Rattle.stair_engine.specs.declared.intake.Intake.{Intake}
+use Rattle.stair_engine.specs.Outside.{SourceView}
 use Rattle.stair_engine.specs.Taking.{TakesBytes, TakesMap}
 use Rattle.stair_model.proofs.StripeLaws.{number_in}
 use Rattle.stair_engine.proofs.IntakeLaws.{TakesBytes-none, TakesBytes-more}
@@ -62,30 +62,30 @@ AddsErased-held old now row slot marks held before i j = (
 )
 
 -- the first rows of a map were taken, and their erased cells are in the set
-pub record HasMapped (g : Geometry) (first now : Intake) (left left' : Option (List ℕ)) (erased : CellSet) (row : ℕ) : Type 0 where
+pub record HasMapped {S : Type 0} (view : SourceView S) (g : Geometry) (first now : Intake) (erased : CellSet) (row : ℕ) (old new : S) : Type 0 where
   pub map : List ℕ
   pub long : length map ≡ row * g.n
   pub marked : (i j : ℕ) → HasCell erased i j ↔ ((i < row) × (j < g.n) × (get_or map (i * g.n + j) 0 ≢ 46))
-  pub taken : TakesBytes first now left left' map
+  pub taken : TakesBytes view first now map old new
   pub took_is : now.took ≡ first.took + row * g.n
   pub needed_is : now.needed ≡ first.needed
 
-pub HasMapped-none : (g : Geometry) (intake : Intake) (left : Option (List ℕ)) (erased : CellSet) → ((i j : ℕ) → ¬ HasCell erased i j)
-    → HasMapped g intake intake left left erased 0
-HasMapped-none g intake left erased none = record {
+pub HasMapped-none : {S : Type 0} (view : SourceView S) (g : Geometry) (intake : Intake) (erased : CellSet) (a : S) → ((i j : ℕ) → ¬ HasCell erased i j)
+    → HasMapped view g intake intake erased 0 a a
+HasMapped-none view g intake erased a none = record {
   map = [];
   long = omega arith;
   marked = λ i j. (λ has. absurd (none i j has), λ in_rows. absurd (omega (arith, in_rows.0)));
-  taken = TakesBytes-none intake left;
+  taken = TakesBytes-none view intake a;
   took_is = omega arith;
   needed_is = refl;
 }
 
 -- one row more
-pub HasMapped-more : (g : Geometry) (first now next : Intake) (a b c : Option (List ℕ)) (erased erased' : CellSet) (row : ℕ) (marks : List ℕ)
-    → length marks ≡ g.n → HasMapped g first now a b erased row → TakesBytes now next b c marks
-    → AddsErased erased erased' row (length marks) marks → HasMapped g first next a c erased' (row + 1)
-HasMapped-more g first now next a b c erased erased' row marks long before gives adds =
+pub HasMapped-more : {S : Type 0} (view : SourceView S) (g : Geometry) (first now next : Intake) (erased erased' : CellSet) (row : ℕ) (marks : List ℕ) (a b c : S)
+    → length marks ≡ g.n → HasMapped view g first now erased row a b → TakesBytes view now next marks b c
+    → AddsErased erased erased' row (length marks) marks → HasMapped view g first next erased' (row + 1) a c
+HasMapped-more view g first now next erased erased' row marks a b c long before gives adds =
     let map = before.map in
     let earlier_mark : (i j : ℕ) → i < row → j < g.n → get_or (map ++ marks) (i * g.n + j) 0 ≡ get_or map (i * g.n + j) 0 =
     λ i j row_in slot_in. get_or_append_left map marks 0 (i * g.n + j)
@@ -119,15 +119,15 @@ HasMapped-more g first now next a b c erased erased' row marks long before gives
               (inr (same, omega (arith, is.1, long), λ held. is.2 (ap (λ k. get_or (map ++ marks) k 0) at ∙ this_mark j ∙ held)))
         ],
       );
-      taken = TakesBytes-more first now next a b c map marks before.taken gives;
+      taken = TakesBytes-more view first now next map marks a b c before.taken gives;
       took_is = omega (arith, ap (λ (k : Intake). k.took) gives.counted, before.took_is, long);
       needed_is = ap (λ (k : Intake). k.needed) gives.counted ∙ before.needed_is;
     }
 
 -- all rows
-pub HasMapped-all : (g : Geometry) (first now : Intake) (a b : Option (List ℕ)) (erased : CellSet) (row : ℕ) → row ≡ g.r
-    → HasMapped g first now a b erased row → TakesMap g first now a b erased
-HasMapped-all g first now a b erased row all has = (
+pub HasMapped-all : {S : Type 0} (view : SourceView S) (g : Geometry) (first now : Intake) (erased : CellSet) (row : ℕ) (a b : S) → row ≡ g.r
+    → HasMapped view g first now erased row a b → TakesMap view g first now erased a b
+HasMapped-all view g first now erased row a b all has = (
   has.map,
   has.long ∙ ap (λ k. k * g.n) all,
   record {

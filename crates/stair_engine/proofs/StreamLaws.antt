@@ -1,8 +1,12 @@
 -- What is taken and put, piece by piece.
-use Rattle.std.proofs.Common.{◌≡◌, ℕ, Bool, true, false, refl, ◌+◌, ◌≤◌, List, ◌++◌, length, take, drop, sym, ap, ap₂, ◌∙◌, le_refl}
-use Rattle.std.specs.Prelude.{IsTrue}
+use Rattle.std.proofs.Common.{◌≡◌, ℕ, ◌+◌, ◌≤◌, Result, Ok, Err, List, ◌++◌, length, take, drop, sym, ap, ap₂, ◌∙◌, le_refl}
 use Rattle.std.proofs.lemmas.List.{take-append-le, take-take, length-take-le}
 use Rattle.std.proofs.lemmas.Slice.{take-put_mid_below}
+use Rattle.std.specs.Prelude.{IsErr}
+use Rattle.stair_engine.specs.Means.{Holds}
+use Rattle.stair_engine.specs.Outside.{SinkView}
+use Rattle.stair_engine.specs.Story.{IsPart, PutFailed}
+use Rattle.stair_engine.specs.Streams.{PutsAll}
 use borrow.Rule.Slice.PartMut.{put_mid, post_of}
 use lib.Seq.{drop_at, take-add}
 
@@ -20,7 +24,8 @@ pub take-part_more : (put k size : ℕ) (xs : List ℕ) → k ≤ size → take 
 take-part_more put k size xs in_size =
     ap (λ b. take put xs ++ b) (take-take k size (drop put xs) in_size) ∙ sym (take-add put k xs)
 
--- a test that isn't true
-pub not_true : (b : Bool) → (IsTrue b → ⊥) → b ≡ false
-not_true true fails = absurd (fails refl)
-not_true false fails = refl
+-- a part was put where the error is handed on
+pub PutsAll-err : {K T E : Type 0} (view : SinkView K) (r : Result T E) (part bytes : List ℕ) (a b : K) → IsErr r → IsPart part bytes
+    → Holds view (PutFailed part) a b → PutsAll view r bytes a b
+PutsAll-err view (Ok x) part bytes a b is in_bytes holds = cc
+PutsAll-err view (Err y) part bytes a b is in_bytes holds = (part, in_bytes, holds)

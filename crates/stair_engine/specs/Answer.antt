@@ -47,12 +47,14 @@ codeword_line = codes "codeword" ++ 10 ∷ []
 -- the status and the output for a stripe that is checked
 abbrev pub JudgesStripe : Geometry → Stripe → Status → List ℕ → Type 0
 JudgesStripe g stripe Done output = IsCodeword g stripe × (output ≡ codeword_line)
-JudgesStripe g stripe (NotCodeword b) output = IsFirstBroken g stripe (equation_of b) × (output ≡ [])
+JudgesStripe g stripe (NotCodeword b) output = IsFirstBroken g stripe (equation_of b)
+    × (output ≡ [])
 JudgesStripe g stripe _ output = ⊥
 
 -- the status and the output for an input of the length that the command needs
 abbrev pub Judges : Command → Geometry → List ℕ → Status → List ℕ → Type 0
-Judges Check g input status output = (stripe : Stripe) × HasBytes g stripe input × JudgesStripe g stripe status output
+Judges Check g input status output = (stripe : Stripe) × HasBytes g stripe input
+    × JudgesStripe g stripe status output
 Judges (Encode method) g input status output =
     (blocks : List (List ℕ)) × HasBlocks g blocks input × JudgesBlocks g blocks status output
 Judges Restore g input status output =
@@ -60,7 +62,8 @@ Judges Restore g input status output =
     × HasBytes g stripe (drop (map_bytes g) input) × JudgesErased g erased stripe status output
 
 -- the input has the length that the command needs, and is judged
-pub record IsJudged (command : Command) (g : Geometry) (input : List ℕ) (status : Status) (output : List ℕ) : Type 0 where
+pub record IsJudged (command : Command) (g : Geometry) (input : List ℕ) (status : Status)
+    (output : List ℕ) : Type 0 where
   pub limits : IsWithinLimits g
   pub whole : length input ≡ bytes_needed command g
   pub judged : Judges command g input status output
@@ -79,7 +82,8 @@ IsAnswer command g input (Input needed took) output =
 IsAnswer command g input Done output = IsJudged command g input Done output
 IsAnswer command g input (NotCodeword b) output = IsJudged command g input (NotCodeword b) output
 IsAnswer command g input NoCodeword output = IsJudged command g input NoCodeword output
-IsAnswer command g input (Lost stripe counts n) output = IsJudged command g input (Lost stripe counts n) output
+IsAnswer command g input (Lost stripe counts n) output =
+    IsJudged command g input (Lost stripe counts n) output
 IsAnswer command g input Usage output = ⊥
 IsAnswer command g input InputFault output = ⊥
 IsAnswer command g input OutputFault output = ⊥

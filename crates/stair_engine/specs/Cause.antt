@@ -1,5 +1,6 @@
--- Why each status comes, and what stands after it, whatever came.
-use Rattle.std.specs.Prelude.{◌≡◌, ℕ, ◌+◌, ◌<◌, ◌≤◌, Bool, true, false, MatchBool, List, length, Option, ⊤}
+-- By status, of the three commands on one stripe alone: why it comes, and what stands after it. These
+-- tables are the laws' words, and no clause of a command cites them, so no other command has rows here.
+use Rattle.std.specs.Prelude.{◌≡◌, ℕ, ◌+◌, ◌<◌, ◌≤◌, Bool, true, false, MatchBool, List, length, take, Option, ⊤}
 use Rattle.std.specs.Io.KnownBytes.{Appends, Consumes, Keeps}
 use Rattle.stair_model.specs.Geometry.{Geometry, IsWithinLimits, IsFirstBrokenLimit}
 use Rattle.stair_model.specs.Stripe.{Stripe}
@@ -9,45 +10,55 @@ use Rattle.stair_engine.specs.declared.status.Status.TheVariants.{Done, NotCodew
 use Rattle.stair_engine.specs.Task.{Command}
 use Rattle.stair_engine.specs.Task.Command.{Check, Encode, Restore}
 use Rattle.stair_engine.specs.Answer.{HasBytes, IsAnswer, bytes_needed, codeword_line}
-use Rattle.stair_engine.specs.Streams.{PutsPart}
+use Rattle.stair_engine.specs.Encode.{TakesSteps}
+
+-- held bytes grow by the first of the bytes, and not by all
+abbrev pub PutsPart : Option (List ℕ) → Option (List ℕ) → List ℕ → Type 0
+PutsPart old new bytes = (count : ℕ) × (count < length bytes) × Appends old new (take count bytes)
 
 -- the status is the one for this input, and its output was put out
-abbrev pub Answers : Command → Geometry → List ℕ → Option (List ℕ) → Option (List ℕ) → Status → Type 0
-Answers command g input old new status = (output : List ℕ) × IsAnswer command g input status output × Appends old new output
+abbrev pub Answers : Command → Geometry → List ℕ → Option (List ℕ) → Option (List ℕ) → Status →
+    Type 0
+Answers command g input old new status = (output : List ℕ) × IsAnswer command g input status output
+    × Appends old new output
 
 -- Why a status comes, beside faults and want of memory: it is the one for this input, or a fault came in its place. A fault
 -- of the source comes only within the limits, and one of the sink only where the output was being put out.
-abbrev pub HasCause : Command → Geometry → List ℕ → Option (List ℕ) → Option (List ℕ) → Status → Type 0
+abbrev pub HasCause : Command → Geometry → List ℕ → Option (List ℕ) → Option (List ℕ) → Status →
+    Type 0
 HasCause command g input old new InputFault = IsWithinLimits g
-HasCause command g input old new OutputFault = (output : List ℕ) × IsAnswer command g input Done output × PutsPart old new output
+HasCause command g input old new OutputFault = (output : List ℕ)
+    × IsAnswer command g input Done output × PutsPart old new output
 HasCause command g input old new OutOfMemory = ⊤
 HasCause command g input old new Done = Answers command g input old new Done
 HasCause command g input old new (NotCodeword b) = Answers command g input old new (NotCodeword b)
 HasCause command g input old new NoCodeword = Answers command g input old new NoCodeword
 HasCause command g input old new (Limit k) = Answers command g input old new (Limit k)
-HasCause command g input old new (Input needed took) = Answers command g input old new (Input needed took)
-HasCause command g input old new (Lost stripe counts n) = Answers command g input old new (Lost stripe counts n)
+HasCause command g input old new (Input needed took) =
+    Answers command g input old new (Input needed took)
+HasCause command g input old new (Lost stripe counts n) =
+    Answers command g input old new (Lost stripe counts n)
 HasCause command g input old new Usage = ⊥
 
--- the limits are tested before the input, whatever the source tells; an equation is told by `check` alone, and erased cells
--- and held ones by `restore` alone
+-- an equation is told by `check` alone, and erased cells and held ones by `restore` alone
+abbrev pub IsToldBy : Status → Command → Type 0
+IsToldBy (NotCodeword b) Check = ⊤
+IsToldBy (NotCodeword b) (Encode method) = ⊥
+IsToldBy (NotCodeword b) Restore = ⊥
+IsToldBy NoCodeword Check = ⊥
+IsToldBy NoCodeword (Encode method) = ⊥
+IsToldBy NoCodeword Restore = ⊤
+IsToldBy (Lost stripe counts n) Check = ⊥
+IsToldBy (Lost stripe counts n) (Encode method) = ⊥
+IsToldBy (Lost stripe counts n) Restore = ⊤
+IsToldBy _ command = ⊤
+
+-- the limits are tested before the input, whatever the source tells
 abbrev pub LimitsComeFirst : Command → Geometry → Status → Type 0
 LimitsComeFirst command g (Limit k) = IsFirstBrokenLimit g k
 LimitsComeFirst command g Usage = ⊥
 LimitsComeFirst command g OutOfMemory = ⊤
-LimitsComeFirst Check g (NotCodeword b) = IsWithinLimits g
-LimitsComeFirst (Encode method) g (NotCodeword b) = ⊥
-LimitsComeFirst Restore g (NotCodeword b) = ⊥
-LimitsComeFirst Check g NoCodeword = ⊥
-LimitsComeFirst (Encode method) g NoCodeword = ⊥
-LimitsComeFirst Restore g NoCodeword = IsWithinLimits g
-LimitsComeFirst Check g (Lost stripe counts n) = ⊥
-LimitsComeFirst (Encode method) g (Lost stripe counts n) = ⊥
-LimitsComeFirst Restore g (Lost stripe counts n) = IsWithinLimits g
-LimitsComeFirst command g Done = IsWithinLimits g
-LimitsComeFirst command g (Input needed took) = IsWithinLimits g
-LimitsComeFirst command g InputFault = IsWithinLimits g
-LimitsComeFirst command g OutputFault = IsWithinLimits g
+LimitsComeFirst command g status = IsWithinLimits g × IsToldBy status command
 
 -- what holds after a refusal that comes before the input is taken
 abbrev pub IfRefusedAtOnce : Status → Type 0 → Type 0
@@ -103,6 +114,15 @@ IsOutput Restore g output = IsCodewordBytes g output
 
 -- the output is put out where all was done, a part of it where the sink failed, and nothing else ever
 abbrev pub PutsOut : Command → Geometry → Option (List ℕ) → Option (List ℕ) → Status → Type 0
-PutsOut command g old new Done = (output : List ℕ) × IsOutput command g output × Appends old new output
-PutsOut command g old new OutputFault = (output : List ℕ) × IsOutput command g output × PutsPart old new output
+PutsOut command g old new Done = (output : List ℕ) × IsOutput command g output
+    × Appends old new output
+PutsOut command g old new OutputFault = (output : List ℕ) × IsOutput command g output
+    × PutsPart old new output
 PutsOut command g old new _ = Keeps old new
+
+-- the counter rose by the steps of the method's encoder where the cells of an encoded stripe, or a part
+-- of them, were put out; nothing else is counted
+abbrev pub CountsSteps : Command → Geometry → Status → ℕ → ℕ → Type 0
+CountsSteps (Encode method) g Done old new = TakesSteps method g old new
+CountsSteps (Encode method) g OutputFault old new = TakesSteps method g old new
+CountsSteps _ g _ old new = new ≡ old

@@ -1,5 +1,5 @@
 -- What `stripe` answers for blocks, and the steps that it takes.
-use Rattle.std.specs.Prelude.{◌≡◌, ℕ, ◌+◌, ◌<◌, List, [], length, slice_index_or, All, Option, IfSome}
+use Rattle.std.specs.Prelude.{◌≡◌, ℕ, ◌+◌, ◌<◌, List, [], length, slice_index_or, All}
 use Rattle.std.specs.List.{concat}
 use Rattle.stair_model.specs.Cell.{Data, cell_at}
 use Rattle.stair_model.specs.Encoding.{IsEncodingOf}
@@ -10,9 +10,7 @@ use Rattle.stair_codec.specs.declared.choice.Encoder.{Encoder}
 use Rattle.stair_conf.specs.declared.job.Method.{Method}
 use Rattle.stair_engine.specs.Task.{by_of}
 use Rattle.stair_engine.specs.declared.status.Status.{Status}
-use Rattle.stair_engine.specs.declared.status.Status.TheVariants.{Done, OutputFault}
-use Rattle.stair_engine.specs.Task.{Command}
-use Rattle.stair_engine.specs.Task.Command.{Encode}
+use Rattle.stair_engine.specs.declared.status.Status.TheVariants.{Done}
 
 -- the blocks of a stripe, which have these bytes one after the other
 pub record HasBlocks (g : Geometry) (blocks : List (List ℕ)) (bytes : List ℕ) : Type 0 where
@@ -22,18 +20,15 @@ pub record HasBlocks (g : Geometry) (blocks : List (List ℕ)) (bytes : List ℕ
 
 -- the status and the output for these blocks
 abbrev pub JudgesBlocks : Geometry → List (List ℕ) → Status → List ℕ → Type 0
-JudgesBlocks g blocks Done output = (stripe : Stripe) × IsEncodingOf g blocks stripe × (output ≡ concat stripe.cells)
+JudgesBlocks g blocks Done output = (stripe : Stripe) × IsEncodingOf g blocks stripe
+    × (output ≡ concat stripe.cells)
 JudgesBlocks g blocks _ output = ⊥
 
 -- the first `count` data cells of the stripe hold their blocks
 abbrev pub HoldsBlocks : Geometry → ℕ → List (List ℕ) → Stripe → Type 0
 HoldsBlocks g count blocks stripe =
-    (i j d : ℕ) → i < g.r → j < g.n → d < count → cell_at g i j ≡ Data d → cell stripe i j ≡ slice_index_or blocks d []
-
--- all that the source told are the blocks that the stripe holds
-abbrev pub TookBlocks : Geometry → Option (List ℕ) → Stripe → Type 0
-TookBlocks g told stripe =
-    IfSome told (λ input. (blocks : List (List ℕ)) × HasBlocks g blocks input × HoldsBlocks g (data_cells g) blocks stripe)
+    (i j d : ℕ) → i < g.r → j < g.n → d < count → cell_at g i j ≡ Data d →
+    cell stripe i j ≡ slice_index_or blocks d []
 
 -- the encoder that the method asks for takes so many steps
 pub record IsCostOfMethod (method : Method) (g : Geometry) (cost : ℕ) : Type 0 where
@@ -44,9 +39,3 @@ pub record IsCostOfMethod (method : Method) (g : Geometry) (cost : ℕ) : Type 0
 -- the counter rose by the steps of the encoder that the method asks for
 abbrev pub TakesSteps : Method → Geometry → ℕ → ℕ → Type 0
 TakesSteps method g old new = (cost : ℕ) × IsCostOfMethod method g cost × (new ≡ old + cost)
-
--- a stripe was encoded where its cells, or a part of them, were put out; nothing else is counted
-abbrev pub CountsSteps : Command → Geometry → Status → ℕ → ℕ → Type 0
-CountsSteps (Encode method) g Done old new = TakesSteps method g old new
-CountsSteps (Encode method) g OutputFault old new = TakesSteps method g old new
-CountsSteps _ g _ old new = new ≡ old

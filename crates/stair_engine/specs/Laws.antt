@@ -1,8 +1,19 @@
--- The inputs of `restore`, as a map and cells.
-use Rattle.std.specs.Prelude.{◌≡◌, ℕ, ◌+◌, ◌*◌, ◌<◌, List, length, drop, take, slice_index, All}
+-- What the laws say of the three commands on one stripe.
+use Rattle.std.specs.Prelude.{◌≡◌, ◌≢◌, ℕ, ◌+◌, ◌*◌, ◌<◌, ◌↔◌, List, length, drop, take, slice_index, All, IfSome}
 use Rattle.stair_model.specs.Geometry.{Geometry}
 use Rattle.stair_model.specs.Stripe.{SECTOR}
+use Rattle.stair_rack.specs.Count.{Rose}
+use Rattle.stair_conf.specs.Words.{IsSpelled, Spells}
+use Rattle.stair_conf.specs.declared.job.Job.{Job}
+use Rattle.stair_engine.specs.declared.status.Status.{Status}
+use Rattle.stair_engine.specs.declared.status.Status.TheVariants.{Usage, OutOfMemory}
 use Rattle.stair_engine.specs.Answer.{map_bytes}
+use Rattle.stair_engine.specs.Cause.{Answers}
+use Rattle.stair_engine.specs.Does.{Does, Leaves}
+use Rattle.stair_engine.specs.Means.{Means}
+use Rattle.stair_engine.specs.Outside.{Outside, Views}
+use Rattle.stair_engine.specs.Plan.{Over, plan_of}
+use Rattle.stair_engine.specs.Task.{command_of, one_stripe}
 
 -- the bytes of cell (i, j) behind the map
 abbrev pub cell_of_input : Geometry → List ℕ → ℕ → ℕ → List ℕ
@@ -12,7 +23,41 @@ cell_of_input g input i j = take SECTOR (drop ((i * g.n + j) * SECTOR) (drop (ma
 pub record DifferAtErased (g : Geometry) (a b : List ℕ) : Type 0 where
   pub same_length : length a ≡ length b
   pub same_map : take (map_bytes g) a ≡ take (map_bytes g) b
-  pub same_held : (i j : ℕ) → i < g.r → j < g.n → slice_index (take (map_bytes g) a) (i * g.n + j) ≡ 46
+  pub same_held : (i j : ℕ) → i < g.r → j < g.n →
+      slice_index (take (map_bytes g) a) (i * g.n + j) ≡ 46
       → cell_of_input g a i j ≡ cell_of_input g b i j
   pub a_bytes : All (λ x. x < 256) a
   pub b_bytes : All (λ x. x < 256) b
+
+-- The laws of plans: from a call that means what its words say.
+
+-- it does the job that the words spell
+abbrev pub WordsAreDone : {S K : Type 0} → Views S K → Type 0
+WordsAreDone {S} {K} view =
+    (words : List (List ℕ)) (job : Job) (status : Status) (old new : Outside S K) →
+    Spells words job → Means view (plan_of words) (Over status) old new →
+    Does view (command_of job) (one_stripe job) status old new
+
+-- the words spell no job exactly where the answer is Usage, if there was memory
+abbrev pub UsageIsExact : {S K : Type 0} → Views S K → Type 0
+UsageIsExact {S} {K} view =
+    (words : List (List ℕ)) (status : Status) (old new : Outside S K) →
+    Means view (plan_of words) (Over status) old new → status ≢ OutOfMemory →
+    ((status ≡ Usage) ↔ (IsSpelled words → ⊥)) × (status ≢ Usage → IsSpelled words)
+
+-- of a source that tells its bytes, without faults and want of memory, status and output are those
+-- for these bytes
+abbrev pub BytesAreAnswered : {S K : Type 0} → Views S K → Type 0
+BytesAreAnswered {S} {K} view =
+    (words : List (List ℕ)) (job : Job) (status : Status) (old new : Outside S K) →
+    Spells words job → Means view (plan_of words) (Over status) old new →
+    (Rose (view.source.faults old.source) (view.source.faults new.source) → ⊥) →
+    (Rose (view.sink.faults old.sink) (view.sink.faults new.sink) → ⊥) → status ≢ OutOfMemory →
+    IfSome (view.source.left old.source) (λ bytes. Answers (command_of job) (one_stripe job) bytes
+    (view.sink.held old.sink) (view.sink.held new.sink) status)
+
+-- whatever the words are
+abbrev pub AllIsKept : {S K : Type 0} → Views S K → Type 0
+AllIsKept {S} {K} view =
+    (words : List (List ℕ)) (status : Status) (old new : Outside S K) →
+    Means view (plan_of words) (Over status) old new → Leaves view status old new

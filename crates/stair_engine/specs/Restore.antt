@@ -13,7 +13,8 @@ use Rattle.stair_engine.specs.declared.status.Status.TheVariants.{Done, NoCodewo
 -- the erased cells are those whose byte of the map, row by row, is not `.`
 pub record IsErasedBy (g : Geometry) (map : List ℕ) (erased : CellSet) : Type 0 where
   pub within : IsInStripe g erased
-  pub marked : (i j : ℕ) → i < g.r → j < g.n → HasCell erased i j ↔ (slice_index map (i * g.n + j) ≢ 46)
+  pub marked : (i j : ℕ) → i < g.r → j < g.n →
+      HasCell erased i j ↔ (slice_index map (i * g.n + j) ≢ 46)
 
 -- a codeword of the geometry that has the stripe's cells, but for the erased ones
 pub record HoldsCells (g : Geometry) (erased : CellSet) (stripe codeword : Stripe) : Type 0 where
@@ -33,7 +34,9 @@ abbrev pub JudgesErased : Geometry → CellSet → Stripe → Status → List �
 JudgesErased g erased stripe (Lost number counts n) output =
     (¬ IsCovered g erased) × (number ≡ 0) × CountsErased g erased counts × (n ≡ g.n) × (output ≡ [])
 JudgesErased g erased stripe NoCodeword output =
-    IsCovered g erased × ((codeword : Stripe) → ¬ HoldsCells g erased stripe codeword) × (output ≡ [])
+    IsCovered g erased × ((codeword : Stripe) → ¬ HoldsCells g erased stripe codeword)
+    × (output ≡ [])
 JudgesErased g erased stripe Done output =
-    IsCovered g erased × ((codeword : Stripe) × HoldsCells g erased stripe codeword × (output ≡ concat codeword.cells))
+    IsCovered g erased × ((codeword : Stripe) × HoldsCells g erased stripe codeword
+    × (output ≡ concat codeword.cells))
 JudgesErased g erased stripe _ output = ⊥

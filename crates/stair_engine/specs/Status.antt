@@ -19,8 +19,10 @@ code_of (Lost stripe counts n) = 10
 code_of OutOfMemory = 17
 
 abbrev pub equation_line : Broken → List ℕ
-equation_line (Row i k p) = codes "row " ++ decimal i ++ codes " parity " ++ decimal k ++ codes " byte " ++ decimal p
-equation_line (Global l h p) = codes "global " ++ decimal l ++ codes " " ++ decimal h ++ codes " byte " ++ decimal p
+equation_line (Row i k p) = codes "row " ++ decimal i ++ codes " parity " ++ decimal k
+    ++ codes " byte " ++ decimal p
+equation_line (Global l h p) = codes "global " ++ decimal l ++ codes " " ++ decimal h
+    ++ codes " byte " ++ decimal p
 
 -- a blank and a number, for each of the first n
 abbrev pub counts_text : List ℕ → ℕ → List ℕ
@@ -33,8 +35,10 @@ line_of (NotCodeword broken) = codes "not a codeword: " ++ equation_line broken
 line_of NoCodeword = codes "no codeword holds these cells"
 line_of Usage = codes "usage: stair FOLDER check|stripe|restore"
 line_of (Limit k) = codes "geometry: limit " ++ decimal k
-line_of (Input needed took) = codes "input: needed " ++ decimal needed ++ codes ", took " ++ decimal took
+line_of (Input needed took) = codes "input: needed " ++ decimal needed ++ codes ", took "
+    ++ decimal took
 line_of InputFault = codes "input failed"
 line_of OutputFault = codes "output failed"
-line_of (Lost stripe counts n) = codes "lost: stripe " ++ decimal stripe ++ codes " counts" ++ counts_text counts n
+line_of (Lost stripe counts n) = codes "lost: stripe " ++ decimal stripe ++ codes " counts"
+    ++ counts_text counts n
 line_of OutOfMemory = codes "out of memory"

@@ -1,67 +1,105 @@
 -- What is taken from a source on the way to an answer.
-use Rattle.std.specs.Prelude.{◌≡◌, ℕ, ◌+◌, ◌<◌, ◌≤◌, Bool, MatchBool, List, All, drop, length, take, Option, IfSome}
+use Rattle.std.specs.Prelude.{◌≡◌, ℕ, ◌+◌, ◌<◌, ◌≤◌, false, List, [], ◌∷◌, All, drop, length, take, Result, Ok, Err, IfOk, ⊤}
 use Rattle.std.specs.List.{concat}
 use Rattle.std.specs.Io.KnownBytes.{Consumes}
-use Rattle.stair_model.specs.CellSet.{CellSet, IsInStripe}
+use Rattle.stair_model.specs.CellSet.{CellSet}
 use Rattle.stair_model.specs.Geometry.{Geometry, data_cells}
 use Rattle.stair_model.specs.Stripe.{Stripe, IsSector}
 use Rattle.stair_engine.specs.declared.fault.Fault.{Fault}
 use Rattle.stair_engine.specs.declared.fault.Fault.TheVariants as fault
 use Rattle.stair_engine.specs.declared.intake.Intake.{Intake}
-use Rattle.stair_engine.specs.declared.status.Status.{Status}
-use Rattle.stair_engine.specs.declared.status.Status.TheVariants.{Input, InputFault, OutputFault, OutOfMemory}
-use Rattle.stair_engine.specs.Task.Command.{Restore}
-use Rattle.stair_engine.specs.Answer.{HasBytes, bytes_needed, map_bytes}
-use Rattle.stair_engine.specs.Encode.{HoldsBlocks}
+use Rattle.stair_engine.specs.Answer.{HasBytes, map_bytes}
+use Rattle.stair_engine.specs.Encode.{HasBlocks, HoldsBlocks}
+use Rattle.stair_engine.specs.Fault.{status_of_fault}
+use Rattle.stair_engine.specs.Means.{Gives}
+use Rattle.stair_engine.specs.Outside.{SourceView}
+use Rattle.stair_engine.specs.Plan.{Plan, Over, whole_input}
 use Rattle.stair_engine.specs.Restore.{IsErasedBy}
-
--- the status after a fault
-abbrev pub status_of_fault : Fault → Status
-status_of_fault fault.Memory = OutOfMemory
-status_of_fault (fault.Length needed took) = Input needed took
-status_of_fault fault.Input = InputFault
-status_of_fault fault.Output = OutputFault
+use Rattle.stair_engine.specs.Story.{Deed, Took, TookLast, TakeFailed, Leads, Moves}
 
 -- the intake before anything was taken
 abbrev pub intake_of : ℕ → Intake
 intake_of needed = record { needed = needed; took = 0 }
 
+-- These bytes were taken so far, in any number of pieces, and the source has not ended. Where none were
+-- it isn't known whether it had ended before.
+pub record TookSoFar {S : Type 0} (view : SourceView S) (bytes : List ℕ) (old new : S)
+    : Type 0 where
+  pub consumed : Consumes (view.left old) (view.left new) bytes
+  pub count : view.faults old ≤ view.faults new
+  pub running : 0 < length bytes → (view.ended old ≡ false) × (view.ended new ≡ false)
+  pub fresh : length bytes ≡ 0 → view.ended new ≡ view.ended old
+
 -- exactly these bytes were taken, and counted
-pub record TakesBytes (old new : Intake) (left left' : Option (List ℕ)) (bytes : List ℕ) : Type 0 where
-  pub consumed : Consumes left left' bytes
-  pub counted : new ≡ record old { took = old.took + length bytes }
+pub record TakesBytes {S : Type 0} (view : SourceView S) (first now : Intake) (bytes : List ℕ)
+    (old new : S) : Type 0 where
+  pub taken : TookSoFar view bytes old new
+  pub counted : now ≡ record first { took = first.took + length bytes }
 
 -- a map was taken, and these cells are erased by it
-abbrev pub TakesMap : Geometry → Intake → Intake → Option (List ℕ) → Option (List ℕ) → CellSet → Type 0
-TakesMap g old new left left' erased =
-    (map : List ℕ) × (length map ≡ map_bytes g) × IsErasedBy g map erased × TakesBytes old new left left' map
+abbrev pub TakesMap : {S : Type 0} → SourceView S → Geometry → Intake → Intake → CellSet → S → S →
+    Type 0
+TakesMap view g first now erased old new =
+    (map : List ℕ) × (length map ≡ map_bytes g) × IsErasedBy g map erased
+    × TakesBytes view first now map old new
 
 -- blocks of sectors were taken, and the first `count` data cells of the stripe hold them
-pub record TakesBlocksTo (g : Geometry) (count : ℕ) (old new : Intake) (left left' : Option (List ℕ)) (stripe : Stripe) : Type 0 where
+pub record TakesBlocksTo {S : Type 0} (view : SourceView S) (g : Geometry) (count : ℕ)
+    (first now : Intake) (stripe : Stripe) (old new : S) : Type 0 where
   pub blocks : List (List ℕ)
   pub as_many : length blocks ≡ count
   pub sectors : All IsSector blocks
   pub held : HoldsBlocks g count blocks stripe
-  pub taken : TakesBytes old new left left' (concat blocks)
+  pub taken : TakesBytes view first now (concat blocks) old new
 
--- all blocks of a stripe were taken
-abbrev pub TakesBlocks : Geometry → Intake → Intake → Option (List ℕ) → Option (List ℕ) → Stripe → Type 0
-TakesBlocks g old new left left' stripe = TakesBlocksTo g (data_cells g) old new left left' stripe
+-- Why not all bytes of a piece came, of which the intake had counted some before: the source ended
+-- within it, or failed.
+abbrev pub CutsShort : {S : Type 0} → SourceView S → Intake → S → S → Fault → Type 0
+CutsShort view intake old new (fault.Length needed took) =
+    (needed ≡ intake.needed) × ((taken : List ℕ) × (took ≡ intake.took + length taken)
+    × (took < needed) × Gives view (TookLast taken) old new)
+CutsShort view intake old new fault.Input =
+    (taken : List ℕ) × (intake.took + length taken < intake.needed)
+    × Gives view (TakeFailed taken) old new
+CutsShort view intake old new _ = ⊥
 
--- Why not exactly the bytes that are needed came, of which the intake had counted some before: the source ended before all
--- had come, or had one more behind them, or failed.
-abbrev pub RefusesInput : Intake → Option (List ℕ) → Option (List ℕ) → Bool → Type 0 → Fault → Type 0
-RefusesInput intake left left' ended rose (fault.Length needed took) =
-    (needed ≡ intake.needed)
-    × ((taken : List ℕ) × (took ≡ intake.took + length taken) × Consumes left left' taken
-    × MatchBool ended ((took < needed) × IfSome left (λ all. taken ≡ all)) (took ≡ needed + 1))
-RefusesInput intake left left' ended rose fault.Input =
-    rose × ((taken : List ℕ) × (intake.took + length taken ≤ intake.needed) × Consumes left left' taken)
-RefusesInput intake left left' ended rose _ = ⊥
+-- Why the end was not found behind the bytes that are needed: one more came, or the source failed.
+abbrev pub GoesOn : {S : Type 0} → SourceView S → ℕ → S → S → Fault → Type 0
+GoesOn view bytes old new (fault.Length needed took) = (needed ≡ bytes) × (took ≡ bytes + 1)
+    × ((more : List ℕ) × (length more ≡ 1) × Gives view (Took more) old new)
+GoesOn view bytes old new fault.Input = Gives view (TakeFailed []) old new
+GoesOn view bytes old new _ = ⊥
 
--- the erased cells, which are cells of the stripe, and the cells of the stripe are all that the source told
-pub record TookErased (g : Geometry) (told : Option (List ℕ)) (erased : CellSet) (stripe : Stripe) : Type 0 where
-  pub within : IsInStripe g erased
-  pub whole : IfSome told (λ input. length input ≡ bytes_needed Restore g)
-  pub by_map : IfSome told (λ input. IsErasedBy g (take (map_bytes g) input) erased)
-  pub by_cells : IfSome told (λ input. HasBytes g stripe (drop (map_bytes g) input))
+-- the deeds take from a source, and nothing else
+abbrev pub TakesOnly : List Deed → Type 0
+TakesOnly [] = ⊤
+TakesOnly (Took bytes ∷ story) = TakesOnly story
+TakesOnly (TookLast bytes ∷ story) = TakesOnly story
+TakesOnly (TakeFailed bytes ∷ story) = TakesOnly story
+TakesOnly (_ ∷ story) = ⊥
+
+-- how a plan goes on after its input
+abbrev pub after_input : {T : Type 0} → Result T Fault → List ℕ → (List ℕ → Plan) → Plan
+after_input (Ok x) bytes k = k bytes
+after_input (Err fault) bytes k = Over (status_of_fault fault)
+
+-- All of the input was taken, these bytes, and the end was seen behind them; or it was refused.
+pub record TakesWhole {S T : Type 0} (view : SourceView S) (needed : ℕ) (result : Result T Fault)
+    (IsInput : T → List ℕ → Type 0) (old new : S) : Type 0 where
+  pub bytes : List ℕ
+  pub is_input : IfOk result (λ x. IsInput x bytes)
+  pub story : List Deed
+  pub takes_only : TakesOnly story
+  pub follows : (k : List ℕ → Plan) →
+      Leads Moves story (whole_input needed k) (after_input result bytes k)
+  pub gives : Leads (Gives view) story old new
+
+-- the input is the blocks that the stripe holds
+abbrev pub HoldsInput : Geometry → Stripe → List ℕ → Type 0
+HoldsInput g stripe input =
+    (blocks : List (List ℕ)) × HasBlocks g blocks input × HoldsBlocks g (data_cells g) blocks stripe
+
+-- the input is a map, by which these cells are erased, and then the cells of the stripe
+abbrev pub IsMapAndCells : Geometry → Stripe → CellSet → List ℕ → Type 0
+IsMapAndCells g stripe erased input = IsErasedBy g (take (map_bytes g) input) erased
+    × HasBytes g stripe (drop (map_bytes g) input)

@@ -1,9 +1,9 @@
-ghost use Rattle.std.specs.Prelude.{◌≡◌, ◌+◌, ◌<◌, ◌≤◌, OnOk, IfErr, false};
-ghost use Rattle.stair_model.specs.Geometry.{IsWithinLimits};
+ghost use Rattle.std.specs.Prelude.{◌≡◌, ◌+◌, ◌≤◌, OnOk, IfErr};
+ghost use Rattle.stair_model.specs.Geometry.{IsWithinLimits, data_cells};
 ghost use Rattle.stair_model.specs.Stripe.{IsStripeOf, IsWellFormed};
 ghost use Rattle.stair_engine.specs.Answer.{block_bytes as block_bytes_of};
-ghost use Rattle.stair_engine.specs.Taking.{RefusesInput, TakesBlocks};
-ghost use Rattle.stair_rack.specs.Count.{Rose};
+ghost use Rattle.stair_engine.specs.Outside.{source_view};
+ghost use Rattle.stair_engine.specs.Taking.{CutsShort, TakesBlocksTo};
 
 use crate::fault::Fault;
 use crate::intake::Intake;
@@ -28,13 +28,12 @@ pub(crate) fn take_blocks<S: Source>(
     requires of { IsStripeOf geometry.now stripe.old }
     requires well_formed { IsWellFormed stripe.old }
     requires room { intake.old.took + block_bytes_of geometry.now ≤ intake.old.needed }
-    ensures ok { OnOk result (TakesBlocks geometry.now intake.old intake.new (S.left input.old) (S.left input.new) stripe.new) }
-    ensures running { OnOk result ((S.ended input.old ≡ false) × (S.ended input.new ≡ false)) }
-    ensures err { IfErr result (RefusesInput intake.old (S.left input.old) (S.left input.new) (S.ended input.new)
-        (Rose (S.faults input.old) (S.faults input.new))) }
+    ensures ok { OnOk result (TakesBlocksTo (source_view S.left S.ended S.faults) geometry.now
+        (data_cells geometry.now) intake.old intake.new stripe.new input.old input.new) }
+    ensures cut { IfErr result (CutsShort (source_view S.left S.ended S.faults)
+        intake.old input.old input.new) }
     ensures of { IsStripeOf geometry.now stripe.new }
     ensures well_formed { IsWellFormed stripe.new }
-    ensures count { S.faults input.old ≤ S.faults input.new }
 {
     let mut sector = [0; SECTOR];
     for number in 0..geometry.u() {

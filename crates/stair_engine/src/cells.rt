@@ -1,11 +1,11 @@
-ghost use Rattle.std.specs.Prelude.{◌≡◌, ◌+◌, ◌≤◌, OnOk, IfErr, false};
+ghost use Rattle.std.specs.Prelude.{◌≡◌, ◌+◌, ◌≤◌, OnOk, IfErr};
 ghost use Rattle.std.specs.List.{concat};
 ghost use Rattle.stair_model.specs.Geometry.{IsWithinLimits};
 ghost use Rattle.stair_model.specs.Stripe.{IsStripeOf, IsWellFormed};
 ghost use Rattle.stair_engine.specs.Answer.{cell_bytes as cell_bytes_of};
+ghost use Rattle.stair_engine.specs.Outside.{sink_view, source_view};
 ghost use Rattle.stair_engine.specs.Streams.{PutsAll};
-ghost use Rattle.stair_engine.specs.Taking.{RefusesInput, TakesBytes};
-ghost use Rattle.stair_rack.specs.Count.{Rose};
+ghost use Rattle.stair_engine.specs.Taking.{CutsShort, TakesBytes};
 
 use crate::fault::Fault;
 use crate::intake::Intake;
@@ -31,13 +31,12 @@ pub(crate) fn take_stripe<S: Source>(
     requires of { IsStripeOf geometry.now stripe.old }
     requires well_formed { IsWellFormed stripe.old }
     requires room { intake.old.took + cell_bytes_of geometry.now ≤ intake.old.needed }
-    ensures ok { OnOk result (TakesBytes intake.old intake.new (S.left input.old) (S.left input.new) (concat stripe.new.cells)) }
-    ensures running { OnOk result ((S.ended input.old ≡ false) × (S.ended input.new ≡ false)) }
-    ensures err { IfErr result (RefusesInput intake.old (S.left input.old) (S.left input.new) (S.ended input.new)
-        (Rose (S.faults input.old) (S.faults input.new))) }
+    ensures ok { OnOk result (TakesBytes (source_view S.left S.ended S.faults)
+        intake.old intake.new (concat stripe.new.cells) input.old input.new) }
+    ensures cut { IfErr result (CutsShort (source_view S.left S.ended S.faults)
+        intake.old input.old input.new) }
     ensures of { IsStripeOf geometry.now stripe.new }
     ensures well_formed { IsWellFormed stripe.new }
-    ensures count { S.faults input.old ≤ S.faults input.new }
 {
     let mut sector = [0; SECTOR];
     for row in 0..geometry.r() {
@@ -57,9 +56,9 @@ pub(crate) fn put_stripe<K: Sink>(
 ) -> Result<(), Fault>
     requires of { IsStripeOf geometry.now stripe.now }
     requires well_formed { IsWellFormed stripe.now }
-    ensures bytes { PutsAll (K.held output.old) (K.held output.new) result (concat stripe.now.cells) }
-    ensures count { K.faults output.old ≤ K.faults output.new }
-    ensures failed { IfErr result (λ fault. (fault ≡ Fault.Output) × Rose (K.faults output.old) (K.faults output.new)) }
+    ensures puts { PutsAll (sink_view K.held K.faults) result (concat stripe.now.cells)
+        output.old output.new }
+    ensures failed { IfErr result (λ fault. fault ≡ Fault.Output) }
 {
     for row in 0..geometry.r() {
         for slot in 0..geometry.n() {

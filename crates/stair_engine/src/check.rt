@@ -1,12 +1,13 @@
-ghost use Rattle.std.specs.Prelude.{◌≡◌, ◌≤◌, IfErr, OnOk, IfSome, true, false};
+ghost use Rattle.std.specs.Prelude.{ℕ};
 ghost use Rattle.stair_model.specs.Geometry.{IsWithinLimits};
 ghost use Rattle.stair_model.specs.Stripe.{IsStripeOf, IsWellFormed};
 ghost use Rattle.stair_engine.specs.Answer.{HasBytes, bytes_needed};
-ghost use Rattle.stair_engine.specs.Cause.{TakesCount};
-ghost use Rattle.stair_engine.specs.Does.{Does, status_of};
+ghost use Rattle.stair_engine.specs.Fault.{status_of};
+ghost use Rattle.stair_engine.specs.Means.{Means};
+ghost use Rattle.stair_engine.specs.Outside.{outside, source_view, views};
+ghost use Rattle.stair_engine.specs.Plan.{Over, stripe_plan};
+ghost use Rattle.stair_engine.specs.Taking.{TakesWhole};
 ghost use Rattle.stair_engine.specs.Task.Command.{Check};
-ghost use Rattle.stair_engine.specs.Taking.{RefusesInput, intake_of};
-ghost use Rattle.stair_rack.specs.Count.{Rose};
 
 use crate::cells::{cell_bytes, take_stripe};
 use crate::fault::Fault;
@@ -24,8 +25,9 @@ pub(crate) fn check<S: Source, K: Sink>(
     input: &mut S,
     output: &mut K,
 ) -> Result<Status, Fault>
-    ensures { Does S.left S.ended S.faults K.held K.faults Check geometry.now
-        input.old input.new output.old output.new (status_of result) }
+    ensures { (counter : ℕ) → Means (views S.left S.ended S.faults K.held K.faults)
+        (stripe_plan Check geometry.now) (Over (status_of result))
+        (outside input.old output.old counter) (outside input.new output.new counter) }
 {
     let mut stripe = Stripe::new(alloc, geometry)?;
     take_input(geometry, &mut stripe, input)?;
@@ -45,15 +47,11 @@ fn take_input<S: Source>(
     requires of { IsStripeOf geometry.now stripe.old }
     requires well_formed { IsWellFormed stripe.old }
     ensures limits { IsWithinLimits geometry.now }
-    ensures ok { OnOk result (IfSome (S.left input.old) (HasBytes geometry.now stripe.new)) }
-    ensures taken { OnOk result
-        (TakesCount (S.left input.old) (S.left input.new) (bytes_needed Check geometry.now)) }
-    ensures ended { OnOk result ((S.ended input.old ≡ false) × (S.ended input.new ≡ true)) }
-    ensures err { IfErr result (RefusesInput (intake_of (bytes_needed Check geometry.now))
-        (S.left input.old) (S.left input.new) (S.ended input.new) (Rose (S.faults input.old) (S.faults input.new))) }
+    ensures takes { TakesWhole (source_view S.left S.ended S.faults)
+        (bytes_needed Check geometry.now) result (λ done. HasBytes geometry.now stripe.new)
+        input.old input.new }
     ensures of { IsStripeOf geometry.now stripe.new }
     ensures well_formed { IsWellFormed stripe.new }
-    ensures count { S.faults input.old ≤ S.faults input.new }
 {
     let mut intake = Intake::new(cell_bytes(geometry));
     take_stripe(geometry, stripe, &mut intake, input)?;

@@ -1,13 +1,13 @@
-ghost use Rattle.std.specs.Prelude.{◌≡◌, ◌≤◌, IfErr, OnOk, true, false};
 ghost use Rattle.stair_model.specs.Geometry.{IsWithinLimits};
 ghost use Rattle.stair_model.specs.Stripe.{IsStripeOf, IsWellFormed};
 ghost use Rattle.stair_engine.specs.Answer.{block_bytes as block_bytes_of};
-ghost use Rattle.stair_engine.specs.Cause.{TakesCount};
-ghost use Rattle.stair_engine.specs.Does.{Does, status_of};
-ghost use Rattle.stair_engine.specs.Encode.{CountsSteps, IsCostOfMethod, TookBlocks};
+ghost use Rattle.stair_engine.specs.Encode.{IsCostOfMethod};
+ghost use Rattle.stair_engine.specs.Fault.{status_of};
+ghost use Rattle.stair_engine.specs.Means.{Means};
+ghost use Rattle.stair_engine.specs.Outside.{outside, source_view, views};
+ghost use Rattle.stair_engine.specs.Plan.{Over, input_plan, stripe_plan};
+ghost use Rattle.stair_engine.specs.Taking.{HoldsInput, TakesWhole};
 ghost use Rattle.stair_engine.specs.Task.Command.{Encode};
-ghost use Rattle.stair_engine.specs.Taking.{RefusesInput, intake_of};
-ghost use Rattle.stair_rack.specs.Count.{Rose};
 
 use crate::blocks::{block_bytes, take_blocks};
 use crate::cells::put_stripe;
@@ -32,9 +32,9 @@ pub(crate) fn encode<S: Source, K: Sink, L: Ledger>(
     output: &mut K,
     steps: &mut Steps<L>,
 ) -> Result<Status, Fault>
-    ensures does { Does S.left S.ended S.faults K.held K.faults (Encode method) geometry.now
-        input.old input.new output.old output.new (status_of result) }
-    ensures steps { CountsSteps (Encode method) geometry.now (status_of result) steps.old steps.new }
+    ensures { Means (views S.left S.ended S.faults K.held K.faults)
+        (stripe_plan (Encode method) geometry.now) (Over (status_of result))
+        (outside input.old output.old steps.old) (outside input.new output.new steps.new) }
 {
     let mut stripe = Stripe::new(alloc, geometry)?;
     let mut codec = Codec::new(alloc, geometry, by_of(method))?;
@@ -53,9 +53,9 @@ fn encode_by<C: StripeCode, S: Source, K: Sink, L: Ledger>(
     requires cost { IsCostOfMethod method (C.shape code.old) (C.cost code.old) }
     requires of { IsStripeOf (C.shape code.old) stripe.old }
     requires well_formed { IsWellFormed stripe.old }
-    ensures does { Does S.left S.ended S.faults K.held K.faults (Encode method) (C.shape code.old)
-        input.old input.new output.old output.new (status_of result) }
-    ensures steps { CountsSteps (Encode method) (C.shape code.old) (status_of result) steps.old steps.new }
+    ensures { Means (views S.left S.ended S.faults K.held K.faults)
+        (input_plan (Encode method) (C.shape code.old)) (Over (status_of result))
+        (outside input.old output.old steps.old) (outside input.new output.new steps.new) }
 {
     let geometry = code.geometry();
     take_input(&geometry, stripe, input)?;
@@ -73,15 +73,10 @@ fn take_input<S: Source>(
     requires of { IsStripeOf geometry.now stripe.old }
     requires well_formed { IsWellFormed stripe.old }
     ensures limits { IsWithinLimits geometry.now }
-    ensures ok { OnOk result (TookBlocks geometry.now (S.left input.old) stripe.new) }
-    ensures taken { OnOk result
-        (TakesCount (S.left input.old) (S.left input.new) (block_bytes_of geometry.now)) }
-    ensures ended { OnOk result ((S.ended input.old ≡ false) × (S.ended input.new ≡ true)) }
-    ensures err { IfErr result (RefusesInput (intake_of (block_bytes_of geometry.now))
-        (S.left input.old) (S.left input.new) (S.ended input.new) (Rose (S.faults input.old) (S.faults input.new))) }
+    ensures takes { TakesWhole (source_view S.left S.ended S.faults) (block_bytes_of geometry.now)
+        result (λ done. HoldsInput geometry.now stripe.new) input.old input.new }
     ensures of { IsStripeOf geometry.now stripe.new }
     ensures well_formed { IsWellFormed stripe.new }
-    ensures count { S.faults input.old ≤ S.faults input.new }
 {
     let mut intake = Intake::new(block_bytes(geometry));
     take_blocks(geometry, stripe, &mut intake, input)?;

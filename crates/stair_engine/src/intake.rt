@@ -1,7 +1,8 @@
-ghost use Rattle.std.specs.Prelude.{◌≡◌, ◌+◌, ◌^◌, ◌<◌, ◌≤◌, length, OnOk, IfErr, true, false};
-ghost use Rattle.std.specs.Io.KnownBytes.{IsAtEnd, Keeps};
-ghost use Rattle.stair_engine.specs.Taking.{RefusesInput, TakesBytes, intake_of};
-ghost use Rattle.stair_rack.specs.Count.{Rose};
+ghost use Rattle.std.specs.Prelude.{◌≡◌, ◌+◌, ◌^◌, ◌<◌, ◌≤◌, [], length, OnOk, IfErr};
+ghost use Rattle.stair_engine.specs.Means.{Gives};
+ghost use Rattle.stair_engine.specs.Outside.{source_view};
+ghost use Rattle.stair_engine.specs.Story.{TookLast};
+ghost use Rattle.stair_engine.specs.Taking.{CutsShort, GoesOn, TakesBytes, intake_of};
 
 use crate::fault::Fault;
 use crate::streams::{Filled, fill};
@@ -26,11 +27,10 @@ impl Intake {
     pub(crate) fn fill<S: Source>(&mut self, input: &mut S, into: &mut [u8]) -> Result<(), Fault>
         requires piece { 0 < length into.old }
         requires room { self.old.took + length into.old ≤ self.old.needed }
-        ensures ok { OnOk result (TakesBytes self.old self.new (S.left input.old) (S.left input.new) into.new) }
-        ensures running { OnOk result ((S.ended input.old ≡ false) × (S.ended input.new ≡ false)) }
-        ensures err { IfErr result (RefusesInput self.old (S.left input.old) (S.left input.new) (S.ended input.new)
-            (Rose (S.faults input.old) (S.faults input.new))) }
-        ensures count { S.faults input.old ≤ S.faults input.new }
+        ensures ok { OnOk result (TakesBytes (source_view S.left S.ended S.faults)
+            self.old self.new into.new input.old input.new) }
+        ensures cut { IfErr result (CutsShort (source_view S.left S.ended S.faults)
+            self.old input.old input.new) }
     {
         match fill(input, into) {
             Filled::Whole => {
@@ -49,11 +49,10 @@ impl Intake {
     pub(crate) fn end<S: Source>(&self, input: &mut S) -> Result<(), Fault>
         requires all { self.now.took ≡ self.now.needed }
         requires fits { self.now.needed < 2 ^ 63 }
-        ensures ok { OnOk result (IsAtEnd (S.left input.old) × Keeps (S.left input.old) (S.left input.new)) }
-        ensures ended { OnOk result (S.ended input.new ≡ true) }
-        ensures err { IfErr result (RefusesInput self.now (S.left input.old) (S.left input.new) (S.ended input.new)
-            (Rose (S.faults input.old) (S.faults input.new))) }
-        ensures count { S.faults input.old ≤ S.faults input.new }
+        ensures ok { OnOk result (Gives (source_view S.left S.ended S.faults)
+            (TookLast []) input.old input.new) }
+        ensures more { IfErr result (GoesOn (source_view S.left S.ended S.faults)
+            self.now.needed input.old input.new) }
     {
         match input.take(&mut [0]) {
             Taken::End => Ok(()),

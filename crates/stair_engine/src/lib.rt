@@ -16,14 +16,13 @@ mod task;
 #[cfg(test)]
 mod tests;
 
-ghost use Rattle.std.specs.Prelude.{◌≡◌, ◌≢◌, ◌≤◌, ◌↔◌, map, string_bytes, IfSome};
-ghost use Rattle.stair_conf.specs.Words.{IsSpelled, Spells};
-ghost use Rattle.stair_conf.specs.declared.job.Job.{Job};
-ghost use Rattle.stair_engine.specs.Cause.{Answers, HasCause, IfNothingIsPutOut, IfRefusedAtOnce, LimitsComeFirst, LooksForEnd, PutsOut, TakesInput};
-ghost use Rattle.stair_engine.specs.Does.{Does, status_of};
-ghost use Rattle.stair_engine.specs.Encode.{CountsSteps};
-ghost use Rattle.stair_engine.specs.Task.{command_of, one_stripe};
-ghost use Rattle.stair_rack.specs.Count.{Rose};
+ghost use Rattle.std.specs.Prelude.{◌≡◌, map, string_bytes};
+ghost use Rattle.stair_conf.specs.Words.{IsCommandLine};
+ghost use Rattle.stair_engine.specs.Fault.{status_of};
+ghost use Rattle.stair_engine.specs.Means.{Means};
+ghost use Rattle.stair_engine.specs.Outside.{outside, views};
+ghost use Rattle.stair_engine.specs.Plan.{Over, job_plan, plan_of, stripe_plan};
+ghost use Rattle.stair_engine.specs.Task.{command_of};
 
 use check::check;
 use encode::encode;
@@ -54,6 +53,8 @@ use task::geometry_of;
 /// cells are covered and a codeword has the held ones, it puts out the n·r cells of that codeword. `Lost`, with stripe 0,
 /// comes where the erased cells are not covered, and `NoCodeword` where they are and no codeword has the held ones.
 ///
+/// `OutOfMemory` may come in place of any other answer, once a command's word came first and no word begins with a hyphen.
+///
 /// The words are tested first, then the limits of the geometry, then the input: what is refused before the input is taken
 /// leaves input, output and counter as they were, and nothing is put out before the answer is known. `InputFault` leaves the
 /// output as it was, and after `OutputFault` a part of the output stands.
@@ -64,41 +65,13 @@ pub fn stair<S: Source, K: Sink, L: Ledger>(
     output: &mut K,
     steps: &mut Steps<L>,
 ) -> Status
-    ensures usage { result ≢ Status.OutOfMemory → ((result ≡ Status.Usage) ↔ (IsSpelled (map string_bytes words.now) → ⊥)) }
-    ensures spelled { result ≢ Status.OutOfMemory → result ≢ Status.Usage → IsSpelled (map string_bytes words.now) }
-    ensures limits { (job : Job) → Spells (map string_bytes words.now) job
-        → LimitsComeFirst (command_of job) (one_stripe job) result }
+    // The call went as the plan of the words says, and source, sink and counter bear it out.
+    ensures means { Means (views S.left S.ended S.faults K.held K.faults)
+        (plan_of (map string_bytes words.now)) (Over result)
+        (outside input.old output.old steps.old) (outside input.new output.new steps.new) }
 
-    // Of a source that tells its bytes, without faults and want of memory: the status and the output for these bytes.
-    ensures status { IfSome (S.left input.old) (λ bytes. (job : Job) → Spells (map string_bytes words.now) job
-        → (Rose (S.faults input.old) (S.faults input.new) → ⊥) → (Rose (K.faults output.old) (K.faults output.new) → ⊥)
-        → result ≢ Status.OutOfMemory
-        → Answers (command_of job) (one_stripe job) bytes (K.held output.old) (K.held output.new) result) }
-
-    // Of a source that tells its bytes, whatever came: each answer has its cause.
-    ensures cause { IfSome (S.left input.old) (λ bytes. (job : Job) → Spells (map string_bytes words.now) job
-        → HasCause (command_of job) (one_stripe job) bytes (K.held output.old) (K.held output.new) result) }
-    ensures input_fault { result ≡ Status.InputFault → Rose (S.faults input.old) (S.faults input.new) }
-    ensures output_fault { result ≡ Status.OutputFault → Rose (K.faults output.old) (K.faults output.new) }
-
-    // What is taken, and that the end is looked for.
-    ensures taken { (job : Job) → Spells (map string_bytes words.now) job
-        → TakesInput (command_of job) (one_stripe job) (S.left input.old) (S.left input.new) result }
-    ensures looked { (job : Job) → Spells (map string_bytes words.now) job
-        → LooksForEnd (command_of job) (one_stripe job) (S.ended input.old) (S.ended input.new) result }
-    ensures input_count { S.faults input.old ≤ S.faults input.new }
-
-    // What is put out, whatever the source tells, and what a refusal leaves.
-    ensures output { (job : Job) → Spells (map string_bytes words.now) job
-        → PutsOut (command_of job) (one_stripe job) (K.held output.old) (K.held output.new) result }
-    ensures untouched { IfNothingIsPutOut result (output.new ≡ output.old) }
-    ensures refused { IfRefusedAtOnce result ((input.new ≡ input.old) × (output.new ≡ output.old)) }
-    ensures output_count { K.faults output.old ≤ K.faults output.new }
-
-    // What is counted: the encoder of `stripe`, and nothing else.
-    ensures steps { (job : Job) → Spells (map string_bytes words.now) job
-        → CountsSteps (command_of job) (one_stripe job) result steps.old steps.new }
-    ensures uncounted { IfRefusedAtOnce result (steps.new ≡ steps.old) }
+    // Want of memory: only where a command's word comes first and no word begins with a hyphen.
+    ensures memory { result ≡ Status.OutOfMemory → IsCommandLine (map string_bytes words.now) }
 {
     match read_words(alloc, words) {
         Ok(job) => work(alloc, job, input, output, steps),
@@ -107,7 +80,7 @@ pub fn stair<S: Source, K: Sink, L: Ledger>(
     }
 }
 
-/// Does the job.
+/// Does the job. A broken limit is told without asking for memory.
 fn work<S: Source, K: Sink, L: Ledger>(
     alloc: Global,
     job: Job,
@@ -115,9 +88,9 @@ fn work<S: Source, K: Sink, L: Ledger>(
     output: &mut K,
     steps: &mut Steps<L>,
 ) -> Status
-    ensures does { Does S.left S.ended S.faults K.held K.faults (command_of job) (one_stripe job)
-        input.old input.new output.old output.new result }
-    ensures steps { CountsSteps (command_of job) (one_stripe job) result steps.old steps.new }
+    ensures { Means (views S.left S.ended S.faults K.held K.faults)
+        (job_plan job) (Over result)
+        (outside input.old output.old steps.old) (outside input.new output.new steps.new) }
 {
     match geometry_of(&job) {
         Ok(geometry) => {
@@ -137,9 +110,9 @@ fn run<S: Source, K: Sink, L: Ledger>(
     output: &mut K,
     steps: &mut Steps<L>,
 ) -> Result<Status, Fault>
-    ensures does { Does S.left S.ended S.faults K.held K.faults (command_of job.now) geometry.now
-        input.old input.new output.old output.new (status_of result) }
-    ensures steps { CountsSteps (command_of job.now) geometry.now (status_of result) steps.old steps.new }
+    ensures { Means (views S.left S.ended S.faults K.held K.faults)
+        (stripe_plan (command_of job.now) geometry.now) (Over (status_of result))
+        (outside input.old output.old steps.old) (outside input.new output.new steps.new) }
 {
     match job {
         Job::Check { .. } => check(alloc, geometry, input, output),

@@ -1,8 +1,8 @@
-ghost use Rattle.std.specs.Prelude.{◌≡◌, ◌≢◌, ℕ, ◌+◌, ◌≤◌, ◌<◌, ◌⊎◌, ◌↔◌, OnOk, IfOk, IfErr, false, length, slice_index};
+ghost use Rattle.std.specs.Prelude.{◌≡◌, ◌≢◌, ℕ, ◌+◌, ◌≤◌, ◌<◌, ◌⊎◌, ◌↔◌, IfOk, IfErr, length, slice_index};
 ghost use Rattle.stair_model.specs.CellSet.{HasCell};
 ghost use Rattle.stair_engine.specs.Answer.{map_bytes};
-ghost use Rattle.stair_engine.specs.Taking.{RefusesInput, TakesMap};
-ghost use Rattle.stair_rack.specs.Count.{Rose};
+ghost use Rattle.stair_engine.specs.Outside.{source_view};
+ghost use Rattle.stair_engine.specs.Taking.{CutsShort, TakesMap};
 
 use crate::fault::Fault;
 use crate::intake::Intake;
@@ -22,11 +22,10 @@ pub(crate) fn take_map<S: Source>(
     input: &mut S,
 ) -> Result<CellSet, Fault>
     requires room { intake.old.took + map_bytes geometry.now ≤ intake.old.needed }
-    ensures ok { IfOk result (TakesMap geometry.now intake.old intake.new (S.left input.old) (S.left input.new)) }
-    ensures running { OnOk result ((S.ended input.old ≡ false) × (S.ended input.new ≡ false)) }
-    ensures err { IfErr result (RefusesInput intake.old (S.left input.old) (S.left input.new) (S.ended input.new)
-        (Rose (S.faults input.old) (S.faults input.new))) }
-    ensures count { S.faults input.old ≤ S.faults input.new }
+    ensures ok { IfOk result (λ erased. TakesMap (source_view S.left S.ended S.faults) geometry.now
+        intake.old intake.new erased input.old input.new) }
+    ensures cut { IfErr result (CutsShort (source_view S.left S.ended S.faults)
+        intake.old input.old input.new) }
 {
     let mut erased = CellSet::empty();
     let mut marks = [HELD; MAX_CHUNKS];
@@ -43,7 +42,8 @@ fn add_erased(erased: &mut CellSet, row: u8, marks: &[u8])
     requires row_in { row < 32 }
     requires slots_in { length marks.now ≤ 32 }
     ensures { (i j : ℕ) → HasCell erased.new i j
-        ↔ (HasCell erased.old i j ⊎ ((i ≡ row) × (j < length marks.now) × (slice_index marks.now j ≢ 46))) }
+        ↔ (HasCell erased.old i j ⊎ ((i ≡ row) × (j < length marks.now)
+        × (slice_index marks.now j ≢ 46))) }
 {
     for (slot, mark) in marks.iter().enumerate() {
         if *mark != HELD {

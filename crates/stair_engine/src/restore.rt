@@ -1,12 +1,13 @@
-ghost use Rattle.std.specs.Prelude.{◌≡◌, ◌≤◌, IfOk, IfErr, OnOk, true, false, ◌<◌};
+ghost use Rattle.std.specs.Prelude.{ℕ};
 ghost use Rattle.stair_model.specs.Geometry.{IsWithinLimits};
 ghost use Rattle.stair_model.specs.Stripe.{IsStripeOf, IsWellFormed};
 ghost use Rattle.stair_engine.specs.Answer.{bytes_needed};
-ghost use Rattle.stair_engine.specs.Cause.{TakesCount};
-ghost use Rattle.stair_engine.specs.Does.{Does, status_of};
+ghost use Rattle.stair_engine.specs.Fault.{status_of};
+ghost use Rattle.stair_engine.specs.Means.{Means};
+ghost use Rattle.stair_engine.specs.Outside.{outside, source_view, views};
+ghost use Rattle.stair_engine.specs.Plan.{Over, input_plan, stripe_plan};
+ghost use Rattle.stair_engine.specs.Taking.{IsMapAndCells, TakesWhole};
 ghost use Rattle.stair_engine.specs.Task.Command.{Restore};
-ghost use Rattle.stair_engine.specs.Taking.{RefusesInput, TookErased, intake_of};
-ghost use Rattle.stair_rack.specs.Count.{Rose};
 
 use crate::cells::{cell_bytes, put_stripe, take_stripe};
 use crate::fault::Fault;
@@ -25,8 +26,9 @@ pub(crate) fn restore<S: Source, K: Sink>(
     input: &mut S,
     output: &mut K,
 ) -> Result<Status, Fault>
-    ensures { Does S.left S.ended S.faults K.held K.faults Restore geometry.now
-        input.old input.new output.old output.new (status_of result) }
+    ensures { (counter : ℕ) → Means (views S.left S.ended S.faults K.held K.faults)
+        (stripe_plan Restore geometry.now) (Over (status_of result))
+        (outside input.old output.old counter) (outside input.new output.new counter) }
 {
     let mut stripe = Stripe::new(alloc, geometry)?;
     let mut codec = Codec::new(alloc, geometry, By::Upstairs)?;
@@ -43,8 +45,9 @@ fn restore_by<C: StripeCode, S: Source, K: Sink>(
 ) -> Result<Status, Fault>
     requires of { IsStripeOf (C.shape code.old) stripe.old }
     requires well_formed { IsWellFormed stripe.old }
-    ensures { Does S.left S.ended S.faults K.held K.faults Restore (C.shape code.old)
-        input.old input.new output.old output.new (status_of result) }
+    ensures { (counter : ℕ) → Means (views S.left S.ended S.faults K.held K.faults)
+        (input_plan Restore (C.shape code.old)) (Over (status_of result))
+        (outside input.old output.old counter) (outside input.new output.new counter) }
 {
     let geometry = code.geometry();
     let erased = take_input(&geometry, stripe, input)?;
@@ -71,15 +74,11 @@ fn take_input<S: Source>(
     requires of { IsStripeOf geometry.now stripe.old }
     requires well_formed { IsWellFormed stripe.old }
     ensures limits { IsWithinLimits geometry.now }
-    ensures ok { IfOk result (λ erased. TookErased geometry.now (S.left input.old) erased stripe.new) }
-    ensures taken { OnOk result
-        (TakesCount (S.left input.old) (S.left input.new) (bytes_needed Restore geometry.now)) }
-    ensures ended { OnOk result ((S.ended input.old ≡ false) × (S.ended input.new ≡ true)) }
-    ensures err { IfErr result (RefusesInput (intake_of (bytes_needed Restore geometry.now))
-        (S.left input.old) (S.left input.new) (S.ended input.new) (Rose (S.faults input.old) (S.faults input.new))) }
+    ensures takes { TakesWhole (source_view S.left S.ended S.faults)
+        (bytes_needed Restore geometry.now) result (IsMapAndCells geometry.now stripe.new)
+        input.old input.new }
     ensures of { IsStripeOf geometry.now stripe.new }
     ensures well_formed { IsWellFormed stripe.new }
-    ensures count { S.faults input.old ≤ S.faults input.new }
 {
     let cells = u64::from(geometry.r()) * u64::from(geometry.n());
     let mut intake = Intake::new(cells + cell_bytes(geometry));

@@ -38,7 +38,7 @@ pub enum Status {
 }
 
 impl From<Fault> for Status {
-    ghost use Rattle.stair_engine.specs.Taking.{status_of_fault};
+    ghost use Rattle.stair_engine.specs.Fault.{status_of_fault};
 
     ghost from_gives = { λ fault status. status ≡ status_of_fault fault };
 

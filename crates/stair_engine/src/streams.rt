@@ -1,6 +1,6 @@
-ghost use Rattle.std.specs.Prelude.{◌≡◌, ◌<◌, ◌≤◌, ◌↔◌, IsTrue, IfErr, length, true};
-ghost use Rattle.stair_engine.specs.Streams.{FillConsumes, PutsAll, is_short};
-ghost use Rattle.stair_rack.specs.Count.{Rose};
+ghost use Rattle.std.specs.Prelude.{◌≡◌, ◌<◌, IfErr, length};
+ghost use Rattle.stair_engine.specs.Outside.{sink_view, source_view};
+ghost use Rattle.stair_engine.specs.Streams.{FillGives, PutsAll};
 
 use crate::fault::Fault;
 use stair_rack::{Put, Sink, Source, Taken};
@@ -17,11 +17,7 @@ pub(crate) enum Filled {
 /// Fills the piece from the source.
 pub(crate) fn fill<S: Source>(input: &mut S, into: &mut [u8]) -> Filled
     requires { 0 < length into.old }
-    ensures bytes { FillConsumes (S.left input.old) (S.left input.new) result into.new }
-    ensures count { S.faults input.old ≤ S.faults input.new }
-    ensures failed { result ≡ Filled.Failed → Rose (S.faults input.old) (S.faults input.new) }
-    ensures ends { IsTrue (S.ended input.new) ↔ (is_short result ≡ true) }
-    ensures had_ended { IsTrue (S.ended input.old) → is_short result ≡ true }
+    ensures { FillGives (source_view S.left S.ended S.faults) result into.new input.old input.new }
 {
     let mut filled = 0;
     while filled < into.len() {
@@ -36,9 +32,8 @@ pub(crate) fn fill<S: Source>(input: &mut S, into: &mut [u8]) -> Filled
 
 /// Puts all of the bytes into the sink.
 pub(crate) fn put_all<K: Sink>(output: &mut K, bytes: &[u8]) -> Result<(), Fault>
-    ensures bytes { PutsAll (K.held output.old) (K.held output.new) result bytes.now }
-    ensures count { K.faults output.old ≤ K.faults output.new }
-    ensures failed { IfErr result (λ fault. (fault ≡ Fault.Output) × Rose (K.faults output.old) (K.faults output.new)) }
+    ensures puts { PutsAll (sink_view K.held K.faults) result bytes.now output.old output.new }
+    ensures failed { IfErr result (λ fault. fault ≡ Fault.Output) }
 {
     let mut put = 0;
     while put < bytes.len() {

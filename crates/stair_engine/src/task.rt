@@ -1,5 +1,5 @@
-ghost use Rattle.std.specs.Prelude.{◌≡◌, IfOk, IfErr};
-ghost use Rattle.stair_model.specs.Geometry.{IsFirstBrokenLimit};
+ghost use Rattle.std.specs.Prelude.{◌≡◌, IfOk, IfErr, OnOk};
+ghost use Rattle.stair_model.specs.Geometry.{IsFirstBrokenLimit, IsWithinLimits};
 ghost use Rattle.stair_engine.specs.Task.{by_of as by_of_method, one_stripe};
 
 use stair_base::{Geometry, GeometryFault};
@@ -9,6 +9,7 @@ use stair_conf::{Job, Method};
 /// The geometry of the one stripe that a job asks for.
 pub(crate) fn geometry_of(job: &Job) -> Result<Geometry, GeometryFault>
     ensures ok { IfOk result (λ geometry. geometry ≡ one_stripe job.now) }
+    ensures within { OnOk result (IsWithinLimits (one_stripe job.now)) }
     ensures broken { IfErr result (λ fault. IsFirstBrokenLimit (one_stripe job.now) fault.limit) }
 {
     let (n, m, r, e) = match job {

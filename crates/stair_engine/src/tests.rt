@@ -215,6 +215,7 @@ fn each_command_is_done_and_a_fault_ends_it(rt: HostRuntime) -> Result<(), Fail>
         assert_eq!(rt; came.status, status, "{line} {input:?} {ends:?}");
         assert!(rt; came.put == front, "{line} {input:?} {ends:?}");
     }
+    laws::plan_laws::<MemSource, MemSink>();
     Ok(())
 }
 

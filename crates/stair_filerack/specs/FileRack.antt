@@ -3,24 +3,24 @@ use Rattle.std.specs.Prelude.{ℕ, List, [], slice_index_or, slice_set}
 use Rattle.stair_rack.specs.Count.{one_more}
 use Rattle.stair_rack.specs.declared.rack.Got.{Got}
 use Rattle.stair_rack.specs.declared.rack.Got.TheVariants as got
-use Rattle.stair_filerack.specs.Slot.{SlotState, untouched}
+use Rattle.stair_filerack.specs.Slot.{FileSlot, untouched}
 
-pub record FileRackState : Type 0 where
+pub record FileRackState (File : Type 0) : Type 0 where
   -- how often a sector read as bad
   pub bads : ℕ
   -- the 32 slots
-  pub slots : List SlotState
+  pub slots : List (FileSlot File)
 
 -- a slot of the rack
-abbrev pub slot_at : FileRackState → ℕ → SlotState
+abbrev pub slot_at : {File : Type 0} → FileRackState File → ℕ → FileSlot File
 slot_at rack j = slice_index_or rack.slots j (untouched [])
 
 -- how often a slot was gone
-abbrev pub gones_of : FileRackState → ℕ → ℕ
+abbrev pub gones_of : {File : Type 0} → FileRackState File → ℕ → ℕ
 gones_of rack j = (slot_at rack j).gones
 
 -- the rack after a call that left this of the slot, and changed nothing else
-abbrev pub with_slot : ℕ → SlotState → FileRackState → FileRackState
+abbrev pub with_slot : {File : Type 0} → ℕ → FileSlot File → FileRackState File → FileRackState File
 with_slot j slot rack = record rack { slots = slice_set rack.slots j slot }
 
 -- the count of bad sectors after a read with this answer

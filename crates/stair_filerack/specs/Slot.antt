@@ -1,5 +1,5 @@
 -- A slot of a rack over files, as contracts see it.
-use Rattle.std.specs.Prelude.{ℕ, ◌++◌, ◌/◌, ◌%◌, Bool, true, false, not, ◌&&◌, List, codes, nat_lt}
+use Rattle.std.specs.Prelude.{ℕ, ◌++◌, ◌/◌, ◌%◌, Bool, List, Option, None, codes, is_some, nat_lt, if◌then◌else◌}
 use Rattle.std.specs.Fmt.{decimal}
 use Rattle.stair_rack.specs.Count.{one_more}
 use Rattle.stair_rack.specs.declared.rack.Reply.{Reply}
@@ -7,11 +7,11 @@ use Rattle.stair_rack.specs.declared.rack.Reply.TheVariants as reply
 use Rattle.stair_rack.specs.declared.rack.Got.{Got}
 use Rattle.stair_rack.specs.declared.rack.Got.TheVariants as got
 
-pub record SlotState : Type 0 where
+pub record FileSlot (File : Type 0) : Type 0 where
   -- the path of its image file
   pub path : List ℕ
-  -- whether it holds the file open
-  pub attached : Bool
+  -- the file that it holds open
+  pub file : Option File
   -- the number of sectors that the last attach found, 0 where it was gone or there was none
   pub sectors : ℕ
   -- how often it was gone
@@ -19,42 +19,55 @@ pub record SlotState : Type 0 where
 
 -- the path of a slot's image file: FOLDER/devJJ.img, where JJ is the slot's number in two decimal digits
 abbrev pub path_of : List ℕ → ℕ → List ℕ
-path_of folder slot = folder ++ codes "/dev" ++ decimal (slot / 10) ++ decimal (slot % 10) ++ codes ".img"
+path_of folder slot = folder ++ codes "/dev" ++ decimal (slot / 10) ++ decimal (slot % 10)
+    ++ codes ".img"
 
 -- a slot that no call has touched
-abbrev pub untouched : List ℕ → SlotState
-untouched path = record { path = path; attached = false; sectors = 0; gones = 0 }
+abbrev pub untouched : {File : Type 0} → List ℕ → FileSlot File
+untouched path = record { path = path; file = None; sectors = 0; gones = 0 }
+
+-- whether a slot is attached: it holds its file open
+abbrev pub is_attached : {File : Type 0} → FileSlot File → Bool
+is_attached slot = is_some slot.file
+
+-- a slot that was gone once more, with its file as it was
+abbrev pub gone_once_more : {File : Type 0} → FileSlot File → FileSlot File
+gone_once_more slot = record slot { gones = one_more slot.gones }
 
 -- a slot that was gone, and lets go of its file
-abbrev pub let_go : SlotState → SlotState
-let_go slot = record slot { attached = false; gones = one_more slot.gones }
+abbrev pub let_go : {File : Type 0} → FileSlot File → FileSlot File
+let_go slot = record (gone_once_more slot) { file = None }
 
--- a slot after an attach with this answer, which found so many sectors
-abbrev pub attached_as : Reply → ℕ → SlotState → SlotState
-attached_as reply.Done sectors slot = record slot { attached = true; sectors = sectors }
-attached_as reply.Gone sectors slot = record (let_go slot) { sectors = 0 }
+-- a slot that holds a file of so many sectors open
+abbrev pub holding : {File : Type 0} → Option File → ℕ → FileSlot File → FileSlot File
+holding file sectors slot = record slot { file = file; sectors = sectors }
 
--- a slot after a read with this answer
-abbrev pub read_as : Got → SlotState → SlotState
-read_as got.Good slot = slot
-read_as got.Bad slot = slot
-read_as got.Gone slot = let_go slot
+-- a slot after an attach with this answer, which found this file of so many sectors
+abbrev pub attached_as : {File : Type 0} → Reply → Option File → ℕ → FileSlot File → FileSlot File
+attached_as reply.Done file sectors slot = holding file sectors slot
+attached_as reply.Gone file sectors slot = record (let_go slot) { sectors = 0 }
 
--- whether a file of so many sectors is open after a write of this sector with this answer: one that was open is closed
--- where the write failed, and not where the sector is past its end
-abbrev pub is_kept : Reply → ℕ → ℕ → Bool → Bool
-is_kept reply.Done sectors sector is_open = is_open
-is_kept reply.Gone sectors sector is_open = is_open && not (nat_lt sector sectors)
+-- a slot after a read with this answer, which left its file so
+abbrev pub read_as : {File : Type 0} → Got → Option File → FileSlot File → FileSlot File
+read_as got.Good file slot = record slot { file = file }
+read_as got.Bad file slot = record slot { file = file }
+read_as got.Gone file slot = let_go slot
 
--- a slot after a write of this sector with this answer
-abbrev pub written_as : ℕ → Reply → SlotState → SlotState
-written_as sector reply.Done slot = slot
-written_as sector reply.Gone slot = record slot {
-  attached = is_kept reply.Gone slot.sectors sector slot.attached;
-  gones = one_more slot.gones;
+-- the file of a slot of so many sectors after a write of this sector with this answer, which left it so: one that
+-- failed is let go of, and one whose end the sector lies past is as it was
+abbrev pub file_after_write : {File : Type 0} → Reply → ℕ → ℕ → Option File → Option File →
+    Option File
+file_after_write reply.Done sectors sector new old = new
+file_after_write reply.Gone sectors sector new old = if nat_lt sector sectors then None else old
+
+-- a slot after a write of this sector with this answer, which left its file so
+abbrev pub written_as : {File : Type 0} → ℕ → Reply → Option File → FileSlot File → FileSlot File
+written_as sector reply.Done file slot = record slot { file = file }
+written_as sector reply.Gone file slot = record (gone_once_more slot) {
+  file = file_after_write reply.Gone slot.sectors sector file slot.file;
 }
 
 -- a slot after a sync with this answer
-abbrev pub synced_as : Reply → SlotState → SlotState
+abbrev pub synced_as : {File : Type 0} → Reply → FileSlot File → FileSlot File
 synced_as reply.Done slot = slot
 synced_as reply.Gone slot = let_go slot

@@ -1,12 +1,14 @@
 // A slot of the rack.
-ghost use Rattle.std.specs.Prelude.{◌≡◌, ◌≢◌, ◌≤◌, ◌<◌, true, false, string_bytes};
+ghost use Rattle.std.specs.Prelude.{◌≡◌, ◌≢◌, ◌≤◌, ◌<◌, None, Some, IfOk, OnErr, IsSome, string_bytes};
 ghost use Rattle.stair_rack.specs.Count.{Rose};
 ghost use Rattle.stair_rack.specs.RackCounts.{IsLaterCount};
-ghost use Rattle.stair_filerack.specs.Slot.{untouched, attached_as, read_as, written_as, synced_as};
+ghost use Rattle.stair_filerack.specs.Files.{ReadsSector, ReadsNoSector, WritesSector, GoesOn};
+ghost use Rattle.stair_filerack.specs.Slot.{untouched, holding, attached_as, gone_once_more, read_as, written_as, synced_as};
 
 use crate::file;
 use stair_rack::{Got, Reply};
 use std::fs::{Files, OpenFile};
+use std::io;
 use std::io::{Read, Seek, Write};
 use std::marker::Model;
 
@@ -20,14 +22,14 @@ pub(crate) struct Slot<T> {
 }
 
 impl<T> Model for Slot<T> {
-    ghost use Rattle.std.specs.Prelude.{is_some, string_bytes};
-    ghost use Rattle.stair_filerack.specs.Slot.{SlotState};
+    ghost use Rattle.std.specs.Prelude.{string_bytes};
+    ghost use Rattle.stair_filerack.specs.Slot.{FileSlot};
 
-    ghost Value = { SlotState };
+    ghost Value = { FileSlot T };
 
     ghost view = { λ s. record {
       path = string_bytes s.path;
-      attached = is_some s.file;
+      file = s.file;
       sectors = s.sectors;
       gones = s.gones;
     } };
@@ -55,19 +57,34 @@ impl<T: Read + Write + Seek + OpenFile + Drop> Slot<T> {
 
     /// Opens the slot's file anew.
     pub(crate) fn attach<F: Files<File = T>>(&mut self, runtime: &F) -> Reply
-        ensures after { self.new ≡ attached_as result self.new.sectors self.old }
+        ensures after { self.new ≡ attached_as result self.new.file self.new.sectors self.old }
+        ensures attached { result ≡ Reply.Done → IsSome self.new.file }
         ensures count { IsLaterCount self.old.gones self.new.gones }
         ensures gone { result ≡ Reply.Gone → Rose self.old.gones self.new.gones }
     {
         // The earlier file is closed before the path is opened again.
-        self.file = None;
-        match file::open(runtime, self.path.as_str()) {
+        drop(self.file.take());
+        let opened = file::open(runtime, self.path.as_str());
+        self.hold(opened)
+    }
+
+    /// Holds the file that was opened, and so many sectors; where none was, the slot is gone.
+    pub(crate) fn hold(&mut self, opened: io::Result<(T, u32)>) -> Reply
+        ensures done { IfOk opened (λ found. (result ≡ Reply.Done)
+            × (self.new ≡ holding (Some found.0) found.1 self.old)) }
+        ensures failed { OnErr opened ((result ≡ Reply.Gone)
+            × (self.new ≡ attached_as Reply.Gone None 0 self.old)) }
+        ensures count { IsLaterCount self.old.gones self.new.gones }
+        ensures gone { result ≡ Reply.Gone → Rose self.old.gones self.new.gones }
+    {
+        match opened {
             Ok((file, sectors)) => {
                 self.file = Some(file);
                 self.sectors = sectors;
                 Reply::Done
             }
             Err(_) => {
+                self.file = None;
                 self.sectors = 0;
                 self.gones = self.gones.saturating_add(1);
                 Reply::Gone
@@ -77,10 +94,17 @@ impl<T: Read + Write + Seek + OpenFile + Drop> Slot<T> {
 
     /// Reads a sector.
     pub(crate) fn read(&mut self, sector: u32, into: &mut [u8; 512]) -> Got
+        ensures good { result ≡ Got.Good →
+            GoesOn (ReadsSector T.stream_position T.remaining sector into.new)
+            self.old.file self.new.file }
+        ensures bad { result ≡ Got.Bad → sector < self.old.sectors →
+            GoesOn (ReadsNoSector T.stream_position T.remaining sector)
+            self.old.file self.new.file }
         ensures unread { result ≢ Got.Good → into.new ≡ into.old }
-        ensures unattached { self.old.attached ≡ false → result ≡ Got.Gone }
-        ensures past_end { self.old.attached ≡ true → self.old.sectors ≤ sector → result ≡ Got.Bad }
-        ensures after { self.new ≡ read_as result self.old }
+        ensures unattached { self.old.file ≡ None → result ≡ Got.Gone }
+        ensures past_end { IsSome self.old.file → self.old.sectors ≤ sector →
+            (result ≡ Got.Bad) × (self.new ≡ self.old) }
+        ensures after { self.new ≡ read_as result self.new.file self.old }
         ensures count { IsLaterCount self.old.gones self.new.gones }
         ensures gone { result ≡ Got.Gone → Rose self.old.gones self.new.gones }
     {
@@ -93,9 +117,13 @@ impl<T: Read + Write + Seek + OpenFile + Drop> Slot<T> {
 
     /// Writes a sector.
     pub(crate) fn write(&mut self, sector: u32, from: &[u8; 512]) -> Reply
-        ensures unattached { self.old.attached ≡ false → result ≡ Reply.Gone }
-        ensures past_end { self.old.sectors ≤ sector → result ≡ Reply.Gone }
-        ensures after { self.new ≡ written_as sector result self.old }
+        ensures done { result ≡ Reply.Done →
+            GoesOn (WritesSector T.stream_position T.contents sector from.now)
+            self.old.file self.new.file }
+        ensures unattached { self.old.file ≡ None → result ≡ Reply.Gone }
+        ensures past_end { self.old.sectors ≤ sector →
+            (result ≡ Reply.Gone) × (self.new ≡ gone_once_more self.old) }
+        ensures after { self.new ≡ written_as sector result self.new.file self.old }
         ensures count { IsLaterCount self.old.gones self.new.gones }
         ensures gone { result ≡ Reply.Gone → Rose self.old.gones self.new.gones }
     {
@@ -108,7 +136,7 @@ impl<T: Read + Write + Seek + OpenFile + Drop> Slot<T> {
 
     /// Syncs the data of the slot's file.
     pub(crate) fn sync(&mut self) -> Reply
-        ensures unattached { self.old.attached ≡ false → result ≡ Reply.Gone }
+        ensures unattached { self.old.file ≡ None → result ≡ Reply.Gone }
         ensures after { self.new ≡ synced_as result self.old }
         ensures count { IsLaterCount self.old.gones self.new.gones }
         ensures gone { result ≡ Reply.Gone → Rose self.old.gones self.new.gones }

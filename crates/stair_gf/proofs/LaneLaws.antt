@@ -10,7 +10,7 @@ use Rattle.std.specs.Simd.Lanes.{Each1, chunk, pick_l, zip2, sel_l, top}
 use Rattle.stair_model.specs.Field.{product}
 use Rattle.stair_model.proofs.FieldLaws.{product-xor_right, product-zero_right}
 use Rattle.stair_gf.specs.declared.lanes.TheConstants.{HALVES}
-use Rattle.stair_gf.specs.Lanes.{AreLanes, HasDoublings, HasProducts, by_bits}
+use Rattle.stair_gf.specs.Lanes.{AreHalves, AreLanes, HasDoublings, HasProducts, by_bits}
 
 -- an operation on two vectors
 pub AreLanes-zip2 : (g : ℕ → ℕ → ℕ) {u v : List ℕ} {e f : ℕ → ℕ} → AreLanes u e → AreLanes v f → AreLanes (zip2 g u v) (λ k. g (e k) (f k))
@@ -139,11 +139,11 @@ products_of_sums by xs ys doublings low high =
 
 -- ---- a look-up by the halves of a byte
 
-pub low_halves : (v : List ℕ) → length v ≡ 32 → AreLanes (zip2 bit_and v (replicate 32 15)) (λ k. slice_index v k % 16)
+low_halves : (v : List ℕ) → length v ≡ 32 → AreLanes (zip2 bit_and v (replicate 32 15)) (λ k. slice_index v k % 16)
 low_halves v long =
     AreLanes-same (AreLanes-zip2 bit_and (AreLanes-itself v long) (AreLanes-splat 15)) (λ k h. and_mask (slice_index v k) 4)
 
-pub high_halves : (v : List ℕ) → length v ≡ 32 → AreLanes (zip2 (λ a b. a / 2 ^ b) v (replicate 32 4)) (λ k. slice_index v k / 16)
+high_halves : (v : List ℕ) → length v ≡ 32 → AreLanes (zip2 (λ a b. a / 2 ^ b) v (replicate 32 4)) (λ k. slice_index v k / 16)
 high_halves v long = AreLanes-zip2 (λ a b. a / 2 ^ b) (AreLanes-itself v long) (AreLanes-splat 4)
 
 -- a shuffle may read at places below 16
@@ -176,17 +176,38 @@ halves a =
     ∙ ap₂ (λ x y. x * 16 + y) (xor_comm 0 (a / 16) ∙ xor_zero_r (a / 16)) (xor_zero_r (a % 16)) ∙ omega arith
 
 -- a byte's high half is below 16
-pub high_half_below : (v : List ℕ) → length v ≡ 32 → Each1 (Fits w8) v → (k : ℕ) → k < 32 → slice_index v k / 16 < 16
+high_half_below : (v : List ℕ) → length v ≡ 32 → Each1 (Fits w8) v → (k : ℕ) → k < 32 → slice_index v k / 16 < 16
 high_half_below v long bytes k h =
     let byte = (Each1-get_or (Fits w8) v k 0 (omega (arith, long)) bytes).fits in
     omega (arith, byte)
 
+-- bytes are made of their halves
+pub AreHalves-of : (v : List ℕ) → length v ≡ 32 → Each1 (Fits w8) v
+    → AreHalves (zip2 bit_and v (replicate 32 15)) (zip2 (λ a b. a / 2 ^ b) v (replicate 32 4)) v
+AreHalves-of v long bytes =
+    let low = low_halves v long in
+    let high = high_halves v long in record {
+      low_below = λ k h.
+          let below : slice_index v k % 16 < 16 = mod-lt (slice_index v k) (omega arith) in
+          omega (arith, low.lane k h, below);
+      high_below = λ k h. omega (arith, high.lane k h, high_half_below v long bytes k h);
+      whole = λ k h.
+          let made : slice_index v k / 16 * 16 + slice_index v k % 16 ≡ slice_index v k = omega arith in
+          ap₂ (λ a b. a * 16 + b) (high.lane k h) (low.lane k h) ∙ made;
+    }
+
+joined : (low high : ℕ) → low < 16 → bit_xor low (high * 16) ≡ high * 16 + low
+joined low high small =
+    let low_is : low ≡ (high * 16 + low) % 16 = omega arith in
+    let high_is : high ≡ (high * 16 + low) / 16 = omega arith in
+    ap₂ (λ a b. bit_xor a (b * 16)) low_is high_is ∙ halves (high * 16 + low)
+
 -- the products with 32 bytes, by their halves
-pub products_by_halves : (by : ℕ) {low high : List ℕ} (v : List ℕ) → HasProducts by low high → length v ≡ 32 → Each1 (Fits w8) v
-    → AreLanes (zip2 bit_xor (swz_l w8 16 low 0 (zip2 bit_and v (replicate 32 15))) (swz_l w8 16 high 0 (zip2 (λ a b. a / 2 ^ b) v (replicate 32 4))))
-    (λ k. product by (slice_index v k))
-products_by_halves by v tables long bytes =
+pub products_by_halves : (by : ℕ) {low high : List ℕ} (u v : List ℕ) → HasProducts by low high → length u ≡ 32 → length v ≡ 32
+    → ((k : ℕ) → k < 32 → slice_index u k < 16) → ((k : ℕ) → k < 32 → slice_index v k < 16)
+    → AreLanes (zip2 bit_xor (swz_l w8 16 low 0 u) (swz_l w8 16 high 0 v)) (λ k. product by (slice_index v k * 16 + slice_index u k))
+products_by_halves by u v tables u_long v_long u_below v_below =
     AreLanes-same (AreLanes-zip2 bit_xor
-    (looked_up (product by) tables.low_halves (low_halves v long) (λ k h. mod-lt (slice_index v k) (omega arith)))
-    (looked_up (λ j. product by (j * 16)) tables.high_halves (high_halves v long) (high_half_below v long bytes)))
-    (λ k h. sym (product-xor_right by (slice_index v k % 16) (slice_index v k / 16 * 16)) ∙ ap (product by) (halves (slice_index v k)))
+    (looked_up (product by) tables.low_halves (AreLanes-itself u u_long) u_below)
+    (looked_up (λ j. product by (j * 16)) tables.high_halves (AreLanes-itself v v_long) v_below))
+    (λ k h. sym (product-xor_right by (slice_index u k) (slice_index v k * 16)) ∙ ap (product by) (joined (slice_index u k) (slice_index v k) (u_below k h)))

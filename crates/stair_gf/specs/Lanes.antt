@@ -33,3 +33,10 @@ by_bits k w x y z =
 pub record HasProducts (by : ℕ) (low high : List ℕ) : Type 0 where
   pub low_halves : AreLanes low (λ k. product by (k % 16))
   pub high_halves : AreLanes high (λ k. product by (k % 16 * 16))
+
+-- lanes of low and high halves, which together make these bytes
+pub record AreHalves (low high bytes : List ℕ) : Type 0 where
+  pub low_below : (k : ℕ) → k < 32 → slice_index low k < 16
+  pub high_below : (k : ℕ) → k < 32 → slice_index high k < 16
+  pub whole :
+      (k : ℕ) → k < 32 → slice_index high k * 16 + slice_index low k ≡ slice_index bytes k

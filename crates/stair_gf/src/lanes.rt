@@ -1,7 +1,7 @@
 //! Products of 32 bytes at a time.
-ghost use Rattle.std.specs.Prelude.{◌≡◌, ◌+◌, ◌*◌, ◌%◌, ◌≤◌, ◌==◌, if◌then◌else◌, length, slice_index, bit_and};
+ghost use Rattle.std.specs.Prelude.{◌≡◌, ℕ, ◌+◌, ◌*◌, ◌%◌, ◌<◌, ◌≤◌, ◌==◌, if◌then◌else◌, length, slice_index, bit_and};
 ghost use Rattle.stair_model.specs.Field.{product};
-ghost use Rattle.stair_gf.specs.Lanes.{AreLanes, HasLanesAt, by_bits};
+ghost use Rattle.stair_gf.specs.Lanes.{AreHalves, AreLanes, HasLanesAt, by_bits};
 
 use crate::tables::doublings;
 use std::marker::Model;
@@ -54,10 +54,28 @@ impl Factor {
     pub(crate) fn times(&self, bytes: u8x32) -> u8x32
         ensures { AreLanes result (λ k. product self.now (slice_index bytes k)) }
     {
-        let low = self.low.swizzle_dyn_within::<16>(bytes & u8x32::splat(15));
-        let high = self.high.swizzle_dyn_within::<16>(bytes >> u8x32::splat(4));
-        low ^ high
+        let halves = halves(bytes);
+        self.times_halves(halves.0, halves.1)
     }
+
+    /// The products with the 32 bytes that have these halves.
+    #[inline(always)]
+    pub(crate) fn times_halves(&self, low: u8x32, high: u8x32) -> u8x32
+        requires low { (k : ℕ) → k < 32 → slice_index low k < 16 }
+        requires high { (k : ℕ) → k < 32 → slice_index high k < 16 }
+        ensures { AreLanes result (λ k. product self.now
+            (slice_index high k * 16 + slice_index low k)) }
+    {
+        self.low.swizzle_dyn_within::<16>(low) ^ self.high.swizzle_dyn_within::<16>(high)
+    }
+}
+
+/// The halves of 32 bytes, the low ones and the high ones.
+#[inline(always)]
+pub(crate) fn halves(bytes: u8x32) -> (u8x32, u8x32)
+    ensures { AreHalves result.0 result.1 bytes }
+{
+    (bytes & u8x32::splat(15), bytes >> u8x32::splat(4))
 }
 
 /// The 32 bytes from this place on.
@@ -94,7 +112,8 @@ fn sums(multiples: u8x16) -> u8x32
 #[inline(always)]
 fn where_bit(bit: u8, bytes: u8x32) -> u8x32
     requires { length bytes ≡ 32 }
-    ensures { AreLanes result (λ k. if bit_and (k % 16) bit == bit then slice_index bytes k else 0) }
+    ensures { AreLanes result (λ k. if bit_and (k % 16) bit == bit
+        then slice_index bytes k else 0) }
 {
     let numbers = u8x32::from_array(HALVES);
     (numbers & u8x32::splat(bit))

@@ -1,7 +1,9 @@
--- What a code keeps of its places and of the pattern that is prepared, and the room for any pattern.
-use Rattle.std.specs.Prelude.{ℕ, ◌-◌, ◌*◌, ◌≤◌, List, length, vec_len}
+-- What a code keeps of its places and of the pattern that is prepared, and the room for any pattern; and what
+-- symbols keep.
+use Rattle.std.specs.Prelude.{ℕ, ◌-◌, ◌*◌, ◌<◌, ◌≤◌, List, All, length, vec_len}
 use Rattle.std.specs.Vec.{vec_capacity}
 use Rattle.stair_model.specs.CauchyCode.{AreKnownPlaces}
+use Rattle.stair_model.specs.Stripe.{IsSector}
 use Rattle.stair_mds.specs.Solving.{AreWantedPlaces, Code, IsPrepared}
 use Rattle.stair_mds.specs.Weights.{HasCoefficients, HasWeights}
 use Rattle.stair_mds.specs.declared.mds.Mds.TheInside.{Inside}
@@ -31,3 +33,8 @@ pub record IsKept (a : Inside) : Type 0 where
   pub few : a.held ≤ 32
   pub room : HasRoom a
   pub pattern : IsPrepared (shown a) → HasPattern (shown a) a.coefficients.items
+
+-- symbols of 512 bytes, so few that a u16 numbers them
+pub record AreSymbols (symbols : List (List ℕ)) : Type 0 where
+  pub sectors : All IsSector symbols
+  pub few : length symbols < 65536

@@ -1,7 +1,8 @@
 -- What solving makes of the symbols.
-use Rattle.std.specs.Prelude.{◌≡◌, ℕ, ◌<◌, List, [], length, slice_index, slice_index_or, All, Contains}
+use Rattle.std.specs.Prelude.{◌≡◌, ◌≢◌, ℕ, ◌+◌, ◌*◌, ◌<◌, ◌≤◌, List, [], length, slice_index, slice_index_or, All, Contains}
 use Rattle.stair_model.specs.CauchyCode.{AreDistinct, AreSolved, IsSystematicCodeword, coefficient}
-use Rattle.stair_model.specs.Stripe.{symbol_byte}
+use Rattle.stair_model.specs.Stripe.{SECTOR, symbol_byte}
+use Rattle.stair_mds.specs.declared.line.Line.{Line}
 
 -- a code of so many held symbols and so many places in all
 pub record Shape : Type 0 where
@@ -33,3 +34,35 @@ pub record Solves (code : Shape) (known wanted : List ℕ) (old new : List (List
   pub count : length new ≡ length old
   pub others : (p : ℕ) → (Contains wanted p → ⊥) → slice_index_or new p [] ≡ slice_index_or old p []
   pub symbols : AreSolved (IsCodewordOf code) known wanted (symbol_byte old) (symbol_byte new)
+
+-- the symbol at which place p of a code lies, along a line of symbols
+abbrev pub along : Line → ℕ → ℕ
+along line p = line.start + line.step * p
+
+-- every place of the code lies at one of so many symbols, and no two at the same one
+pub record IsLineOf (code : Shape) (count : ℕ) (line : Line) : Type 0 where
+  pub apart : 1 ≤ line.step
+  pub within : (p : ℕ) → p < code.total → along line p < count
+
+-- before (position to word) has the first `read` known places as their symbols are, along the line, and
+-- zero at the other known places, whatever lies there
+pub record IsReadAlong (line : Line) (read : ℕ) (known : List ℕ) (symbols : List (List ℕ))
+    (before : ℕ → ℕ → ℕ) : Type 0 where
+  pub as_read :
+      (i q : ℕ) → i < read → q < SECTOR →
+      before q (slice_index known i) ≡ symbol_byte symbols q (along line (slice_index known i))
+  pub zero :
+      (i q : ℕ) → read ≤ i → i < length known → q < SECTOR →
+      before q (slice_index known i) ≡ 0
+
+-- the wanted symbols along the line are those of the one codeword with the known ones, as these are read,
+-- and all other symbols are as they were
+pub record SolvesAlong (code : Shape) (line : Line) (read : ℕ) (known wanted : List ℕ)
+    (old new : List (List ℕ)) : Type 0 where
+  pub count : length new ≡ length old
+  pub others :
+      (s : ℕ) → ((p : ℕ) → Contains wanted p → along line p ≢ s) →
+      slice_index_or new s [] ≡ slice_index_or old s []
+  pub symbols :
+      (before : ℕ → ℕ → ℕ) → IsReadAlong line read known old before →
+      AreSolved (IsCodewordOf code) known wanted before (λ q p. symbol_byte new q (along line p))

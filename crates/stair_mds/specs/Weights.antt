@@ -10,7 +10,8 @@ pub record HasWeights (held : ℕ) (weights : List ℕ) : Type 0 where
   pub each : (p : ℕ) → p < length weights → slice_index weights p ≡ weight held p
 
 -- what each known place contributes to each of the first `count` wanted ones, wanted place by wanted place
-pub record HasCoefficients (held : ℕ) (known wanted coefficients : List ℕ) (count : ℕ) : Type 0 where
+pub record HasCoefficients (held : ℕ) (known wanted coefficients : List ℕ) (count : ℕ)
+    : Type 0 where
   pub many : length coefficients ≡ count * held
   pub each :
       (k i : ℕ) → k < count → i < held →

@@ -61,7 +61,8 @@ pub(crate) fn push_coefficients(
     ensures kept { (k : ℕ) → k < vec_len coefficients.old →
         slice_index coefficients.new.items k ≡ slice_index coefficients.old.items k }
     ensures added { (i : ℕ) → i < length known.now →
-        slice_index coefficients.new.items (vec_len coefficients.old + i) ≡ solving (length known.now) known.now i wanted }
+        slice_index coefficients.new.items (vec_len coefficients.old + i)
+        ≡ solving (length known.now) known.now i wanted }
     ensures capacity { vec_capacity coefficients.old ≤ vec_capacity coefficients.new }
 {
     for (i, place) in known.iter().enumerate() {

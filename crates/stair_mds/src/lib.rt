@@ -3,10 +3,12 @@
 
 mod coefficients;
 mod distances;
+mod line;
 mod mds;
 mod places;
 mod symbols;
 
+pub use line::Line;
 pub use mds::Mds;
 pub use places::{MAX_PLACES, numbers_from};
 pub use stair_gf::SYMBOL;

@@ -2,10 +2,12 @@ ghost use Rattle.std.specs.Prelude.{◌≡◌, ℕ, ◌+◌, ◌-◌, ◌*◌, �
 ghost use Rattle.std.specs.Vec.{vec_capacity};
 ghost use Rattle.stair_model.specs.CauchyCode.{AreKnownPlaces};
 ghost use Rattle.stair_model.specs.Stripe.{IsSector};
-ghost use Rattle.stair_mds.specs.Solving.{AreWantedPlaces, IsPrepared, Solves};
+ghost use Rattle.stair_mds.specs.Lagrange.{solving};
+ghost use Rattle.stair_mds.specs.Solving.{AreWantedPlaces, IsLineOf, IsPrepared, Solves, SolvesAlong};
 
 use crate::coefficients::{known_parts, push_coefficients, wanted_part};
 use crate::distances::weight;
+use crate::line::Line;
 use crate::symbols::Symbols;
 use stair_gf::{Factor, Steps};
 use std::alloc::{AllocError, Global};
@@ -102,7 +104,11 @@ impl Mds {
     pub fn prepare(&mut self, known: &[u16], wanted: &[u16])
         requires known { AreKnownPlaces self.old.shape.held self.old.shape.total known.now }
         requires wanted { AreWantedPlaces self.old.shape known.now wanted.now }
-        ensures { self.new ≡ record { shape = self.old.shape; known = known.now; wanted = wanted.now } }
+        ensures { self.new ≡ record {
+          shape = self.old.shape;
+          known = known.now;
+          wanted = wanted.now;
+        } }
     {
         let parts = known_parts(&self.weights, known);
         self.coefficients.clear();
@@ -112,6 +118,21 @@ impl Mds {
         }
         replace(&mut self.known, known);
         replace(&mut self.wanted, wanted);
+    }
+
+    /// Prepares a pattern where it isn't the one that was prepared last.
+    fn prepare_once(&mut self, known: &[u16], wanted: &[u16])
+        requires known { AreKnownPlaces self.old.shape.held self.old.shape.total known.now }
+        requires wanted { AreWantedPlaces self.old.shape known.now wanted.now }
+        ensures { self.new ≡ record {
+          shape = self.old.shape;
+          known = known.now;
+          wanted = wanted.now;
+        } }
+    {
+        if !self.has_prepared(known, wanted) {
+            self.prepare(known, wanted);
+        }
     }
 
     /// Whether a pattern is prepared.
@@ -140,17 +161,66 @@ impl Mds {
         ensures sectors { All IsSector work.new }
         ensures cost { steps.new ≡ steps.old + length self.now.known * length self.now.wanted }
     {
+        self.apply_along(Line { start: 0, step: 1 }, self.known.len(), work, steps);
+    }
+
+    /// Does the same where the places of the code lie along this line of `work`: sets the wanted symbols there to those of
+    /// the one codeword that has the known ones, and leaves all others.
+    ///
+    /// Of the known symbols the first `read` are read; the others count as zero, whatever they hold. It takes a step for
+    /// each known symbol of each wanted one, whether it is read or not, and no memory.
+    pub fn apply_along<L: Ledger>(
+        &self,
+        line: Line,
+        read: usize,
+        work: &mut Symbols,
+        steps: &mut Steps<L>,
+    )
+        requires prepared { IsPrepared self.now }
+        requires line { IsLineOf self.now.shape (length work.old) line }
+        requires read { read ≤ length self.now.known }
+        ensures solved { SolvesAlong self.now.shape line read self.now.known self.now.wanted
+            work.old work.new }
+        ensures sectors { All IsSector work.new }
+        ensures cost { steps.new ≡ steps.old + length self.now.known * length self.now.wanted }
+    {
         // What the code and the symbols keep is known from here on.
         let _ = &self.weights;
         let _ = &work.symbols;
         let held = usize::from(self.held);
-        for (number, place) in self.wanted.iter().enumerate() {
-            let start = number * held;
-            let by = &self.coefficients[start..start + held];
-            work.sum_up(*place, &self.known, by, steps);
+        let wanted = self.wanted.as_slice();
+        let from = line.symbols(&self.known);
+        let pairs = wanted.len() / 2;
+        for pair in 0..pairs {
+            let (first, second) = (2 * pair, 2 * pair + 1);
+            let one = line.symbol(wanted[first]);
+            let two = line.symbol(wanted[second]);
+            let by_one = self.factors(first, read);
+            let by_two = self.factors(second, read);
+            work.sum_up_two(one, two, &from[..read], by_one, by_two);
+            take_steps(steps, 2 * held);
+        }
+        for number in 2 * pairs..wanted.len() {
+            let place = line.symbol(wanted[number]);
+            work.sum_up(place, &from[..read], self.factors(number, read));
+            take_steps(steps, held);
         }
         // And what the symbols keep is known again.
         let _ = &work.symbols;
+    }
+
+    /// What the first known places contribute to wanted place number `number`.
+    #[inline(always)]
+    fn factors(&self, number: usize, read: usize) -> &[Factor]
+        requires prepared { IsPrepared self.now }
+        requires number { number < length self.now.wanted }
+        requires read { read ≤ length self.now.known }
+        ensures count { length result.now ≡ read }
+        ensures each { (i : ℕ) → i < read → slice_index result.now i
+            ≡ solving self.now.shape.held self.now.known i (slice_index self.now.wanted number) }
+    {
+        let start = number * usize::from(self.held);
+        &self.coefficients[start..start + read]
     }
 
     /// Sets the wanted symbols to those of the one codeword that has the known ones, and leaves all others.
@@ -171,12 +241,50 @@ impl Mds {
         ensures solved { Solves self.old.shape known.now wanted.now work.old work.new }
         ensures sectors { All IsSector work.new }
         ensures cost { steps.new ≡ steps.old + length known.now * length wanted.now }
-        ensures code { self.new ≡ record { shape = self.old.shape; known = known.now; wanted = wanted.now } }
+        ensures code { self.new ≡ record {
+          shape = self.old.shape;
+          known = known.now;
+          wanted = wanted.now;
+        } }
     {
-        if !self.has_prepared(known, wanted) {
-            self.prepare(known, wanted);
-        }
+        self.prepare_once(known, wanted);
         self.apply(work, steps);
+    }
+
+    /// Does the same where the places of the code lie along this line of `work`, as [`Mds::apply_along`] does.
+    pub fn solve_along<L: Ledger>(
+        &mut self,
+        known: &[u16],
+        wanted: &[u16],
+        line: Line,
+        read: usize,
+        work: &mut Symbols,
+        steps: &mut Steps<L>,
+    )
+        requires known { AreKnownPlaces self.old.shape.held self.old.shape.total known.now }
+        requires wanted { AreWantedPlaces self.old.shape known.now wanted.now }
+        requires line { IsLineOf self.old.shape (length work.old) line }
+        requires read { read ≤ length known.now }
+        ensures solved { SolvesAlong self.old.shape line read known.now wanted.now
+            work.old work.new }
+        ensures sectors { All IsSector work.new }
+        ensures cost { steps.new ≡ steps.old + length known.now * length wanted.now }
+        ensures code { self.new ≡ record {
+          shape = self.old.shape;
+          known = known.now;
+          wanted = wanted.now;
+        } }
+    {
+        self.prepare_once(known, wanted);
+        self.apply_along(line, read, work, steps);
+    }
+}
+
+fn take_steps<L: Ledger>(steps: &mut Steps<L>, count: usize)
+    ensures { steps.new ≡ steps.old + count }
+{
+    for _step in 0..count {
+        steps.tick();
     }
 }
 

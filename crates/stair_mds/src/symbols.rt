@@ -1,11 +1,10 @@
-ghost use Rattle.std.specs.Prelude.{◌≡◌, ◌≢◌, ℕ, ◌+◌, ◌<◌, IfOk, length, replicate, slice_index_or, slice_set, []};
-ghost use Rattle.stair_model.specs.Stripe.{IsSector, SECTOR, symbol_byte};
-ghost use Rattle.stair_gf.specs.AddsMultiples.{AreOtherPlaces, multiples};
+ghost use Rattle.std.specs.Prelude.{◌≡◌, ◌≢◌, ◌<◌, IfOk, length, replicate, slice_index_or, slice_set, []};
+ghost use Rattle.stair_model.specs.Stripe.{IsSector, SECTOR};
+ghost use Rattle.stair_gf.specs.AddsMultiples.{AreOtherPlaces, SetsSum, SetsTwoSums};
 
-use stair_gf::{Factor, SYMBOL, Steps, mul_add_sum};
+use stair_gf::{Factor, SYMBOL, sum, two_sums};
 use std::alloc::{AllocError, Global};
 use std::marker::Model;
-use std::sync::ledger::Ledger;
 
 /// Symbols of 512 bytes each, by their places.
 #[derive(Drop)]
@@ -14,14 +13,14 @@ pub struct Symbols {
 }
 
 impl Model for Symbols {
-    ghost use Rattle.std.specs.Prelude.{List, ℕ, All};
-    ghost use Rattle.stair_model.specs.Stripe.{IsSector};
+    ghost use Rattle.std.specs.Prelude.{List, ℕ};
+    ghost use Rattle.stair_mds.specs.Kept.{AreSymbols};
 
     ghost Value = { List (List ℕ) };
 
     ghost view = { λ s. s.symbols.items };
 
-    ghost invariant = { λ s. All IsSector s.symbols.items };
+    ghost invariant = { λ s. AreSymbols s.symbols.items };
 }
 
 impl Symbols {
@@ -55,28 +54,34 @@ impl Symbols {
 
     /// Makes the symbol at this place the sum of those at other places, each times its factor.
     ///
-    /// It takes a step for each of them; all other symbols stay.
-    pub(crate) fn sum_up<L: Ledger>(
-        &mut self,
-        place: u16,
-        from: &[u16],
-        by: &[Factor],
-        steps: &mut Steps<L>,
-    )
+    /// All other symbols stay.
+    pub(crate) fn sum_up(&mut self, place: u16, from: &[u16], by: &[Factor])
         requires place { place < length self.old }
         requires from { AreOtherPlaces (length self.old) place from.now }
         requires factors { length by.now ≡ length from.now }
-        ensures count { length self.new ≡ length self.old }
-        ensures others { (p : ℕ) → p ≢ place →
-            slice_index_or self.new p [] ≡ slice_index_or self.old p [] }
-        ensures sum { (q : ℕ) → q < SECTOR →
-            symbol_byte self.new q place ≡ multiples self.old from.now by.now q (length from.now) }
-        ensures cost { steps.new ≡ steps.old + length from.now }
+        ensures { SetsSum self.old self.new place from.now by.now }
     {
-        self.symbols[usize::from(place)] = [0; SYMBOL];
-        mul_add_sum(&mut self.symbols, place, from, by);
-        for _place in from {
-            steps.tick();
-        }
+        sum(&mut self.symbols, place, from, by);
+    }
+
+    /// Does so for two places, from the same symbols, by factors of their own.
+    pub(crate) fn sum_up_two(
+        &mut self,
+        one: u16,
+        two: u16,
+        from: &[u16],
+        by_one: &[Factor],
+        by_two: &[Factor],
+    )
+        requires factors_one { length by_one.now ≡ length from.now }
+        requires factors_two { length by_two.now ≡ length from.now }
+        requires apart { one ≢ two }
+        requires one { one < length self.old }
+        requires two { two < length self.old }
+        requires from_one { AreOtherPlaces (length self.old) one from.now }
+        requires from_two { AreOtherPlaces (length self.old) two from.now }
+        ensures { SetsTwoSums self.old self.new one two from.now by_one.now by_two.now }
+    {
+        two_sums(&mut self.symbols, one, two, from, by_one, by_two);
     }
 }

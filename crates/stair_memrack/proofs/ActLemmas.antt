@@ -6,7 +6,7 @@ use Rattle.std.proofs.lemmas.Bool.Decides.{nat_tests}
 use Rattle.std.proofs.lemmas.List.{get_or_default, length-set, length-append, take_more, drop_more, take_all}
 use Rattle.std.proofs.lemmas.List.Edits.{length-remove}
 use Rattle.std.proofs.lemmas.List.Sums.{sum_by-cons}
-use Rattle.stair_rack.specs.History.{Event}
+use Rattle.stair_rack.specs.History.{Happening}
 use Rattle.stair_memrack.specs.declared.act.Act.{Act}
 use Rattle.stair_memrack.specs.declared.act.What.{What}
 use Rattle.stair_memrack.specs.declared.act.What.TheVariants.{Pull, InsertBlank, InsertOld, Damage, Stop}
@@ -97,7 +97,7 @@ performed-count Stop blank places = refl
 
 -- ONE ACT AFTER ANOTHER
 
-after_acts-more : (n : ℕ) (acts : List Act) (act : Act) (h : List Event)
+after_acts-more : (n : ℕ) (acts : List Act) (act : Act) (h : List Happening)
     → after_acts n (acts ++ act ∷ []) h ≡ (if act.at == n then after_what act.what (after_acts n acts h) else after_acts n acts h)
 after_acts-more n [] act h = refl
 after_acts-more n (a ∷ acts) act h = after_acts-more n acts act (if a.at == n then after_what a.what h else h)
@@ -124,7 +124,7 @@ acts_from-split n (act ∷ acts) =
 -- Of the acts before call n those below i were done, which began with these places.
 pub record ActsDone (n i : ℕ) (acts : List Act) (from : List PlaceState) (from_stop : Bool) (places : List PlaceState) (stop : Bool)
     (blanks : List (Option (List StoredSector))) : Type 0 where
-  pub shelf : (h : List Event) → IsShelfOf from from_stop h → IsShelfOf places stop (after_acts n (take i acts) h)
+  pub shelf : (h : List Happening) → IsShelfOf from from_stop h → IsShelfOf places stop (after_acts n (take i acts) h)
   pub count : length places ≡ 32
   pub room : HasRoom places (acts_at n (drop i acts) + acts_from (n + 1) acts)
   pub blanks_left : AreBlanks n i acts blanks
@@ -140,7 +140,7 @@ ActsDone-none n acts places stop blanks count room given = record {
 }
 
 -- what the history is after one act more
-acts_next : (n i : ℕ) (acts : List Act) (act : Act) (h : List Event) → i < length acts → get_or acts i act ≡ act
+acts_next : (n i : ℕ) (acts : List Act) (act : Act) (h : List Happening) → i < length acts → get_or acts i act ≡ act
     → after_acts n (take (i + 1) acts) h ≡ (if act.at == n then after_what act.what (after_acts n (take i acts) h) else after_acts n (take i acts) h)
 acts_next n i acts act h within at =
     ap (λ xs. after_acts n xs h) (take_more acts i act within ∙ ap (λ a. take i acts ++ a ∷ []) at) ∙ after_acts-more n (take i acts) act h
@@ -214,7 +214,7 @@ module _ (n i : ℕ) (acts : List Act) (act : Act) (from : List PlaceState) (fro
 
 pub ActsDone-all : (n i : ℕ) (acts : List Act) (from : List PlaceState) (from_stop : Bool) (places : List PlaceState) (stop : Bool)
     (blanks : List (Option (List StoredSector))) → length acts ≤ i → ActsDone n i acts from from_stop places stop blanks
-    → ((h : List Event) → IsShelfOf from from_stop h → IsShelfOf places stop (after_acts n acts h))
+    → ((h : List Happening) → IsShelfOf from from_stop h → IsShelfOf places stop (after_acts n acts h))
     × HasRoom places (acts_from (n + 1) acts) × AreBlanks (n + 1) 0 acts blanks
 ActsDone-all n i acts from from_stop places stop blanks end done = (
   (λ h is. subst (λ xs. IsShelfOf places stop (after_acts n xs h)) (take_all i acts end) (done.shelf h is)),

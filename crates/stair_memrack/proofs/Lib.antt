@@ -1,8 +1,13 @@
 pub mod PlaceLemmas
 pub mod ShelfLemmas
 pub mod ActLemmas
+pub mod WriteLemmas
 pub mod RunLemmas
 pub mod CallLemmas
 pub mod RecordLemmas
 pub mod NewLemmas
 pub mod ClauseLemmas
+pub mod PickLemmas
+pub mod LeftLemmas
+pub mod WildLemmas
+pub mod LawLemmas

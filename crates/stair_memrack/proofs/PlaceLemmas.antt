@@ -1,5 +1,5 @@
 -- A slot in memory stands as the history tells, after each act and each call.
-use Rattle.std.proofs.Common.{◌≡◌, ℕ, ◌<◌, ◌≤◌, suc, zero, true, false, List, [], ◌∷◌, ◌++◌, length, map, replicate, get_or, set, inl, inr, refl, sym, ap, ap₂, ◌∙◌, subst, arith, Option, None, Some, slice_get}
+use Rattle.std.proofs.Common.{◌≡◌, ◌≢◌, ◌+◌, take, ℕ, ◌<◌, ◌≤◌, suc, zero, true, false, List, [], ◌∷◌, ◌++◌, length, map, replicate, get_or, set, inl, inr, refl, sym, ap, ap₂, ◌∙◌, subst, arith, Option, None, Some, slice_get}
 use Rattle.std.specs.Prelude.{IsTrue, is_some, if◌then◌else◌, ◌==◌, nat_lt, option_map, unwrap_or, remove, slice_set}
 use Rattle.std.proofs.Math.Path.{fun_ext}
 use Rattle.std.proofs.lemmas.Bool.{cond-true, cond-false, eq-eqb, ne_eqb, cases_eq, cases_Bool, cases_lt, ltb-true, ltb-false, lt-ltb, le-ltb, and_from, not_from_false, false≢true}
@@ -7,39 +7,52 @@ use Rattle.std.proofs.lemmas.List.{get_or-set_same, get_or-set_other, get_or_pas
 use Rattle.std.proofs.lemmas.Option.{slice_get-map, slice_get-get_or}
 use Rattle.stair_rack.specs.Sector.{Sector, damaged, content, wrote, synced}
 use Rattle.stair_rack.specs.Media.{Medium, has_sector, sectors_of}
-use Rattle.stair_rack.specs.History.{SlotState, Pulled, InsertedBlank, InsertedOld, SectorDamaged, with_old, after_act, after_attach, after_write, after_sync}
+use Rattle.stair_rack.specs.History.{SlotState, Pulled, InsertedBlank, InsertedOld, SectorDamaged, Write, with_old, after_act, after_attach, after_write, after_sync}
 use Rattle.stair_rack.specs.declared.rack.Reply.{Reply}
 use Rattle.stair_rack.specs.declared.rack.Reply.TheVariants as reply
 use Rattle.stair_memrack.specs.declared.disk.StoredSector.{StoredSector}
 use Rattle.stair_memrack.specs.Disk.{cell_of, unwritten, settle, written, stored_at, stored_in, medium_of}
 use Rattle.stair_memrack.specs.Place.{PlaceState, size_of, with_pulled, pulled, inserted, inserted_old, damaged_at, attached_as, written_as, synced_as}
 use Rattle.stair_memrack.specs.Script.{medium_now}
-use Rattle.stair_memrack.specs.Shelf.{IsStored, IsMediumOf, IsPlaceOf}
+use Rattle.stair_memrack.specs.Shelf.{Written, with_write, IsStored, IsMediumOf, IsPlaceOf}
 
 -- SECTORS
 
-pub IsStored-unwritten : IsStored unwritten damaged
-IsStored-unwritten = record { base_is = refl; content_is = refl }
+pub IsStored-unwritten : (w : List (List ℕ)) → IsStored w unwritten damaged
+IsStored-unwritten w = record { base_is = refl; content_is = refl; since_is = refl; pending_is = refl }
 
-IsStored-settle : (x : StoredSector) (s : Sector) → IsStored x s → IsStored (settle x) (synced s)
-IsStored-settle x s is = record { base_is = is.content_is; content_is = is.content_is }
+IsStored-settle : (w : List (List ℕ)) (x : StoredSector) (s : Sector) → IsStored w x s → IsStored w (settle x) (synced s)
+IsStored-settle w x s is = record { base_is = is.content_is; content_is = is.content_is; since_is = refl; pending_is = refl }
 
-IsStored-written : (bytes : List ℕ) (x : StoredSector) (s : Sector) → IsStored x s → IsStored (written bytes x) (wrote bytes s)
-IsStored-written bytes x s is = record { base_is = is.base_is; content_is = refl }
+IsStored-written : (w : List (List ℕ)) (bytes : List ℕ) (x : StoredSector) (s : Sector) → IsStored w x s
+    → IsStored (bytes ∷ w) (written bytes x) (wrote bytes s)
+IsStored-written w bytes x s is = record {
+  base_is = is.base_is;
+  content_is = refl;
+  since_is = ap (λ since. bytes ∷ since) is.since_is ∙ ap (λ n. take n (bytes ∷ w)) more;
+  pending_is = sym more ∙ ap suc is.pending_is;
+}
+  where
+    more : suc x.pending ≡ x.pending + 1
+    more = omega arith
 
-IsStored-set : (sectors : List StoredSector) (f : ℕ → Sector) (k i : ℕ) (x : StoredSector) (s : Sector) → k < length sectors → IsStored x s
-    → IsStored (stored_at sectors i) (f i) → IsStored (stored_at (slice_set sectors k x) i) (if i == k then s else f i)
-IsStored-set sectors f k i x s within new old =
+-- one sector is changed, and of no other one what was written to it
+IsStored-set : (w w' : Written) (sectors : List StoredSector) (f : ℕ → Sector) (k i : ℕ) (x : StoredSector) (s : Sector) → k < length sectors
+    → IsStored (w' k) x s → (i ≢ k → w' i ≡ w i) → IsStored (w i) (stored_at sectors i) (f i)
+    → IsStored (w' i) (stored_at (slice_set sectors k x) i) (if i == k then s else f i)
+IsStored-set w w' sectors f k i x s within new others old =
     elim (cases_eq i k) [
       | inl same ↦
           let here : stored_at (slice_set sectors k x) i ≡ x =
           ap (λ n. get_or (set sectors k x) n unwritten) same ∙ get_or-set_same sectors k x unwritten within in
           let there : (if i == k then s else f i) ≡ s = cond-true _ _ _ (eq-eqb i k same) in
-          subst (λ y. IsStored y (if i == k then s else f i)) (sym here) (subst (λ t. IsStored x t) (sym there) new)
+          subst (λ y. IsStored (w' i) y (if i == k then s else f i)) (sym here) (subst (λ t. IsStored (w' i) x t) (sym there)
+          (subst (λ n. IsStored (w' n) x s) (sym same) new))
       | inr other ↦
           let here : stored_at (slice_set sectors k x) i ≡ stored_at sectors i = get_or-set_other sectors k i x unwritten other in
           let there : (if i == k then s else f i) ≡ f i = cond-false _ _ _ (ne_eqb i k other) in
-          subst (λ y. IsStored y (if i == k then s else f i)) (sym here) (subst (λ t. IsStored (stored_at sectors i) t) (sym there) old)
+          subst (λ y. IsStored (w' i) y (if i == k then s else f i)) (sym here) (subst (λ t. IsStored (w' i) (stored_at sectors i) t) (sym there)
+          (subst (λ v. IsStored v (stored_at sectors i) (f i)) (sym (others other)) old))
     ]
 
 stored_at-settle : (sectors : List StoredSector) (k : ℕ) → stored_at (map settle sectors) k ≡ settle (stored_at sectors k)
@@ -56,13 +69,13 @@ stored_at-blank n k =
 
 -- MEDIA
 
-pub IsMediumOf-none : IsMediumOf None None (λ k. damaged)
-IsMediumOf-none = record { size_is = refl; each = λ k. IsStored-unwritten }
+pub IsMediumOf-none : (w : Written) → IsMediumOf w None None (λ k. damaged)
+IsMediumOf-none w = record { size_is = refl; each = λ k. IsStored-unwritten (w k) }
 
-pub IsMediumOf-blank : (n : ℕ) → IsMediumOf (Some (replicate n unwritten)) (Some n) (λ k. damaged)
-IsMediumOf-blank n = record {
+pub IsMediumOf-blank : (w : Written) (n : ℕ) → IsMediumOf w (Some (replicate n unwritten)) (Some n) (λ k. damaged)
+IsMediumOf-blank w n = record {
   size_is = ap (λ m. Some m) (sym (length-replicate n unwritten));
-  each = λ k. subst (λ x. IsStored x damaged) (sym (stored_at-blank n k)) IsStored-unwritten;
+  each = λ k. subst (λ x. IsStored (w k) x damaged) (sym (stored_at-blank n k)) (IsStored-unwritten (w k));
 }
 
 -- the medium has the sector where its size says so
@@ -76,44 +89,47 @@ stored_past None k past = refl
 stored_past (Some sectors) k past = get_or_past sectors k unwritten past
 
 -- one sector of it is changed
-IsMediumOf-changed : (medium : Option (List StoredSector)) (size : Option ℕ) (sector : ℕ → Sector) (k : ℕ) (x : StoredSector → StoredSector) (s : Sector)
-    → k < size_of medium → IsStored (x (stored_in medium k)) s → IsMediumOf medium size sector
-    → IsMediumOf (option_map (λ sectors. slice_set sectors k (x (stored_at sectors k))) medium) size (λ i. if i == k then s else sector i)
-IsMediumOf-changed None size sector k x s within new is = absurd (omega arith)
-IsMediumOf-changed (Some sectors) size sector k x s within new is = record {
+IsMediumOf-changed : (w w' : Written) (medium : Option (List StoredSector)) (size : Option ℕ) (sector : ℕ → Sector) (k : ℕ)
+    (x : StoredSector → StoredSector) (s : Sector) → k < size_of medium → IsStored (w' k) (x (stored_in medium k)) s
+    → ((i : ℕ) → i ≢ k → w' i ≡ w i) → IsMediumOf w medium size sector
+    → IsMediumOf w' (option_map (λ sectors. slice_set sectors k (x (stored_at sectors k))) medium) size (λ i. if i == k then s else sector i)
+IsMediumOf-changed w w' None size sector k x s within new others is = absurd (omega arith)
+IsMediumOf-changed w w' (Some sectors) size sector k x s within new others is = record {
   size_is = is.size_is ∙ ap (λ n. Some n) (sym (length-set sectors k (x (stored_at sectors k))));
-  each = λ i. IsStored-set sectors sector k i (x (stored_at sectors k)) s within new (is.each i);
+  each = λ i. IsStored-set w w' sectors sector k i (x (stored_at sectors k)) s within new (others i) (is.each i);
 }
 
-IsMediumOf-settled : (medium : Option (List StoredSector)) (size : Option ℕ) (sector : ℕ → Sector) → IsMediumOf medium size sector
-    → IsMediumOf (option_map (map settle) medium) size (λ k. synced (sector k))
-IsMediumOf-settled None size sector is = record { size_is = is.size_is; each = λ k. IsStored-settle unwritten (sector k) (is.each k) }
-IsMediumOf-settled (Some sectors) size sector is = record {
+IsMediumOf-settled : (w : Written) (medium : Option (List StoredSector)) (size : Option ℕ) (sector : ℕ → Sector) → IsMediumOf w medium size sector
+    → IsMediumOf w (option_map (map settle) medium) size (λ k. synced (sector k))
+IsMediumOf-settled w None size sector is = record { size_is = is.size_is; each = λ k. IsStored-settle (w k) unwritten (sector k) (is.each k) }
+IsMediumOf-settled w (Some sectors) size sector is = record {
   size_is = is.size_is ∙ ap (λ n. Some n) (sym (length-map sectors settle));
-  each = λ k. subst (λ x. IsStored x (synced (sector k))) (sym (stored_at-settle sectors k)) (IsStored-settle (stored_at sectors k) (sector k) (is.each k));
+  each = λ k.
+      subst (λ x. IsStored (w k) x (synced (sector k))) (sym (stored_at-settle sectors k)) (IsStored-settle (w k) (stored_at sectors k) (sector k) (is.each k));
 }
 
 -- the medium that comes back settled as reads found it
-IsMediumOf-old : (sectors : List StoredSector)
-    → IsMediumOf (Some (map settle sectors)) (Some (length sectors)) (sectors_of (Some (length sectors)) (medium_of sectors).cell)
-IsMediumOf-old sectors = record {
+IsMediumOf-old : (w : Written) (sectors : List StoredSector)
+    → IsMediumOf w (Some (map settle sectors)) (Some (length sectors)) (sectors_of (Some (length sectors)) (medium_of sectors).cell)
+IsMediumOf-old w sectors = record {
   size_is = ap (λ n. Some n) (sym (length-map sectors settle));
-  each = λ k. subst (λ x. IsStored x (sectors_of (Some (length sectors)) (medium_of sectors).cell k)) (sym (stored_at-settle sectors k)) (found k);
+  each = λ k. subst (λ x. IsStored (w k) x (sectors_of (Some (length sectors)) (medium_of sectors).cell k)) (sym (stored_at-settle sectors k)) (found k);
 }
   where
-    found : (k : ℕ) → IsStored (settle (stored_at sectors k)) (sectors_of (Some (length sectors)) (medium_of sectors).cell k)
+    found : (k : ℕ) → IsStored (w k) (settle (stored_at sectors k)) (sectors_of (Some (length sectors)) (medium_of sectors).cell k)
     found k =
         elim (cases_Bool (nat_lt k (length sectors))) [
           | inl below ↦
-              subst (λ s. IsStored (settle (stored_at sectors k)) s) (sym (cond-true _ _ _ below)) (record { base_is = refl; content_is = refl })
+              subst (λ s. IsStored (w k) (settle (stored_at sectors k)) s) (sym (cond-true _ _ _ below))
+              (record { base_is = refl; content_is = refl; since_is = refl; pending_is = refl })
           | inr above ↦
               let past : stored_at sectors k ≡ unwritten = get_or_past sectors k unwritten (ltb-false k (length sectors) above) in
-              subst (λ s. IsStored (settle (stored_at sectors k)) s) (sym (cond-false _ _ _ above))
-              (subst (λ x. IsStored (settle x) damaged) (sym past) IsStored-unwritten)
+              subst (λ s. IsStored (w k) (settle (stored_at sectors k)) s) (sym (cond-false _ _ _ above))
+              (subst (λ x. IsStored (w k) (settle x) damaged) (sym past) (IsStored-unwritten (w k)))
         ]
 
 -- what is pulled is what reads find
-pub medium_now-is : (sectors : List StoredSector) (b : SlotState) → IsMediumOf (Some sectors) b.size b.sector → medium_now b ≡ medium_of sectors
+pub medium_now-is : {w : Written} (sectors : List StoredSector) (b : SlotState) → IsMediumOf w (Some sectors) b.size b.sector → medium_now b ≡ medium_of sectors
 medium_now-is sectors b is =
     let size : unwrap_or b.size 0 ≡ length sectors = ap (λ n. unwrap_or n 0) is.size_is in
     let cell : (λ (k : ℕ). content (b.sector k)) ≡ (λ k. cell_of (stored_at sectors k).now) = fun_ext (λ k. sym (is.each k).content_is) in
@@ -142,37 +158,38 @@ none_is_full : (medium : Option (List StoredSector)) (size : Option ℕ) → siz
 none_is_full None size is = ap is_some is
 none_is_full (Some sectors) size is = ap is_some is
 
-pub is_full : (p : PlaceState) (b : SlotState) → IsPlaceOf p b → is_some b.size ≡ is_some p.medium
+pub is_full : {w : Written} (p : PlaceState) (b : SlotState) → IsPlaceOf w p b → is_some b.size ≡ is_some p.medium
 is_full p b is = none_is_full p.medium b.size is.medium.size_is
 
-pub IsPlaceOf-pulled : (p : PlaceState) (b : SlotState) → IsPlaceOf p b → is_some b.size ≡ true → IsPlaceOf (pulled p) (after_act (Pulled (medium_now b)) b)
-IsPlaceOf-pulled p b is full = pulled_from p.medium (sym (is_full p b is) ∙ full) refl
+pub IsPlaceOf-pulled : {w : Written} (p : PlaceState) (b : SlotState) → IsPlaceOf w p b → is_some b.size ≡ true
+    → IsPlaceOf w (pulled p) (after_act (Pulled (medium_now b)) b)
+IsPlaceOf-pulled {w} p b is full = pulled_from p.medium (sym (is_full p b is) ∙ full) refl
   where
-    pulled_from : (m : Option (List StoredSector)) → is_some m ≡ true → p.medium ≡ m → IsPlaceOf (pulled p) (after_act (Pulled (medium_now b)) b)
+    pulled_from : (m : Option (List StoredSector)) → is_some m ≡ true → p.medium ≡ m → IsPlaceOf w (pulled p) (after_act (Pulled (medium_now b)) b)
     pulled_from None some at = absurd (false≢true some)
     pulled_from (Some sectors) some at =
-        let now : medium_now b ≡ medium_of sectors = medium_now-is sectors b (subst (λ m. IsMediumOf m b.size b.sector) at is.medium) in
-        subst (λ m. IsPlaceOf (with_pulled m p) (after_act (Pulled (medium_now b)) b)) (sym at)
+        let now : medium_now b ≡ medium_of sectors = medium_now-is sectors b (subst (λ m. IsMediumOf w m b.size b.sector) at is.medium) in
+        subst (λ m. IsPlaceOf w (with_pulled m p) (after_act (Pulled (medium_now b)) b)) (sym at)
         (record {
-          medium = IsMediumOf-none;
+          medium = IsMediumOf-none w;
           removed_is =
               ap₂ (λ (xs : List Medium) (m : Medium). xs ++ m ∷ []) is.removed_is now ∙ sym (map-append medium_of p.removed (sectors ∷ []));
           attached_is = refl;
           found_is = is.found_is;
         })
 
-pub IsPlaceOf-inserted : (p : PlaceState) (b : SlotState) (n : ℕ) → IsPlaceOf p b → is_some b.size ≡ false
-    → IsPlaceOf (inserted (Some (replicate n unwritten)) p) (after_act (InsertedBlank n) b)
-IsPlaceOf-inserted p b n is empty =
-    subst (λ q. IsPlaceOf q (after_act (InsertedBlank n) b)) (sym (cond-false _ _ _ (sym (is_full p b is) ∙ empty)))
-    (record { medium = IsMediumOf-blank n; removed_is = is.removed_is; attached_is = is.attached_is; found_is = is.found_is })
+pub IsPlaceOf-inserted : {w : Written} (p : PlaceState) (b : SlotState) (n : ℕ) → IsPlaceOf w p b → is_some b.size ≡ false
+    → IsPlaceOf w (inserted (Some (replicate n unwritten)) p) (after_act (InsertedBlank n) b)
+IsPlaceOf-inserted {w} p b n is empty =
+    subst (λ q. IsPlaceOf w q (after_act (InsertedBlank n) b)) (sym (cond-false _ _ _ (sym (is_full p b is) ∙ empty)))
+    (record { medium = IsMediumOf-blank w n; removed_is = is.removed_is; attached_is = is.attached_is; found_is = is.found_is })
 
-pub removed-count : (p : PlaceState) (b : SlotState) → IsPlaceOf p b → length b.removed ≡ length p.removed
+pub removed-count : {w : Written} (p : PlaceState) (b : SlotState) → IsPlaceOf w p b → length b.removed ≡ length p.removed
 removed-count p b is = ap length is.removed_is ∙ length-map p.removed medium_of
 
-pub IsPlaceOf-inserted_old : (p : PlaceState) (b : SlotState) (i : ℕ) → IsPlaceOf p b → is_some b.size ≡ false → i < length b.removed
-    → IsPlaceOf (inserted_old i p) (after_act (InsertedOld i) b)
-IsPlaceOf-inserted_old p b i is empty within =
+pub IsPlaceOf-inserted_old : {w : Written} (p : PlaceState) (b : SlotState) (i : ℕ) → IsPlaceOf w p b → is_some b.size ≡ false → i < length b.removed
+    → IsPlaceOf w (inserted_old i p) (after_act (InsertedOld i) b)
+IsPlaceOf-inserted_old {w} p b i is empty within =
     let below : i < length p.removed = omega (arith, removed-count p b is) in
     let sectors : List StoredSector = get_or p.removed i [] in
     let it : slice_get p.removed i ≡ Some sectors = slice_get-get_or p.removed i [] below in
@@ -181,21 +198,22 @@ IsPlaceOf-inserted_old p b i is empty within =
     let does : inserted_old i p ≡ record p { medium = Some (map settle sectors); removed = remove p.removed i } =
     cond-true _ _ _ (and_from _ _ (not_from_false _ (sym (is_full p b is) ∙ empty)) (lt-ltb i (length p.removed) below))
     ∙ ap (λ m. record p { medium = option_map (map settle) m; removed = remove p.removed i }) it in
-    subst (λ q. IsPlaceOf q (after_act (InsertedOld i) b)) (sym does)
-    (subst (λ m. IsPlaceOf (record p { medium = Some (map settle sectors); removed = remove p.removed i }) (with_old i m b)) (sym old)
+    subst (λ q. IsPlaceOf w q (after_act (InsertedOld i) b)) (sym does)
+    (subst (λ m. IsPlaceOf w (record p { medium = Some (map settle sectors); removed = remove p.removed i }) (with_old i m b)) (sym old)
     (record {
-      medium = IsMediumOf-old sectors;
+      medium = IsMediumOf-old w sectors;
       removed_is = ap (λ xs. remove xs i) is.removed_is ∙ sym (map-remove medium_of p.removed i);
       attached_is = is.attached_is;
       found_is = is.found_is;
     }))
 
-pub IsPlaceOf-damaged : (p : PlaceState) (b : SlotState) (k : ℕ) → IsPlaceOf p b → has_sector b.size k ≡ true
-    → IsPlaceOf (damaged_at k p) (after_act (SectorDamaged k) b)
-IsPlaceOf-damaged p b k is has =
+pub IsPlaceOf-damaged : {w : Written} (p : PlaceState) (b : SlotState) (k : ℕ) → IsPlaceOf w p b → has_sector b.size k ≡ true
+    → IsPlaceOf w (damaged_at k p) (after_act (SectorDamaged k) b)
+IsPlaceOf-damaged {w} p b k is has =
     let within : k < size_of p.medium = ltb-true k (size_of p.medium) (sym (has_sector-stored p.medium b.size k is.medium.size_is) ∙ has) in
     record {
-      medium = IsMediumOf-changed p.medium b.size b.sector k (λ x. unwritten) damaged within IsStored-unwritten is.medium;
+      medium =
+          IsMediumOf-changed w w p.medium b.size b.sector k (λ x. unwritten) damaged within (IsStored-unwritten (w k)) (λ i other. refl) is.medium;
       removed_is = is.removed_is;
       attached_is = is.attached_is;
       found_is = is.found_is;
@@ -208,7 +226,7 @@ pulled-none p empty = from p.medium empty
     from None none = refl
     from (Some sectors) none = absurd (false≢true (sym none))
 
-pub damaged-past : (p : PlaceState) (b : SlotState) (k : ℕ) → IsPlaceOf p b → has_sector b.size k ≡ false → damaged_at k p ≡ p
+pub damaged-past : {w : Written} (p : PlaceState) (b : SlotState) (k : ℕ) → IsPlaceOf w p b → has_sector b.size k ≡ false → damaged_at k p ≡ p
 damaged-past p b k is past =
     let above : size_of p.medium ≤ k = ltb-false k (size_of p.medium) (sym (has_sector-stored p.medium b.size k is.medium.size_is) ∙ past) in
     ap (λ m. record p { medium = m }) (from p.medium above)
@@ -219,7 +237,8 @@ damaged-past p b k is past =
 
 -- CALLS
 
-pub IsPlaceOf-attached : (p : PlaceState) (b : SlotState) (answer : Reply) → IsPlaceOf p b → IsPlaceOf (attached_as answer p) (after_attach answer b)
+pub IsPlaceOf-attached : {w : Written} (p : PlaceState) (b : SlotState) (answer : Reply) → IsPlaceOf w p b
+    → IsPlaceOf w (attached_as answer p) (after_attach answer b)
 IsPlaceOf-attached p b reply.Done is = record {
   medium = is.medium;
   removed_is = is.removed_is;
@@ -233,21 +252,24 @@ IsPlaceOf-attached p b reply.Done is = record {
 IsPlaceOf-attached p b reply.Gone is =
     record { medium = is.medium; removed_is = is.removed_is; attached_is = refl; found_is = refl }
 
-pub IsPlaceOf-written : (p : PlaceState) (b : SlotState) (k : ℕ) (bytes : List ℕ) (answer : Reply) → IsPlaceOf p b
-    → (answer ≡ reply.Done → k < size_of p.medium) → IsPlaceOf (written_as k bytes answer p) (after_write k bytes answer b)
-IsPlaceOf-written p b k bytes reply.Done is within = record {
+pub IsPlaceOf-written : {w : Written} (p : PlaceState) (b : SlotState) (k : ℕ) (bytes : List ℕ) (answer : Reply) → IsPlaceOf w p b
+    → (answer ≡ reply.Done → k < size_of p.medium)
+    → IsPlaceOf (with_write (Write k bytes answer) w) (written_as k bytes answer p) (after_write k bytes answer b)
+IsPlaceOf-written {w} p b k bytes reply.Done is within = record {
   medium =
-      IsMediumOf-changed p.medium b.size b.sector k (written bytes) (wrote bytes (b.sector k)) (within refl)
-      (IsStored-written bytes (stored_in p.medium k) (b.sector k) (is.medium.each k)) is.medium;
+      IsMediumOf-changed w (with_write (Write k bytes reply.Done) w) p.medium b.size b.sector k (written bytes) (wrote bytes (b.sector k)) (within refl)
+      (subst (λ v. IsStored v (written bytes (stored_in p.medium k)) (wrote bytes (b.sector k))) (sym (cond-true _ _ _ (eq-eqb k k refl)))
+      (IsStored-written (w k) bytes (stored_in p.medium k) (b.sector k) (is.medium.each k))) (λ i other. cond-false _ _ _ (ne_eqb i k other)) is.medium;
   removed_is = is.removed_is;
   attached_is = is.attached_is;
   found_is = is.found_is;
 }
 IsPlaceOf-written p b k bytes reply.Gone is within = is
 
-pub IsPlaceOf-synced : (p : PlaceState) (b : SlotState) (answer : Reply) → IsPlaceOf p b → IsPlaceOf (synced_as answer p) (after_sync answer b)
-IsPlaceOf-synced p b reply.Done is = record {
-  medium = IsMediumOf-settled p.medium b.size b.sector is.medium;
+pub IsPlaceOf-synced : {w : Written} (p : PlaceState) (b : SlotState) (answer : Reply) → IsPlaceOf w p b
+    → IsPlaceOf w (synced_as answer p) (after_sync answer b)
+IsPlaceOf-synced {w} p b reply.Done is = record {
+  medium = IsMediumOf-settled w p.medium b.size b.sector is.medium;
   removed_is = is.removed_is;
   attached_is = is.attached_is;
   found_is = is.found_is;

@@ -1,10 +1,10 @@
 -- The record and the counts, after a call.
-use Rattle.std.proofs.Common.{◌≡◌, ℕ, ◌<◌, ◌≤◌, ◌+◌, ◌^◌, suc, Bool, true, false, List, [], ◌∷◌, ◌++◌, length, reverse, inl, inr, refl, sym, ap, ◌∙◌, subst, arith, Some}
+use Rattle.std.proofs.Common.{◌≡◌, ℕ, ◌<◌, ◌≤◌, ◌+◌, ◌^◌, suc, Bool, true, false, not, List, [], ◌∷◌, ◌++◌, length, reverse, inl, inr, refl, sym, ap, ◌∙◌, subst, arith, Some}
 use Rattle.std.specs.Prelude.{if◌then◌else◌, slice_set, slice_index}
-use Rattle.std.proofs.lemmas.Bool.{cond-true, cond-false, cond_both, cases_eq, cases_Bool, cases_lt, ltb-false, ltb-true, and_right}
+use Rattle.std.proofs.lemmas.Bool.{false≢true, cond-true, cond-false, cond_both, cases_eq, cases_Bool, cases_lt, ltb-false, ltb-true, and_right}
 use Rattle.std.proofs.lemmas.List.{get_or-set_same, get_or-set_other, set_past, length-set, reverse-append}
 use Rattle.stair_rack.specs.Count.{Rose, one_more}
-use Rattle.stair_rack.specs.History.{Event, Stopped, Called, slot_state, stopped}
+use Rattle.stair_rack.specs.History.{Happening, Stopped, Called, slot_state, stopped}
 use Rattle.stair_rack.specs.History as slot
 use Rattle.stair_rack.specs.Answers.{IsAnswered, read_answer}
 use Rattle.stair_rack.specs.RackCounts.{IsLaterCount, NoneFalls, CountsRead}
@@ -15,9 +15,9 @@ use Rattle.stair_rack.proofs.PassCounts.{IsLaterCount-same}
 use Rattle.stair_memrack.specs.declared.record.Call.{Call}
 use Rattle.stair_memrack.specs.declared.record.Call.TheVariants.{Attach, Sectors, Read, Write, Sync}
 use Rattle.stair_memrack.specs.declared.record.Recorded.{Recorded}
-use Rattle.stair_memrack.specs.Record.{MemRackState, slot_call, CountsReads, recorded, history_of, has_room, moment, call_is_gone, call_is_bad, call_is_read, counted, with_call, after_call}
+use Rattle.stair_memrack.specs.Record.{MemRackState, slot_call, CountsReads, history_of, has_room, moment, call_is_gone, call_is_bad, call_is_read, counted, with_call, lets_go, without_room, after_call}
 use Rattle.stair_memrack.specs.Sound.{IsSoundRecord}
-use Rattle.stair_memrack.proofs.RunLemmas.{history-with_room, history-spent}
+use Rattle.stair_memrack.proofs.RunLemmas.{history-with_room, history-untold, moment-spent, record_stops}
 
 -- the gones, where this slot's may have risen
 abbrev pub gones_after : Bool → ℕ → List ℕ → List ℕ
@@ -31,14 +31,14 @@ pub state-recorded : (s : MemRackState) (j : ℕ) (call : Call) (calls : List Re
     → record s { calls = calls; bads = bads; gones = gones; reads = reads } ≡ after_call j call s
 state-recorded s j call calls bads gones reads room calls_are bads_are gones_are reads_are =
     (λ i. record s { calls = calls_are i; bads = bads_are i; gones = gones_are i; reads = reads_are i })
-    ∙ ap (counted j call) (sym (cond-true (has_room s) (with_call j call s) (record s { spent = true }) room))
+    ∙ ap (counted j call) (sym (cond-true (has_room s) (with_call j call s) (without_room j call s) room))
 
-pub state-spent : (s : MemRackState) (j : ℕ) (call : Call) (bads : ℕ) (gones : List ℕ) → has_room s ≡ false
-    → bads ≡ (if call_is_bad call then one_more s.bads else s.bads) → gones ≡ gones_after (call_is_gone call) j s.gones
-    → record s { spent = true; bads = bads; gones = gones } ≡ after_call j call s
-state-spent s j call bads gones none bads_are gones_are =
-    (λ i. record s { spent = true; bads = bads_are i; gones = gones_are i })
-    ∙ ap (counted j call) (sym (cond-false (has_room s) (with_call j call s) (record s { spent = true }) none))
+pub state-spent : (s : MemRackState) (j : ℕ) (call : Call) (late : List ℕ) (bads : ℕ) (gones : List ℕ) → has_room s ≡ false
+    → late ≡ (if lets_go call (slot_state (moment s) j) then j ∷ s.late else s.late) → bads ≡ (if call_is_bad call then one_more s.bads else s.bads) → gones ≡ gones_after (call_is_gone call) j s.gones
+    → record s { spent = true; late = late; bads = bads; gones = gones } ≡ after_call j call s
+state-spent s j call late bads gones none late_is bads_are gones_are =
+    (λ i. record s { spent = true; late = late_is i; bads = bads_are i; gones = gones_are i })
+    ∙ ap (counted j call) (sym (cond-false (has_room s) (with_call j call s) (without_room j call s) none))
 
 pub reverse-push : (calls : List Recorded) (c : Recorded) → reverse (calls ++ c ∷ []) ≡ c ∷ reverse calls
 reverse-push calls c = reverse-append calls (c ∷ [])
@@ -48,7 +48,7 @@ reverse-push calls c = reverse-append calls (c ∷ [])
 one_more-fits : (n : ℕ) → one_more n < 2 ^ 64
 one_more-fits n = grind arith
 
-one_more-rose : (n : ℕ) → n < 2 ^ 64 → Rose n (one_more n)
+pub one_more-rose : (n : ℕ) → n < 2 ^ 64 → Rose n (one_more n)
 one_more-rose n fits = grind arith
 
 one_more-later : (n : ℕ) → n < 2 ^ 64 → IsLaterCount n (one_more n)
@@ -68,11 +68,11 @@ set_cases P xs j i x here there =
       | inr other ↦ subst P (sym (get_or-set_other xs j i x 0 other)) there
     ]
 
-gones-fit : (gone : Bool) (j : ℕ) (gones : List ℕ) → ((i : ℕ) → slice_index gones i < 2 ^ 64) → (i : ℕ) → slice_index (gones_after gone j gones) i < 2 ^ 64
+pub gones-fit : (gone : Bool) (j : ℕ) (gones : List ℕ) → ((i : ℕ) → slice_index gones i < 2 ^ 64) → (i : ℕ) → slice_index (gones_after gone j gones) i < 2 ^ 64
 gones-fit true j gones fit i = set_cases (λ n. n < 2 ^ 64) gones j i (one_more (slice_index gones j)) (λ same. one_more-fits (slice_index gones j)) (fit i)
 gones-fit false j gones fit i = fit i
 
-gones-later : (gone : Bool) (j : ℕ) (gones : List ℕ) → ((i : ℕ) → slice_index gones i < 2 ^ 64) → (i : ℕ)
+pub gones-later : (gone : Bool) (j : ℕ) (gones : List ℕ) → ((i : ℕ) → slice_index gones i < 2 ^ 64) → (i : ℕ)
     → IsLaterCount (slice_index gones i) (slice_index (gones_after gone j gones) i)
 gones-later true j gones fit i =
     set_cases (IsLaterCount (slice_index gones i)) gones j i (one_more (slice_index gones j))
@@ -80,15 +80,15 @@ gones-later true j gones fit i =
     (IsLaterCount-same (slice_index gones i))
 gones-later false j gones fit i = IsLaterCount-same (slice_index gones i)
 
-gones-count : (gone : Bool) (j : ℕ) (gones : List ℕ) → length (gones_after gone j gones) ≡ length gones
+pub gones-count : (gone : Bool) (j : ℕ) (gones : List ℕ) → length (gones_after gone j gones) ≡ length gones
 gones-count true j gones = length-set gones j (one_more (slice_index gones j))
 gones-count false j gones = refl
 
-bads-fit : (bad : Bool) (n : ℕ) → n < 2 ^ 64 → (if bad then one_more n else n) < 2 ^ 64
+pub bads-fit : (bad : Bool) (n : ℕ) → n < 2 ^ 64 → (if bad then one_more n else n) < 2 ^ 64
 bads-fit true n fits = one_more-fits n
 bads-fit false n fits = fits
 
-bads-later : (bad : Bool) (n : ℕ) → n < 2 ^ 64 → IsLaterCount n (if bad then one_more n else n)
+pub bads-later : (bad : Bool) (n : ℕ) → n < 2 ^ 64 → IsLaterCount n (if bad then one_more n else n)
 bads-later true n fits = one_more-later n fits
 bads-later false n fits = IsLaterCount-same n
 
@@ -102,7 +102,7 @@ module _ (s : MemRackState) (capacity j : ℕ) (call : Call) (sound : IsSoundRec
 
   pub record_sound : IsSoundRecord (after_call j call s) capacity
   record_sound =
-      cond_both (has_room s) (with_call j call s) (record s { spent = true }) (λ t. IsSoundRecord (counted j call t) capacity)
+      cond_both (has_room s) (with_call j call s) (without_room j call s) (λ t. IsSoundRecord (counted j call t) capacity)
       (λ room.
       let less : length s.calls < s.room = room_less room in
       record {
@@ -110,6 +110,7 @@ module _ (s : MemRackState) (capacity j : ℕ) (call : Call) (sound : IsSoundRec
         room_fits = sound.room_fits;
         memory = sound.memory;
         spent_only = λ spent. let full = sound.spent_only spent in absurd (omega arith);
+        late_only = sound.late_only;
         reads_within = reads-within (call_is_read call) s.reads (length s.calls) sound.reads_within;
         counts = gones-count (call_is_gone call) j s.gones ∙ sound.counts;
         bads_fit = bads-fit (call_is_bad call) s.bads sound.bads_fit;
@@ -122,6 +123,7 @@ module _ (s : MemRackState) (capacity j : ℕ) (call : Call) (sound : IsSoundRec
         room_fits = sound.room_fits;
         memory = sound.memory;
         spent_only = λ spent. let w = sound.within in omega arith;
+        late_only = λ unspent. absurd (false≢true (sym unspent));
         reads_within = sound.reads_within;
         counts = gones-count (call_is_gone call) j s.gones ∙ sound.counts;
         bads_fit = bads-fit (call_is_bad call) s.bads sound.bads_fit;
@@ -130,14 +132,14 @@ module _ (s : MemRackState) (capacity j : ℕ) (call : Call) (sound : IsSoundRec
 
   pub none_falls : NoneFalls s.bads (after_call j call s).bads (λ i. slice_index s.gones i) (λ i. slice_index (after_call j call s).gones i)
   none_falls =
-      cond_both (has_room s) (with_call j call s) (record s { spent = true })
+      cond_both (has_room s) (with_call j call s) (without_room j call s)
       (λ t. NoneFalls s.bads (counted j call t).bads (λ i. slice_index s.gones i) (λ i. slice_index (counted j call t).gones i))
       (λ room. record { bad = bads-later (call_is_bad call) s.bads sound.bads_fit; gone = gones-later (call_is_gone call) j s.gones sound.gones_fit })
       (λ none. record { bad = bads-later (call_is_bad call) s.bads sound.bads_fit; gone = gones-later (call_is_gone call) j s.gones sound.gones_fit })
 
   pub gone_rose : j < 32 → call_is_gone call ≡ true → Rose (slice_index s.gones j) (slice_index (after_call j call s).gones j)
   gone_rose within gone =
-      cond_both (has_room s) (with_call j call s) (record s { spent = true }) (λ t. Rose (slice_index s.gones j) (slice_index (counted j call t).gones j))
+      cond_both (has_room s) (with_call j call s) (without_room j call s) (λ t. Rose (slice_index s.gones j) (slice_index (counted j call t).gones j))
       (λ room. rose) (λ none. rose)
     where
       at : j < length s.gones
@@ -152,7 +154,7 @@ module _ (s : MemRackState) (capacity j : ℕ) (call : Call) (sound : IsSoundRec
 
   pub bad_rose : call_is_bad call ≡ true → Rose s.bads (after_call j call s).bads
   bad_rose bad =
-      cond_both (has_room s) (with_call j call s) (record s { spent = true }) (λ t. Rose s.bads (counted j call t).bads)
+      cond_both (has_room s) (with_call j call s) (without_room j call s) (λ t. Rose s.bads (counted j call t).bads)
       (λ room. rose) (λ none. rose)
     where
       rose : Rose s.bads (if call_is_bad call then one_more s.bads else s.bads)
@@ -160,14 +162,14 @@ module _ (s : MemRackState) (capacity j : ℕ) (call : Call) (sound : IsSoundRec
 
   reads_same : call_is_read call ≡ false → (after_call j call s).reads ≡ s.reads
   reads_same other =
-      cond_both (has_room s) (with_call j call s) (record s { spent = true }) (λ t. (counted j call t).reads ≡ s.reads)
+      cond_both (has_room s) (with_call j call s) (without_room j call s) (λ t. (counted j call t).reads ≡ s.reads)
       (λ room. cond-false (call_is_read call) (s.reads + 1) s.reads other) (λ none. refl)
 
 -- READS
 
 pub spent_gone : (s : MemRackState) (j k : ℕ) → has_room s ≡ false → read_answer (moment s) j k ≡ got.Gone
 spent_gone s j k none =
-    ap (λ h. read_answer h j k) (cond-false (has_room s) _ (Stopped ∷ recorded s) none) ∙ cond-false _ _ _ (and_right _ _ refl)
+    ap (λ h. read_answer h j k) (moment-spent s none) ∙ cond-false _ _ _ (and_right _ _ (ap not (record_stops s)))
 
 counts_one : (answer : Got) (n m : ℕ) → m ≡ n + 1 → CountsRead answer (Some n) (Some m)
 counts_one got.Good n m is = ap (λ x. Some x) is
@@ -182,7 +184,7 @@ counts_none got.Gone n m gone is = inl (ap (λ x. Some x) is)
 counts_read : (s : MemRackState) (j k : ℕ) (answer : Got) → answer ≡ read_answer (moment s) j k
     → CountsRead answer (Some s.reads) (Some (after_call j (Read k answer) s).reads)
 counts_read s j k answer answered =
-    cond_both (has_room s) (with_call j (Read k answer) s) (record s { spent = true })
+    cond_both (has_room s) (with_call j (Read k answer) s) (without_room j (Read k answer) s)
     (λ t. CountsRead answer (Some s.reads) (Some (counted j (Read k answer) t).reads))
     (λ room. counts_one answer s.reads (s.reads + 1) refl)
     (λ none. counts_none answer s.reads s.reads (answered ∙ spent_gone s j k none) refl)
@@ -204,7 +206,7 @@ after_read s j k answer spent_only =
           ap (λ h. slot_state h j) (history-with_room s j (Read k answer) (not_spent s.spent refl room) room)
           ∙ slot_after_call (moment s) j (slot.Read k answer)
       | inr none ↦
-          ap (λ h. slot_state h j) (history-spent s j (Read k answer) none ∙ sym (cond-false (has_room s) _ (Stopped ∷ recorded s) none))
+          ap (λ h. slot_state h j) (history-untold s j (Read k answer) none refl ∙ sym (moment-spent s none))
     ]
   where
     not_spent : (b : Bool) → s.spent ≡ b → has_room s ≡ true → b ≡ false

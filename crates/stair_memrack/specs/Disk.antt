@@ -1,6 +1,6 @@
 -- A medium in memory, as contracts see it: the list of its sectors.
-use Rattle.std.specs.Prelude.{ℕ, List, length, Option, None, Some, slice_index_or}
-use Rattle.stair_rack.specs.Sector.{Cell, Good, Damaged}
+use Rattle.std.specs.Prelude.{ℕ, ◌+◌, List, length, Option, None, Some, slice_index_or}
+use Rattle.stair_rack.specs.Sector.{Cell, Good, Damaged, Torn, TornOverDamage}
 use Rattle.stair_rack.specs.Media.{Medium}
 use Rattle.stair_memrack.specs.declared.disk.StoredCell.{StoredCell}
 use Rattle.stair_memrack.specs.declared.disk.StoredCell.TheVariants as stored
@@ -10,15 +10,17 @@ use Rattle.stair_memrack.specs.declared.disk.StoredSector.{StoredSector}
 abbrev pub cell_of : StoredCell → Cell
 cell_of (stored.Good bytes) = Good bytes
 cell_of stored.Damaged = Damaged
+cell_of stored.Torn = Torn
+cell_of stored.TornOverDamage = TornOverDamage
 
 abbrev pub unwritten : StoredSector
-unwritten = record { base = stored.Damaged; now = stored.Damaged }
+unwritten = record { base = stored.Damaged; now = stored.Damaged; pending = 0 }
 
 abbrev pub settle : StoredSector → StoredSector
-settle s = record { base = s.now; now = s.now }
+settle s = record { base = s.now; now = s.now; pending = 0 }
 
 abbrev pub written : List ℕ → StoredSector → StoredSector
-written bytes s = record { base = s.base; now = stored.Good bytes }
+written bytes s = record { base = s.base; now = stored.Good bytes; pending = s.pending + 1 }
 
 -- nothing can be read past the end
 abbrev pub stored_at : List StoredSector → ℕ → StoredSector

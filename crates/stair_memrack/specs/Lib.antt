@@ -1,7 +1,13 @@
 pub mod Disk
 pub mod Place
+pub mod Origin
 pub mod Script
 pub mod Record
 pub mod Shelf
+pub mod Picks
+pub mod Left
 pub mod Sound
 pub mod OneCall
+pub mod Wild
+pub mod WildSound
+pub mod Terms

@@ -1,5 +1,5 @@
 -- A slot in memory, as contracts see it.
-use Rattle.std.specs.Prelude.{ℕ, Bool, true, false, not, ◌&&◌, List, [], ◌∷◌, ◌++◌, length, map, Option, None, Some, is_some, if◌then◌else◌, nat_lt, slice_get, slice_set, remove, option_map}
+use Rattle.std.specs.Prelude.{ℕ, Bool, true, false, not, ◌&&◌, ◌||◌, ◌==◌, List, [], ◌∷◌, ◌++◌, length, map, Option, None, Some, is_some, if◌then◌else◌, nat_lt, slice_get, slice_set, remove, option_map}
 use Rattle.stair_rack.specs.Answers.{reply_if, is_good}
 use Rattle.stair_rack.specs.declared.rack.Reply.{Reply}
 use Rattle.stair_rack.specs.declared.rack.Reply.TheVariants as reply
@@ -30,7 +30,11 @@ no_place = record { medium = None; removed = []; attached = false; found = 0; ro
 
 abbrev pub with_pulled : Option (List StoredSector) → PlaceState → PlaceState
 with_pulled None p = p
-with_pulled (Some sectors) p = record p { medium = None; removed = p.removed ++ sectors ∷ []; attached = false }
+with_pulled (Some sectors) p = record p {
+  medium = None;
+  removed = p.removed ++ sectors ∷ [];
+  attached = false;
+}
 
 abbrev pub pulled : PlaceState → PlaceState
 pulled p = with_pulled p.medium p
@@ -41,10 +45,16 @@ inserted medium p = if is_some p.medium then p else record p { medium = medium }
 abbrev pub inserted_old : ℕ → PlaceState → PlaceState
 inserted_old i p =
     if not (is_some p.medium) && nat_lt i (length p.removed)
-    then record p { medium = option_map (map settle) (slice_get p.removed i); removed = remove p.removed i } else p
+    then record p {
+      medium = option_map (map settle) (slice_get p.removed i);
+      removed = remove p.removed i;
+    } else p
 
 abbrev pub damaged_at : ℕ → PlaceState → PlaceState
-damaged_at k p = record p { medium = option_map (λ sectors. slice_set sectors k unwritten) p.medium }
+damaged_at k p = record p {
+  medium = option_map
+      (λ sectors. slice_set sectors k unwritten) p.medium;
+}
 
 -- What it answers, and what it is afterwards.
 
@@ -63,14 +73,18 @@ attached_as reply.Done p = record p { attached = true; found = size_of p.medium 
 attached_as reply.Gone p = record p { attached = false; found = 0 }
 
 abbrev pub read_got : Bool → ℕ → PlaceState → Got
-read_got stopped k p = if is_open stopped p then (if is_good (cell_of (stored_in p.medium k).now) then got.Good else got.Bad) else got.Gone
+read_got stopped k p = if is_open stopped p then (if is_good (cell_of (stored_in p.medium k).now)
+    then got.Good else got.Bad) else got.Gone
 
 abbrev pub write_reply : Bool → ℕ → PlaceState → Reply
 write_reply stopped k p = reply_if (is_open stopped p && nat_lt k (size_of p.medium))
 
 abbrev pub written_as : ℕ → List ℕ → Reply → PlaceState → PlaceState
 written_as k bytes reply.Done p =
-    record p { medium = option_map (λ sectors. slice_set sectors k (written bytes (stored_at sectors k))) p.medium }
+    record p {
+      medium = option_map (λ sectors. slice_set sectors k (written bytes
+          (stored_at sectors k))) p.medium;
+    }
 written_as k bytes reply.Gone p = p
 
 abbrev pub sync_reply : Bool → PlaceState → Reply
@@ -79,6 +93,10 @@ sync_reply stopped p = reply_if (is_open stopped p)
 abbrev pub synced_as : Reply → PlaceState → PlaceState
 synced_as reply.Done p = record p { medium = option_map (map settle) p.medium }
 synced_as reply.Gone p = p
+
+-- it keeps what an attach found
+abbrev pub has_found : PlaceState → Bool
+has_found p = p.attached || not (p.found == 0)
 
 -- THE FIVE CALLS
 
@@ -96,10 +114,7 @@ answered_as (call.Read k answer) p = p
 answered_as (call.Write k bytes answer) p = written_as k bytes answer p
 answered_as (call.Sync answer) p = synced_as answer p
 
--- what a rack whose record is spent answers
-abbrev pub refusal_of : Ask → PlaceState → Call
-refusal_of ask.Attach p = call.Attach reply.Gone
-refusal_of ask.Sectors p = call.Sectors p.found
-refusal_of (ask.Read k) p = call.Read k got.Gone
-refusal_of (ask.Write k bytes) p = call.Write k bytes reply.Gone
-refusal_of ask.Sync p = call.Sync reply.Gone
+-- what is asked lets go of what an attach found
+abbrev pub asks_to_let_go : Ask → PlaceState → Bool
+asks_to_let_go ask.Attach p = has_found p
+asks_to_let_go a p = false

@@ -1,15 +1,23 @@
 // A medium in memory.
-ghost use Rattle.std.specs.Prelude.{◌≡◌, ◌<◌, length, map, replicate, IfOk, slice_set};
+ghost use Rattle.std.specs.Prelude.{◌≡◌, ◌<◌, ◌-◌, ◌^◌, length, vec_len, map, replicate, IfOk, slice_set};
+ghost use Rattle.stair_memrack.specs.declared.disk.StoredCell.TheVariants as StoredCell;
+ghost use Rattle.stair_memrack.specs.Origin.{held};
+ghost use Rattle.stair_memrack.specs.Left.{torn_over, now_of};
 ghost use Rattle.stair_memrack.specs.Disk.{unwritten, settle, stored_at, written};
 
 use std::alloc::{AllocError, Global};
 use std::marker::Model;
 
-/// What a sector holds.
+/// What a sector holds: these bytes, or nothing that can be read.
 #[derive(Clone, Copy, Debug, Drop)]
 pub(crate) enum StoredCell {
     Good([u8; 512]),
+    /// The outside damaged it, or it was never written.
     Damaged,
+    /// A crash cut a write.
+    Torn,
+    /// A crash cut a write over a damaged or a worn cell.
+    TornOverDamage,
 }
 
 /// A sector of a medium.
@@ -19,12 +27,62 @@ pub(crate) struct StoredSector {
     pub(crate) base: StoredCell,
     /// What a read finds.
     pub(crate) now: StoredCell,
+    /// How often it was written since. The record of the calls has the bytes.
+    pub(crate) pending: u32,
 }
 
 const UNWRITTEN: StoredSector = StoredSector {
     base: StoredCell::Damaged,
     now: StoredCell::Damaged,
+    pending: 0,
 };
+
+/// The cells of a medium that nothing was written to.
+#[derive(Debug, Drop)]
+pub(crate) struct Cells {
+    cells: Vec<StoredCell>,
+}
+
+impl Model for Cells {
+    ghost use Rattle.std.specs.Prelude.{List, ◌^◌, ◌<◌, vec_len};
+    ghost use Rattle.stair_memrack.specs.declared.disk.StoredCell.{StoredCell};
+
+    ghost Value = { List StoredCell };
+
+    ghost view = { λ c. c.cells.items };
+
+    ghost invariant = { λ c. vec_len c.cells < 2 ^ 32 };
+}
+
+impl StoredCell {
+    /// What a crash leaves that cuts a write over it.
+    pub(crate) fn torn_over(&self) -> StoredCell
+        ensures { result ≡ torn_over self.now }
+    {
+        match self {
+            StoredCell::Good(_) | StoredCell::Torn => StoredCell::Torn,
+            StoredCell::Damaged | StoredCell::TornOverDamage => StoredCell::TornOverDamage,
+        }
+    }
+}
+
+impl Cells {
+    /// These cells.
+    pub(crate) fn new(cells: Vec<StoredCell>) -> Cells
+        requires { vec_len cells < 2 ^ 32 }
+        ensures { result ≡ cells.items }
+    {
+        Cells { cells }
+    }
+
+    /// The cells of a medium of so many sectors that was never written.
+    pub(crate) fn blank(alloc: Global, size: u32) -> Result<Cells, AllocError>
+        ensures { IfOk result (λ c. c ≡ replicate size StoredCell.Damaged) }
+    {
+        let cells = vec![in alloc; StoredCell::Damaged; size as usize]?;
+        Ok(Cells { cells })
+    }
+}
 
 /// A medium: its sectors.
 #[derive(Debug, Drop)]
@@ -52,11 +110,45 @@ impl Disk {
         Ok(Disk { sectors })
     }
 
+    /// A medium that holds these cells.
+    pub(crate) fn over(alloc: Global, cells: &Cells) -> Result<Disk, AllocError>
+        ensures { IfOk result (λ d. d ≡ map held cells.now) }
+    {
+        let mut sectors = Vec::with_capacity(alloc, cells.cells.len())?;
+        for cell in cells.cells.iter() {
+            sectors.push(StoredSector {
+                base: *cell,
+                now: *cell,
+                pending: 0,
+            })?;
+        }
+        Ok(Disk { sectors })
+    }
+
     /// The number of its sectors.
     pub(crate) fn size(&self) -> u32
         ensures { result ≡ length self.now }
     {
         self.sectors.len() as u32
+    }
+
+    /// A sector that the medium has.
+    pub(crate) fn sector(&self, index: u32) -> StoredSector
+        requires { index < length self.now }
+        ensures { result ≡ stored_at self.now index }
+    {
+        self.sectors[index as usize]
+    }
+
+    /// What reads find.
+    pub(crate) fn now(&self, alloc: Global) -> Result<Cells, AllocError>
+        ensures { IfOk result (λ c. c ≡ map now_of self.now) }
+    {
+        let mut cells = Vec::with_capacity(alloc, self.sectors.len())?;
+        for sector in self.sectors.iter() {
+            cells.push(sector.now)?;
+        }
+        Ok(Cells { cells })
     }
 
     /// What a read of the sector finds. Nothing can be read past the end.
@@ -72,13 +164,16 @@ impl Disk {
 
     /// Writes the sector.
     pub(crate) fn write(&mut self, sector: u32, bytes: &[u8; 512])
-        requires { sector < length self.old }
-        ensures { self.new ≡ slice_set self.old sector (written bytes.now (stored_at self.old sector)) }
+        requires within { sector < length self.old }
+        requires pending { (stored_at self.old sector).pending < 2 ^ 32 - 1 }
+        ensures { self.new ≡ slice_set self.old sector
+            (written bytes.now (stored_at self.old sector)) }
     {
-        let base = self.sectors[sector as usize].base;
+        let StoredSector { base, pending, .. } = self.sectors[sector as usize];
         self.sectors[sector as usize] = StoredSector {
             base,
             now: StoredCell::Good(*bytes),
+            pending: pending + 1,
         };
     }
 
@@ -97,6 +192,7 @@ impl Disk {
     {
         for sector in self.sectors.iter_mut() {
             sector.base = sector.now;
+            sector.pending = 0;
         }
     }
 }

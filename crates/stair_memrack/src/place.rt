@@ -1,9 +1,10 @@
 // A slot of the rack.
-ghost use Rattle.std.specs.Prelude.{◌≡◌, ◌≢◌, ◌<◌, ℕ, length, [], false, IfOk};
+ghost use Rattle.std.specs.Prelude.{◌≡◌, ◌≢◌, ◌<◌, ◌-◌, ◌^◌, ℕ, length, map, false, ◌+◌, IfOk, vec_capacity};
 ghost use Rattle.stair_memrack.specs.Disk.{stored_in};
-ghost use Rattle.stair_memrack.specs.Place.{pulled, inserted, inserted_old, damaged_at, attach_reply, attached_as, read_got, write_reply, written_as, sync_reply, synced_as, answer_of, answered_as, refusal_of};
+ghost use Rattle.stair_memrack.specs.Origin.{held};
+ghost use Rattle.stair_memrack.specs.Place.{pulled, inserted, inserted_old, damaged_at, attach_reply, attached_as, read_got, write_reply, written_as, sync_reply, synced_as, answer_of, answered_as, asks_to_let_go};
 
-use crate::disk::{Disk, StoredCell};
+use crate::disk::{Cells, Disk, StoredCell};
 use crate::record::{Ask, Call};
 use stair_rack::{Got, Reply};
 use std::alloc::{AllocError, Global};
@@ -35,22 +36,52 @@ impl Model for Place {
 }
 
 impl Place {
-    /// A slot that holds this medium, with a drawer for so many media.
-    pub(crate) fn new(alloc: Global, medium: Option<Disk>, room: usize) -> Result<Place, AllocError>
+    /// A slot that holds this medium, and whose drawer holds media with these cells and has memory for so many more.
+    pub(crate) fn new(
+        alloc: Global,
+        medium: Option<Disk>,
+        drawer: &Vec<Cells>,
+        more: usize,
+    ) -> Result<Place, AllocError>
+        requires { more < 2 ^ 63 }
         ensures { IfOk result (λ p. p ≡ record {
           medium = medium;
-          removed = [];
+          removed = map (map held) drawer.now.items;
           attached = false;
           found = 0;
-          room = room;
+          room = length drawer.now.items + more;
         }) }
     {
         Ok(Place {
             medium,
-            removed: Vec::with_capacity(alloc, room)?,
+            removed: drawer_over(alloc, drawer, more)?,
             attached: false,
             found: 0,
         })
+    }
+
+    /// Its medium.
+    pub(crate) fn medium(&self) -> &Option<Disk>
+        ensures { result.now ≡ self.now.medium }
+    {
+        &self.medium
+    }
+
+    /// The media of its drawer.
+    pub(crate) fn removed(&self) -> &Vec<Disk>
+        ensures { result.now.items ≡ self.now.removed }
+    {
+        &self.removed
+    }
+
+    /// Whether what is asked lets go of what an attach found.
+    pub(crate) fn asks_to_let_go(&self, ask: &Ask) -> bool
+        ensures { result ≡ asks_to_let_go ask.now self.now }
+    {
+        match ask {
+            Ask::Attach => self.attached || self.found != 0,
+            _ => false,
+        }
     }
 
     /// Pulls the medium, where there is one.
@@ -95,11 +126,14 @@ impl Place {
 
     /// Does what a call asks, and answers it. A good read puts the bytes into `into`, and one that isn't leaves it.
     pub(crate) fn answer(&mut self, stopped: bool, ask: &Ask, into: &mut [u8; 512]) -> Call
+        requires { stopped ≡ false → (k : ℕ) →
+            (stored_in self.old.medium k).pending < 2 ^ 32 - 1 }
         ensures answer { result ≡ answer_of stopped ask.now self.old }
         ensures after { self.new ≡ answered_as result self.old }
         ensures good { (k : ℕ) → result ≡ Call.Read k Got.Good →
             (stored_in self.old.medium k).now ≡ StoredCell.Good into.new }
-        ensures unread { (k : ℕ) (got : Got) → result ≡ Call.Read k got → got ≢ Got.Good → into.new ≡ into.old }
+        ensures unread { (k : ℕ) (got : Got) → result ≡ Call.Read k got → got ≢ Got.Good →
+            into.new ≡ into.old }
     {
         match ask {
             Ask::Attach => Call::Attach(self.attach(stopped)),
@@ -109,19 +143,6 @@ impl Place {
                 Call::Write(*sector, *from, self.write(stopped, *sector, from))
             }
             Ask::Sync => Call::Sync(self.sync(stopped)),
-        }
-    }
-
-    /// What it answers where the record of the rack is spent.
-    pub(crate) fn refusal(&self, ask: &Ask) -> Call
-        ensures { result ≡ refusal_of ask.now self.now }
-    {
-        match ask {
-            Ask::Attach => Call::Attach(Reply::Gone),
-            Ask::Sectors => Call::Sectors(self.found),
-            Ask::Read(sector) => Call::Read(*sector, Got::Gone),
-            Ask::Write(sector, from) => Call::Write(*sector, *from, Reply::Gone),
-            Ask::Sync => Call::Sync(Reply::Gone),
         }
     }
 
@@ -147,7 +168,8 @@ impl Place {
     // Reads a sector into `into`, which is unchanged where the answer isn't `Good`.
     fn read(&self, stopped: bool, sector: u32, into: &mut [u8; 512]) -> Got
         ensures answer { result ≡ read_got stopped sector self.now }
-        ensures good { result ≡ Got.Good → (stored_in self.now.medium sector).now ≡ StoredCell.Good into.new }
+        ensures good { result ≡ Got.Good → (stored_in self.now.medium sector).now
+            ≡ StoredCell.Good into.new }
         ensures unread { result ≢ Got.Good → into.new ≡ into.old }
     {
         if stopped || !self.attached {
@@ -159,7 +181,7 @@ impl Place {
                     *into = bytes;
                     Got::Good
                 }
-                StoredCell::Damaged => Got::Bad,
+                StoredCell::Damaged | StoredCell::Torn | StoredCell::TornOverDamage => Got::Bad,
             },
             None => Got::Bad,
         }
@@ -167,6 +189,8 @@ impl Place {
 
     // Writes a sector.
     fn write(&mut self, stopped: bool, sector: u32, from: &[u8; 512]) -> Reply
+        requires { stopped ≡ false → (k : ℕ) →
+            (stored_in self.old.medium k).pending < 2 ^ 32 - 1 }
         ensures answer { result ≡ write_reply stopped sector self.old }
         ensures after { self.new ≡ written_as sector from.now result self.old }
     {
@@ -195,4 +219,17 @@ impl Place {
         }
         Reply::Done
     }
+}
+
+// A drawer with media that hold these cells, and with memory for so many more.
+fn drawer_over(alloc: Global, media: &Vec<Cells>, more: usize) -> Result<Vec<Disk>, AllocError>
+    requires { more < 2 ^ 63 }
+    ensures media { IfOk result (λ v. v.items ≡ map (map held) media.now.items) }
+    ensures room { IfOk result (λ v. vec_capacity v ≡ length media.now.items + more) }
+{
+    let mut drawer = Vec::with_capacity(alloc, media.len() + more)?;
+    for cells in media.iter() {
+        drawer.push_reserved(Disk::over(alloc, cells)?);
+    }
+    Ok(drawer)
 }

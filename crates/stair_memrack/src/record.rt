@@ -1,6 +1,7 @@
 // What is asked of a slot, and the record of the calls.
 ghost use Rattle.std.specs.Prelude.{◌≡◌};
 ghost use Rattle.stair_memrack.specs.Record.{reply_of, number_of, got_of, call_is_gone, call_is_bad, call_is_read};
+ghost use Rattle.stair_memrack.specs.Left.{wrote_on};
 
 use stair_rack::{Got, Reply};
 
@@ -29,6 +30,20 @@ pub(crate) enum Call {
 pub(crate) struct Recorded {
     pub(crate) slot: u8,
     pub(crate) call: Call,
+}
+
+impl Recorded {
+    /// The bytes that the call wrote to this sector, where it did.
+    pub(crate) fn wrote_on(&self, slot: u8, sector: u32) -> Option<[u8; 512]>
+        ensures { result ≡ wrote_on self.now slot sector }
+    {
+        match &self.call {
+            Call::Write(index, bytes, Reply::Done) if self.slot == slot && *index == sector => {
+                Some(*bytes)
+            }
+            _ => None,
+        }
+    }
 }
 
 impl Call {

@@ -1,6 +1,6 @@
 // What the outside does before a call.
 ghost use Rattle.std.specs.Prelude.{◌≡◌, ◌+◌, List, ◌||◌, vec_len};
-ghost use Rattle.stair_rack.specs.History.{Event};
+ghost use Rattle.stair_rack.specs.History.{Happening};
 ghost use Rattle.stair_memrack.specs.Script.{after_acts};
 ghost use Rattle.stair_memrack.specs.Shelf.{IsShelfOf, HasRoom, AreBlanks, acts_from, performed, is_stop};
 
@@ -37,7 +37,7 @@ pub(crate) fn act_before(
     requires count { vec_len places.old ≡ 32 }
     requires room { HasRoom places.old.items (acts_from call acts.now.items) }
     requires blanks { AreBlanks call 0 acts.now.items blanks.old.items }
-    ensures shelf { (h : List Event) → IsShelfOf places.old.items stopped.old h →
+    ensures shelf { (h : List Happening) → IsShelfOf places.old.items stopped.old h →
         IsShelfOf places.new.items stopped.new (after_acts call acts.now.items h) }
     ensures room { HasRoom places.new.items (acts_from (call + 1) acts.now.items) }
     ensures blanks { AreBlanks (call + 1) 0 acts.now.items blanks.new.items }

@@ -28,7 +28,8 @@ pub record IsExtensionOf (g : Geometry) (w x : Word) : Type 0 where
   -- intermediate chunk l is made row by row, by row m+l of the row matrix
   pub intermediate : (i l : ℕ) → i < g.r → l < classes g → x i (g.n + l) ≡ row_sum g w i (g.m + l)
   -- virtual symbol h of each chunk is made by row h of the column matrix
-  pub virtual : (h j : ℕ) → h < greatest_coverage g → j < canonical_chunks g → x (g.r + h) j ≡ column_sum g (λ i. x i j) h
+  pub virtual : (h j : ℕ) → h < greatest_coverage g → j < canonical_chunks g →
+      x (g.r + h) j ≡ column_sum g (λ i. x i j) h
 
 -- the first e_l virtual symbols of intermediate chunk l are zero, for every l
 abbrev pub HasGlobalZeros : Geometry → Word → Type 0

@@ -21,7 +21,8 @@ AreDistinct n values = (i j : ℕ) → i < n → j < n → values i ≡ values j
 -- a word of bytes whose parities are those of its held symbols
 pub record IsSystematicCodeword (held total : ℕ) (matrix : ℕ → ℕ → ℕ) (w : ℕ → ℕ) : Type 0 where
   pub bytes : AreBytes total w
-  pub parity : (k : ℕ) → held + k < total → w (held + k) ≡ field_sum held (λ j. product (matrix k j) (w j))
+  pub parity : (k : ℕ) → held + k < total →
+      w (held + k) ≡ field_sum held (λ j. product (matrix k j) (w j))
 
 -- places at which a word is known: as many as are held, and none of them twice
 pub record AreKnownPlaces (held total : ℕ) (known : List ℕ) : Type 0 where
@@ -35,12 +36,14 @@ Agree places v w = All (λ p. v p ≡ w p) places
 
 -- At each byte position the wanted symbols are those of the one codeword that has the known ones as they were before: some
 -- codeword has both, and each that has the known ones has the wanted ones. Before and after are position to word.
-pub record AreSolved (IsCode : (ℕ → ℕ) → Type 0) (known wanted : List ℕ) (before after : ℕ → ℕ → ℕ) : Type 0 where
+pub record AreSolved (IsCode : (ℕ → ℕ) → Type 0) (known wanted : List ℕ) (before after : ℕ → ℕ → ℕ)
+    : Type 0 where
   pub some :
       (q : ℕ) → q < SECTOR →
       (c : ℕ → ℕ) × IsCode c × Agree known c (before q) × Agree wanted c (after q)
   pub each :
-      (q : ℕ) (c : ℕ → ℕ) → q < SECTOR → IsCode c → Agree known c (before q) → Agree wanted c (after q)
+      (q : ℕ) (c : ℕ → ℕ) → q < SECTOR → IsCode c → Agree known c (before q) →
+      Agree wanted c (after q)
 
 -- the points of a square Cauchy matrix, x of its rows and y of its columns: bytes, and no two of them the same
 pub record AreCauchyPoints (n : ℕ) (x y : ℕ → ℕ) : Type 0 where

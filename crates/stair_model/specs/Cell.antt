@@ -44,7 +44,8 @@ data_before g i j = sum_below i (λ t. data_in_row g t (data_chunks g)) + data_i
 abbrev pub cell_at : Geometry → ℕ → ℕ → Cell
 cell_at g i j =
     if nat_le (data_chunks g) j then Parity (j - data_chunks g)
-    else (if is_global g i j then Global (class_of g j) (i - global_row g (class_of g j) 0) else Data (data_before g i j))
+    else (if is_global g i j then Global (class_of g j) (i - global_row g (class_of g j) 0)
+    else Data (data_before g i j))
 
 -- where block b lies: data cell b mod u of stripe b div u
 pub record IsPlaceOf (g : Geometry) (b stripe row chunk : ℕ) : Type 0 where

@@ -23,7 +23,8 @@ pub record AreSortedCounts (g : Geometry) (erased : CellSet) (c : List ℕ) : Ty
 
 -- of falling counts the first m may be any; count m+k is within entry m'-1-k of the coverage vector, and later ones are 0
 pub record AreWithinCoverage (g : Geometry) (c : List ℕ) : Type 0 where
-  pub partial_chunks : (k : ℕ) → k < classes g → g.m + k < g.n → slice_index c (g.m + k) ≤ coverage g (classes g - 1 - k)
+  pub partial_chunks : (k : ℕ) → k < classes g → g.m + k < g.n →
+      slice_index c (g.m + k) ≤ coverage g (classes g - 1 - k)
   pub intact_chunks : (p : ℕ) → g.m + classes g ≤ p → p < g.n → slice_index c p ≡ 0
 
 -- the cells of m whole chunks and of further ones, each as many as its class covers: their sorted counts are within coverage

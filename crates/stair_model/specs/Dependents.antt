@@ -43,7 +43,8 @@ abbrev pub SameDependents : Geometry → ℕ → Stripe → Stripe → Type 0
 SameDependents g d a b = (i j : ℕ) → IsDependent g d i j → cell a i j ≡ cell b i j
 
 -- a codeword that has this block in data cell d, and in each other data cell what was there before
-pub record HasBlockSet (g : Geometry) (d : ℕ) (block : List ℕ) (before after : Stripe) : Type 0 where
+pub record HasBlockSet (g : Geometry) (d : ℕ) (block : List ℕ) (before after : Stripe)
+    : Type 0 where
   pub of : IsStripeOf g after
   pub formed : IsWellFormed after
   pub codeword : IsCodeword g after

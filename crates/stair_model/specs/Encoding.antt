@@ -10,7 +10,8 @@ pub record IsEncodingOf (g : Geometry) (blocks : List (List ℕ)) (stripe : Stri
   pub of : IsStripeOf g stripe
   pub formed : IsWellFormed stripe
   pub codeword : IsCodeword g stripe
-  pub holds : (i j d : ℕ) → i < g.r → j < g.n → cell_at g i j ≡ Data d → cell stripe i j ≡ slice_index_or blocks d []
+  pub holds : (i j d : ℕ) → i < g.r → j < g.n → cell_at g i j ≡ Data d →
+      cell stripe i j ≡ slice_index_or blocks d []
 
 -- each data cell has the same bytes in both stripes
 abbrev pub SameData : Geometry → Stripe → Stripe → Type 0

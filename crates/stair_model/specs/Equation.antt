@@ -33,4 +33,5 @@ Precedes (GlobalEquation l h p) (GlobalEquation x y z) = ComesBefore l h p x y z
 pub record IsFirstBroken (g : Geometry) (stripe : Stripe) (equation : Equation) : Type 0 where
   pub of : IsEquationOf g equation
   pub broken : ¬ HoldsIn g stripe equation
-  pub first : (earlier : Equation) → IsEquationOf g earlier → Precedes earlier equation → HoldsIn g stripe earlier
+  pub first : (earlier : Equation) → IsEquationOf g earlier → Precedes earlier equation →
+      HoldsIn g stripe earlier

@@ -96,8 +96,13 @@ pub data IsFirstBrokenLimit (g : Geometry) : ℕ → Type 0 where
   devices : ¬ HasDevices g → IsFirstBrokenLimit g 1
   parities : HasDevices g → ¬ HasParity g → IsFirstBrokenLimit g 2
   majority : HasDevices g → HasParity g → ¬ HasMajority g → IsFirstBrokenLimit g 3
-  covered_chunks : HasDevices g → HasParity g → HasMajority g → ¬ HasClasses g → IsFirstBrokenLimit g 4
-  rows : HasDevices g → HasParity g → HasMajority g → HasClasses g → ¬ HasRows g → IsFirstBrokenLimit g 5
-  covered_sectors : HasDevices g → HasParity g → HasMajority g → HasClasses g → HasRows g → ¬ HasCoverage g → IsFirstBrokenLimit g 6
-  blocks : HasDevices g → HasParity g → HasMajority g → HasClasses g → HasRows g → HasCoverage g → ¬ HasBlocks g → IsFirstBrokenLimit g 7
-  size : HasDevices g → HasParity g → HasMajority g → HasClasses g → HasRows g → HasCoverage g → HasBlocks g → ¬ HasSize g → IsFirstBrokenLimit g 8
+  covered_chunks : HasDevices g → HasParity g → HasMajority g → ¬ HasClasses g →
+      IsFirstBrokenLimit g 4
+  rows : HasDevices g → HasParity g → HasMajority g → HasClasses g → ¬ HasRows g →
+      IsFirstBrokenLimit g 5
+  covered_sectors : HasDevices g → HasParity g → HasMajority g → HasClasses g → HasRows g →
+      ¬ HasCoverage g → IsFirstBrokenLimit g 6
+  blocks : HasDevices g → HasParity g → HasMajority g → HasClasses g → HasRows g → HasCoverage g →
+      ¬ HasBlocks g → IsFirstBrokenLimit g 7
+  size : HasDevices g → HasParity g → HasMajority g → HasClasses g → HasRows g → HasCoverage g →
+      HasBlocks g → ¬ HasSize g → IsFirstBrokenLimit g 8

@@ -31,11 +31,18 @@ byte_of stripe p i j = slice_index (cell stripe i j) p
 
 -- the stripe with other bytes in cell (i, j)
 abbrev pub with_cell : Stripe → ℕ → ℕ → List ℕ → Stripe
-with_cell stripe i j bytes = record stripe { cells = slice_set stripe.cells (i * stripe.chunks + j) bytes }
+with_cell stripe i j bytes = record stripe {
+  cells =
+      slice_set stripe.cells (i * stripe.chunks + j) bytes;
+}
 
 -- the stripe of a geometry in which every byte is zero
 abbrev pub zero_stripe : Geometry → Stripe
-zero_stripe g = record { rows = g.r; chunks = g.n; cells = replicate (g.r * g.n) (replicate SECTOR 0) }
+zero_stripe g = record {
+  rows = g.r;
+  chunks = g.n;
+  cells = replicate (g.r * g.n) (replicate SECTOR 0);
+}
 
 -- the stripe is one of this geometry
 pub record IsStripeOf (g : Geometry) (stripe : Stripe) : Type 0 where

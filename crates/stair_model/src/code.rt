@@ -28,9 +28,11 @@ pub fn cauchy_laws()
     ensures exists { (held total : ℕ) (known : List ℕ) (w : ℕ → ℕ) → held ≤ total → total ≤ 256 →
         AreKnownPlaces held total known → AreBytes total w →
         (c : ℕ → ℕ) × IsSystematicCodeword held total (coefficient held) c × Agree known c w }
-    ensures determined { (held total : ℕ) (known : List ℕ) (c d : ℕ → ℕ) (b : ℕ) → held ≤ total → total ≤ 256 →
+    ensures determined { (held total : ℕ) (known : List ℕ) (c d : ℕ → ℕ) (b : ℕ) →
+        held ≤ total → total ≤ 256 →
         AreKnownPlaces held total known →
-        IsSystematicCodeword held total (coefficient held) c → IsSystematicCodeword held total (coefficient held) d →
+        IsSystematicCodeword held total (coefficient held) c →
+        IsSystematicCodeword held total (coefficient held) d →
         Agree known c d → b < total → c b ≡ d b }
     ensures nonsingular { (n : ℕ) (x y v : ℕ → ℕ) → AreCauchyPoints n x y → AreBytes n v →
         ((i : ℕ) → i < n → field_sum n (λ j. product (inverse (bit_xor (x i) (y j))) (v j)) ≡ 0) →

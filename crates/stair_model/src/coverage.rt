@@ -19,8 +19,10 @@ ghost use Rattle.stair_model.specs.Examples.{four_devices, eight_devices};
 
 /// Sets with the same members are equal. It does nothing.
 pub fn set_laws()
-    ensures slots { (a b : Slots) → IsSlotSet a → IsSlotSet b → ((j : ℕ) → HasSlot a j ↔ HasSlot b j) → a ≡ b }
-    ensures cells { (a b : CellSet) → IsCellSet a → IsCellSet b → ((i j : ℕ) → HasCell a i j ↔ HasCell b i j) →
+    ensures slots { (a b : Slots) → IsSlotSet a → IsSlotSet b →
+        ((j : ℕ) → HasSlot a j ↔ HasSlot b j) → a ≡ b }
+    ensures cells { (a b : CellSet) → IsCellSet a → IsCellSet b →
+        ((i j : ℕ) → HasCell a i j ↔ HasCell b i j) →
         a ≡ b }
 {}
 
@@ -70,9 +72,11 @@ pub fn cell_count_laws()
 pub fn rest_laws()
     ensures cells { (g : Geometry) (cells : CellSet) (i j : ℕ) →
         HasCell (rest g cells) i j ↔ (HasCell cells i j × (g.m < count_in_row cells i)) }
-    ensures monotone { (g : Geometry) (fewer more : CellSet) → ((i j : ℕ) → HasCell fewer i j → HasCell more i j) →
+    ensures monotone { (g : Geometry) (fewer more : CellSet) →
+        ((i j : ℕ) → HasCell fewer i j → HasCell more i j) →
         (i j : ℕ) → HasCell (rest g fewer) i j → HasCell (rest g more) i j }
-    ensures well_formed { (g : Geometry) (cells : CellSet) → IsCellSet cells → IsCellSet (rest g cells) }
+    ensures well_formed { (g : Geometry) (cells : CellSet) → IsCellSet cells →
+        IsCellSet (rest g cells) }
 {}
 
 /// Which sets of erased cells are covered. It does nothing.
@@ -80,32 +84,41 @@ pub fn rest_laws()
 /// The code restores each row with at most m erased cells and, of what is left, m whole chunks and some cells of m'
 /// further ones. What is covered stays so where fewer cells are erased.
 pub fn coverage_laws()
-    ensures none { (g : Geometry) (erased : CellSet) → ((i j : ℕ) → ¬ HasCell erased i j) → IsCovered g erased }
+    ensures none { (g : Geometry) (erased : CellSet) → ((i j : ℕ) → ¬ HasCell erased i j) →
+        IsCovered g erased }
     // all cells of at most m chunks
-    ensures whole_chunks { (g : Geometry) (erased : CellSet) (lost : Slots) → IsWithinLimits g → slot_count lost ≤ g.m →
+    ensures whole_chunks { (g : Geometry) (erased : CellSet) (lost : Slots) → IsWithinLimits g →
+        slot_count lost ≤ g.m →
         ((i j : ℕ) → HasCell erased i j → HasSlot lost j) → IsCovered g erased }
     // all cells of m chunks, and of further ones as many as their classes cover
-    ensures further_chunks { (g : Geometry) (erased : CellSet) → HasCoveredChunks g erased → IsCovered g erased }
+    ensures further_chunks { (g : Geometry) (erased : CellSet) → HasCoveredChunks g erased →
+        IsCovered g erased }
     // m cells of each row
-    ensures rows { (g : Geometry) (erased : CellSet) → ((i : ℕ) → count_in_row erased i ≤ g.m) → IsCovered g erased }
+    ensures rows { (g : Geometry) (erased : CellSet) → ((i : ℕ) → count_in_row erased i ≤ g.m) →
+        IsCovered g erased }
     ensures subset { (g : Geometry) (fewer erased : CellSet) →
-        ((i j : ℕ) → HasCell fewer i j → HasCell erased i j) → IsCovered g erased → IsCovered g fewer }
+        ((i j : ℕ) → HasCell fewer i j → HasCell erased i j) → IsCovered g erased →
+        IsCovered g fewer }
     // there is one list of sorted counts of the rest at least, and all of them tell the same
     ensures each { (g : Geometry) (erased : CellSet) →
-        IsCovered g erased ↔ ((c : List ℕ) → AreSortedCounts g (rest g erased) c → AreWithinCoverage g c) }
+        IsCovered g erased ↔ ((c : List ℕ) → AreSortedCounts g (rest g erased) c →
+        AreWithinCoverage g c) }
     // the chunks themselves can be put in order
     ensures order { (g : Geometry) (erased : CellSet) →
         IsCovered g erased ↔ ((order : List ℕ) × IsCoveredOrder g (rest g erased) order) }
     // so that each chunk has its one place
-    ensures places { (n : ℕ) (order : List ℕ) → IsPermutation (range_with_len 0 n) order → HasEachOnce n order }
+    ensures places { (n : ℕ) (order : List ℕ) → IsPermutation (range_with_len 0 n) order →
+        HasEachOnce n order }
 {}
 
 /// Sorted counts of two geometries, judged by hand from the text of the definition. It does nothing.
 pub fn known_counts()
     // the coverage vector is (1, 1, 2), and two chunks may be lost
     ensures eight_within { AreWithinCoverage eight_devices (4 ∷ 4 ∷ 2 ∷ 1 ∷ 1 ∷ 0 ∷ 0 ∷ 0 ∷ []) }
-    ensures eight_two_twos { ¬ AreWithinCoverage eight_devices (4 ∷ 4 ∷ 2 ∷ 2 ∷ 1 ∷ 0 ∷ 0 ∷ 0 ∷ []) }
-    ensures eight_six_chunks { ¬ AreWithinCoverage eight_devices (1 ∷ 1 ∷ 1 ∷ 1 ∷ 1 ∷ 1 ∷ 0 ∷ 0 ∷ []) }
+    ensures eight_two_twos { ¬ AreWithinCoverage eight_devices
+        (4 ∷ 4 ∷ 2 ∷ 2 ∷ 1 ∷ 0 ∷ 0 ∷ 0 ∷ []) }
+    ensures eight_six_chunks { ¬ AreWithinCoverage eight_devices
+        (1 ∷ 1 ∷ 1 ∷ 1 ∷ 1 ∷ 1 ∷ 0 ∷ 0 ∷ []) }
     // the coverage vector is (1), and one chunk may be lost
     ensures four_within { AreWithinCoverage four_devices (2 ∷ 1 ∷ 0 ∷ 0 ∷ []) }
     ensures four_three_chunks { ¬ AreWithinCoverage four_devices (2 ∷ 1 ∷ 1 ∷ 0 ∷ []) }

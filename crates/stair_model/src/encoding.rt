@@ -14,7 +14,8 @@ ghost use Rattle.stair_model.specs.Encoding.{IsEncodedFrom, IsEncodingOf, SameDa
 /// whatever way, has the one encoded stripe as soon as all equations hold.
 pub fn encoding_laws()
     ensures exists { (g : Geometry) (blocks : List (List ℕ)) → IsWithinLimits g →
-        length blocks ≡ data_cells g → All IsSector blocks → (stripe : Stripe) × IsEncodingOf g blocks stripe }
+        length blocks ≡ data_cells g → All IsSector blocks → (stripe : Stripe)
+        × IsEncodingOf g blocks stripe }
     ensures unique { (g : Geometry) (blocks : List (List ℕ)) (a b : Stripe) → IsWithinLimits g →
         IsEncodingOf g blocks a → IsEncodingOf g blocks b → a ≡ b }
     // two codewords with the same data cells are one

@@ -14,8 +14,10 @@ pub fn product_laws()
     ensures low_bits { (a b : ℕ) → product (a % 256) b ≡ product a b }
     ensures commutative { (a b : ℕ) → product a b ≡ product b a }
     ensures associative { (a b c : ℕ) → product (product a b) c ≡ product a (product b c) }
-    ensures distributes_left { (a b c : ℕ) → product (bit_xor a b) c ≡ bit_xor (product a c) (product b c) }
-    ensures distributes_right { (a b c : ℕ) → product a (bit_xor b c) ≡ bit_xor (product a b) (product a c) }
+    ensures distributes_left { (a b c : ℕ) → product (bit_xor a b) c
+        ≡ bit_xor (product a c) (product b c) }
+    ensures distributes_right { (a b c : ℕ) →
+        product a (bit_xor b c) ≡ bit_xor (product a b) (product a c) }
     ensures zero { (a : ℕ) → product 0 a ≡ 0 }
     ensures unit { (a : ℕ) → a < 256 → product 1 a ≡ a }
     ensures doubling { (a : ℕ) → a < 128 → product 2 a ≡ 2 * a }
@@ -27,7 +29,8 @@ pub fn inverse_laws()
     ensures is_byte { (a : ℕ) → 0 < a → a < 256 → (0 < inverse a) × (inverse a < 256) }
     ensures inverse { (a : ℕ) → 0 < a → a < 256 → product a (inverse a) ≡ 1 }
     ensures only { (a b : ℕ) → 0 < a → a < 256 → b < 256 → product a b ≡ 1 → b ≡ inverse a }
-    ensures cancels { (a b c : ℕ) → 0 < a → a < 256 → b < 256 → c < 256 → product a b ≡ product a c → b ≡ c }
+    ensures cancels { (a b c : ℕ) → 0 < a → a < 256 → b < 256 → c < 256 →
+        product a b ≡ product a c → b ≡ c }
 {}
 
 /// Values that are known from elsewhere: x times x^7, and the inverses of 2 to 7, as the inverse table of the RAID-6 code

@@ -7,7 +7,8 @@ ghost use Rattle.stair_model.specs.Geometry.{Geometry, IsFirstBrokenLimit, IsWit
 pub fn limit_laws()
     ensures some { (g : Geometry) →
         IsWithinLimits g ⊎ ((limit : ℕ) × IsFirstBrokenLimit g limit) }
-    ensures not_both { (g : Geometry) (limit : ℕ) → IsFirstBrokenLimit g limit → ¬ IsWithinLimits g }
+    ensures not_both { (g : Geometry) (limit : ℕ) → IsFirstBrokenLimit g limit →
+        ¬ IsWithinLimits g }
     ensures one { (g : Geometry) (a b : ℕ) →
         IsFirstBrokenLimit g a → IsFirstBrokenLimit g b → a ≡ b }
 {}

@@ -1,20 +1,19 @@
 -- What a crash may leave of sectors, through acts and calls.
 use Rattle.std.proofs.Common.{◌≡◌, ℕ, ◌<◌, List, [], ◌∷◌, ◌++◌, ◌⊎◌, inl, inr, refl, sym, ap, ◌∙◌, subst}
-use Rattle.std.specs.Prelude.{⊤, IsTrue, IsSome, is_some, not, ◌&&◌, ◌==◌, if◌then◌else◌}
-use Rattle.std.proofs.lemmas.Bool.{and_right, cases_eq, cond-true, cond-false, eq-eqb, ne_eqb}
+use Rattle.std.specs.Prelude.{⊤, IsTrue, IsSome, ◌==◌, if◌then◌else◌}
+use Rattle.std.proofs.lemmas.Bool.{cases_eq, cond-true, cond-false, eq-eqb, ne_eqb}
 use Rattle.stair_rack.specs.Sector.{Cell, Good, Damaged, Sector, settled, damaged, newest, content, wrote, synced, torn, LeftOf, MayLeave, Leaves}
-use Rattle.stair_rack.specs.Media.{Medium, SlotImage, Image, has_sector}
-use Rattle.stair_rack.specs.History.{SlotCall, Attach, Sectors, Read, Write, Sync, Event, Made, Stopped, Acted, Called, SlotState, slot_state, stopped}
+use Rattle.stair_rack.specs.Media.{Medium, SlotImage, Image}
+use Rattle.stair_rack.specs.History.{SlotCall, Write, Sync, Happening, Made, Stopped, Acted, Called, SlotState, slot_state, stopped}
 use Rattle.stair_rack.specs.Crash.{SlotMayLeave, CrashMayLeave, image_now, Settles}
 use Rattle.stair_rack.specs.Outside.{IsAct}
-use Rattle.stair_rack.specs.Answers.{IsAnswered, IsCall, Runs, Ran, reply_if}
+use Rattle.stair_rack.specs.Answers.{IsCall, Runs, Ran}
 use Rattle.stair_rack.specs.Moments.{AtEveryMoment}
 use Rattle.stair_rack.specs.Offline.{IsKept, Here, Lost, ButForOutside, WasPulled}
 use Rattle.stair_rack.specs.declared.rack.Reply.TheVariants as reply
-use Rattle.stair_rack.specs.declared.rack.Got.TheVariants as got
 use Rattle.stair_rack.proofs.StepLemmas.{slot_after_call, kept, kept_throughout, throughout_kept, throughout_end}
 use Rattle.stair_rack.proofs.KeptLemmas.{with_sector_same, SectorKeeps, keeps_sector}
-use Rattle.stair_rack.proofs.OfflineLemmas.{keeps_stopped, unready_when_stopped}
+use Rattle.stair_rack.proofs.OfflineLemmas.{keeps_stopped, IsRefused, refused}
 
 -- ONE SECTOR
 
@@ -96,14 +95,14 @@ SectorKeeps-leaves {allowed} {j} {k} {Q} {Base} keeps = record {
     whole s (inr leaves) = leaves
 
 -- so it holds at every moment of a run
-pub leaves_throughout : {allowed : ℕ → SlotCall → Type 0} {Q Base : Cell → Type 0} {old new : List Event} (pulls j k : ℕ)
+pub leaves_throughout : {allowed : ℕ → SlotCall → Type 0} {Q Base : Cell → Type 0} {old new : List Happening} (pulls j k : ℕ)
     → KeepsLeaving allowed j k Q Base → Ran allowed old new → IsKept pulls k (Leaves Q Base) (slot_state old j)
     → AtEveryMoment (λ h. IsKept pulls k (Leaves Q Base) (slot_state h j)) old new
 leaves_throughout {allowed} {Q} {Base} pulls j k keeps ran start =
     kept_throughout {allowed = allowed} {P = λ h. IsKept pulls k (Leaves Q Base) (slot_state h j)}
     (keeps_sector {allowed = allowed} {j = j} {k = k} {P = Leaves Q Base} pulls (SectorKeeps-leaves keeps)) ran start
 
-pub leaves_on : {allowed : ℕ → SlotCall → Type 0} {Q Base : Cell → Type 0} {old new : List Event} (pulls j k : ℕ)
+pub leaves_on : {allowed : ℕ → SlotCall → Type 0} {Q Base : Cell → Type 0} {old new : List Happening} (pulls j k : ℕ)
     → KeepsLeaving allowed j k Q Base → Ran allowed old new → IsKept pulls k (Leaves Q Base) (slot_state old j)
     → IsKept pulls k (Leaves Q Base) (slot_state new j)
 leaves_on {allowed} {Q} {Base} pulls j k keeps ran start =
@@ -111,7 +110,7 @@ leaves_on {allowed} {Q} {Base} pulls j k keeps ran start =
     (keeps_sector {allowed = allowed} {j = j} {k = k} {P = Leaves Q Base} pulls (SectorKeeps-leaves keeps)) ran start
 
 -- read off an image, or off the medium that was pulled
-pub cell_left : {Q Base : Cell → Type 0} (h : List Event) (image : Image) (pulls j k : ℕ) → Q Damaged → CrashMayLeave h image
+pub cell_left : {Q Base : Cell → Type 0} (h : List Happening) (image : Image) (pulls j k : ℕ) → Q Damaged → CrashMayLeave h image
     → IsKept pulls k (Leaves Q Base) (slot_state h j) → (pulls < (slot_state h j).pulls) ⊎ Q ((image j).cell k)
 cell_left {Q} h image pulls j k damage left (Here same some (inl is)) =
     inr (subst Q (sym (settled_left Damaged ((image j).cell k) (subst (λ s. MayLeave s ((image j).cell k)) is ((left j).each k)))) damage)
@@ -131,7 +130,7 @@ synced_within s cell left = subst (MayLeave s) (sym (synced_left s cell left)) (
 
 -- of a sector that isn't written a crash leaves what it might have left before, or damage by the outside, or the medium was
 -- pulled
-pub unwritten_left : {allowed : ℕ → SlotCall → Type 0} {old new : List Event} (j k : ℕ)
+pub unwritten_left : {allowed : ℕ → SlotCall → Type 0} {old new : List Happening} (j k : ℕ)
     → ((bytes : List ℕ) → ¬ allowed j (Write k bytes reply.Done)) → Ran allowed old new → IsSome (slot_state old j).size → (image : Image)
     → CrashMayLeave new image
     → WasPulled old new j ⊎ (((image j).cell k ≡ Damaged) ⊎ MayLeave ((slot_state old j).sector k) ((image j).cell k))
@@ -152,7 +151,7 @@ unwritten_left {allowed} {old} {new} j k unwritten ran some image left =
 -- IMAGES
 
 -- a crash now may leave the image now
-pub CrashMayLeave-now : (h : List Event) → CrashMayLeave h (image_now h)
+pub CrashMayLeave-now : (h : List Happening) → CrashMayLeave h (image_now h)
 CrashMayLeave-now h j = record { size = refl; each = λ k. content_left ((slot_state h j).sector k); removed = refl }
 
 -- the image with another cell in one sector
@@ -167,7 +166,7 @@ pub with_cell_at : (image : Image) (j k : ℕ) (cell : Cell) → (with_cell imag
 with_cell_at image j k cell = ap (λ (x : SlotImage). x.cell k) (with_cell_same image j k cell) ∙ cond-true _ _ _ (eq-eqb k k refl)
 
 -- a crash leaves a sector's cell whatever it leaves of the others
-pub CrashMayLeave-with_cell : (h : List Event) (image : Image) (j k : ℕ) (cell : Cell) → CrashMayLeave h image
+pub CrashMayLeave-with_cell : (h : List Happening) (image : Image) (j k : ℕ) (cell : Cell) → CrashMayLeave h image
     → MayLeave ((slot_state h j).sector k) cell → CrashMayLeave h (with_cell image j k cell)
 CrashMayLeave-with_cell h image j k cell left may i =
     elim (cases_eq i j) [
@@ -188,26 +187,26 @@ CrashMayLeave-with_cell h image j k cell left may i =
     ]
 
 -- so what holds of a sector's cell in every image holds of every cell that a crash may leave of it
-pub in_each_image : (h : List Event) (j k : ℕ) (Q : Cell → Type 0) → ((image : Image) → CrashMayLeave h image → Q ((image j).cell k))
+pub in_each_image : (h : List Happening) (j k : ℕ) (Q : Cell → Type 0) → ((image : Image) → CrashMayLeave h image → Q ((image j).cell k))
     → (cell : Cell) → MayLeave ((slot_state h j).sector k) cell → Q cell
 in_each_image h j k Q each cell may =
     subst Q (with_cell_at (image_now h) j k cell)
     (each (with_cell (image_now h) j k cell) (CrashMayLeave-with_cell h (image_now h) j k cell (CrashMayLeave-now h) may))
 
 -- a settled sector may be left as its content alone
-pub settled_cell : (h : List Event) (image : Image) (j k : ℕ) (cell : Cell) → CrashMayLeave h image → (slot_state h j).sector k ≡ settled cell
+pub settled_cell : (h : List Happening) (image : Image) (j k : ℕ) (cell : Cell) → CrashMayLeave h image → (slot_state h j).sector k ≡ settled cell
     → (image j).cell k ≡ cell
 settled_cell h image j k cell left is = settled_left cell ((image j).cell k) (subst (λ s. MayLeave s ((image j).cell k)) is ((left j).each k))
 
 -- of a device that was synced a crash leaves what reads found
-pub synced_cell : (h : List Event) (image : Image) (j k : ℕ) → CrashMayLeave (Called j (Sync reply.Done) ∷ h) image
+pub synced_cell : (h : List Happening) (image : Image) (j k : ℕ) → CrashMayLeave (Called j (Sync reply.Done) ∷ h) image
     → (image j).cell k ≡ content ((slot_state h j).sector k)
 synced_cell h image j k left =
     settled_cell (Called j (Sync reply.Done) ∷ h) image j k (content ((slot_state h j).sector k)) left
     (ap (λ (b : SlotState). b.sector k) (slot_after_call h j (Sync reply.Done)))
 
 -- a sector that was written reads as these bytes
-pub written_now : (h : List Event) (j k : ℕ) (bytes : List ℕ)
+pub written_now : (h : List Happening) (j k : ℕ) (bytes : List ℕ)
     → content ((slot_state (Called j (Write k bytes reply.Done) ∷ h) j).sector k) ≡ Good bytes
 written_now h j k bytes =
     ap (λ (b : SlotState). content (b.sector k)) (slot_after_call h j (Write k bytes reply.Done))
@@ -215,23 +214,7 @@ written_now h j k bytes =
 
 -- STOPPED RACKS
 
--- a stopped rack does none of these
-abbrev pub IsRefused : ℕ → SlotCall → Type 0
-IsRefused j (Attach answer) = answer ≡ reply.Gone
-IsRefused j (Sectors size) = ⊤
-IsRefused j (Read k answer) = answer ≡ got.Gone
-IsRefused j (Write k bytes answer) = answer ≡ reply.Gone
-IsRefused j (Sync answer) = answer ≡ reply.Gone
-
-refused : (h : List Event) (j : ℕ) (c : SlotCall) → IsTrue (stopped h) → IsAnswered h j c → IsRefused j c
-refused h j (Attach answer) is answered = answered ∙ ap reply_if (and_right (is_some (slot_state h j).size) (not (stopped h)) (ap not is))
-refused h j (Sectors size) is answered = tt
-refused h j (Read k answer) is answered = answered ∙ cond-false _ _ _ (unready_when_stopped h j is)
-refused h j (Write k bytes answer) is answered =
-    answered ∙ ap (λ b. reply_if (b && has_sector (slot_state h j).size k)) (unready_when_stopped h j is)
-refused h j (Sync answer) is answered = answered ∙ ap reply_if (unready_when_stopped h j is)
-
-refused_event : (allowed : ℕ → SlotCall → Type 0) (h : List Event) (e : Event) → IsTrue (stopped h) → IsAct h e ⊎ IsCall allowed h e
+refused_event : (allowed : ℕ → SlotCall → Type 0) (h : List Happening) (e : Happening) → IsTrue (stopped h) → IsAct h e ⊎ IsCall allowed h e
     → IsAct h e ⊎ IsCall IsRefused h e
 refused_event allowed h e is (inl act) = inl act
 refused_event allowed h (Made image) is (inr call) = absurd call
@@ -239,7 +222,7 @@ refused_event allowed h Stopped is (inr call) = absurd call
 refused_event allowed h (Acted j a) is (inr call) = absurd call
 refused_event allowed h (Called j c) is (inr call) = inr (refused h j c is call.1, call.1)
 
-runs_refused : (allowed : ℕ → SlotCall → Type 0) (more old : List Event) → IsTrue (stopped old) → Runs allowed more old → Runs IsRefused more old
+runs_refused : (allowed : ℕ → SlotCall → Type 0) (more old : List Happening) → IsTrue (stopped old) → Runs allowed more old → Runs IsRefused more old
 runs_refused allowed [] old is runs = tt
 runs_refused allowed (e ∷ more) old is runs =
     let before : IsTrue (stopped (more ++ old)) =
@@ -247,14 +230,14 @@ runs_refused allowed (e ∷ more) old is runs =
     (runs_refused allowed more old is runs.0, refused_event allowed (more ++ old) e before runs.1)
 
 -- once it is stopped, nothing is called that does anything
-pub ran_refused : {allowed : ℕ → SlotCall → Type 0} {old new : List Event} → IsTrue (stopped old) → Ran allowed old new → Ran IsRefused old new
+pub ran_refused : {allowed : ℕ → SlotCall → Type 0} {old new : List Happening} → IsTrue (stopped old) → Ran allowed old new → Ran IsRefused old new
 ran_refused {allowed} {old} is ran = record { more = ran.more; is = ran.is; runs = runs_refused allowed ran.more old is ran.runs }
 
 pub SectorKeeps-refused : (j k : ℕ) (P : Sector → Type 0) → SectorKeeps IsRefused j k P
 SectorKeeps-refused j k P = record { write = λ bytes s may before. absurd (cc); sync = λ s may before. absurd (cc) }
 
 -- and each fact of a sector stays
-pub stopped_throughout : {allowed : ℕ → SlotCall → Type 0} {P : Sector → Type 0} {old new : List Event} (pulls j k : ℕ) → IsTrue (stopped old)
+pub stopped_throughout : {allowed : ℕ → SlotCall → Type 0} {P : Sector → Type 0} {old new : List Happening} (pulls j k : ℕ) → IsTrue (stopped old)
     → Ran allowed old new → IsKept pulls k P (slot_state old j) → AtEveryMoment (λ h. IsKept pulls k P (slot_state h j)) old new
 stopped_throughout {allowed} {P} pulls j k is ran start =
     kept_throughout {allowed = IsRefused} {P = λ h. IsKept pulls k P (slot_state h j)}

@@ -4,7 +4,7 @@ use Rattle.std.specs.Prelude.{⊤, IsSome, is_some}
 use Rattle.std.proofs.lemmas.Bool.{cond-true, cond-false, eq-eqb, ne_eqb, cases_eq, cases_lt}
 use Rattle.stair_rack.specs.Sector.{Sector, damaged, wrote, synced}
 use Rattle.stair_rack.specs.Media.{Medium}
-use Rattle.stair_rack.specs.History.{SlotAct, Pulled, InsertedBlank, InsertedOld, SectorDamaged, SlotCall, Attach, Sectors, Read, Write, Sync, Event, SlotState, with_sector, with_old, after_act, after_attach, after_write, after_sync, after_call, slot_state}
+use Rattle.stair_rack.specs.History.{SlotAct, Pulled, InsertedBlank, InsertedOld, SectorDamaged, SlotCall, Attach, Sectors, Read, Write, Sync, Happening, SlotState, with_sector, with_old, after_act, after_attach, after_write, after_sync, after_call, slot_state}
 use Rattle.stair_rack.specs.Outside.{MayHappen}
 use Rattle.stair_rack.specs.Offline.{IsKept, Here, Lost, ButForOutside}
 use Rattle.stair_rack.specs.declared.rack.Reply.{Reply}
@@ -144,5 +144,5 @@ IsKept-since {pulls} {k} {later} {P} {b} least (Here same some holds) =
 IsKept-since least (Lost less) = Lost (omega arith)
 
 -- as it is now
-pub IsKept-now : (h : List Event) (j k : ℕ) → IsSome (slot_state h j).size → ButForOutside h h j k (λ s. s ≡ (slot_state h j).sector k)
+pub IsKept-now : (h : List Happening) (j k : ℕ) → IsSome (slot_state h j).size → ButForOutside h h j k (λ s. s ≡ (slot_state h j).sector k)
 IsKept-now h j k some = Here refl some (inr refl)

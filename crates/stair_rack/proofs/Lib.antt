@@ -10,3 +10,8 @@ pub mod CallLemmas
 pub mod PassLemmas
 pub mod PassCounts
 pub mod PlacedLemmas
+pub mod StretchLemmas
+pub mod StandingLemmas
+pub mod ReadLemmas
+pub mod MediumLemmas
+pub mod InTurnLemmas

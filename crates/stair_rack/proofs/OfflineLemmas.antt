@@ -1,9 +1,9 @@
 -- Slots that are held or offline, and racks that are stopped, through acts and calls.
 use Rattle.std.proofs.Common.{◌≡◌, ℕ, ◌<◌, ◌≤◌, Bool, true, false, List, ◌∷◌, ◌⊎◌, inl, inr, refl, sym, ap, ◌∙◌, subst, arith, slice_get, true≢false, Option, None, Some, if◌then◌else◌}
-use Rattle.std.specs.Prelude.{IsSome, IsTrue, is_some, not, ◌&&◌}
-use Rattle.std.proofs.lemmas.Bool.{and_right, cases_Bool, false≢true}
+use Rattle.std.specs.Prelude.{IsSome, IsTrue, is_some, not, ◌&&◌, ⊤}
+use Rattle.std.proofs.lemmas.Bool.{and_right, cases_Bool, cond-false, false≢true}
 use Rattle.stair_rack.specs.Media.{has_sector}
-use Rattle.stair_rack.specs.History.{SlotAct, Pulled, InsertedBlank, InsertedOld, SectorDamaged, SlotCall, Attach, Sectors, Read, Write, Sync, Event, Made, Stopped, Acted, Called, SlotState, after_act, after_attach, after_write, after_sync, after_call, slot_state, stopped}
+use Rattle.stair_rack.specs.History.{SlotAct, Pulled, InsertedBlank, InsertedOld, SectorDamaged, SlotCall, Attach, Sectors, Read, Write, Sync, Happening, Made, Stopped, Acted, Called, SlotState, after_act, after_attach, after_write, after_sync, after_call, slot_state, stopped}
 use Rattle.stair_rack.specs.Outside.{MayHappen, IsAct}
 use Rattle.stair_rack.specs.Answers.{IsBesideAttach, IsNoAttach, any_call, IsGoneInRange, read_answer, is_readable, IsAnswered, reply_if, is_ready, attach_answer, Ran}
 use Rattle.stair_rack.specs.Offline.{WasPulled, IsOffline, IsOfflineUntilAttached, IsHeld}
@@ -40,14 +40,14 @@ not-false true is = refl
 not-false false is = absurd (true≢false is)
 
 -- an attached slot that isn't ready is that of a stopped rack
-pub stopped_from_unready : (h : List Event) (j : ℕ) → is_ready h j ≡ false → (slot_state h j).attached ≡ true → IsTrue (stopped h)
+pub stopped_from_unready : (h : List Happening) (j : ℕ) → is_ready h j ≡ false → (slot_state h j).attached ≡ true → IsTrue (stopped h)
 stopped_from_unready h j unready attached = not-false (stopped h) (and-false (slot_state h j).attached (not (stopped h)) unready attached)
 
-pub unready_when_stopped : (h : List Event) (j : ℕ) → IsTrue (stopped h) → is_ready h j ≡ false
+pub unready_when_stopped : (h : List Happening) (j : ℕ) → IsTrue (stopped h) → is_ready h j ≡ false
 unready_when_stopped h j is_stopped = and_right (slot_state h j).attached (not (stopped h)) (ap not is_stopped)
 
 -- a read is answered Gone where the slot isn't ready
-pub read_unready : (h : List Event) (j k : ℕ) → got.Gone ≡ read_answer h j k → is_ready h j ≡ false
+pub read_unready : (h : List Happening) (j k : ℕ) → got.Gone ≡ read_answer h j k → is_ready h j ≡ false
 read_unready h j k is = unready (is_ready h j) (is_readable (slot_state h j) k) is
   where
     unready : (ready readable : Bool) → got.Gone ≡ (if ready then (if readable then got.Good else got.Bad) else got.Gone) → ready ≡ false
@@ -57,23 +57,39 @@ read_unready h j k is = unready (is_ready h j) (is_readable (slot_state h j) k) 
 
 -- STOPPED RACKS
 
+-- a stopped rack does none of these
+abbrev pub IsRefused : ℕ → SlotCall → Type 0
+IsRefused j (Attach answer) = answer ≡ reply.Gone
+IsRefused j (Sectors size) = ⊤
+IsRefused j (Read k answer) = answer ≡ got.Gone
+IsRefused j (Write k bytes answer) = answer ≡ reply.Gone
+IsRefused j (Sync answer) = answer ≡ reply.Gone
+
+pub refused : (h : List Happening) (j : ℕ) (c : SlotCall) → IsTrue (stopped h) → IsAnswered h j c → IsRefused j c
+refused h j (Attach answer) is answered = answered ∙ ap reply_if (and_right (is_some (slot_state h j).size) (not (stopped h)) (ap not is))
+refused h j (Sectors size) is answered = tt
+refused h j (Read k answer) is answered = answered ∙ cond-false _ _ _ (unready_when_stopped h j is)
+refused h j (Write k bytes answer) is answered =
+    answered ∙ ap (λ b. reply_if (b && has_sector (slot_state h j).size k)) (unready_when_stopped h j is)
+refused h j (Sync answer) is answered = answered ∙ ap reply_if (unready_when_stopped h j is)
+
 -- once stopped, always
 pub keeps_stopped : {allowed : ℕ → SlotCall → Type 0} → Keeps allowed (λ h. IsTrue (stopped h))
 keeps_stopped {allowed} = record { act = on_act; call = λ h j c may is before. before }
   where
-    on_act : (h : List Event) (e : Event) → IsAct h e → IsTrue (stopped h) → IsTrue (stopped (e ∷ h))
+    on_act : (h : List Happening) (e : Happening) → IsAct h e → IsTrue (stopped h) → IsTrue (stopped (e ∷ h))
     on_act h (Made image) is before = absurd is
     on_act h Stopped is before = refl
     on_act h (Acted i a) is before = before
     on_act h (Called i c) is before = absurd is
 
-pub stopped_on : {allowed : ℕ → SlotCall → Type 0} {old new : List Event} → Ran allowed old new → IsTrue (stopped old) → IsTrue (stopped new)
+pub stopped_on : {allowed : ℕ → SlotCall → Type 0} {old new : List Happening} → Ran allowed old new → IsTrue (stopped old) → IsTrue (stopped new)
 stopped_on {allowed} ran before = kept {allowed = allowed} {P = λ h. IsTrue (stopped h)} keeps_stopped ran before
 
 -- A fact of one slot, unless the rack is stopped: acts and these calls keep it.
 pub record KeepsUnlessStopped (allowed : ℕ → SlotCall → Type 0) (j : ℕ) (R : SlotState → Type 0) : Type 0 where
   pub act : (b : SlotState) (a : SlotAct) → MayHappen b a → R b → R (after_act a b)
-  pub call : (h : List Event) (c : SlotCall) → allowed j c → IsAnswered h j c → stopped h ≡ false → R (slot_state h j) → R (after_call c (slot_state h j))
+  pub call : (h : List Happening) (c : SlotCall) → allowed j c → IsAnswered h j c → stopped h ≡ false → R (slot_state h j) → R (after_call c (slot_state h j))
 
 pub keeps_unless_stopped : {allowed : ℕ → SlotCall → Type 0} {j : ℕ} {R : SlotState → Type 0} → KeepsUnlessStopped allowed j R
     → Keeps allowed (λ h. IsTrue (stopped h) ⊎ R (slot_state h j))
@@ -88,11 +104,11 @@ keeps_unless_stopped {allowed} {j} {R} keeps = record { act = on_act; call = on_
     slot_acts : Keeps none (λ h. R (slot_state h j))
     slot_acts = keeps_slot {allowed = none} {j = j} {R = R} (record { act = by_acts; call = λ h c may is before. absurd may })
 
-    on_act : (h : List Event) (e : Event) → IsAct h e → IsTrue (stopped h) ⊎ R (slot_state h j) → IsTrue (stopped (e ∷ h)) ⊎ R (slot_state (e ∷ h) j)
+    on_act : (h : List Happening) (e : Happening) → IsAct h e → IsTrue (stopped h) ⊎ R (slot_state h j) → IsTrue (stopped (e ∷ h)) ⊎ R (slot_state (e ∷ h) j)
     on_act h e is (inl before) = let all : Keeps none (λ g. IsTrue (stopped g)) = keeps_stopped in inl (all.act h e is before)
     on_act h e is (inr before) = inr (slot_acts.act h e is before)
 
-    on_call : (h : List Event) (i : ℕ) (c : SlotCall) → allowed i c → IsAnswered h i c → IsTrue (stopped h) ⊎ R (slot_state h j)
+    on_call : (h : List Happening) (i : ℕ) (c : SlotCall) → allowed i c → IsAnswered h i c → IsTrue (stopped h) ⊎ R (slot_state h j)
         → IsTrue (stopped h) ⊎ R (slot_state (Called i c ∷ h) j)
     on_call h i c may is (inl before) = inl before
     on_call h i c may is (inr before) =
@@ -126,18 +142,18 @@ SlotKeeps-pulls j n = record { act = on_act; call = λ h c may is before. on_cal
     on_call b (Sync reply.Gone) before = before
 
 -- the count of pulls never falls
-pub pulls_on : {allowed : ℕ → SlotCall → Type 0} {old new : List Event} (j : ℕ) → Ran allowed old new
+pub pulls_on : {allowed : ℕ → SlotCall → Type 0} {old new : List Happening} (j : ℕ) → Ran allowed old new
     → (slot_state old j).pulls ≤ (slot_state new j).pulls
 pulls_on {allowed} {old} j ran =
     kept {allowed = allowed} {P = λ h. (slot_state old j).pulls ≤ (slot_state h j).pulls}
     (keeps_slot (SlotKeeps-pulls {allowed = allowed} j (slot_state old j).pulls)) ran (omega arith)
 
 -- what was pulled in a part of a stretch was pulled in the stretch
-pub WasPulled-later : {allowed : ℕ → SlotCall → Type 0} {old new : List Event} (before : List Event) (j : ℕ) → Ran allowed old new
+pub WasPulled-later : {allowed : ℕ → SlotCall → Type 0} {old new : List Happening} (before : List Happening) (j : ℕ) → Ran allowed old new
     → WasPulled before old j → WasPulled before new j
 WasPulled-later {allowed} before j ran pulled = let more = pulls_on {allowed = allowed} j ran in omega (arith, more, pulled)
 
-pub WasPulled-sooner : {allowed : ℕ → SlotCall → Type 0} {before old : List Event} (new : List Event) (j : ℕ) → Ran allowed before old
+pub WasPulled-sooner : {allowed : ℕ → SlotCall → Type 0} {before old : List Happening} (new : List Happening) (j : ℕ) → Ran allowed before old
     → WasPulled old new j → WasPulled before new j
 WasPulled-sooner {allowed} new j ran pulled = let more = pulls_on {allowed = allowed} j ran in omega (arith, more, pulled)
 
@@ -170,7 +186,7 @@ held_sync pulls b reply.Done (Away not_attached less) = Away not_attached less
 held_sync pulls b reply.Gone held = held
 
 -- an attach finds the medium that is there
-held_attach : (pulls : ℕ) (h : List Event) (j : ℕ) (answer : Reply) → answer ≡ attach_answer h j → stopped h ≡ false
+held_attach : (pulls : ℕ) (h : List Happening) (j : ℕ) (answer : Reply) → answer ≡ attach_answer h j → stopped h ≡ false
     → HeldState pulls (slot_state h j) → HeldState pulls (after_attach answer (slot_state h j))
 held_attach pulls h j reply.Done is goes_on held =
     let some = and-true_left (is_some (slot_state h j).size) (not (stopped h)) (reply_if-Done _ is) in
@@ -180,7 +196,7 @@ held_attach pulls h j reply.Gone is goes_on (Used attached some least) =
     absurd (false≢true (sym goes_on ∙ not-false (stopped h) none))
 held_attach pulls h j reply.Gone is goes_on (Away not_attached less) = Away refl less
 
-held_call : (allowed : ℕ → SlotCall → Type 0) (j pulls : ℕ) (h : List Event) (c : SlotCall) → allowed j c → IsAnswered h j c → stopped h ≡ false
+held_call : (allowed : ℕ → SlotCall → Type 0) (j pulls : ℕ) (h : List Happening) (c : SlotCall) → allowed j c → IsAnswered h j c → stopped h ≡ false
     → HeldState pulls (slot_state h j) → HeldState pulls (after_call c (slot_state h j))
 held_call allowed j pulls h (Attach answer) may is goes_on held = held_attach pulls h j answer is goes_on held
 held_call allowed j pulls h (Sectors size) may is goes_on held = held
@@ -188,12 +204,12 @@ held_call allowed j pulls h (Read k answer) may is goes_on held = held
 held_call allowed j pulls h (Write k bytes answer) may is goes_on held = held_write pulls (slot_state h j) k bytes answer held
 held_call allowed j pulls h (Sync answer) may is goes_on held = held_sync pulls (slot_state h j) answer held
 
-pub IsHeld-state : (before h : List Event) (j : ℕ) → IsHeld before h j → IsTrue (stopped h) ⊎ HeldState (slot_state before j).pulls (slot_state h j)
+pub IsHeld-state : (before h : List Happening) (j : ℕ) → IsHeld before h j → IsTrue (stopped h) ⊎ HeldState (slot_state before j).pulls (slot_state h j)
 IsHeld-state before h j (IsHeld.InUse attached some least) = inr (Used attached some least)
 IsHeld-state before h j (IsHeld.Unattached not_attached pulled) = inr (Away not_attached pulled)
 IsHeld-state before h j (IsHeld.RackStopped is) = inl is
 
-pub IsHeld-from_state : (before h : List Event) (j : ℕ) → IsTrue (stopped h) ⊎ HeldState (slot_state before j).pulls (slot_state h j) → IsHeld before h j
+pub IsHeld-from_state : (before h : List Happening) (j : ℕ) → IsTrue (stopped h) ⊎ HeldState (slot_state before j).pulls (slot_state h j) → IsHeld before h j
 IsHeld-from_state before h j (inr (Used attached some least)) = IsHeld.InUse attached some least
 IsHeld-from_state before h j (inr (Away not_attached less)) = IsHeld.Unattached not_attached less
 IsHeld-from_state before h j (inl is) = IsHeld.RackStopped is
@@ -204,7 +220,7 @@ keeps_held_state {allowed} j pulls =
     (record { act = held_act pulls; call = held_call allowed j pulls })
 
 -- a held slot stays held, whatever is called
-pub held_on : {allowed : ℕ → SlotCall → Type 0} {before old new : List Event} (j : ℕ) → Ran allowed old new → IsHeld before old j → IsHeld before new j
+pub held_on : {allowed : ℕ → SlotCall → Type 0} {before old new : List Happening} (j : ℕ) → Ran allowed old new → IsHeld before old j → IsHeld before new j
 held_on {allowed} {before} {old} {new} j ran held =
     IsHeld-from_state before new j
     (kept {allowed = allowed} {P = λ h. IsTrue (stopped h) ⊎ HeldState (slot_state before j).pulls (slot_state h j)}
@@ -212,12 +228,12 @@ held_on {allowed} {before} {old} {new} j ran held =
 
 -- OFFLINE SLOTS
 
-pub offline_now : {before h : List Event} {j : ℕ} → IsOfflineUntilAttached before h j → IsOffline before h j
+pub offline_now : {before h : List Happening} {j : ℕ} → IsOfflineUntilAttached before h j → IsOffline before h j
 offline_now (IsOfflineUntilAttached.Unattached not_attached pulled) = IsOffline.Unattached not_attached pulled
 offline_now (IsOfflineUntilAttached.RackStopped is) = IsOffline.RackStopped is
 
 -- a held slot that isn't ready is offline
-pub offline_from_unready : {before h : List Event} {j : ℕ} → IsHeld before h j → is_ready h j ≡ false → IsOfflineUntilAttached before h j
+pub offline_from_unready : {before h : List Happening} {j : ℕ} → IsHeld before h j → is_ready h j ≡ false → IsOfflineUntilAttached before h j
 offline_from_unready {before} {h} {j} (IsHeld.InUse attached some least) unready = IsOfflineUntilAttached.RackStopped (stopped_from_unready h j unready attached)
 offline_from_unready (IsHeld.Unattached not_attached pulled) unready = IsOfflineUntilAttached.Unattached not_attached pulled
 offline_from_unready (IsHeld.RackStopped is) unready = IsOfflineUntilAttached.RackStopped is
@@ -248,7 +264,7 @@ SlotKeeps-away {allowed} j pulls beside = record { act = on_act; call = λ h c m
     on_call b (Sync reply.Gone) is away = away
 
 -- an offline slot stays so until it is attached
-pub offline_on : {allowed : ℕ → SlotCall → Type 0} {before old new : List Event} (j : ℕ) → ((c : SlotCall) → allowed j c → IsBesideAttach c)
+pub offline_on : {allowed : ℕ → SlotCall → Type 0} {before old new : List Happening} (j : ℕ) → ((c : SlotCall) → allowed j c → IsBesideAttach c)
     → Ran allowed old new → IsOfflineUntilAttached before old j → IsOfflineUntilAttached before new j
 offline_on {allowed} {before} {old} {new} j beside ran (IsOfflineUntilAttached.RackStopped is) =
     IsOfflineUntilAttached.RackStopped (stopped_on {allowed = allowed} ran is)
@@ -290,7 +306,7 @@ unattached_unready true s is = absurd (true≢false is)
 unattached_unready false s is = refl
 
 -- a slot that isn't ready stays so until it is attached
-pub unready_on : {allowed : ℕ → SlotCall → Type 0} {old new : List Event} (j : ℕ) → ((c : SlotCall) → allowed j c → IsBesideAttach c)
+pub unready_on : {allowed : ℕ → SlotCall → Type 0} {old new : List Happening} (j : ℕ) → ((c : SlotCall) → allowed j c → IsBesideAttach c)
     → Ran allowed old new → is_ready old j ≡ false → is_ready new j ≡ false
 unready_on {allowed} {old} {new} j beside ran unready =
     elim (unready_cases (slot_state old j).attached (stopped old) unready) [
@@ -307,26 +323,30 @@ none_or_stopped (Some n) true is = inr refl
 none_or_stopped (Some n) false is = absurd (true≢false is)
 
 -- a slot that is gone in range isn't ready, or an attach found none
-pub unready_from_gone : (h : List Event) (j : ℕ) (c : SlotCall) → IsBesideAttach c → IsAnswered h j c → IsGoneInRange (slot_state h j) c
+pub unready_from_gone : (h : List Happening) (j : ℕ) (c : SlotCall) → IsBesideAttach c → IsAnswered h j c → IsGoneInRange h j c
     → is_ready h j ≡ false
 unready_from_gone h j (Attach answer) beside answered gone = absurd beside
 unready_from_gone h j (Sectors size) beside answered gone = absurd gone
 unready_from_gone h j (Read k answer) beside answered gone = read_unready h j k (sym gone ∙ answered)
 unready_from_gone h j (Write k bytes answer) beside answered gone =
-    elim (cases_Bool (is_ready h j)) [
-      | inl ready ↦
-          absurd (false≢true
-          (sym (and-false (is_ready h j) (has_sector (slot_state h j).size k) (reply_if-Gone _ (sym gone.0 ∙ answered)) ready) ∙ gone.1))
-      | inr unready ↦ unready
+    elim gone.1 [
+      | inl unready ↦ unready
+      | inr has ↦
+          elim (cases_Bool (is_ready h j)) [
+            | inl ready ↦
+                absurd (false≢true
+                (sym (and-false (is_ready h j) (has_sector (slot_state h j).size k) (reply_if-Gone _ (sym gone.0 ∙ answered)) ready) ∙ has))
+            | inr unready ↦ unready
+          ]
     ]
 unready_from_gone h j (Sync answer) beside answered gone = reply_if-Gone _ (sym gone ∙ answered)
 
 -- where an attach answers Gone
-pub attach_gone_now : (h : List Event) (j : ℕ) → IsAnswered h j (Attach reply.Gone) → ((slot_state h j).size ≡ None) ⊎ IsTrue (stopped h)
+pub attach_gone_now : (h : List Happening) (j : ℕ) → IsAnswered h j (Attach reply.Gone) → ((slot_state h j).size ≡ None) ⊎ IsTrue (stopped h)
 attach_gone_now h j answered = none_or_stopped (slot_state h j).size (stopped h) (reply_if-Gone _ answered)
 
 -- a held slot that is gone in range is offline
-pub offline_from_gone : (before h : List Event) (j : ℕ) (c : SlotCall) → IsHeld before h j → IsAnswered h j c → IsGoneInRange (slot_state h j) c
+pub offline_from_gone : (before h : List Happening) (j : ℕ) (c : SlotCall) → IsHeld before h j → IsAnswered h j c → IsGoneInRange h j c
     → IsOffline before h j
 offline_from_gone before h j (Attach answer) held answered gone =
     elim (attach_gone_now h j (sym gone ∙ answered)) [ inl none ↦ IsOffline.NoMedium none | inr is ↦ IsOffline.RackStopped is ]
@@ -339,7 +359,7 @@ offline_from_gone before h j (Sync answer) held answered gone =
     offline_now (offline_from_unready held (unready_from_gone h j (Sync answer) tt answered gone))
 
 -- a slot that was gone in range isn't ready until it is attached
-pub unready_lasts : (h new : List Event) (j : ℕ) (c : SlotCall) → IsAnswered h j c → IsGoneInRange (slot_state h j) c
+pub unready_lasts : (h new : List Happening) (j : ℕ) (c : SlotCall) → IsAnswered h j c → IsGoneInRange h j c
     → Ran (IsNoAttach j) (Called j c ∷ h) new → is_ready new j ≡ false
 unready_lasts h new j c answered gone ran =
     unready_on {allowed = IsNoAttach j} j (λ d no_attach. no_attach refl) ran (unready_after c answered gone)
@@ -347,7 +367,7 @@ unready_lasts h new j c answered gone ran =
     still : (d : SlotCall) → after_call d (slot_state h j) ≡ slot_state h j → is_ready h j ≡ false → is_ready (Called j d ∷ h) j ≡ false
     still d same unready = ap (λ (b : SlotState). b.attached && not (stopped h)) (slot_after_call h j d ∙ same) ∙ unready
 
-    unready_after : (d : SlotCall) → IsAnswered h j d → IsGoneInRange (slot_state h j) d → is_ready (Called j d ∷ h) j ≡ false
+    unready_after : (d : SlotCall) → IsAnswered h j d → IsGoneInRange h j d → is_ready (Called j d ∷ h) j ≡ false
     unready_after (Attach answer) answered gone =
         let here : slot_state (Called j (Attach answer) ∷ h) j ≡ after_attach reply.Gone (slot_state h j) =
         slot_after_call h j (Attach answer) ∙ ap (λ r. after_attach r (slot_state h j)) gone in
@@ -362,7 +382,7 @@ unready_lasts h new j c answered gone ran =
         still (Sync answer) (ap (λ r. after_sync r (slot_state h j)) gone) (unready_from_gone h j (Sync answer) tt answered gone)
 
 -- a slot that an attach found is held in each session that began before, and stays so
-pub held_lasts : (before h new : List Event) (j : ℕ) → Ran any_call before h → IsAnswered h j (Attach reply.Done)
+pub held_lasts : (before h new : List Happening) (j : ℕ) → Ran any_call before h → IsAnswered h j (Attach reply.Done)
     → Ran any_call (Called j (Attach reply.Done) ∷ h) new → IsHeld before new j
 held_lasts before h new j ran answered later = held_on {allowed = any_call} j later found
   where

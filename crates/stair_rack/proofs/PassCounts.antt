@@ -2,7 +2,7 @@
 use Rattle.std.proofs.Common.{◌≡◌, ℕ, ◌<◌, ◌+◌, Bool, true, false, List, ◌⊎◌, inl, inr, refl, sym, ◌∙◌, subst, arith, Option, add-one}
 use Rattle.std.specs.Prelude.{IsTrue, ◌↔◌, not}
 use Rattle.std.proofs.Common.{rules}
-use Rattle.std.proofs.lemmas.Bool.{cases_Bool, cases_lt, false≢true, false_from_ne_true}
+use Rattle.std.proofs.lemmas.Bool.{cases_lt, false≢true, false_from_ne_true}
 use Rattle.std.proofs.lemmas.List.{get_or_past}
 use denote.Enum.Bare.{sameb, same_true, same_false}
 use Rattle.stair_rack.specs.contracts.rack.Reply.{the_type}
@@ -10,7 +10,7 @@ use Rattle.stair_model.specs.Slots.{Slots, has_slot, HasSlot, IsSlotSet}
 use Rattle.stair_model.proofs.SetLaws.{same_test}
 use Rattle.stair_rack.specs.Count.{Rose, Rose-kept, kept-Rose}
 use Rattle.stair_rack.specs.RackCounts.{IsLaterCount, NoneFalls}
-use Rattle.stair_rack.specs.History.{Event, SlotCall}
+use Rattle.stair_rack.specs.History.{Happening, SlotCall}
 use Rattle.stair_rack.specs.Answers.{Calls, reply_if}
 use Rattle.stair_rack.specs.Passes.{Turns}
 use Rattle.stair_rack.specs.declared.rack.Reply.{Reply}
@@ -52,7 +52,7 @@ Done-compared reply.Gone is = absurd (same_false the_type reply.Gone reply.Gone 
 
 -- what of a rack a pass speaks of
 pub record Seen : Type 0 where
-  pub history : List Event
+  pub history : List Happening
   pub bads : ℕ
   pub gones : ℕ → ℕ
   pub reads : Option ℕ

@@ -4,12 +4,13 @@ use Rattle.std.specs.Prelude.{IsSome, unwrap_or, is_some, not}
 use Rattle.std.proofs.lemmas.Bool.{cases_Bool, cond-true, cond-false, false≢true}
 use Rattle.stair_rack.specs.Sector.{Cell, Damaged, settled, damaged, wrote, synced, MayLeave}
 use Rattle.stair_rack.specs.Media.{Image, has_sector, sectors_of}
-use Rattle.stair_rack.specs.History.{SlotAct, Pulled, InsertedBlank, InsertedOld, SectorDamaged, SlotCall, Attach, Sectors, Read, Write, Sync, Event, Made, SlotState, after_act, after_attach, after_write, after_sync, after_call, slot_state, stopped, IsTidy}
+use Rattle.stair_rack.specs.History.{SlotAct, Pulled, InsertedBlank, InsertedOld, SectorDamaged, SlotCall, Attach, Sectors, Read, Write, Sync, Happening, Made, SlotState, after_act, after_attach, after_write, after_sync, after_call, slot_state, stopped, IsTidy}
 use Rattle.stair_rack.specs.Outside.{MayHappen}
-use Rattle.stair_rack.specs.Answers.{IsAnswered, Ran, is_ready, attach_answer, write_answer}
+use Rattle.stair_rack.specs.Answers.{IsAnswered, Ran, IsHistory, Calls, any_call, is_ready, attach_answer, write_answer}
 use Rattle.stair_rack.specs.Crash.{CrashMayLeave}
 use Rattle.stair_rack.specs.declared.rack.Reply.{Reply}
 use Rattle.stair_rack.specs.declared.rack.Reply.TheVariants as reply
+use Rattle.stair_rack.proofs.MomentLemmas.{IsThis, calls_ran, ran_any, ran_join, ran_none}
 use Rattle.stair_rack.proofs.StepLemmas.{SlotKeeps, keeps_slot, kept}
 use Rattle.stair_rack.proofs.KeptLemmas.{not_none, with_old_cases, with_sector_cases}
 use Rattle.stair_rack.proofs.OfflineLemmas.{reply_if-Done, and-true_left, and-true_right}
@@ -20,10 +21,10 @@ pub record IsTidySlot (b : SlotState) : Type 0 where
   pub attached : b.attached ≡ true → IsSome b.size
   pub found : b.attached ≡ true → b.size ≡ Some b.found
 
-pub IsTidy-slot : (h : List Event) → IsTidy h → (j : ℕ) → IsTidySlot (slot_state h j)
+pub IsTidy-slot : (h : List Happening) → IsTidy h → (j : ℕ) → IsTidySlot (slot_state h j)
 IsTidy-slot h tidy j = record { past_end = tidy.past_end j; attached = tidy.attached j; found = tidy.found j }
 
-pub IsTidy-from_slots : (h : List Event) → ((j : ℕ) → IsTidySlot (slot_state h j)) → IsTidy h
+pub IsTidy-from_slots : (h : List Happening) → ((j : ℕ) → IsTidySlot (slot_state h j)) → IsTidy h
 IsTidy-from_slots h each = record { past_end = λ j. (each j).past_end; attached = λ j. (each j).attached; found = λ j. (each j).found }
 
 sectors_past_end : (size : Option ℕ) (cell : ℕ → Cell) (k : ℕ) → has_sector size k ≡ false → sectors_of size cell k ≡ damaged
@@ -61,7 +62,7 @@ tidy_act b (SectorDamaged l) may tidy = record {
   found = tidy.found;
 }
 
-tidy_attach : (h : List Event) (j : ℕ) (answer : Reply) → answer ≡ attach_answer h j → IsTidySlot (slot_state h j)
+tidy_attach : (h : List Happening) (j : ℕ) (answer : Reply) → answer ≡ attach_answer h j → IsTidySlot (slot_state h j)
     → IsTidySlot (after_attach answer (slot_state h j))
 tidy_attach h j reply.Done is tidy = record {
   past_end = tidy.past_end;
@@ -79,7 +80,7 @@ tidy_attach h j reply.Gone is tidy = record {
   found = λ attached. absurd (false≢true attached);
 }
 
-tidy_write : (h : List Event) (j l : ℕ) (bytes : List ℕ) (answer : Reply) → answer ≡ write_answer h j l → IsTidySlot (slot_state h j)
+tidy_write : (h : List Happening) (j l : ℕ) (bytes : List ℕ) (answer : Reply) → answer ≡ write_answer h j l → IsTidySlot (slot_state h j)
     → IsTidySlot (after_write l bytes answer (slot_state h j))
 tidy_write h j l bytes reply.Done is tidy =
     let has = and-true_right (is_ready h j) (has_sector (slot_state h j).size l) (reply_if-Done _ is) in
@@ -97,7 +98,7 @@ tidy_sync b reply.Done tidy =
     record { past_end = λ k past. ap synced (tidy.past_end k past); attached = tidy.attached; found = tidy.found }
 tidy_sync b reply.Gone tidy = tidy
 
-tidy_call : (h : List Event) (j : ℕ) (c : SlotCall) → IsAnswered h j c → IsTidySlot (slot_state h j) → IsTidySlot (after_call c (slot_state h j))
+tidy_call : (h : List Happening) (j : ℕ) (c : SlotCall) → IsAnswered h j c → IsTidySlot (slot_state h j) → IsTidySlot (after_call c (slot_state h j))
 tidy_call h j (Attach answer) is tidy = tidy_attach h j answer is tidy
 tidy_call h j (Sectors size) is tidy = tidy
 tidy_call h j (Read k answer) is tidy = tidy
@@ -108,20 +109,36 @@ pub SlotKeeps-tidy : {allowed : ℕ → SlotCall → Type 0} (j : ℕ) → SlotK
 SlotKeeps-tidy j = record { act = tidy_act; call = λ h c may is tidy. tidy_call h j c is tidy }
 
 -- acts and calls keep a history tidy
-pub tidy_on : {allowed : ℕ → SlotCall → Type 0} {old new : List Event} → Ran allowed old new → IsTidy old → IsTidy new
+pub tidy_on : {allowed : ℕ → SlotCall → Type 0} {old new : List Happening} → Ran allowed old new → IsTidy old → IsTidy new
 tidy_on {allowed} {old} {new} ran tidy =
     IsTidy-from_slots new
     (λ j. kept {allowed = allowed} {P = λ h. IsTidySlot (slot_state h j)} (keeps_slot (SlotKeeps-tidy {allowed = allowed} j)) ran (IsTidy-slot old tidy j))
 
+-- HISTORIES
+
+-- the history of an honest rack goes on as one
+pub history_on : {allowed : ℕ → SlotCall → Type 0} {old new : List Happening} → IsHistory old → Ran allowed old new → IsHistory new
+history_on {allowed} is ran = record { image = is.image; ran = ran_join is.ran (ran_any {allowed = allowed} ran) }
+
+pub history_called : {old new : List Happening} {j : ℕ} {c : SlotCall} → IsHistory old → Calls old new j c → IsHistory new
+history_called {j = j} {c = c} is called = history_on {allowed = IsThis j c} is (calls_ran called)
+
+pub history_made : (image : Image) → IsHistory (Made image ∷ [])
+history_made image = record { image = image; ran = ran_none (Made image ∷ []) }
+
+-- and is tidy
+pub history_tidy : {h : List Happening} → IsHistory h → IsTidy h
+history_tidy is = tidy_on {allowed = any_call} is.ran (IsTidy-made is.image)
+
 -- in what a crash leaves of a tidy history, nothing can be read past the end
-pub left_past_end : (h : List Event) → IsTidy h → (image : Image) → CrashMayLeave h image → (j k : ℕ) → has_sector (image j).size k ≡ false
+pub left_past_end : (h : List Happening) → IsTidy h → (image : Image) → CrashMayLeave h image → (j k : ℕ) → has_sector (image j).size k ≡ false
     → (image j).cell k ≡ Damaged
 left_past_end h tidy image left j k past =
     let there : has_sector (slot_state h j).size k ≡ false = sym (ap (λ size. has_sector size k) (left j).size) ∙ past in
     subst (λ s. MayLeave s ((image j).cell k)) (tidy.past_end j k there) ((left j).each k)
 
 -- a rack that is made over what a crash left holds it, and nothing else can be left of it
-pub made_of_left : (h : List Event) → IsTidy h → (image : Image) → CrashMayLeave h image → (j k : ℕ)
+pub made_of_left : (h : List Happening) → IsTidy h → (image : Image) → CrashMayLeave h image → (j k : ℕ)
     → (slot_state (Made image ∷ []) j).sector k ≡ settled ((image j).cell k)
 made_of_left h tidy image left j k =
     elim (cases_Bool (has_sector (image j).size k)) [
@@ -130,7 +147,7 @@ made_of_left h tidy image left j k =
     ]
 
 -- the number of sectors that a rack answers for an attached slot is that of its medium
-pub size_answered : (h : List Event) → IsTidy h → (j n : ℕ) → (slot_state h j).attached ≡ true → IsAnswered h j (Sectors n)
+pub size_answered : (h : List Happening) → IsTidy h → (j n : ℕ) → (slot_state h j).attached ≡ true → IsAnswered h j (Sectors n)
     → (slot_state h j).size ≡ Some n
 size_answered h tidy j n attached answered = tidy.found j attached ∙ ap Some (sym answered)
 
@@ -168,7 +185,7 @@ size_call pulls size b (Sync reply.Done) (Other less) = Other less
 size_call pulls size b (Sync reply.Gone) has = has
 
 -- a medium that isn't pulled keeps its size
-pub size_on : {allowed : ℕ → SlotCall → Type 0} {old new : List Event} (pulls : ℕ) (size : Option ℕ) (j : ℕ) → IsSome size → Ran allowed old new
+pub size_on : {allowed : ℕ → SlotCall → Type 0} {old new : List Happening} (pulls : ℕ) (size : Option ℕ) (j : ℕ) → IsSome size → Ran allowed old new
     → HasSize pulls size (slot_state old j) → HasSize pulls size (slot_state new j)
 size_on {allowed} pulls size j some ran start =
     kept {allowed = allowed} {P = λ h. HasSize pulls size (slot_state h j)}

@@ -1,5 +1,5 @@
 -- A source over a reader, as contracts see it.
-use Rattle.std.specs.Prelude.{◌≡◌, ℕ, Bool, true, List, Option}
+use Rattle.std.specs.Prelude.{◌≡◌, ℕ, Bool, true, List, Option, Result, Ok, Err, ◌==◌, if◌then◌else◌}
 use Rattle.std.specs.Io.KnownBytes.{IsAtEnd}
 use Rattle.stair_rack.specs.declared.source.Taken.{Taken}
 use Rattle.stair_rack.specs.declared.source.Taken.TheVariants.{Bytes, End, Failed}
@@ -20,3 +20,8 @@ abbrev pub faults_after_take : ℕ → Taken → ℕ
 faults_after_take faults (Bytes k) = faults
 faults_after_take faults End = faults
 faults_after_take faults Failed = one_more faults
+
+-- what a take answers for the answer of a read: for 0 bytes the end, and a fault for every error
+abbrev pub taken_of : {E : Type 0} → Result ℕ E → Taken
+taken_of (Ok count) = if count == 0 then End else Bytes count
+taken_of (Err error) = Failed

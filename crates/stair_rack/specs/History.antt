@@ -25,15 +25,15 @@ pub data SlotCall : Type 0 where
   Write : ℕ → List ℕ → Reply → SlotCall
   Sync : Reply → SlotCall
 
-pub data Event : Type 0 where
+pub data Happening : Type 0 where
   -- the rack is made over these media, nothing of which is unsynced, and no slot is attached
-  Made : Image → Event
+  Made : Image → Happening
   -- the outside stops the rack for good
-  Stopped : Event
+  Stopped : Happening
   -- the outside acts on this slot
-  Acted : ℕ → SlotAct → Event
+  Acted : ℕ → SlotAct → Happening
   -- a call on this slot
-  Called : ℕ → SlotCall → Event
+  Called : ℕ → SlotCall → Happening
 
 -- a slot as it stands
 pub record SlotState : Type 0 where
@@ -53,18 +53,35 @@ abbrev pub with_sector : ℕ → Sector → SlotState → SlotState
 with_sector k s b = record b { sector = λ i. if i == k then s else b.sector i }
 
 abbrev pub made : SlotImage → SlotState
-made image = record { size = image.size; sector = sectors_of image.size image.cell; removed = image.removed; attached = false; found = 0; pulls = 0 }
+made image = record {
+  size = image.size;
+  sector = sectors_of image.size image.cell;
+  removed = image.removed;
+  attached = false;
+  found = 0;
+  pulls = 0;
+}
 
 abbrev pub empty_slot : SlotImage
 empty_slot = record { size = None; cell = λ k. Damaged; removed = [] }
 
 abbrev pub with_old : ℕ → Option Medium → SlotState → SlotState
 with_old i None b = b
-with_old i (Some m) b = record b { size = Some m.size; sector = sectors_of (Some m.size) m.cell; removed = remove b.removed i }
+with_old i (Some m) b = record b {
+  size = Some m.size;
+  sector = sectors_of (Some m.size) m.cell;
+  removed = remove b.removed i;
+}
 
 abbrev pub after_act : SlotAct → SlotState → SlotState
 after_act (Pulled m) b =
-    record b { size = None; sector = λ k. damaged; removed = b.removed ++ m ∷ []; attached = false; pulls = b.pulls + 1 }
+    record b {
+      size = None;
+      sector = λ k. damaged;
+      removed = b.removed ++ m ∷ [];
+      attached = false;
+      pulls = b.pulls + 1;
+    }
 after_act (InsertedBlank size) b = record b { size = Some size; sector = λ k. damaged }
 after_act (InsertedOld i) b = with_old i (slice_get b.removed i) b
 after_act (SectorDamaged k) b = with_sector k damaged b
@@ -88,16 +105,17 @@ after_call (Read k answer) b = b
 after_call (Write k bytes answer) b = after_write k bytes answer b
 after_call (Sync answer) b = after_sync answer b
 
--- slot j after these events, of which the newest comes first
-abbrev pub slot_state : List Event → ℕ → SlotState
+-- slot j after these happenings, of which the newest comes first
+abbrev pub slot_state : List Happening → ℕ → SlotState
 slot_state [] j = made empty_slot
 slot_state (Made image ∷ h) j = made (image j)
 slot_state (Stopped ∷ h) j = slot_state h j
 slot_state (Acted i act ∷ h) j = if i == j then after_act act (slot_state h j) else slot_state h j
-slot_state (Called i call ∷ h) j = if i == j then after_call call (slot_state h j) else slot_state h j
+slot_state (Called i call ∷ h) j = if i == j then after_call call (slot_state h j)
+    else slot_state h j
 
 -- the outside stopped the rack
-abbrev pub stopped : List Event → Bool
+abbrev pub stopped : List Happening → Bool
 stopped [] = false
 stopped (Made image ∷ h) = false
 stopped (Stopped ∷ h) = true
@@ -105,7 +123,9 @@ stopped (Acted i act ∷ h) = stopped h
 stopped (Called i call ∷ h) = stopped h
 
 -- nothing can be read past the end of a medium or in an empty slot, and an attached slot holds the medium that was found
-pub record IsTidy (h : List Event) : Type 0 where
-  pub past_end : (j k : ℕ) → has_sector (slot_state h j).size k ≡ false → (slot_state h j).sector k ≡ damaged
+pub record IsTidy (h : List Happening) : Type 0 where
+  pub past_end : (j k : ℕ) → has_sector (slot_state h j).size k ≡ false →
+      (slot_state h j).sector k ≡ damaged
   pub attached : (j : ℕ) → (slot_state h j).attached ≡ true → IsSome (slot_state h j).size
-  pub found : (j : ℕ) → (slot_state h j).attached ≡ true → (slot_state h j).size ≡ Some (slot_state h j).found
+  pub found : (j : ℕ) → (slot_state h j).attached ≡ true →
+      (slot_state h j).size ≡ Some (slot_state h j).found

@@ -16,3 +16,7 @@ pub mod Offline
 pub mod RackCounts
 pub mod Passes
 pub mod Placed
+pub mod Stretch
+pub mod Reading
+pub mod EachMedium
+pub mod PlacedInTurn

@@ -20,8 +20,15 @@ TakeConsumes old new End into = IsAtEnd old × Keeps old new
 TakeConsumes old new Failed into = Keeps old new
 
 -- where no told byte is left, no bytes come
-pub TakeConsumes-none_left : (new : Option (List ℕ)) (k : ℕ) (into : List ℕ) → TakesWithin (Bytes k) (length into)
+pub TakeConsumes-none_left : (new : Option (List ℕ)) (k : ℕ) (into : List ℕ) →
+    TakesWithin (Bytes k) (length into)
     → TakeConsumes (Some []) new (Bytes k) into → ⊥
 TakeConsumes-none_left None k into within gives = gives
 TakeConsumes-none_left (Some xs) k into within gives =
-    omega (arith, ap length gives, length-append (take k into) xs, length-take-le k into within.1, within.0)
+    omega (
+      arith,
+      ap length gives,
+      length-append (take k into) xs,
+      length-take-le k into within.1,
+      within.0,
+    )

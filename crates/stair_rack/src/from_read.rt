@@ -1,12 +1,13 @@
 // A source over a reader.
 ghost use Rattle.std.specs.Prelude.{◌≡◌, ◌<◌, ◌≤◌, ◌↔◌, false, length, IsTrue};
 ghost use Rattle.stair_rack.specs.Count.{Rose};
-ghost use Rattle.stair_rack.specs.FromRead.{faults_after_take};
+ghost use Rattle.stair_rack.specs.FromRead.{faults_after_take, taken_of};
 ghost use Rattle.stair_rack.specs.Source.{TakeConsumes, TakesWithin};
 
 use crate::count::raised;
 use crate::retry::read_retrying;
 use crate::source::{Source, Taken};
+use std::io;
 use std::io::Read;
 use std::marker::Model;
 
@@ -70,16 +71,23 @@ impl<T: Read + Drop> Source for FromRead<T> {
         if self.ended {
             return Taken::End;
         }
-        match read_retrying(&mut self.reader, into) {
-            Ok(0) => {
-                self.ended = true;
-                Taken::End
-            }
-            Ok(count) => Taken::Bytes(count),
-            Err(_) => {
-                self.faults = raised(self.faults);
-                Taken::Failed
-            }
+        let taken = taken_of(read_retrying(&mut self.reader, into));
+        match taken {
+            Taken::Bytes(_) => {}
+            Taken::End => self.ended = true,
+            Taken::Failed => self.faults = raised(self.faults),
         }
+        taken
+    }
+}
+
+// What a read with this answer is to a source: one of 0 bytes is the end, and every error a fault.
+fn taken_of(answer: io::Result<usize>) -> Taken
+    ensures { result ≡ taken_of answer }
+{
+    match answer {
+        Ok(0) => Taken::End,
+        Ok(count) => Taken::Bytes(count),
+        Err(_) => Taken::Failed,
     }
 }

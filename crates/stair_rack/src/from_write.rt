@@ -1,12 +1,13 @@
 // A sink over a writer.
 ghost use Rattle.std.specs.Prelude.{◌≡◌, ◌<◌, ◌≤◌, length};
 ghost use Rattle.stair_rack.specs.Count.{Rose};
-ghost use Rattle.stair_rack.specs.FromWrite.{faults_after_put};
+ghost use Rattle.stair_rack.specs.FromWrite.{faults_after_put, put_of};
 ghost use Rattle.stair_rack.specs.Sink.{PutAppends, PutsWithin};
 
 use crate::count::raised;
 use crate::retry::write_retrying;
 use crate::sink::{Put, Sink};
+use std::io;
 use std::io::Write;
 use std::marker::Model;
 
@@ -53,12 +54,20 @@ impl<T: Write + Drop> Sink for FromWrite<T> {
         // The count of faults rises by one at each fault, and at nothing else.
         ensures faults { self.new.faults ≡ faults_after_put self.old.faults result }
     {
-        match write_retrying(&mut self.writer, from) {
-            Ok(0) | Err(_) => {
-                self.faults = raised(self.faults);
-                Put::Failed
-            }
-            Ok(count) => Put::Bytes(count),
+        let put = put_of(write_retrying(&mut self.writer, from));
+        if put == Put::Failed {
+            self.faults = raised(self.faults);
         }
+        put
+    }
+}
+
+// What a write with this answer is to a sink: one of 0 bytes is a fault, and so is every error.
+fn put_of(answer: io::Result<usize>) -> Put
+    ensures { result ≡ put_of answer }
+{
+    match answer {
+        Ok(0) | Err(_) => Put::Failed,
+        Ok(count) => Put::Bytes(count),
     }
 }

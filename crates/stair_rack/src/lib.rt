@@ -15,6 +15,7 @@ mod source;
 mod sync;
 #[cfg(test)]
 mod tests;
+mod through;
 mod write;
 
 pub use from_read::FromRead;
@@ -26,4 +27,5 @@ pub use retry::read_retrying;
 pub use sink::{Put, Sink};
 pub use source::{Source, Taken};
 pub use sync::sync_all;
+pub use through::write_through;
 pub use write::write_all;

@@ -22,7 +22,8 @@ pub(crate) fn pass_over<R: Rack>(rack: &mut R, to: Slots, pass: Pass) -> Slots
         Turns (call_of pass) to result 32 (R.history rack.old) (R.history rack.new) }
     ensures gone { (j : ℕ) → HasSlot result j →
         HasSlot to j × Rose (R.gones rack.old j) (R.gones rack.new j) }
-    ensures counts { NoneFalls (R.bads rack.old) (R.bads rack.new) (R.gones rack.old) (R.gones rack.new) }
+    ensures counts { NoneFalls (R.bads rack.old) (R.bads rack.new) (R.gones rack.old)
+        (R.gones rack.new) }
     ensures reads { R.reads rack.new ≡ R.reads rack.old }
     ensures well_formed { IsSlotSet result }
     ensures well_formed_to { IsSlotSet to }
@@ -41,7 +42,8 @@ fn turn<R: Rack>(rack: &mut R, slot: u8, pass: &Pass) -> Reply
     requires { slot < 32 }
     ensures told { IsTrue R.is_honest →
         Calls (R.history rack.old) (R.history rack.new) slot (call_of pass.now result) }
-    ensures counts { NoneFalls (R.bads rack.old) (R.bads rack.new) (R.gones rack.old) (R.gones rack.new) }
+    ensures counts { NoneFalls (R.bads rack.old) (R.bads rack.new) (R.gones rack.old)
+        (R.gones rack.new) }
     ensures gone { result ≡ Reply.Gone → Rose (R.gones rack.old slot) (R.gones rack.new slot) }
     ensures reads { R.reads rack.new ≡ R.reads rack.old }
 {

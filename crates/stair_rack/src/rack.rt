@@ -2,8 +2,8 @@
 ghost use Rattle.std.specs.Prelude.{◌≡◌, ◌≢◌, ◌<◌, ℕ, Bool, IsTrue, List, Option};
 ghost use Rattle.stair_rack.specs.Count.{Rose};
 ghost use Rattle.stair_rack.specs.Sector.{Good, content};
-ghost use Rattle.stair_rack.specs.History.{Event, Attach, Sectors, Read, Write, Sync, slot_state};
-ghost use Rattle.stair_rack.specs.Answers.{Calls};
+ghost use Rattle.stair_rack.specs.History.{Happening, Attach, Sectors, Read, Write, Sync, slot_state};
+ghost use Rattle.stair_rack.specs.Answers.{Calls, IsHistory};
 ghost use Rattle.stair_rack.specs.RackCounts.{NoneFalls, CountsRead};
 
 /// What a slot answers to a call that gives nothing back.
@@ -41,8 +41,8 @@ pub trait Rack {
     // Whether the rack is honest.
     ghost is_honest: { Bool };
 
-    // What happened to it, the newest event first. Clauses read it of an honest rack alone.
-    ghost history: { Self → List Event };
+    // What happened to it, the newest first. Clauses read it of an honest rack alone, whose history began with `Made`.
+    ghost history: { Self → List Happening };
 
     // How often a sector read as bad. A count that is kept in a `u64` stands still at `u64::MAX`.
     ghost bads: { Self → ℕ };
@@ -59,9 +59,11 @@ pub trait Rack {
     /// - `Gone`: the slot holds no medium, or the rack was stopped. The slot isn't attached.
     fn attach(&mut self, slot: u8) -> Reply
         requires { slot < 32 }
+        ensures began { IsTrue is_honest → IsHistory (history self.old) }
         ensures told { IsTrue is_honest →
             Calls (history self.old) (history self.new) slot (Attach result) }
-        ensures counts { NoneFalls (bads self.old) (bads self.new) (gones self.old) (gones self.new) }
+        ensures counts { NoneFalls (bads self.old) (bads self.new) (gones self.old)
+            (gones self.new) }
         ensures gone { result ≡ Reply.Gone → Rose (gones self.old slot) (gones self.new slot) }
         ensures reads { reads self.new ≡ reads self.old };
 
@@ -69,9 +71,11 @@ pub trait Rack {
     /// that attach answered `Gone` or there was none.
     fn sectors(&mut self, slot: u8) -> u32
         requires { slot < 32 }
+        ensures began { IsTrue is_honest → IsHistory (history self.old) }
         ensures told { IsTrue is_honest →
             Calls (history self.old) (history self.new) slot (Sectors result) }
-        ensures counts { NoneFalls (bads self.old) (bads self.new) (gones self.old) (gones self.new) }
+        ensures counts { NoneFalls (bads self.old) (bads self.new) (gones self.old)
+            (gones self.new) }
         ensures reads { reads self.new ≡ reads self.old };
 
     /// Reads a sector into `into`.
@@ -81,12 +85,14 @@ pub trait Rack {
     /// - `Gone`: the slot isn't attached, its medium was pulled since, or the rack was stopped. `into` is unchanged.
     fn read(&mut self, slot: u8, sector: u32, into: &mut [u8; 512]) -> Got
         requires { slot < 32 }
+        ensures began { IsTrue is_honest → IsHistory (history self.old) }
         ensures told { IsTrue is_honest →
             Calls (history self.old) (history self.new) slot (Read sector result) }
         ensures good { IsTrue is_honest → result ≡ Got.Good →
             content ((slot_state (history self.new) slot).sector sector) ≡ Good into.new }
         ensures unread { result ≢ Got.Good → into.new ≡ into.old }
-        ensures counts { NoneFalls (bads self.old) (bads self.new) (gones self.old) (gones self.new) }
+        ensures counts { NoneFalls (bads self.old) (bads self.new) (gones self.old)
+            (gones self.new) }
         ensures bad { result ≡ Got.Bad → Rose (bads self.old) (bads self.new) }
         ensures gone { result ≡ Got.Gone → Rose (gones self.old slot) (gones self.new slot) }
         ensures reads { CountsRead result (reads self.old) (reads self.new) };
@@ -99,9 +105,11 @@ pub trait Rack {
     ///   or past the end of the medium, and then the slot stays attached. Nothing was written.
     fn write(&mut self, slot: u8, sector: u32, from: &[u8; 512]) -> Reply
         requires { slot < 32 }
+        ensures began { IsTrue is_honest → IsHistory (history self.old) }
         ensures told { IsTrue is_honest →
             Calls (history self.old) (history self.new) slot (Write sector from.now result) }
-        ensures counts { NoneFalls (bads self.old) (bads self.new) (gones self.old) (gones self.new) }
+        ensures counts { NoneFalls (bads self.old) (bads self.new) (gones self.old)
+            (gones self.new) }
         ensures gone { result ≡ Reply.Gone → Rose (gones self.old slot) (gones self.new slot) }
         ensures reads { reads self.new ≡ reads self.old };
 
@@ -112,9 +120,11 @@ pub trait Rack {
     ///   the last sync may be lost.
     fn sync(&mut self, slot: u8) -> Reply
         requires { slot < 32 }
+        ensures began { IsTrue is_honest → IsHistory (history self.old) }
         ensures told { IsTrue is_honest →
             Calls (history self.old) (history self.new) slot (Sync result) }
-        ensures counts { NoneFalls (bads self.old) (bads self.new) (gones self.old) (gones self.new) }
+        ensures counts { NoneFalls (bads self.old) (bads self.new) (gones self.old)
+            (gones self.new) }
         ensures gone { result ≡ Reply.Gone → Rose (gones self.old slot) (gones self.new slot) }
         ensures reads { reads self.new ≡ reads self.old };
 }

@@ -17,7 +17,8 @@ pub fn sync_all<R: Rack>(rack: &mut R, to: Slots) -> Slots
         Settled to result (R.history rack.old) (R.history rack.new) }
     ensures gone { (j : ℕ) → HasSlot result j →
         HasSlot to j × Rose (R.gones rack.old j) (R.gones rack.new j) }
-    ensures counts { NoneFalls (R.bads rack.old) (R.bads rack.new) (R.gones rack.old) (R.gones rack.new) }
+    ensures counts { NoneFalls (R.bads rack.old) (R.bads rack.new) (R.gones rack.old)
+        (R.gones rack.new) }
     ensures reads { R.reads rack.new ≡ R.reads rack.old }
     ensures well_formed { IsSlotSet result }
 {

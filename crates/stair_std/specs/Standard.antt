@@ -15,7 +15,8 @@ block_byte g stripe p t = if is_parity_number g t then 0 else byte_of_number str
 abbrev pub parity_byte : Coefficients → Stripe → ℕ → ℕ → ℕ
 parity_byte c stripe p parity =
     field_sum (c.geometry.r * c.geometry.n)
-    (λ t. product (coefficient_of c parity (blocks_before c.geometry t)) (block_byte c.geometry stripe p t))
+    (λ t. product (coefficient_of c parity (blocks_before c.geometry t))
+    (block_byte c.geometry stripe p t))
 
 -- 1 where the coefficient isn't zero
 abbrev pub step_of : ℕ → ℕ
@@ -24,7 +25,8 @@ step_of by = if not (by == 0) then 1 else 0
 -- a step for each data cell over which this parity's coefficient isn't zero
 abbrev pub step_at : Coefficients → ℕ → ℕ → ℕ
 step_at c parity t =
-    if is_parity_number c.geometry t then 0 else step_of (coefficient_of c parity (blocks_before c.geometry t))
+    if is_parity_number c.geometry t then 0 else step_of
+    (coefficient_of c parity (blocks_before c.geometry t))
 
 abbrev pub parity_steps : Coefficients → ℕ → ℕ
 parity_steps c parity = sum_below (c.geometry.r * c.geometry.n) (step_at c parity)

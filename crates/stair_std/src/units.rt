@@ -78,7 +78,8 @@ pub(crate) fn set_column(
     requires parts { AreParts geometry.now parts.now }
     requires block_in { block < data_cells geometry.now }
     requires count { length coefficients.old ≡ parity_cells geometry.now * data_cells geometry.now }
-    ensures { HasColumnSet geometry.now stripe.now (block % SECTOR) block coefficients.old coefficients.new }
+    ensures { HasColumnSet geometry.now stripe.now
+        (block % SECTOR) block coefficients.old coefficients.new }
 {
     let blocks = usize::from(geometry.u());
     let byte = usize::from(block) % SECTOR;

@@ -1,4 +1,6 @@
 -- What a superblock says and how it is spelled.
+pub mod Label
+pub mod StoredLabel
 pub mod Superblock
 pub mod Spelling
 pub mod Stored

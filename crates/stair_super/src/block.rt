@@ -1,6 +1,8 @@
 ghost use Rattle.std.specs.Prelude.{◌≡◌};
 ghost use Rattle.stair_super.specs.Superblock.{superblock_of, IsWellFormed, IsSuperblock};
 
+use crate::configuration::Configuration;
+use crate::label::Label;
 use crate::mark::Mark;
 use stair_base::Geometry;
 use std::marker::Model;
@@ -8,17 +10,14 @@ use std::marker::Model;
 /// A well-formed superblock.
 ///
 /// Its geometry keeps its limits and its slot is below n. Its epoch is at least 1 and at most its draw. A slot that is
-/// Live or Rebuilding has a joined number from 1 to the epoch, and one that is Down has 0. Slots at or above n are Down.
-/// Its own slot isn't Down, and has the joined number of the superblock.
+/// Live or Rebuilding has a joined number from 1 to the epoch, and one that is Down has 0. Slots at or above n are
+/// Down. Its own slot isn't Down, and has the joined number of the superblock.
 #[derive(Clone, Copy, Debug, PartialEq, Eq)]
 pub struct Super {
-    geometry: Geometry,
+    array: Configuration,
     slot: u8,
     joined: u64,
     draw: u64,
-    epoch: u64,
-    marks: [Mark; 32],
-    joins: [u64; 32],
 }
 
 impl Model for Super {
@@ -36,40 +35,37 @@ impl Model for Super {
 }
 
 impl Super {
-    /// The superblock with these fields: the array's geometry, the slot of the device and the epoch in which the device
-    /// was admitted to it, the draw, the epoch, and for each slot its mark and the epoch in which its device was
-    /// admitted.
-    pub fn new(
-        geometry: Geometry,
-        slot: u8,
-        joined: u64,
-        draw: u64,
-        epoch: u64,
-        marks: [Mark; 32],
-        joins: [u64; 32],
-    ) -> Super
-        requires { IsWellFormed (superblock_of geometry slot joined draw epoch marks joins) }
-        ensures { result ≡ superblock_of geometry slot joined draw epoch marks joins }
+    /// The superblock with these fields: what its epoch names, the slot of the device, the epoch in which the device
+    /// was admitted to it, and the draw.
+    pub fn new(array: Configuration, slot: u8, joined: u64, draw: u64) -> Super
+        requires { IsWellFormed (superblock_of array slot joined draw) }
+        ensures { result ≡ superblock_of array slot joined draw }
     {
-        // an identity has sixteen bytes
-        let _id = geometry.id();
+        // an identity has sixteen bytes, and a label at most 64
+        let _id = array.geometry.id();
+        let _text = array.label.bytes();
         Super {
-            geometry,
+            array,
             slot,
             joined,
             draw,
-            epoch,
-            marks,
-            joins,
         }
+    }
+
+    /// What the epoch names.
+    pub fn array(&self) -> &Configuration
+        ensures value { result.now ≡ self.now.array }
+        ensures rules { IsSuperblock self.now }
+    {
+        &self.array
     }
 
     /// The geometry of the array.
     pub fn geometry(&self) -> Geometry
-        ensures value { result ≡ self.now.geometry }
+        ensures value { result ≡ self.now.array.geometry }
         ensures rules { IsSuperblock self.now }
     {
-        self.geometry
+        self.array.geometry
     }
 
     /// The slot of the device: below n.
@@ -96,27 +92,43 @@ impl Super {
         self.draw
     }
 
-    /// The epoch whose marks these are: at least 1.
+    /// The epoch: at least 1.
     pub fn epoch(&self) -> u64
-        ensures value { result ≡ self.now.epoch }
+        ensures value { result ≡ self.now.array.epoch }
         ensures rules { IsSuperblock self.now }
     {
-        self.epoch
+        self.array.epoch
     }
 
     /// The mark of each slot; those at or above n are Down.
     pub fn marks(&self) -> [Mark; 32]
-        ensures value { result ≡ self.now.marks }
+        ensures value { result ≡ self.now.array.marks }
         ensures rules { IsSuperblock self.now }
     {
-        self.marks
+        self.array.marks
     }
 
     /// The joined number of each slot; those of slots that are Down are 0.
     pub fn joins(&self) -> [u64; 32]
-        ensures value { result ≡ self.now.joins }
+        ensures value { result ≡ self.now.array.joins }
         ensures rules { IsSuperblock self.now }
     {
-        self.joins
+        self.array.joins
+    }
+
+    /// Whether the array is frozen.
+    pub fn frozen(&self) -> bool
+        ensures value { result ≡ self.now.array.frozen }
+        ensures rules { IsSuperblock self.now }
+    {
+        self.array.frozen
+    }
+
+    /// The label of the array.
+    pub fn label(&self) -> Label
+        ensures value { result ≡ self.now.array.label }
+        ensures rules { IsSuperblock self.now }
+    {
+        self.array.label
     }
 }

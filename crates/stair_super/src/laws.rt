@@ -1,12 +1,25 @@
-//! Laws of the spelling of superblocks.
+//! Laws of the spelling of superblocks, and of their order.
 
-ghost use Rattle.std.specs.Prelude.{◌≡◌, length};
+ghost use Rattle.std.specs.Prelude.{◌≡◌, ◌↔◌, ◌⊎◌, ℕ, List, IsTrue, length};
 ghost use Rattle.stair_model.specs.Stripe.{SECTOR};
+ghost use Rattle.stair_super.specs.declared.version.Version.{Version};
 ghost use Rattle.stair_super.specs.Superblock.{Superblock, IsSuperblock};
-ghost use Rattle.stair_super.specs.Spelling.{spelled};
+ghost use Rattle.stair_super.specs.Spelling.{SpellsSuperblock, spelled_in};
+ghost use Rattle.stair_super.specs.Newer.{IsOlder, is_older};
 
-/// Each superblock has 512 bytes, and no two superblocks have the same. It does nothing.
+/// In each version a superblock has 512 bytes, and one spelling. No bytes are those of two superblocks, in whichever
+/// versions, nor of two versions, and whether they are those of one is decided. The test which of two superblocks is
+/// older is right. It does nothing.
 pub fn super_laws()
-    ensures sector { (s : Superblock) → IsSuperblock s → length (spelled s) ≡ SECTOR }
-    ensures once { (s t : Superblock) → IsSuperblock s → IsSuperblock t → spelled s ≡ spelled t → s ≡ t }
+    ensures sector { (version : Version) (s : Superblock) → IsSuperblock s →
+        length (spelled_in version s) ≡ SECTOR }
+    ensures spelling { (bytes other : List ℕ) (s : Superblock) (a : SpellsSuperblock bytes s)
+        (b : SpellsSuperblock other s) → a.version ≡ b.version → bytes ≡ other }
+    ensures once { (bytes : List ℕ) (s t : Superblock) → SpellsSuperblock bytes s →
+        SpellsSuperblock bytes t → s ≡ t }
+    ensures versions { (a b : Version) (s t : Superblock) → spelled_in a s ≡ spelled_in b t →
+        a ≡ b }
+    ensures decided { (bytes : List ℕ) → ((s : Superblock) × SpellsSuperblock bytes s)
+        ⊎ ((s : Superblock) → ¬ SpellsSuperblock bytes s) }
+    ensures older { (a b : Superblock) → IsTrue (is_older a b) ↔ IsOlder a b }
 {}

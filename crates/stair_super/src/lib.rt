@@ -5,12 +5,16 @@
 #![tactic(auto)]
 
 pub use block::Super;
+pub use configuration::Configuration;
+pub use label::Label;
 pub use mark::Mark;
-pub use newer::newer_of;
+pub use newer::{is_older, newer_of};
 pub use reading::read_super;
-pub use writing::write_super;
+pub use writing::{write_super, write_super_v1};
 
 mod block;
+mod configuration;
+mod label;
 pub mod laws;
 mod mark;
 mod newer;
@@ -18,4 +22,5 @@ mod page;
 mod reading;
 #[cfg(test)]
 mod tests;
+mod version;
 mod writing;

@@ -1,13 +1,17 @@
-ghost use Rattle.std.specs.Prelude.{◌≡◌, ℕ, ◌+◌, ◌<◌, ◌≤◌, ◌↔◌, IsTrue, IfSome, length, take, drop, slice_index, slice_index_or};
+ghost use Rattle.std.specs.Prelude.{◌≡◌, ℕ, [], false, ◌+◌, ◌<◌, ◌≤◌, ◌↔◌, IsTrue, IfSome, length, take, drop, slice_index, slice_index_or};
 ghost use Rattle.std.specs.Int.{w32, w64, from_be_bytes};
 ghost use Rattle.stair_model.specs.Stripe.{SECTOR};
 ghost use Rattle.stair_super.specs.Superblock.{Superblock, superblock_of, IsWellFormed, IsJoined, mark_at, joined_at};
-ghost use Rattle.stair_super.specs.Spelling.{code, Spells};
+ghost use Rattle.stair_super.specs.Spelling.{code, CanSay, SpellsSuperblock, spelled_in};
+ghost use Rattle.stair_super.specs.declared.version.Version.TheVariants.{One};
 ghost use Rattle.stair_super.specs.declared.mark.Mark.TheVariants.{Down};
 
 use crate::block::Super;
+use crate::configuration::Configuration;
+use crate::label::Label;
 use crate::mark::Mark;
-use crate::writing::write_super;
+use crate::version::Version;
+use crate::writing::written;
 use stair_base::Geometry;
 
 fn u32_at(bytes: &[u8; 512], at: usize) -> u32
@@ -53,7 +57,7 @@ fn widened(bytes: &[u8]) -> [u64; 32]
 }
 
 fn geometry_of(bytes: &[u8; 512]) -> Option<Geometry>
-    ensures { (s : Superblock) → Spells bytes.now s → result ≡ Some s.geometry }
+    ensures { (s : Superblock) → SpellsSuperblock bytes.now s → result ≡ Some s.array.geometry }
 {
     let classes = usize::from(bytes[27]);
     if classes > 32 {
@@ -84,7 +88,8 @@ fn mark_of(byte: u8) -> Option<Mark>
 /// The mark of a slot below 32 in an array of n slots.
 fn mark_in(bytes: &[u8; 512], n: usize, slot: usize) -> Option<Mark>
     requires { slot < 32 }
-    ensures { (s : Superblock) → Spells bytes.now s → n ≡ s.geometry.n → result ≡ Some (mark_at s slot) }
+    ensures { (s : Superblock) → SpellsSuperblock bytes.now s → n ≡ s.array.geometry.n →
+        result ≡ Some (mark_at s slot) }
 {
     if slot < n {
         mark_of(bytes[96 + 9 * slot])
@@ -95,7 +100,8 @@ fn mark_in(bytes: &[u8; 512], n: usize, slot: usize) -> Option<Mark>
 
 fn joined_in(bytes: &[u8; 512], n: usize, slot: usize) -> u64
     requires { slot < 32 }
-    ensures { (s : Superblock) → Spells bytes.now s → n ≡ s.geometry.n → result ≡ joined_at s slot }
+    ensures { (s : Superblock) → SpellsSuperblock bytes.now s → n ≡ s.array.geometry.n →
+        result ≡ joined_at s slot }
 {
     if slot < n {
         u64_at(bytes, 97 + 9 * slot)
@@ -105,7 +111,8 @@ fn joined_in(bytes: &[u8; 512], n: usize, slot: usize) -> u64
 }
 
 fn marks_of(bytes: &[u8; 512], n: usize) -> Option<[Mark; 32]>
-    ensures { (s : Superblock) → Spells bytes.now s → n ≡ s.geometry.n → result ≡ Some s.marks }
+    ensures { (s : Superblock) → SpellsSuperblock bytes.now s → n ≡ s.array.geometry.n →
+        result ≡ Some s.array.marks }
 {
     let mut marks = [Mark::Down; 32];
     for slot in 0..32 {
@@ -115,7 +122,8 @@ fn marks_of(bytes: &[u8; 512], n: usize) -> Option<[Mark; 32]>
 }
 
 fn joins_of(bytes: &[u8; 512], n: usize) -> [u64; 32]
-    ensures { (s : Superblock) → Spells bytes.now s → n ≡ s.geometry.n → result ≡ s.joins }
+    ensures { (s : Superblock) → SpellsSuperblock bytes.now s → n ≡ s.array.geometry.n →
+        result ≡ s.array.joins }
 {
     let mut joins = [0; 32];
     for slot in 0..32 {
@@ -134,7 +142,8 @@ fn is_joined(mark: Mark, joined: u64, epoch: u64) -> bool
 }
 
 fn are_joined(marks: &[Mark; 32], joins: &[u64; 32], epoch: u64) -> bool
-    ensures { IsTrue result ↔ ((j : ℕ) → j < 32 → IsJoined (slice_index_or marks.now j Down) (slice_index joins.now j) epoch) }
+    ensures { IsTrue result ↔ ((j : ℕ) → j < 32 →
+        IsJoined (slice_index_or marks.now j Down) (slice_index joins.now j) epoch) }
 {
     for j in 0..32 {
         if !is_joined(marks[j], joins[j], epoch) {
@@ -155,63 +164,122 @@ fn are_down_from(marks: &[Mark; 32], n: usize) -> bool
     true
 }
 
-/// Whether these are the fields of a well-formed superblock.
-fn is_well_formed(
-    geometry: &Geometry,
-    slot: u8,
-    joined: u64,
-    draw: u64,
-    epoch: u64,
-    marks: &[Mark; 32],
-    joins: &[u64; 32],
-) -> bool
-    ensures { IsTrue result ↔ IsWellFormed (superblock_of geometry.now slot joined draw epoch marks.now joins.now) }
+fn version_of(bytes: &[u8; 512]) -> Option<Version>
+    ensures { (s : Superblock) (spells : SpellsSuperblock bytes.now s) →
+        result ≡ Some spells.version }
 {
+    match bytes[7] {
+        b'1' => Some(Version::One),
+        b'2' => Some(Version::Two),
+        _ => None,
+    }
+}
+
+fn frozen_in(bytes: &[u8; 512], version: Version) -> bool
+    ensures first { version ≡ One → result ≡ false }
+    ensures read { (s : Superblock) (spells : SpellsSuperblock bytes.now s) →
+        version ≡ spells.version → result ≡ s.array.frozen }
+{
+    match version {
+        Version::One => false,
+        Version::Two => bytes[384] == 1,
+    }
+}
+
+fn label_in(bytes: &[u8; 512], version: Version) -> Option<Label>
+    ensures first { version ≡ One → result ≡ Some [] }
+    ensures read { (s : Superblock) (spells : SpellsSuperblock bytes.now s) →
+        version ≡ spells.version → result ≡ Some s.array.label }
+{
+    match version {
+        Version::One => Some(Label::empty()),
+        Version::Two => {
+            let length = usize::from(bytes[385]);
+            if length > 64 {
+                return None;
+            }
+            Label::new(&bytes[386..386 + length])
+        }
+    }
+}
+
+/// What the epoch names, where all its fields can be read.
+fn array_of(bytes: &[u8; 512], version: Version) -> Option<Configuration>
+    ensures said { IfSome result (λ array. CanSay version array) }
+    ensures read { (s : Superblock) (spells : SpellsSuperblock bytes.now s) →
+        version ≡ spells.version → result ≡ Some s.array }
+{
+    let geometry = geometry_of(bytes)?;
     let n = usize::from(geometry.n());
+    let marks = marks_of(bytes, n)?;
+    let label = label_in(bytes, version)?;
+    Some(Configuration {
+        geometry,
+        epoch: u64_at(bytes, 88),
+        marks,
+        joins: joins_of(bytes, n),
+        frozen: frozen_in(bytes, version),
+        label,
+    })
+}
+
+/// Whether these are the fields of a well-formed superblock.
+fn is_well_formed(array: &Configuration, slot: u8, joined: u64, draw: u64) -> bool
+    ensures { IsTrue result ↔ IsWellFormed (superblock_of array.now slot joined draw) }
+{
+    let n = usize::from(array.geometry.n());
     let here = usize::from(slot);
     if here >= n {
         return false;
     }
-    if epoch < 1 || epoch > draw {
+    if array.epoch < 1 || array.epoch > draw {
         return false;
     }
-    if !are_joined(marks, joins, epoch) || !are_down_from(marks, n) {
+    if !are_joined(&array.marks, &array.joins, array.epoch) || !are_down_from(&array.marks, n) {
         return false;
     }
-    marks[here] != Mark::Down && joined == joins[here]
+    array.marks[here] != Mark::Down && joined == array.joins[here]
 }
 
 /// The well-formed superblock whose fields stand at their places, where there is one. The bytes between them aren't
 /// looked at.
-fn fields_of(bytes: &[u8; 512]) -> Option<Super>
-    ensures { (s : Superblock) → Spells bytes.now s → result ≡ Some s }
+fn fields_of(bytes: &[u8; 512], version: Version) -> Option<Super>
+    ensures said { IfSome result (λ s. CanSay version s.array) }
+    ensures read { (s : Superblock) (spells : SpellsSuperblock bytes.now s) →
+        version ≡ spells.version → result ≡ Some s }
 {
-    let geometry = geometry_of(bytes)?;
-    let n = usize::from(geometry.n());
+    let array = array_of(bytes, version)?;
     let slot = bytes[64];
     let joined = u64_at(bytes, 72);
     let draw = u64_at(bytes, 80);
-    let epoch = u64_at(bytes, 88);
-    let marks = marks_of(bytes, n)?;
-    let joins = joins_of(bytes, n);
-    if is_well_formed(&geometry, slot, joined, draw, epoch, &marks, &joins) {
-        Some(Super::new(geometry, slot, joined, draw, epoch, marks, joins))
+    if is_well_formed(&array, slot, joined, draw) {
+        Some(Super::new(array, slot, joined, draw))
     } else {
         None
     }
 }
 
-/// The superblock that these bytes are, or None where they aren't those of a well-formed one.
-///
-/// [`write_super`] gives the table of the bytes, and [`Super`] says when a superblock is well formed.
-pub fn read_super(bytes: &[u8; 512]) -> Option<Super>
-    ensures ok { IfSome result (λ s. Spells bytes.now s) }
-    ensures read { (s : Superblock) → Spells bytes.now s → result ≡ Some s }
-    ensures none { result ≡ None → (s : Superblock) → ¬ Spells bytes.now s }
+/// Whether the bytes are those of the superblock in this version, none left unlooked at.
+fn is_spelled(bytes: &[u8; 512], version: Version, block: &Super) -> bool
+    ensures { IsTrue result ↔ (bytes.now ≡ spelled_in version block.now) }
 {
-    let block = fields_of(bytes)?;
-    if write_super(&block) != *bytes {
-        return None;
+    written(version, block) == *bytes
+}
+
+/// The superblock that these bytes are in version 1 or 2, or None where they aren't those of a well-formed one.
+///
+/// [`write_super`](crate::write_super) gives the table of the bytes, and [`Super`] says when a superblock is well
+/// formed. One of version 1 isn't frozen, and its label is empty.
+pub fn read_super(bytes: &[u8; 512]) -> Option<Super>
+    ensures ok { IfSome result (λ s. SpellsSuperblock bytes.now s) }
+    ensures read { (s : Superblock) → SpellsSuperblock bytes.now s → result ≡ Some s }
+    ensures none { result ≡ None → (s : Superblock) → ¬ SpellsSuperblock bytes.now s }
+{
+    let version = version_of(bytes)?;
+    let block = fields_of(bytes, version)?;
+    if is_spelled(bytes, version, &block) {
+        Some(block)
+    } else {
+        None
     }
-    Some(block)
 }

@@ -1,10 +1,13 @@
 ghost use Rattle.std.specs.Prelude.{◌≡◌, ◌+◌, ◌≤◌, ◌++◌, length};
 ghost use Rattle.stair_model.specs.Stripe.{SECTOR};
-ghost use Rattle.stair_super.specs.Spelling.{Spells, padded, geometry_part, numbers_part, entries, code};
+ghost use Rattle.stair_super.specs.declared.version.Version.TheVariants.{One};
+ghost use Rattle.stair_super.specs.Spelling.{SpellsSuperblock, IsPlain, magic, padded, geometry_part, numbers_part, entries, code, frozen_code, label_part, notes_part, spelled_in, spelled};
 
 use crate::block::Super;
+use crate::label::Label;
 use crate::mark::Mark;
 use crate::page::Page;
+use crate::version::Version;
 use stair_base::Geometry;
 
 fn code_of(mark: Mark) -> u8
@@ -73,11 +76,68 @@ fn put_numbers(page: &mut Page, block: &Super)
     page.put_u64(block.epoch());
 }
 
+fn frozen_code_of(frozen: bool) -> u8
+    ensures { result ≡ frozen_code frozen }
+{
+    if frozen { 1 } else { 0 }
+}
+
+/// The label's length and the label. Behind it the page stays zero.
+fn put_label(page: &mut Page, label: &Label)
+    requires { length page.old + 127 ≤ SECTOR }
+    ensures text { page.new ≡ page.old ++ label_part label.now }
+    ensures len { length page.new ≡ length page.old + 127 }
+{
+    let text = label.bytes();
+    page.put(&[text.len() as u8]);
+    page.put(text);
+    page.skip(126 - text.len());
+}
+
+/// What the version says besides marks: the frozen mark and the label.
+fn put_notes(page: &mut Page, version: Version, block: &Super)
+    requires { length page.old + 128 ≤ SECTOR }
+    ensures text { page.new ≡ page.old ++ notes_part version block.now.array }
+    ensures len { length page.new ≡ length page.old + 128 }
+{
+    match version {
+        Version::One => page.skip(128),
+        Version::Two => {
+            page.put(&[frozen_code_of(block.frozen())]);
+            put_label(page, &block.label());
+        }
+    }
+}
+
+fn put_magic(page: &mut Page, version: Version)
+    requires { length page.old + 8 ≤ SECTOR }
+    ensures text { page.new ≡ page.old ++ magic version }
+    ensures len { length page.new ≡ length page.old + 8 }
+{
+    match version {
+        Version::One => page.put(b"STAIRSB1"),
+        Version::Two => page.put(b"STAIRSB2"),
+    }
+}
+
+/// The bytes of a superblock in this version. Version 1 leaves the frozen mark and the label out.
+pub fn written(version: Version, block: &Super) -> [u8; 512]
+    ensures { result ≡ spelled_in version block.now }
+{
+    let mut page = Page::new();
+    put_magic(&mut page, version);
+    put_geometry(&mut page, &block.geometry());
+    put_numbers(&mut page, block);
+    put_entries(&mut page, block);
+    put_notes(&mut page, version, block);
+    page.bytes()
+}
+
 /// The bytes of a superblock: a sector, in which all numbers are big-endian and bytes that aren't named are zero.
 ///
 /// | bytes | field |
 /// |---|---|
-/// | 0 to 7 | `STAIRSB1` |
+/// | 0 to 7 | `STAIRSB2` |
 /// | 8 to 23 | id |
 /// | 24 to 27 | n, m, r and the length of e |
 /// | 28 to 59 | e, one byte each entry, then zeros |
@@ -87,13 +147,27 @@ fn put_numbers(page: &mut Page, block: &Super)
 /// | 80 to 87 | draw |
 /// | 88 to 95 | epoch |
 /// | 96 + 9·j to 104 + 9·j | of slot j below n: its mark (1 Live, 2 Rebuilding, 3 Down) and its joined number |
+/// | 384 | 1 where the array is frozen, else 0 |
+/// | 385 | the length of the label |
+/// | from 386 on | the label |
+///
+/// This is version 2. [`write_super_v1`] writes version 1.
 pub fn write_super(block: &Super) -> [u8; 512]
-    ensures { Spells result block.now }
+    ensures text { result ≡ spelled block.now }
+    ensures spells { SpellsSuperblock result block.now }
 {
-    let mut page = Page::new();
-    page.put(b"STAIRSB1");
-    put_geometry(&mut page, &block.geometry());
-    put_numbers(&mut page, block);
-    put_entries(&mut page, block);
-    page.bytes()
+    // the superblock keeps its rules
+    let _slot = block.slot();
+    written(Version::Two, block)
+}
+
+/// The bytes of a superblock in version 1 of the format, for arrays that older programs are to read. It begins with
+/// `STAIRSB1` and has nothing from byte 384 on, so the array may be neither frozen nor labelled.
+pub fn write_super_v1(block: &Super) -> [u8; 512]
+    requires { IsPlain block.now.array }
+    ensures text { result ≡ spelled_in One block.now }
+    ensures spells { SpellsSuperblock result block.now }
+{
+    let _slot = block.slot();
+    written(Version::One, block)
 }

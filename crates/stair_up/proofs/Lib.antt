@@ -12,4 +12,3 @@ pub mod Stripes
 pub mod Restored
 pub mod Parities
 pub mod Encoded
-pub mod ParityCells

@@ -1,11 +1,12 @@
 -- From a stripe whose cells are loaded to one in which all cells are found.
 use Rattle.std.proofs.Common.{◌≡◌, ℕ, ◌+◌, ◌<◌, ◌≤◌, List, slice_index, inl, inr, sym, subst, ap, ◌∙◌, arith}
-use Rattle.std.proofs.lemmas.Bool.{cases_eq}
+use Rattle.std.proofs.lemmas.Bool.{cases_Bool, cases_eq, false≢true}
 use Rattle.std.proofs.lemmas.List.{get_or-replicate}
 use Rattle.stair_model.specs.Geometry.{Geometry, IsWithinLimits}
-use Rattle.stair_model.specs.CellSet.{CellSet, HasCell, count_in_slot}
+use Rattle.stair_model.specs.CellSet.{CellSet, HasCell, count_in_slot, has_cell}
 use Rattle.stair_model.specs.Coverage.{rest}
 use Rattle.stair_model.specs.Codeword.{Word}
+use Rattle.stair_model.specs.Restoring.{SameHeld}
 use Rattle.stair_model.specs.Stripe.{Stripe, SECTOR, byte_of, cell}
 use Rattle.stair_model.proofs.CanonicalLaws.{coverage_le_greatest}
 use Rattle.stair_canon.specs.Canonical.{CanonicalStripe, symbol}
@@ -110,3 +111,17 @@ pub FindsStripe-stored : (erased : CellSet) (before after : Stripe) (old loaded 
 FindsStripe-stored erased before after old loaded new limits loads found stored x canonical held q i j q_in i_in j_in =
     ap (λ (bytes : List ℕ). slice_index bytes q) (stored i j i_in j_in)
     ∙ found x canonical (HasGiven-loaded erased before old loaded x limits loads canonical held) i j i_in j_in q q_in
+
+-- where the cells that were erased are stored, all are stored: the others are those that were loaded, and have stayed
+pub stored_all : (g : Geometry) (erased : CellSet) (before after : Stripe) (new : CanonicalStripe)
+    → ((i j : ℕ) → i < g.r → j < g.n → ¬ HasCell erased i j → symbol new i j ≡ cell before i j)
+    → ((i j : ℕ) → i < g.r → j < g.n → HasCell erased i j → cell after i j ≡ symbol new i j)
+    → SameHeld g erased after before
+    → (i j : ℕ) → i < g.r → j < g.n → cell after i j ≡ symbol new i j
+stored_all g erased before after new stayed stored held i j i_in j_in =
+    elim (cases_Bool (has_cell erased i j)) [
+      | inl has ↦ stored i j i_in j_in has
+      | inr has_not ↦
+          let not_erased : ¬ HasCell erased i j = λ has. false≢true (sym has_not ∙ has) in
+          held i j i_in j_in not_erased ∙ sym (stayed i j i_in j_in not_erased)
+    ]

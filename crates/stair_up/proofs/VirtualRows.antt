@@ -15,7 +15,7 @@ use Rattle.stair_canon.specs.Solving.{SolvesRows, row_shape}
 use Rattle.stair_up.specs.Order.{AreInOrder}
 use Rattle.stair_up.specs.Finding.{IsFound, StaysFound, FindsVirtualRows, Keeps}
 use Rattle.stair_mds.proofs.Stretches.{IsStretch, IsStretch-take, IsStretch-range, Contains-stretch, place_in_stretch, All-stretch, AreDistinct-stretch, known_stretch, wanted_stretch}
-use Rattle.stair_canon.proofs.Rows.{rows_few}
+use Rattle.stair_canon.proofs.Grid.{rows_few}
 use Rattle.stair_up.proofs.Finds.{rows_found, rows_stay, Keeps-changes}
 use Rattle.stair_up.proofs.Columns.{columns_once, count_le_greatest, class_covers, intermediate_at}
 

@@ -17,7 +17,8 @@ abbrev pub IsFound : (ℕ → Word) → CanonicalStripe → ℕ → ℕ → Type
 IsFound x c i j = (q : ℕ) → q < SECTOR → byte_at c q i j ≡ x q i j
 
 -- the cells that aren't erased, and the global zeros, are those of the codewords
-pub record HasGiven (g : Geometry) (erased : CellSet) (x : ℕ → Word) (c : CanonicalStripe) : Type 0 where
+pub record HasGiven (g : Geometry) (erased : CellSet) (x : ℕ → Word) (c : CanonicalStripe)
+    : Type 0 where
   pub held : (i j : ℕ) → i < g.r → j < g.n → ¬ HasCell erased i j → IsFound x c i j
   pub zeros : (l h : ℕ) → l < classes g → h < coverage g l → IsFound x c (g.r + h) (g.n + l)
 
@@ -28,7 +29,8 @@ StaysFound x old new = (i j : ℕ) → IsFound x old i j → IsFound x new i j
 -- the cells that aren't erased stay as they were
 pub record Keeps (erased : CellSet) (old new : CanonicalStripe) : Type 0 where
   pub geometry : new.geometry ≡ old.geometry
-  pub held : (i j : ℕ) → i < old.geometry.r → j < old.geometry.n → ¬ HasCell erased i j → symbol new i j ≡ symbol old i j
+  pub held : (i j : ℕ) → i < old.geometry.r → j < old.geometry.n → ¬ HasCell erased i j →
+      symbol new i j ≡ symbol old i j
 
 -- of codewords whose given symbols are here, and the virtual symbols of a chunk below its number of erased cells, the
 -- chunk's symbols below row r+height are found
@@ -40,26 +42,32 @@ FindsChunk erased slot height old new =
 
 -- the virtual symbols from `from` on and below `to` of the chunks from place m on of the order are found where they were in
 -- those behind this place
-abbrev pub FindsVirtualRows : CellSet → List ℕ → ℕ → ℕ → ℕ → CanonicalStripe → CanonicalStripe → Type 0
+abbrev pub FindsVirtualRows : CellSet → List ℕ → ℕ → ℕ → ℕ → CanonicalStripe → CanonicalStripe →
+    Type 0
 FindsVirtualRows erased columns place from to old new =
     (x : ℕ → Word) → AreCanonical old.geometry x → HasGiven old.geometry erased x old →
-    ((p h : ℕ) → place < p → p < old.geometry.n → h < to → IsFound x old (old.geometry.r + h) (slice_index columns p)) →
+    ((p h : ℕ) → place < p → p < old.geometry.n → h < to →
+    IsFound x old (old.geometry.r + h) (slice_index columns p)) →
     StaysFound x old new ×
-    ((p h : ℕ) → old.geometry.m ≤ p → p < old.geometry.n → from ≤ h → h < to → IsFound x new (old.geometry.r + h) (slice_index columns p))
+    ((p h : ℕ) → old.geometry.m ≤ p → p < old.geometry.n → from ≤ h → h < to →
+    IsFound x new (old.geometry.r + h) (slice_index columns p))
 
 -- the cells of all chunks from place m on of the order are found
 abbrev pub FindsLastChunks : CellSet → List ℕ → CanonicalStripe → CanonicalStripe → Type 0
 FindsLastChunks erased columns old new =
     (x : ℕ → Word) → AreCanonical old.geometry x → HasGiven old.geometry erased x old →
     StaysFound x old new ×
-    ((p i : ℕ) → old.geometry.m ≤ p → p < old.geometry.n → i < old.geometry.r → IsFound x new i (slice_index columns p))
+    ((p i : ℕ) → old.geometry.m ≤ p → p < old.geometry.n → i < old.geometry.r →
+    IsFound x new i (slice_index columns p))
 
 -- all cells of a row are found where they were in the chunks from place m on of the order
 abbrev pub FindsRow : CellSet → List ℕ → ℕ → CanonicalStripe → CanonicalStripe → Type 0
 FindsRow erased columns row old new =
     (x : ℕ → Word) → AreCanonical old.geometry x → HasGiven old.geometry erased x old →
-    ((p : ℕ) → old.geometry.m ≤ p → p < old.geometry.n → IsFound x old row (slice_index columns p)) →
-    StaysFound x old new × ((p : ℕ) → p < old.geometry.n → IsFound x new row (slice_index columns p))
+    ((p : ℕ) → old.geometry.m ≤ p → p < old.geometry.n →
+    IsFound x old row (slice_index columns p)) →
+    StaysFound x old new × ((p : ℕ) → p < old.geometry.n →
+    IsFound x new row (slice_index columns p))
 
 -- all cells are found
 abbrev pub FindsCells : CellSet → CanonicalStripe → CanonicalStripe → Type 0
@@ -83,5 +91,6 @@ FindsLightRows erased old new =
 abbrev pub FindsStripe : Geometry → CellSet → Stripe → Stripe → Type 0
 FindsStripe g erased old new =
     (x : ℕ → Word) → AreCanonical g x →
-    ((q i j : ℕ) → q < SECTOR → i < g.r → j < g.n → ¬ HasCell erased i j → byte_of old q i j ≡ x q i j) →
+    ((q i j : ℕ) → q < SECTOR → i < g.r → j < g.n → ¬ HasCell erased i j →
+    byte_of old q i j ≡ x q i j) →
     (q i j : ℕ) → q < SECTOR → i < g.r → j < g.n → byte_of new q i j ≡ x q i j

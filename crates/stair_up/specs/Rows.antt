@@ -12,5 +12,6 @@ pub record AreRowsByNeed (erased : CellSet) (slot r : ℕ) (rows : List ℕ) : T
       (i : ℕ) → i < r →
       ((slice_index rows i < r) × (¬ HasCell erased (slice_index rows i) slot)) ⊎
       ((r ≤ slice_index rows i) × (slice_index rows i < r + count_in_slot erased slot))
-  pub wanted : (i : ℕ) → r ≤ i → i < r + count_in_slot erased slot → HasCell erased (slice_index rows i) slot
+  pub wanted : (i : ℕ) → r ≤ i → i < r + count_in_slot erased slot →
+      HasCell erased (slice_index rows i) slot
   pub rest : (i : ℕ) → r + count_in_slot erased slot ≤ i → i < 64 → slice_index rows i ≡ i

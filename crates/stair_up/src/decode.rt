@@ -30,7 +30,8 @@ pub fn decode_upstairs(
     ensures covered { IsOk result ↔ IsCovered canon.old.geometry erased.now }
     ensures unchanged { IfErr result (λ _. stripe.new ≡ stripe.old) }
     ensures held { SameHeld canon.old.geometry erased.now stripe.new stripe.old }
-    ensures restored { IfOk result (λ _. IsRestored canon.old.geometry erased.now stripe.old stripe.new) }
+    ensures restored { IfOk result (λ _. IsRestored canon.old.geometry erased.now stripe.old
+        stripe.new) }
     ensures shape { IsStripeOf canon.old.geometry stripe.new }
     ensures well_formed { IfOk result (λ _. IsWellFormed stripe.new) }
     ensures geometry { canon.new.geometry ≡ canon.old.geometry }

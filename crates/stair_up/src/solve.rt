@@ -41,7 +41,7 @@ pub(crate) fn solve_erased<L: Ledger>(
 {
     canon.load(stripe);
     solve_loaded(canon, erased, steps);
-    canon.store(stripe);
+    canon.store_cells(erased, stripe);
 }
 
 /// Solves the erased cells of a stripe from all others: first those of each row with at most m of them, by its own
@@ -66,7 +66,7 @@ pub(crate) fn solve_rows_and_rest<L: Ledger>(
     solve_light_rows(canon, erased, steps);
     let rest = erased.rest(&canon.geometry());
     solve_loaded(canon, &rest, steps);
-    canon.store(stripe);
+    canon.store_cells(erased, stripe);
 }
 
 /// Solves the erased cells of the loaded stripe from all others, by as many steps as `solve_erased` says.
@@ -98,7 +98,8 @@ fn solve_last_chunks<L: Ledger>(canon: &mut Canon, order: &Order, steps: &mut St
     ensures kept { Keeps order.now.erased canon.old canon.new }
     ensures found { FindsLastChunks order.now.erased order.now.columns canon.old canon.new }
     ensures cost { let g = canon.old.geometry in steps.new ≡ steps.old
-        + data_chunks g * (g.r * count_at order.now g.m + erased_in_last order.now g.n (data_chunks g)) }
+        + data_chunks g * (g.r * count_at order.now g.m
+        + erased_in_last order.now g.n (data_chunks g)) }
 {
     let geometry = canon.geometry();
     let m = usize::from(geometry.m());
@@ -137,8 +138,10 @@ fn solve_virtual_rows<L: Ledger>(
     requires from { from ≤ to }
     requires to { to ≤ count_at order.now place }
     ensures kept { Keeps order.now.erased canon.old canon.new }
-    ensures found { FindsVirtualRows order.now.erased order.now.columns place from to canon.old canon.new }
-    ensures cost { steps.new ≡ steps.old + data_chunks canon.old.geometry * (place + 1 - canon.old.geometry.m) * (to - from) }
+    ensures found { FindsVirtualRows order.now.erased order.now.columns place from to canon.old
+        canon.new }
+    ensures cost { steps.new ≡ steps.old + data_chunks canon.old.geometry
+        * (place + 1 - canon.old.geometry.m) * (to - from) }
 {
     if from == to {
         return;

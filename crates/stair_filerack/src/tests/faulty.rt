@@ -1,29 +1,24 @@
-// The files of a runtime, with a fault.
+// A file with a fault.
 
-use std::alloc::Allocator;
-use std::fs::{Files, Metadata, OpenFile, OpenOptions};
+use std::fs::{Metadata, OpenFile};
 use std::io;
 use std::io::{ErrorKind, Read, Seek, SeekFrom, Write};
 
-// What fails of each file that is opened.
 #[derive(Clone, Copy, Debug, Drop)]
 pub(super) enum Fault {
     // Its length isn't told.
-    Measure,
+    Length,
     // Its data isn't synced.
     Sync,
-    // Every second read or write is interrupted.
-    Interruptions,
+    // The first read or write fails so, and then every second one.
+    Call(ErrorKind),
 }
 
 #[derive(Drop)]
-pub(super) struct Faulty<'a, R: Files>(pub(super) &'a R, pub(super) Fault);
-
-#[derive(Drop)]
 pub(super) struct FaultyFile<T> {
-    inner: T,
-    fault: Fault,
-    interrupted: bool,
+    pub(super) inner: T,
+    pub(super) fault: Fault,
+    pub(super) failed: bool,
 }
 
 fn broken<T>() -> io::Result<T> {
@@ -31,30 +26,30 @@ fn broken<T>() -> io::Result<T> {
 }
 
 impl<T> FaultyFile<T> {
-    fn interrupt(&mut self) -> io::Result<()> {
-        self.interrupted = matches!(self.fault, Fault::Interruptions) && !self.interrupted;
-        if self.interrupted {
-            return Err(io::Error::from(ErrorKind::Interrupted));
+    fn fail(&mut self) -> io::Result<()> {
+        self.failed = !self.failed;
+        match self.fault {
+            Fault::Call(kind) if self.failed => Err(io::Error::from(kind)),
+            _ => Ok(()),
         }
-        Ok(())
     }
 }
 
 impl<T: Read> Read for FaultyFile<T> {
     fn read(&mut self, buf: &mut [u8]) -> io::Result<usize> {
-        self.interrupt()?;
+        self.fail()?;
         self.inner.read(buf)
     }
 }
 
 impl<T: Write> Write for FaultyFile<T> {
     fn write(&mut self, buf: &[u8]) -> io::Result<usize> {
-        self.interrupt()?;
+        self.fail()?;
         self.inner.write(buf)
     }
 
     fn flush(&mut self) -> io::Result<()> {
-        self.inner.flush()
+        broken()
     }
 }
 
@@ -67,7 +62,7 @@ impl<T: Seek> Seek for FaultyFile<T> {
 impl<T: OpenFile> OpenFile for FaultyFile<T> {
     fn metadata(&self) -> io::Result<Metadata> {
         match self.fault {
-            Fault::Measure => broken(),
+            Fault::Length => broken(),
             _ => self.inner.metadata(),
         }
     }
@@ -85,56 +80,5 @@ impl<T: OpenFile> OpenFile for FaultyFile<T> {
             Fault::Sync => broken(),
             _ => self.inner.sync_data(),
         }
-    }
-}
-
-// It opens files, and does nothing else.
-impl<R: Files> Files for Faulty<'_, R> {
-    type File = FaultyFile<R::File>;
-
-    type Dir = R::Dir;
-
-    fn open_file(&self, how: &OpenOptions, path: &str) -> io::Result<FaultyFile<R::File>> {
-        Ok(FaultyFile {
-            inner: self.0.open_file(how, path)?,
-            fault: self.1,
-            interrupted: false,
-        })
-    }
-
-    fn open_dir(&self, _path: &str) -> io::Result<R::Dir> {
-        broken()
-    }
-
-    fn metadata(&self, _path: &str) -> io::Result<Metadata> {
-        broken()
-    }
-
-    fn symlink_metadata(&self, _path: &str) -> io::Result<Metadata> {
-        broken()
-    }
-
-    fn copy(&self, _from: &str, _to: &str) -> io::Result<u64> {
-        broken()
-    }
-
-    fn rename(&self, _from: &str, _to: &str) -> io::Result<()> {
-        broken()
-    }
-
-    fn remove_file(&self, _path: &str) -> io::Result<()> {
-        broken()
-    }
-
-    fn create_dir(&self, _path: &str) -> io::Result<()> {
-        broken()
-    }
-
-    fn remove_dir(&self, _path: &str) -> io::Result<()> {
-        broken()
-    }
-
-    fn remove_dir_all<B: Allocator>(&self, _alloc: B, _path: &str) -> io::Result<()> {
-        broken()
     }
 }

@@ -1,8 +1,10 @@
 -- The walk begins, looks at a class, completes a row, and ends.
 use Rattle.std.proofs.Common.{◌≡◌, ℕ, ◌+◌, ◌-◌, ◌*◌, ◌<◌, ap, subst, ◌∙◌, arith}
+use Rattle.stair_model.specs.CellSet.{HasCell}
 use Rattle.stair_model.specs.Geometry.{Geometry, IsWithinLimits, classes, coverage, data_chunks}
 use Rattle.stair_model.specs.Stripe.{IsStripeOf, cell}
 use Rattle.stair_canon.specs.Canonical.{symbol}
+use Rattle.stair_canon.specs.Parities.{AreParities}
 use Rattle.stair_down.specs.Completing.{CompletesChunk, CompletesRow}
 use Rattle.stair_down.proofs.Counting.{steps_to-start, steps_to-chunk, steps_to-skip, steps_to-row, steps_to-end}
 use Rattle.stair_down.proofs.Target.{target_exists, encoded_at_end}
@@ -90,7 +92,7 @@ pub returns-clause-encoded : goal.returns-clause-encoded
 returns-clause-encoded g c =
     let now = c.args.canon.now.geometry in
     let before = c.args.stripe.now in
-    let after = c.store.new.stripe in
+    let after = c.store_cells.new.stripe in
     let limits : IsWithinLimits now = subst IsWithinLimits c.geometry-geometry.ensures c.r-row-end.ensures.limits in
     let kept = c.loop-row.invariant in
     let end : now.r ≡ c.loop-row.row =
@@ -102,12 +104,15 @@ returns-clause-encoded g c =
       ap (λ x. x.r) c.geometry-geometry.ensures,
     ) in
     let target = target_exists before c.args.canon.now c.load.new.self limits c.load.ensures.well_formed c.load.ensures.loaded in
-    let cells : (i j : ℕ) → i < now.r → j < now.n → cell after i j ≡ symbol c.loop-row.canon i j =
-    subst (λ (x : Geometry). (i j : ℕ) → i < x.r → j < x.n → cell after i j ≡ symbol c.loop-row.canon i j) kept.geometry
-    c.store.ensures.cells in
+    let parities = c.parities.result.now in
     encoded_at_end before after target.0 c.args.canon.now c.load.new.self c.loop-row.canon c.loop-row.row limits
-    c.load.ensures.well_formed c.load.ensures.loaded target.1 end (kept.reached target.0 target.1) cells
-    (subst (λ (x : Geometry). IsStripeOf x after) kept.geometry c.store.ensures.shape) c.store.ensures.well_formed
+    c.load.ensures.well_formed c.load.ensures.loaded target.1 end (kept.reached target.0 target.1) parities
+    (subst (λ (x : Geometry). AreParities x parities) kept.geometry c.parities.ensures.cells)
+    (subst (λ (x : Geometry). (i j : ℕ) → i < x.r → j < x.n → HasCell parities i j → cell after i j ≡ symbol c.loop-row.canon i j) kept.geometry
+    c.store_cells.ensures.cells)
+    (subst (λ (x : Geometry). (i j : ℕ) → i < x.r → j < x.n → ¬ HasCell parities i j → cell after i j ≡ cell before i j) kept.geometry
+    c.store_cells.ensures.others)
+    (subst (λ (x : Geometry). IsStripeOf x after) kept.geometry c.store_cells.ensures.shape) c.store_cells.ensures.well_formed
 
 pub returns-clause-cost : goal.returns-clause-cost
 returns-clause-cost g c =

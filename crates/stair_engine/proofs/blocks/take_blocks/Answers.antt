@@ -1,26 +1,24 @@
--- One block more; and a refusal behind the blocks so far.
-use Rattle.std.proofs.Common.{◌≡◌, ℕ, ◌%◌, ◌<◌, false, inl, inr, rules, sym, ap, ◌∙◌, arith, length}
-use Rattle.std.proofs.lemmas.Bool.{cases_lt}
+-- One block more; and one that was cut short behind the blocks so far.
+use Rattle.std.proofs.Common.{◌≡◌, ℕ, ◌%◌, ◌<◌, rules, ap, ◌∙◌, arith, length}
 use Rattle.std.proofs.Math.Nat.{mod-eq_of_lt}
 use Rattle.stair_model.specs.Cell.{Data, cell_at}
 use Rattle.stair_model.specs.Geometry.{data_cells}
-use Rattle.stair_rack.specs.Count.{kept-Rose}
+use Rattle.stair_engine.specs.Outside.{source_view}
 use Rattle.stair_engine.proofs.BlockLaws.{TakesBlocksTo-more, took_blocks}
-use Rattle.stair_engine.proofs.IntakeLaws.{RefusesInput-later, if_err_of}
+use Rattle.stair_engine.proofs.IntakeLaws.{CutsShort-later, if_err_of}
 use Rattle.stair_engine.proofs.blocks.take_blocks.Goals as goal
 
 pub fill-requires-clause-room : goal.fill-requires-clause-room
 fill-requires-clause-room g c =
-    let took = took_blocks _ _ _ _ _ _ _ c.loop-number.invariant.taken in
+    let took = took_blocks (source_view g.S.Source.left g.S.Source.ended g.S.Source.faults) _ _ _ _ _ _ _ c.loop-number.invariant.taken in
     let below : c.loop-number.number < data_cells c.args.geometry.now = omega (arith, c.u-number-end.ensures.value) in
     let long : length c.loop-number.sector ≡ 512 = search rules in
     omega (arith, took.0, took.1, below, long, c.requires.room)
 
-pub returns-in_err-fill-clause-err : goal.returns-in_err-fill-clause-err
-returns-in_err-fill-clause-err g c =
+pub returns-in_err-fill-clause-cut : goal.returns-in_err-fill-clause-cut
+returns-in_err-fill-clause-cut g c =
     if_err_of _ c.in_err-fill.field-0.0 _ c.from_residual.ensures.1
-    (RefusesInput-later _ _ _ _ _ _ _ _ _ _ c.loop-number.invariant.taken.taken
-    (λ rose. kept-Rose _ _ _ c.loop-number.invariant.count c.fill.ensures.count rose) c.in_err-fill.ensures.err)
+    (CutsShort-later (source_view g.S.Source.left g.S.Source.ended g.S.Source.faults) _ _ _ _ _ _ _ c.loop-number.invariant.taken.taken c.in_err-fill.ensures.cut)
 
 pub loop-number-preserved : goal.loop-number-preserved
 loop-number-preserved g c =
@@ -36,16 +34,7 @@ loop-number-preserved g c =
       well_formed = c.put.ensures.well_formed;
       taken =
           rw c.put.ensures.value
-          (TakesBlocksTo-more of _ _ _ _ _ _ c.loop-number.stripe number _ _ c.fill.new.into c.loop-number.invariant.of
-          c.loop-number.invariant.well_formed place.row_in place.chunk_in at (rw c.put.ensures.value at c.put.ensures.well_formed)
-          c.loop-number.invariant.taken c.in_ok-fill.ensures.ok);
-      count = omega arith;
-      running = λ some. (
-        elim (cases_lt 0 number) as (λ _. g.S.Source.ended c.args.input.now ≡ false) [
-          | inl later ↦ (c.loop-number.invariant.running later).0
-          | inr at_start ↦ sym (c.loop-number.invariant.fresh (omega (arith, at_start))) ∙ c.in_ok-fill.ensures.running.0
-        ],
-        c.in_ok-fill.ensures.running.1,
-      );
-      fresh = λ none. absurd (omega (arith, none));
+          (TakesBlocksTo-more (source_view g.S.Source.left g.S.Source.ended g.S.Source.faults) of _ _ _ c.loop-number.stripe number _ _ c.fill.new.into _ _ _
+          c.loop-number.invariant.of c.loop-number.invariant.well_formed place.row_in place.chunk_in at
+          (rw c.put.ensures.value at c.put.ensures.well_formed) c.loop-number.invariant.taken c.in_ok-fill.ensures.ok);
     }

@@ -1,33 +1,54 @@
--- The first equation that is broken, and where the sink fails.
-use Rattle.std.proofs.Common.{arith, refl, rules}
+-- Each return, by its deeds.
+use Rattle.std.proofs.Common.{[], refl, rules}
 use Rattle.std.specs.Prelude.{IsNone}
-use Rattle.std.proofs.KnownBytes.{Keeps-refl}
 use Rattle.stair_engine.specs.Answer.{codeword_line}
-use Rattle.stair_engine.specs.declared.fault.Fault.TheVariants.{Output}
-use Rattle.stair_engine.proofs.AnswerLaws.{Does-failed, Does-handed_on, cause_of_broken, judged_of_codeword}
+use Rattle.stair_engine.specs.declared.fault.Fault.TheVariants.{Memory, Output}
+use Rattle.stair_engine.specs.declared.status.Status.TheVariants.{Done, NotCodeword}
+use Rattle.stair_engine.specs.Outside.{views}
+use Rattle.stair_engine.specs.Plan.{Over, input_plan}
+use Rattle.stair_engine.specs.Task.Command.{Check}
+use Rattle.stair_engine.proofs.PlanLaws.{and_then, cannot_put, grows, hands_on, puts, runs_out, takes_judged, takes_whole}
 use Rattle.stair_engine.proofs.check.check.Goals as goal
 
+pub returns-in_err-stripe : goal.returns-in_err-stripe
+returns-in_err-stripe g c counter =
+    let view = views g.S.Source.left g.S.Source.ended g.S.Source.faults g.K.Sink.held g.K.Sink.faults in
+    hands_on view _ _ _ _ Memory c.from_residual.ensures.1 (runs_out view (input_plan Check c.args.geometry.now) _)
+
+pub returns-in_err-take_input : goal.returns-in_err-take_input
+returns-in_err-take_input g c counter =
+    let view = views g.S.Source.left g.S.Source.ended g.S.Source.faults g.K.Sink.held g.K.Sink.faults in
+    hands_on view _ _ _ _ _ c.from_residual-in_err-take_input.ensures.1
+    (and_then view (grows view _ _) (takes_whole view _ _ _ _ _ _ _ _ c.in_err-take_input.ensures.takes))
+
 pub returns-in-Some : goal.returns-in-Some
-returns-in-Some g c = record {
-  limits = c.take_input.ensures.limits;
-  cause = cause_of_broken _ _ _ c.take_input.new.stripe _ c.take_input.ensures.limits c.in_ok-take_input.ensures.ok c.in-Some.ensures.broken;
-  input_fault = λ is. cc;
-  output_fault = λ is. cc;
-  taken = c.in_ok-take_input.ensures.taken;
-  looked = c.in_ok-take_input.ensures.ended;
-  input_count = c.take_input.ensures.count;
-  output = Keeps-refl _;
-  untouched = refl;
-  refused = tt;
-  output_count = omega arith;
-}
+returns-in-Some g c counter =
+    let view = views g.S.Source.left g.S.Source.ended g.S.Source.faults g.K.Sink.held g.K.Sink.faults in
+    let whole = c.in_ok-take_input.ensures.takes in
+    and_then view (grows view _ _)
+    (takes_judged view Check c.args.geometry.now _ _ _ _ _ _ _ whole (NotCodeword c.in-Some.broken) []
+    (c.take_input.new.stripe, whole.is_input, (c.in-Some.ensures.broken, refl)) refl)
 
 pub returns-in_err-put_all : goal.returns-in_err-put_all
-returns-in_err-put_all g c =
+returns-in_err-put_all g c counter =
+    let view = views g.S.Source.left g.S.Source.ended g.S.Source.faults g.K.Sink.held g.K.Sink.faults in
     let none : IsNone c.first_broken.result = search rules in
-    Does-handed_on _ _ _ _ _ _ _ _ _ _ _ _ _ _ Output refl c.from_residual-in_err-put_all.ensures.1 c.in_err-put_all.ensures.failed.0
-    (Does-failed _ _ _ _ _ _ _ _ _ _ _ codeword_line c.take_input.ensures.limits
-    (judged_of_codeword _ _ c.take_input.new.stripe c.take_input.ensures.limits c.in_ok-take_input.ensures.ok
-    (c.first_broken.ensures.codeword.0 none))
-    refl c.in_ok-take_input.ensures.taken c.in_ok-take_input.ensures.ended c.take_input.ensures.count c.put_all.ensures.count
-    c.in_err-put_all.ensures.bytes c.in_err-put_all.ensures.failed.1)
+    let whole = c.in_ok-take_input.ensures.takes in
+    let failed = c.in_err-put_all.ensures.puts in
+    hands_on view _ _ _ _ Output (rw c.in_err-put_all.ensures.failed at c.from_residual-in_err-put_all.ensures.1)
+    (and_then view (grows view _ _)
+    (and_then view
+    (takes_judged view Check c.args.geometry.now _ _ _ _ _ _ _ whole Done codeword_line
+    (c.take_input.new.stripe, whole.is_input, (c.first_broken.ensures.codeword.0 none, refl)) refl)
+    (cannot_put view codeword_line failed.0 _ _ _ _ _ failed.1 failed.2)))
+
+pub returns : goal.returns
+returns g c counter =
+    let view = views g.S.Source.left g.S.Source.ended g.S.Source.faults g.K.Sink.held g.K.Sink.faults in
+    let none : IsNone c.first_broken.result = search rules in
+    let whole = c.in_ok-take_input.ensures.takes in
+    and_then view (grows view _ _)
+    (and_then view
+    (takes_judged view Check c.args.geometry.now _ _ _ _ _ _ _ whole Done codeword_line
+    (c.take_input.new.stripe, whole.is_input, (c.first_broken.ensures.codeword.0 none, refl)) refl)
+    (puts view codeword_line (Over Done) _ _ _ _ c.in_ok-put_all.ensures.puts))

@@ -1,36 +1,31 @@
 -- All cells were taken, and then the end was looked for.
-use Rattle.std.proofs.lemmas.Option.{IfSome_then}
-use Rattle.std.proofs.lemmas.Result.{IfErr-weaker, on_ok_weaker}
-use Rattle.stair_rack.specs.Count.{kept-Rose}
+use Rattle.std.proofs.Common.{refl}
+use Rattle.std.specs.List.{concat}
 use Rattle.stair_engine.specs.Answer.{cell_bytes}
-use Rattle.stair_engine.proofs.AnswerLaws.{HasBytes-cells}
+use Rattle.stair_engine.specs.Outside.{source_view}
+use Rattle.stair_engine.proofs.AnswerLaws.{HasBytes-cells, some_cells}
 use Rattle.stair_engine.proofs.CellLaws.{length-cell_bytes}
-use Rattle.stair_engine.proofs.IntakeLaws.{RefusesInput-later, TakesCount-all, all_counted, told_all}
+use Rattle.stair_engine.proofs.IntakeLaws.{all_counted, whole_cut, whole_end, whole_handed_on}
 use Rattle.stair_engine.proofs.check.take_input.Goals as goal
+
+pub returns-in_err-take_stripe-clause-takes : goal.returns-in_err-take_stripe-clause-takes
+returns-in_err-take_stripe-clause-takes g c =
+    whole_handed_on (source_view g.S.Source.left g.S.Source.ended g.S.Source.faults) _ _ _ _ _ _ c.from_residual.ensures.1
+    (whole_cut (source_view g.S.Source.left g.S.Source.ended g.S.Source.faults) _ _ _ _ _ (rw (rw c.cell_bytes.ensures.value at c.new-intake.ensures) at c.in_err-take_stripe.ensures.cut))
 
 pub end-requires-clause-all : goal.end-requires-clause-all
 end-requires-clause-all g c =
-    all_counted _ _ _ _ _ (cell_bytes c.args.geometry.now) (rw c.cell_bytes.ensures.value at c.new-intake.ensures)
-    (length-cell_bytes _ _ c.take_stripe.ensures.of c.take_stripe.ensures.well_formed) c.in_ok-take_stripe.ensures.ok
+    (all_counted (source_view g.S.Source.left g.S.Source.ended g.S.Source.faults) _ _ _ (cell_bytes c.args.geometry.now) _ _ (rw c.cell_bytes.ensures.value at c.new-intake.ensures)
+    (length-cell_bytes _ _ c.take_stripe.ensures.of c.take_stripe.ensures.well_formed) c.in_ok-take_stripe.ensures.ok).0
 
-pub returns-clause-ok : goal.returns-clause-ok
-returns-clause-ok g c =
-    on_ok_weaker c.end.result
-    (λ ends. IfSome_then _ (told_all _ _ _ _ _ c.in_ok-take_stripe.ensures.ok ends.0)
-    (λ input same. HasBytes-cells _ _ c.take_stripe.ensures.of c.take_stripe.ensures.well_formed input same))
-    c.end.ensures.ok
-
-pub returns-clause-taken : goal.returns-clause-taken
-returns-clause-taken g c =
-    on_ok_weaker c.end.result
-    (λ ends. TakesCount-all _ _ _ _ _ _ _ c.in_ok-take_stripe.ensures.ok
-    (length-cell_bytes _ _ c.take_stripe.ensures.of c.take_stripe.ensures.well_formed) ends.1)
-    c.end.ensures.ok
-
-pub returns-clause-err : goal.returns-clause-err
-returns-clause-err g c =
-    IfErr-weaker c.end.result _ _
-    (λ refusal why. RefusesInput-later _ _ _ _ _ _ _ _ _ refusal
-    (rw (rw c.cell_bytes.ensures.value at c.new-intake.ensures) at c.in_ok-take_stripe.ensures.ok)
-    (λ rose. kept-Rose _ _ _ c.take_stripe.ensures.count c.end.ensures.count rose) why)
-    c.end.ensures.err
+pub returns-clause-takes : goal.returns-clause-takes
+returns-clause-takes g c =
+    let of = c.args.geometry.now in
+    let stripe = c.take_stripe.new.stripe in
+    let long = length-cell_bytes of stripe c.take_stripe.ensures.of c.take_stripe.ensures.well_formed in
+    let counted = all_counted (source_view g.S.Source.left g.S.Source.ended g.S.Source.faults) _ _ _ (cell_bytes of) _ _ (rw c.cell_bytes.ensures.value at c.new-intake.ensures) long
+    c.in_ok-take_stripe.ensures.ok
+    in
+    whole_end (source_view g.S.Source.left g.S.Source.ended g.S.Source.faults) _ _ (concat stripe.cells) _ _ _ _ _ counted.1 (some_cells of c.cell_bytes.ensures.limits) long
+    c.in_ok-take_stripe.ensures.ok.taken c.end.ensures.ok c.end.ensures.more
+    (λ done. HasBytes-cells of stripe c.take_stripe.ensures.of c.take_stripe.ensures.well_formed (concat stripe.cells) refl)

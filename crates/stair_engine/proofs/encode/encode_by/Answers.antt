@@ -1,47 +1,42 @@
--- The cells that are put out are those of the stripe that encodes the blocks that were taken.
-use Rattle.std.proofs.Common.{refl, subst, sym}
+-- Each return, by its deeds.
 use Rattle.std.specs.List.{concat}
-use Rattle.stair_model.specs.Encoding.{IsEncodedFrom}
-use Rattle.stair_model.specs.Geometry.{Geometry}
-use Rattle.stair_engine.specs.Does.{Does}
 use Rattle.stair_engine.specs.declared.fault.Fault.TheVariants.{Output}
 use Rattle.stair_engine.specs.declared.status.Status.TheVariants.{Done}
+use Rattle.stair_engine.specs.Outside.{views}
+use Rattle.stair_engine.specs.Plan.{Over}
 use Rattle.stair_engine.specs.Task.Command.{Encode}
-use Rattle.stair_engine.proofs.AnswerLaws.{Does-done, Does-failed, Does-handed_on, Does-refused, IsCodewordBytes-cells, judged_of_blocks}
+use Rattle.stair_engine.proofs.AnswerLaws.{judged_blocks}
+use Rattle.stair_engine.proofs.PlanLaws.{and_then, cannot_put, hands_on, of_geometry, puts, takes_judged, takes_whole}
 use Rattle.stair_engine.proofs.encode.encode_by.Goals as goal
 
-pub returns-in_err-take_input-clause-does : goal.returns-in_err-take_input-clause-does
-returns-in_err-take_input-clause-does g c =
-    Does-handed_on _ _ _ _ _ _ _ _ _ _ _ _ _ _ _ c.geometry-geometry.ensures c.from_residual.ensures.1 refl
-    (Does-refused _ _ _ _ _ _ _ _ _ _ _ c.take_input.ensures.limits c.in_err-take_input.ensures.err c.take_input.ensures.count)
+pub returns-in_err-take_input : goal.returns-in_err-take_input
+returns-in_err-take_input g c =
+    let view = views g.S.Source.left g.S.Source.ended g.S.Source.faults g.K.Sink.held g.K.Sink.faults in
+    of_geometry view (Encode c.args.method) _ _ _ _ _ c.geometry-geometry.ensures
+    (hands_on view _ _ _ _ _ c.from_residual.ensures.1 (takes_whole view _ _ _ _ _ _ _ _ c.in_err-take_input.ensures.takes))
 
-pub returns-in_err-put_stripe-clause-does : goal.returns-in_err-put_stripe-clause-does
-returns-in_err-put_stripe-clause-does g c =
-    let of = c.geometry-geometry.result in
-    let stripe = c.encode.new.stripe in
-    let encoded : IsEncodedFrom of c.take_input.new.stripe stripe =
-    subst (λ (k : Geometry). IsEncodedFrom k c.take_input.new.stripe stripe) (sym c.geometry-geometry.ensures) c.encode.ensures.encoded
+pub returns-in_err-put_stripe : goal.returns-in_err-put_stripe
+returns-in_err-put_stripe g c =
+    let view = views g.S.Source.left g.S.Source.ended g.S.Source.faults g.K.Sink.held g.K.Sink.faults in
+    let cells = concat c.encode.new.stripe.cells in
+    let whole = c.in_ok-take_input.ensures.takes in
+    let failed = c.in_err-put_stripe.ensures.puts in
+    let is = judged_blocks c.args.method _ _ _ _ whole.bytes _ _ _ c.geometry-geometry.ensures c.take_input.ensures.limits whole.is_input
+    c.encode.ensures.encoded c.requires.cost c.encode.ensures.takes
     in
-    Does-handed_on _ _ _ _ _ _ _ _ _ _ _ _ _ _ Output c.geometry-geometry.ensures c.from_residual-in_err-put_stripe.ensures.1
-    c.in_err-put_stripe.ensures.failed.0
-    (Does-failed _ _ _ _ _ _ _ _ _ _ _ (concat stripe.cells) c.take_input.ensures.limits
-    (judged_of_blocks c.args.method of _ c.take_input.new.stripe stripe c.take_input.ensures.limits c.in_ok-take_input.ensures.ok encoded)
-    (IsCodewordBytes-cells of stripe encoded.of encoded.formed encoded.codeword) c.in_ok-take_input.ensures.taken
-    c.in_ok-take_input.ensures.ended c.take_input.ensures.count c.put_stripe.ensures.count c.in_err-put_stripe.ensures.bytes
-    c.in_err-put_stripe.ensures.failed.1)
+    of_geometry view (Encode c.args.method) _ _ _ _ _ c.geometry-geometry.ensures
+    (hands_on view _ _ _ _ Output (rw c.in_err-put_stripe.ensures.failed at c.from_residual-in_err-put_stripe.ensures.1)
+    (and_then view (takes_judged view (Encode c.args.method) _ _ _ _ _ _ _ _ whole Done cells is.0 is.1)
+    (cannot_put view cells failed.0 _ _ _ _ _ failed.1 failed.2)))
 
-pub returns-clause-does : goal.returns-clause-does
-returns-clause-does g c =
-    let of = c.geometry-geometry.result in
-    let stripe = c.encode.new.stripe in
-    let encoded : IsEncodedFrom of c.take_input.new.stripe stripe =
-    subst (λ (k : Geometry). IsEncodedFrom k c.take_input.new.stripe stripe) (sym c.geometry-geometry.ensures) c.encode.ensures.encoded
+pub returns : goal.returns
+returns g c =
+    let view = views g.S.Source.left g.S.Source.ended g.S.Source.faults g.K.Sink.held g.K.Sink.faults in
+    let cells = concat c.encode.new.stripe.cells in
+    let whole = c.in_ok-take_input.ensures.takes in
+    let is = judged_blocks c.args.method _ _ _ _ whole.bytes _ _ _ c.geometry-geometry.ensures c.take_input.ensures.limits whole.is_input
+    c.encode.ensures.encoded c.requires.cost c.encode.ensures.takes
     in
-    subst
-    (λ (k : Geometry). Does g.S.Source.left g.S.Source.ended g.S.Source.faults g.K.Sink.held g.K.Sink.faults (Encode c.args.method) k
-    c.args.input.now c.take_input.new.input c.args.output.now c.put_stripe.new.output Done)
-    c.geometry-geometry.ensures
-    (Does-done _ _ _ _ _ _ _ _ _ _ _ (concat stripe.cells) c.take_input.ensures.limits
-    (judged_of_blocks c.args.method of _ c.take_input.new.stripe stripe c.take_input.ensures.limits c.in_ok-take_input.ensures.ok encoded)
-    (IsCodewordBytes-cells of stripe encoded.of encoded.formed encoded.codeword) c.in_ok-take_input.ensures.taken
-    c.in_ok-take_input.ensures.ended c.take_input.ensures.count c.put_stripe.ensures.count c.in_ok-put_stripe.ensures.bytes)
+    of_geometry view (Encode c.args.method) _ _ _ _ _ c.geometry-geometry.ensures
+    (and_then view (takes_judged view (Encode c.args.method) _ _ _ _ _ _ _ _ whole Done cells is.0 is.1)
+    (puts view cells (Over Done) _ _ _ _ c.in_ok-put_stripe.ensures.puts))

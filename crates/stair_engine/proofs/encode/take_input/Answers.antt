@@ -1,30 +1,30 @@
 -- All blocks were taken, and then the end was looked for.
-use Rattle.std.proofs.lemmas.Result.{IfErr-weaker, on_ok_weaker}
-use Rattle.stair_rack.specs.Count.{kept-Rose}
+use Rattle.std.proofs.Common.{◌≤◌, arith}
+use Rattle.std.specs.List.{concat}
+use Rattle.stair_model.specs.Geometry.{data_cells}
 use Rattle.stair_engine.specs.Answer.{block_bytes}
-use Rattle.stair_engine.proofs.BlockLaws.{TookBlocks-all, length-blocks}
-use Rattle.stair_engine.proofs.IntakeLaws.{RefusesInput-later, TakesCount-all, all_counted}
+use Rattle.stair_engine.specs.Outside.{source_view}
+use Rattle.stair_engine.proofs.BlockLaws.{HoldsInput-all, length-blocks}
+use Rattle.stair_engine.proofs.IntakeLaws.{all_counted, whole_cut, whole_end, whole_handed_on}
 use Rattle.stair_engine.proofs.encode.take_input.Goals as goal
+
+pub returns-in_err-take_blocks-clause-takes : goal.returns-in_err-take_blocks-clause-takes
+returns-in_err-take_blocks-clause-takes g c =
+    whole_handed_on (source_view g.S.Source.left g.S.Source.ended g.S.Source.faults) _ _ _ _ _ _ c.from_residual.ensures.1
+    (whole_cut (source_view g.S.Source.left g.S.Source.ended g.S.Source.faults) _ _ _ _ _ (rw (rw c.block_bytes.ensures.value at c.new-intake.ensures) at c.in_err-take_blocks.ensures.cut))
 
 pub end-requires-clause-all : goal.end-requires-clause-all
 end-requires-clause-all g c =
     let took = c.in_ok-take_blocks.ensures.ok in
-    all_counted _ _ _ _ _ (block_bytes c.args.geometry.now) (rw c.block_bytes.ensures.value at c.new-intake.ensures)
-    (length-blocks _ _ _ _ _ _ took) took.taken
+    (all_counted (source_view g.S.Source.left g.S.Source.ended g.S.Source.faults) _ _ _ (block_bytes c.args.geometry.now) _ _ (rw c.block_bytes.ensures.value at c.new-intake.ensures)
+    (length-blocks (source_view g.S.Source.left g.S.Source.ended g.S.Source.faults) _ _ _ _ _ _ took) took.taken).0
 
-pub returns-clause-ok : goal.returns-clause-ok
-returns-clause-ok g c =
-    on_ok_weaker c.end.result (λ ends. TookBlocks-all _ _ _ _ _ _ c.in_ok-take_blocks.ensures.ok ends.0) c.end.ensures.ok
-
-pub returns-clause-taken : goal.returns-clause-taken
-returns-clause-taken g c =
+pub returns-clause-takes : goal.returns-clause-takes
+returns-clause-takes g c =
+    let of = c.args.geometry.now in
     let took = c.in_ok-take_blocks.ensures.ok in
-    on_ok_weaker c.end.result (λ ends. TakesCount-all _ _ _ _ _ _ _ took.taken (length-blocks _ _ _ _ _ _ took) ends.1) c.end.ensures.ok
-
-pub returns-clause-err : goal.returns-clause-err
-returns-clause-err g c =
-    IfErr-weaker c.end.result _ _
-    (λ refusal why. RefusesInput-later _ _ _ _ _ _ _ _ _ refusal
-    (rw (rw c.block_bytes.ensures.value at c.new-intake.ensures) at c.in_ok-take_blocks.ensures.ok.taken)
-    (λ rose. kept-Rose _ _ _ c.take_blocks.ensures.count c.end.ensures.count rose) why)
-    c.end.ensures.err
+    let long = length-blocks (source_view g.S.Source.left g.S.Source.ended g.S.Source.faults) of _ _ _ _ _ took in
+    let counted = all_counted (source_view g.S.Source.left g.S.Source.ended g.S.Source.faults) _ _ _ (block_bytes of) _ _ (rw c.block_bytes.ensures.value at c.new-intake.ensures) long took.taken in
+    let blocks : 1 ≤ data_cells of = c.block_bytes.ensures.limits.blocks in
+    whole_end (source_view g.S.Source.left g.S.Source.ended g.S.Source.faults) _ _ (concat took.blocks) _ _ _ _ _ counted.1 (omega (arith, blocks)) long
+    took.taken.taken c.end.ensures.ok c.end.ensures.more (λ done. HoldsInput-all (source_view g.S.Source.left g.S.Source.ended g.S.Source.faults) _ _ _ _ _ _ took)

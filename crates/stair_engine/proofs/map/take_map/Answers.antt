@@ -1,34 +1,27 @@
--- One row more; a refusal behind the rows so far; and all rows.
-use Rattle.std.proofs.Common.{◌≡◌, false, inl, inr, sym, ◌∙◌, arith, rules, length}
-use Rattle.std.proofs.lemmas.Bool.{cases_lt}
-use Rattle.stair_rack.specs.Count.{kept-Rose}
-use Rattle.stair_engine.proofs.IntakeLaws.{RefusesInput-later, if_err_of}
-use Rattle.stair_engine.proofs.MapLaws.{HasMapped-more, HasMapped-all}
+-- One row more; a row that was cut short behind the rows so far; and all rows.
+use Rattle.std.proofs.Common.{◌≡◌, arith, rules, length}
+use Rattle.stair_engine.specs.Outside.{source_view}
+use Rattle.stair_engine.proofs.IntakeLaws.{CutsShort-later, if_err_of}
+use Rattle.stair_engine.proofs.MapLaws.{HasMapped-all, HasMapped-more, HasMapped-none}
 use Rattle.stair_engine.proofs.map.take_map.Goals as goal
 
-pub returns-in_err-fill-clause-err : goal.returns-in_err-fill-clause-err
-returns-in_err-fill-clause-err g c =
+pub returns-in_err-fill-clause-cut : goal.returns-in_err-fill-clause-cut
+returns-in_err-fill-clause-cut g c =
     if_err_of _ c.in_err-fill.field-0.0 _ c.from_residual.ensures.1
-    (RefusesInput-later _ _ _ _ _ _ _ _ _ _ c.loop-row.invariant.mapped.taken
-    (λ rose. kept-Rose _ _ _ c.loop-row.invariant.count c.fill.ensures.count rose) c.in_err-fill.ensures.err)
+    (CutsShort-later (source_view g.S.Source.left g.S.Source.ended g.S.Source.faults) _ _ _ _ _ _ _ c.loop-row.invariant.taken c.in_err-fill.ensures.cut)
 
 pub loop-row-preserved : goal.loop-row-preserved
 loop-row-preserved g c =
     let of = c.args.geometry.now in
     let long : length c.fill.new.into ≡ of.n = search rules in
-    record {
-      mapped = HasMapped-more of _ _ _ _ _ _ _ _ _ c.fill.new.into long c.loop-row.invariant.mapped c.in_ok-fill.ensures.ok c.add_erased.ensures;
-      count = omega arith;
-      running = λ some. (
-        elim (cases_lt 0 c.loop-row.row) as (λ _. g.S.Source.ended c.args.input.now ≡ false) [
-          | inl later ↦ (c.loop-row.invariant.running later).0
-          | inr at_start ↦ sym (c.loop-row.invariant.fresh (omega (arith, at_start))) ∙ c.in_ok-fill.ensures.running.0
-        ],
-        c.in_ok-fill.ensures.running.1,
-      );
-      fresh = λ none. absurd (omega (arith, none));
-    }
+    HasMapped-more (source_view g.S.Source.left g.S.Source.ended g.S.Source.faults) of _ _ _ _ _ _ c.fill.new.into _ _ _ long c.loop-row.invariant
+    c.in_ok-fill.ensures.ok c.add_erased.ensures
 
 pub returns-clause-ok : goal.returns-clause-ok
 returns-clause-ok g c =
-    HasMapped-all _ _ _ _ _ _ _ (omega (arith, c.r-row-end.ensures.value)) c.loop-row.invariant.mapped
+    HasMapped-all (source_view g.S.Source.left g.S.Source.ended g.S.Source.faults) _ _ _ _ _ _ _ (omega (arith, c.r-row-end.ensures.value))
+    c.loop-row.invariant
+
+pub loop-row-init : goal.loop-row-init
+loop-row-init g c =
+    HasMapped-none (source_view g.S.Source.left g.S.Source.ended g.S.Source.faults) _ _ _ _ c.empty-erased.ensures.none

@@ -1,77 +1,85 @@
 -- A map and all cells were taken, and then the end was looked for.
-use Rattle.std.proofs.Common.{◌≡◌, ℕ, ◌+◌, ◌*◌, ◌++◌, length, length-append, ap, ap₂, ◌∙◌, arith, subst}
+use Rattle.std.proofs.Common.{◌≡◌, ℕ, ◌+◌, ◌*◌, ◌<◌, ◌++◌, length, length-append, ap, ap₂, ◌∙◌, arith}
 use Rattle.std.specs.List.{concat}
-use Rattle.stair_rack.specs.Count.{kept-Rose}
-use Rattle.stair_engine.specs.declared.intake.Intake.{Intake}
+use Rattle.stair_model.specs.Geometry.{Geometry, IsWithinLimits}
 use Rattle.stair_engine.specs.Task.Command.{Restore}
 use Rattle.stair_engine.specs.Answer.{bytes_needed}
-use Rattle.stair_engine.specs.Taking.{TakesBytes, intake_of}
-use Rattle.stair_engine.proofs.AnswerLaws.{TookErased-all}
+use Rattle.stair_engine.specs.Outside.{source_view}
+use Rattle.stair_engine.specs.Taking.{intake_of}
+use Rattle.stair_engine.proofs.AnswerLaws.{IsMapAndCells-all, some_cells}
 use Rattle.stair_engine.proofs.CellLaws.{length-cell_bytes}
-use Rattle.stair_engine.proofs.IntakeLaws.{RefusesInput-later, TakesBytes-more, TakesCount-all, all_counted, if_err_of, told_all}
+use Rattle.stair_engine.proofs.IntakeLaws.{CutsShort-later, TakesBytes-more, all_counted, whole_cut, whole_ended, whole_goes_on, whole_handed_on}
 use Rattle.stair_engine.proofs.restore.take_input.Goals as goal
 
-pub returns-in_err-take_stripe-clause-err : goal.returns-in_err-take_stripe-clause-err
-returns-in_err-take_stripe-clause-err g c =
+-- the bytes that are needed are those of the map and of the cells
+needs : (of : Geometry) (from from' r n cells : ℕ) → from ≡ r → from' ≡ n → r ≡ of.r → n ≡ of.n → cells ≡ of.r * of.n * 512
+    → from * from' + cells ≡ bytes_needed Restore of
+needs of from from' r n cells is_r is_n r_is n_is cells_is =
+    ap₂ (λ (a b : ℕ). a + b) (ap₂ (λ (a b : ℕ). a * b) (is_r ∙ r_is) (is_n ∙ n_is)) cells_is
+
+some : (of : Geometry) → IsWithinLimits of → 0 < bytes_needed Restore of
+some of limits = omega (arith, some_cells of limits)
+
+pub returns-in_err-erased-clause-takes : goal.returns-in_err-erased-clause-takes
+returns-in_err-erased-clause-takes g c =
     let of = c.args.geometry.now in
-    let needs : c.from.result * c.from-2.result + c.cell_bytes.result ≡ bytes_needed Restore of =
-    ap₂ (λ (a b : ℕ). a + b) (ap₂ (λ (a b : ℕ). a * b) (c.from.ensures ∙ c.r.ensures.value) (c.from-2.ensures ∙ c.n.ensures.value)) c.cell_bytes.ensures.value
+    let first : c.new-intake.result ≡ intake_of (bytes_needed Restore of) =
+    c.new-intake.ensures ∙ ap intake_of (needs of _ _ _ _ _ c.from.ensures c.from-2.ensures c.r.ensures.value c.n.ensures.value c.cell_bytes.ensures.value)
     in
-    let first : c.new-intake.result ≡ intake_of (bytes_needed Restore of) = c.new-intake.ensures ∙ ap intake_of needs in
+    whole_handed_on (source_view g.S.Source.left g.S.Source.ended g.S.Source.faults) _ _ _ _ _ _ c.from_residual.ensures.1 (whole_cut (source_view g.S.Source.left g.S.Source.ended g.S.Source.faults) _ _ _ _ _ (rw first at c.in_err-erased.ensures.cut))
+
+pub returns-in_err-take_stripe-clause-takes : goal.returns-in_err-take_stripe-clause-takes
+returns-in_err-take_stripe-clause-takes g c =
+    let of = c.args.geometry.now in
+    let first : c.new-intake.result ≡ intake_of (bytes_needed Restore of) =
+    c.new-intake.ensures ∙ ap intake_of (needs of _ _ _ _ _ c.from.ensures c.from-2.ensures c.r.ensures.value c.n.ensures.value c.cell_bytes.ensures.value)
+    in
     let mapped = c.in_ok-erased.ensures.ok in
-    if_err_of _ c.in_err-take_stripe.field-0.0 _ c.from_residual-in_err-take_stripe.ensures.1
-    (RefusesInput-later _ _ _ _ _ _ _ _ mapped.0 _
-    (subst (λ (k : Intake). TakesBytes k c.take_map.new.intake (g.S.Source.left c.args.input.now) (g.S.Source.left c.take_map.new.input) mapped.0) first mapped.3)
-    (λ rose. kept-Rose _ _ _ c.take_map.ensures.count c.take_stripe.ensures.count rose) c.in_err-take_stripe.ensures.err)
+    whole_handed_on (source_view g.S.Source.left g.S.Source.ended g.S.Source.faults) _ _ _ _ _ _ c.from_residual-in_err-take_stripe.ensures.1
+    (whole_cut (source_view g.S.Source.left g.S.Source.ended g.S.Source.faults) _ _ _ _ _ (rw first at (CutsShort-later (source_view g.S.Source.left g.S.Source.ended g.S.Source.faults) _ _ _ _ _ _ _ mapped.3 c.in_err-take_stripe.ensures.cut)))
 
 pub end-requires-clause-all : goal.end-requires-clause-all
 end-requires-clause-all g c =
     let of = c.args.geometry.now in
-    let needs : c.from.result * c.from-2.result + c.cell_bytes.result ≡ bytes_needed Restore of =
-    ap₂ (λ (a b : ℕ). a + b) (ap₂ (λ (a b : ℕ). a * b) (c.from.ensures ∙ c.r.ensures.value) (c.from-2.ensures ∙ c.n.ensures.value)) c.cell_bytes.ensures.value
+    let first : c.new-intake.result ≡ intake_of (bytes_needed Restore of) =
+    c.new-intake.ensures ∙ ap intake_of (needs of _ _ _ _ _ c.from.ensures c.from-2.ensures c.r.ensures.value c.n.ensures.value c.cell_bytes.ensures.value)
     in
-    let first : c.new-intake.result ≡ intake_of (bytes_needed Restore of) = c.new-intake.ensures ∙ ap intake_of needs in
     let mapped = c.in_ok-erased.ensures.ok in
     let cells = concat c.take_stripe.new.stripe.cells in
     let long : length (mapped.0 ++ cells) ≡ bytes_needed Restore of =
     length-append mapped.0 cells
     ∙ ap₂ (λ (a b : ℕ). a + b) mapped.1 (length-cell_bytes of c.take_stripe.new.stripe c.take_stripe.ensures.of c.take_stripe.ensures.well_formed)
     in
-    all_counted _ _ _ _ (mapped.0 ++ cells) (bytes_needed Restore of) first long
-    (TakesBytes-more _ _ _ _ _ _ mapped.0 cells mapped.3 c.in_ok-take_stripe.ensures.ok)
+    (all_counted (source_view g.S.Source.left g.S.Source.ended g.S.Source.faults) _ _ (mapped.0 ++ cells) (bytes_needed Restore of) _ _ first long
+    (TakesBytes-more (source_view g.S.Source.left g.S.Source.ended g.S.Source.faults) _ _ _ mapped.0 cells _ _ _ mapped.3 c.in_ok-take_stripe.ensures.ok)).0
 
-pub returns-in_err-end-clause-err : goal.returns-in_err-end-clause-err
-returns-in_err-end-clause-err g c =
+pub returns-in_err-end-clause-takes : goal.returns-in_err-end-clause-takes
+returns-in_err-end-clause-takes g c =
     let of = c.args.geometry.now in
-    let needs : c.from.result * c.from-2.result + c.cell_bytes.result ≡ bytes_needed Restore of =
-    ap₂ (λ (a b : ℕ). a + b) (ap₂ (λ (a b : ℕ). a * b) (c.from.ensures ∙ c.r.ensures.value) (c.from-2.ensures ∙ c.n.ensures.value)) c.cell_bytes.ensures.value
+    let first : c.new-intake.result ≡ intake_of (bytes_needed Restore of) =
+    c.new-intake.ensures ∙ ap intake_of (needs of _ _ _ _ _ c.from.ensures c.from-2.ensures c.r.ensures.value c.n.ensures.value c.cell_bytes.ensures.value)
     in
-    let first : c.new-intake.result ≡ intake_of (bytes_needed Restore of) = c.new-intake.ensures ∙ ap intake_of needs in
     let mapped = c.in_ok-erased.ensures.ok in
     let cells = concat c.take_stripe.new.stripe.cells in
-    let taken = TakesBytes-more _ _ _ _ _ _ mapped.0 cells mapped.3 c.in_ok-take_stripe.ensures.ok in
-    if_err_of _ c.in_err-end.field-0.0 _ c.from_residual-in_err-end.ensures.1
-    (RefusesInput-later _ _ _ _ _ _ _ _ (mapped.0 ++ cells) _
-    (subst (λ (k : Intake). TakesBytes k c.take_stripe.new.intake (g.S.Source.left c.args.input.now) (g.S.Source.left c.take_stripe.new.input) (mapped.0 ++ cells)) first taken)
-    (λ rose. kept-Rose _ _ _ (omega (arith, c.take_map.ensures.count, c.take_stripe.ensures.count)) c.end.ensures.count rose)
-    c.in_err-end.ensures.err)
-
-pub returns-clause-ok : goal.returns-clause-ok
-returns-clause-ok g c =
-    let mapped = c.in_ok-erased.ensures.ok in
-    let cells = concat c.take_stripe.new.stripe.cells in
-    let taken = TakesBytes-more _ _ _ _ _ _ mapped.0 cells mapped.3 c.in_ok-take_stripe.ensures.ok in
-    TookErased-all _ _ _ c.take_stripe.new.stripe mapped.0 mapped.1 mapped.2 c.take_stripe.ensures.of c.take_stripe.ensures.well_formed
-    (told_all _ _ _ _ (mapped.0 ++ cells) taken c.in_ok-end.ensures.ok.0)
-
-pub returns-clause-taken : goal.returns-clause-taken
-returns-clause-taken g c =
-    let of = c.args.geometry.now in
-    let mapped = c.in_ok-erased.ensures.ok in
-    let cells = concat c.take_stripe.new.stripe.cells in
+    let taken = TakesBytes-more (source_view g.S.Source.left g.S.Source.ended g.S.Source.faults) _ _ _ mapped.0 cells _ _ _ mapped.3 c.in_ok-take_stripe.ensures.ok in
     let long : length (mapped.0 ++ cells) ≡ bytes_needed Restore of =
     length-append mapped.0 cells
     ∙ ap₂ (λ (a b : ℕ). a + b) mapped.1 (length-cell_bytes of c.take_stripe.new.stripe c.take_stripe.ensures.of c.take_stripe.ensures.well_formed)
     in
-    let taken = TakesBytes-more _ _ _ _ _ _ mapped.0 cells mapped.3 c.in_ok-take_stripe.ensures.ok in
-    TakesCount-all _ _ _ _ _ (mapped.0 ++ cells) _ taken long c.in_ok-end.ensures.ok.1
+    let counted = all_counted (source_view g.S.Source.left g.S.Source.ended g.S.Source.faults) _ _ (mapped.0 ++ cells) (bytes_needed Restore of) _ _ first long taken in
+    whole_handed_on (source_view g.S.Source.left g.S.Source.ended g.S.Source.faults) _ _ _ _ _ _ c.from_residual-in_err-end.ensures.1
+    (whole_goes_on (source_view g.S.Source.left g.S.Source.ended g.S.Source.faults) _ _ (mapped.0 ++ cells) _ _ _ _ _ counted.1 (some of c.cell_bytes.ensures.limits) long taken.taken c.in_err-end.ensures.more)
+
+pub returns-clause-takes : goal.returns-clause-takes
+returns-clause-takes g c =
+    let of = c.args.geometry.now in
+    let mapped = c.in_ok-erased.ensures.ok in
+    let stripe = c.take_stripe.new.stripe in
+    let cells = concat stripe.cells in
+    let taken = TakesBytes-more (source_view g.S.Source.left g.S.Source.ended g.S.Source.faults) _ _ _ mapped.0 cells _ _ _ mapped.3 c.in_ok-take_stripe.ensures.ok in
+    let long : length (mapped.0 ++ cells) ≡ bytes_needed Restore of =
+    length-append mapped.0 cells
+    ∙ ap₂ (λ (a b : ℕ). a + b) mapped.1 (length-cell_bytes of stripe c.take_stripe.ensures.of c.take_stripe.ensures.well_formed)
+    in
+    whole_ended (source_view g.S.Source.left g.S.Source.ended g.S.Source.faults) _ _ (mapped.0 ++ cells) _ _ _ _ (some of c.cell_bytes.ensures.limits) long taken.taken c.in_ok-end.ensures.ok
+    (IsMapAndCells-all of stripe _ mapped.0 mapped.1 mapped.2 c.take_stripe.ensures.of c.take_stripe.ensures.well_formed)

@@ -1,15 +1,13 @@
 -- The bytes so far were taken from the source, which has not ended.
-use Rattle.std.proofs.Common.{◌≡◌, ◌-◌, ◌<◌, ◌≤◌, false, length, take}
-use Rattle.std.specs.Io.KnownBytes.{Consumes}
+use Rattle.std.proofs.Common.{◌-◌, ◌≤◌, length, take}
+use Rattle.stair_engine.specs.Outside.{source_view}
+use Rattle.stair_engine.specs.Taking.{TookSoFar}
 use Rattle.stair_engine.proofs.streams.fill.Given as goal
 
 abbrev pub invariant-loop-filled : goal.invariant-loop-filled
 invariant-loop-filled g l = record {
   within : l.filled ≤ length l.into;
-  bytes : Consumes (g.S.Source.left l.initial.input) (g.S.Source.left l.input) (take l.filled l.into);
-  count : g.S.Source.faults l.initial.input ≤ g.S.Source.faults l.input;
-  fresh : l.filled ≡ 0 → g.S.Source.ended l.input ≡ g.S.Source.ended l.initial.input;
-  running : 0 < l.filled → (g.S.Source.ended l.input ≡ false) × (g.S.Source.ended l.initial.input ≡ false);
+  taken : TookSoFar (source_view g.S.Source.left g.S.Source.ended g.S.Source.faults) (take l.filled l.into) l.initial.input l.input;
 }
 
 abbrev pub decreases-loop-filled : goal.decreases-loop-filled

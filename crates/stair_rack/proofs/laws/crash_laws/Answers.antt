@@ -1,6 +1,6 @@
 -- The laws are lemmas.
 use Rattle.stair_rack.proofs.CrashLemmas.{CrashMayLeave-now, CrashMayLeave-with_cell, with_cell, with_cell_at, settled_cell, synced_cell, written_now}
-use Rattle.stair_rack.proofs.TidyLemmas.{IsTidy-made, tidy_on, left_past_end, made_of_left}
+use Rattle.stair_rack.proofs.TidyLemmas.{history_tidy, left_past_end, made_of_left}
 use Rattle.stair_rack.proofs.laws.crash_laws.Goals as goal
 
 pub returns-clause-now : goal.returns-clause-now
@@ -20,7 +20,7 @@ pub returns-clause-written : goal.returns-clause-written
 returns-clause-written c = written_now
 
 pub returns-clause-past_end : goal.returns-clause-past_end
-returns-clause-past_end c = λ made image h j k ran left past. left_past_end h (tidy_on ran (IsTidy-made made)) image left j k past
+returns-clause-past_end c = λ h image j k is left past. left_past_end h (history_tidy is) image left j k past
 
 pub returns-clause-made_again : goal.returns-clause-made_again
-returns-clause-made_again c = λ made image h j k ran left. made_of_left h (tidy_on ran (IsTidy-made made)) image left j k
+returns-clause-made_again c = λ h image j k is left. made_of_left h (history_tidy is) image left j k

@@ -5,12 +5,12 @@ use Rattle.std.specs.Result.{result_ok}
 use Rattle.stair_model.specs.Geometry.{Geometry, geometry_of, IsWithinLimits}
 use Rattle.stair_base.specs.declared.geometry.GeometryFault.{GeometryFault}
 use Rattle.stair_super.specs.Superblock.{Superblock}
-use Rattle.stair_super.specs.Spelling.{Spells}
+use Rattle.stair_super.specs.Spelling.{SpellsSuperblock}
 use Rattle.stair_super.proofs.Fields.{laid, n_is, m_is, r_is, classes_is, coverage_is, stripes_is}
 use Rattle.stair_super.proofs.reading.geometry_of.Goals as goal
 
-few : (s : Superblock) (bytes : List ℕ) → Spells bytes s → length s.geometry.e ≤ 32
-few s bytes spells = omega (arith, spells.block.rules.limits.covered_chunks, spells.block.rules.limits.devices)
+few : (s : Superblock) (bytes : List ℕ) → SpellsSuperblock bytes s → length s.array.geometry.e ≤ 32
+few s bytes spells = omega (arith, spells.block.rules.array.limits.covered_chunks, spells.block.rules.array.limits.devices)
 
 pub returns-then-classes-gt32 : goal.returns-then-classes-gt32
 returns-then-classes-gt32 c = λ s spells.
@@ -30,7 +30,7 @@ numbers_same g n m r e stripes id n-is m-is r-is e-is stripes-is id-is =
 pub returns : goal.returns
 returns c = λ s spells.
     let bytes = c.args.bytes.now in
-    let same = numbers_same s.geometry c.from.result c.from-2.result c.from-3.result (take c.from-classes.result c.coverage_of.result) c.from-4.result c.id_of.result
+    let same = numbers_same s.array.geometry c.from.result c.from-2.result c.from-3.result (take c.from-classes.result c.coverage_of.result) c.from-4.result c.id_of.result
     (c.from.ensures ∙ n_is bytes s spells)
     (c.from-2.ensures ∙ m_is bytes s spells)
     (c.from-3.ensures ∙ r_is bytes s spells)
@@ -38,4 +38,4 @@ returns c = λ s spells.
     (c.from-4.ensures ∙ c.u32_at.ensures ∙ stripes_is bytes s spells)
     (c.id_of.ensures ∙ (laid bytes s spells).id) in
     c.ok.ensures.value
-    ∙ answered _ s.geometry c.new.result same spells.block.rules.limits c.new.ensures.ok c.new.ensures.within.1
+    ∙ answered _ s.array.geometry c.new.result same spells.block.rules.array.limits c.new.ensures.ok c.new.ensures.within.1

@@ -14,4 +14,4 @@ loop-slot-preserved c = record {
 
 pub returns : goal.returns
 returns c = λ s spells same.
-    all_stored c.loop-slot.joins s.joins 0 c.loop-slot.slot c.loop-slot-test.false c.loop-slot.invariant.sized spells.block.sizes.joins (c.loop-slot.invariant.read s spells same)
+    all_stored c.loop-slot.joins s.array.joins 0 c.loop-slot.slot c.loop-slot-test.false c.loop-slot.invariant.sized spells.block.sizes.joins (c.loop-slot.invariant.read s spells same)

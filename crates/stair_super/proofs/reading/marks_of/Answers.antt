@@ -16,4 +16,4 @@ loop-slot-preserved c = record {
 
 pub returns : goal.returns
 returns c = λ s spells same.
-    ap Some (all_stored c.loop-slot.marks s.marks Down c.loop-slot.slot c.loop-slot-test.false c.loop-slot.invariant.sized spells.block.sizes.marks (c.loop-slot.invariant.read s spells same))
+    ap Some (all_stored c.loop-slot.marks s.array.marks Down c.loop-slot.slot c.loop-slot-test.false c.loop-slot.invariant.sized spells.block.sizes.marks (c.loop-slot.invariant.read s spells same))

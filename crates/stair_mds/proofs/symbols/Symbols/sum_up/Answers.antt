@@ -1,38 +1,20 @@
--- The zero and the multiples make the sum, of bytes.
-use Rattle.std.proofs.Common.{◌≡◌, ◌<◌, List, ℕ, length, replicate, set, sym, subst, ap, ◌∙◌}
-use Rattle.std.proofs.lemmas.List.{length-set}
-use Rattle.stair_gf.specs.AddsMultiples.{AddsMultiples, AreOtherPlaces}
-use Rattle.stair_mds.proofs.Summing.{with_zero, is_sum, still_sectors, written_back}
+-- A symbol is set to a sum, of bytes.
+use Rattle.std.proofs.Common.{List, ℕ, sym, subst, ◌∙◌}
+use Rattle.stair_gf.specs.AddsMultiples.{SetsSum}
+use Rattle.stair_mds.proofs.Summing.{AreSymbols-sum, written_back}
 use Rattle.stair_mds.proofs.symbols.Symbols.sum_up.Goals as goal
 
 pub invariant_of-self : goal.invariant_of-self
-invariant_of-self g c =
+invariant_of-self c =
     let items = c.self.inside.symbols.items in
-    let new = c.mul_add_sum.new.symbols in
-    let zeroed : c.deref_mut.result.now ≡ with_zero items c.args.place =
-    c.deref_mut.ensures.value ∙ ap (λ k. set items k (replicate 512 0)) c.from.ensures in
-    let adds : AddsMultiples (with_zero items c.args.place) new c.args.place c.args.from.now c.args.by.now =
-    subst (λ (x : List (List ℕ)). AddsMultiples x new c.args.place c.args.from.now c.args.by.now) zeroed c.mul_add_sum.ensures in
-    let within : c.args.place < length items = subst (λ (x : List (List ℕ)). c.args.place < length x) (sym c.self.view_is) c.requires.place in
-    let places : AreOtherPlaces (length items) c.args.place c.args.from.now =
-    subst (λ (x : List (List ℕ)). AreOtherPlaces (length x) c.args.place c.args.from.now) (sym c.self.view_is) c.requires.from in
-    let count : length new ≡ c.self.inside.symbols.len =
-    adds.count ∙ length-set items c.args.place (replicate 512 0) ∙ sym c.self.inside.symbols.ok.0 in
-    rw (written_back new _ c.self.inside.symbols.len count)
-    (still_sectors items new c.args.place c.args.from.now c.args.by.now within places adds c.self.invariant)
+    let sets : SetsSum items c.sum.new.symbols c.args.place c.args.from.now c.args.by.now =
+    subst (λ (x : List (List ℕ)). SetsSum x c.sum.new.symbols c.args.place c.args.from.now c.args.by.now) c.deref_mut.ensures.value c.sum.ensures in
+    rw (written_back c.sum.new.symbols _ c.self.inside.symbols.len (sets.count ∙ sym c.self.inside.symbols.ok.0))
+    (AreSymbols-sum items c.sum.new.symbols c.args.place c.args.from.now c.args.by.now sets c.self.invariant)
 
-pub returns-clause-sum : goal.returns-clause-sum
-returns-clause-sum g c =
+pub returns : goal.returns
+returns c =
     let items = c.self.inside.symbols.items in
-    let new = c.mul_add_sum.new.symbols in
-    let zeroed : c.deref_mut.result.now ≡ with_zero items c.args.place =
-    c.deref_mut.ensures.value ∙ ap (λ k. set items k (replicate 512 0)) c.from.ensures in
-    let adds : AddsMultiples (with_zero items c.args.place) new c.args.place c.args.from.now c.args.by.now =
-    subst (λ (x : List (List ℕ)). AddsMultiples x new c.args.place c.args.from.now c.args.by.now) zeroed c.mul_add_sum.ensures in
-    let within : c.args.place < length items = subst (λ (x : List (List ℕ)). c.args.place < length x) (sym c.self.view_is) c.requires.place in
-    let places : AreOtherPlaces (length items) c.args.place c.args.from.now =
-    subst (λ (x : List (List ℕ)). AreOtherPlaces (length x) c.args.place c.args.from.now) (sym c.self.view_is) c.requires.from in
-    let count : length new ≡ c.self.inside.symbols.len =
-    adds.count ∙ length-set items c.args.place (replicate 512 0) ∙ sym c.self.inside.symbols.ok.0 in
-    rw (written_back new _ c.self.inside.symbols.len count, ← c.self.view_is)
-    (is_sum items new c.args.place c.args.from.now c.args.by.now within places adds)
+    let sets : SetsSum items c.sum.new.symbols c.args.place c.args.from.now c.args.by.now =
+    subst (λ (x : List (List ℕ)). SetsSum x c.sum.new.symbols c.args.place c.args.from.now c.args.by.now) c.deref_mut.ensures.value c.sum.ensures in
+    rw (written_back c.sum.new.symbols _ c.self.inside.symbols.len (sets.count ∙ sym c.self.inside.symbols.ok.0), ← c.self.view_is) sets

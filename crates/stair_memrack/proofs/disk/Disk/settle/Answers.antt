@@ -9,7 +9,7 @@ use Rattle.stair_memrack.proofs.disk.Disk.settle.Goals as goal
 
 pub loop-sector-preserved : goal.loop-sector-preserved
 loop-sector-preserved c =
-    let none : StoredSector = record { base = stored.Good []; now = stored.Good [] } in
+    let none : StoredSector = record { base = stored.Good []; now = stored.Good []; pending = 0 } in
     let i = c.loop-sector.sector-index in
     let items = c.loop-sector.sector-items in
     let at : StoredSector = get_or items i none in

@@ -1,0 +1,643 @@
+-- What follows from a call that means what its words say: its story is taken apart, deed by deed, along its plan.
+use Rattle.std.proofs.Common.{◌≡◌, ◌≢◌, ℕ, ◌+◌, ◌<◌, ◌≤◌, ◌⊎◌, ◌↔◌, le_refl, Bool, true, false, inl, inr, List, [], ◌∷◌, ◌++◌, None, Some, IfSome, length, take, refl, sym, ap, ◌∙◌, subst, arith, length-append, append-nil}
+use Rattle.std.specs.Prelude.{Option, MatchBool}
+use Rattle.std.specs.Io.KnownBytes.{Appends, Consumes}
+use Rattle.std.proofs.KnownBytes.{Appends-nil, Consumes-trans, Keeps-refl}
+use lib.Seq.{take-append_seam}
+use Rattle.std.proofs.lemmas.Option.{IfSome_then}
+use Rattle.stair_model.specs.Geometry.{Geometry, IsWithinLimits, IsFirstBrokenLimit}
+use Rattle.stair_rack.specs.Count.{Rose, kept-Rose}
+use Rattle.stair_conf.specs.Words.{IsSpelled, Spells}
+use Rattle.stair_conf.specs.declared.job.Job.{Job}
+use Rattle.stair_conf.proofs.WordsLemmas.{spells_once}
+use Rattle.stair_engine.specs.declared.status.Status.{Status}
+use Rattle.stair_engine.specs.declared.status.Status.TheVariants.{Done, NotCodeword, NoCodeword, Usage, Limit, Input, InputFault, OutputFault, Lost, OutOfMemory}
+use Rattle.stair_engine.specs.Task.{Command, command_of, one_stripe}
+use Rattle.stair_engine.specs.Task.Command.{Check, Encode, Restore}
+use Rattle.stair_engine.specs.Answer.{IsAnswer, IsJudged, IsOtherLength, Judges, bytes_needed}
+use Rattle.stair_engine.specs.Cause.{Answers, CountsSteps, HasCause, IfNothingIsPutOut, IfRefusedAtOnce, IsOutput, LimitsComeFirst, LooksForEnd, PutsOut, PutsPart, TakesInput}
+use Rattle.stair_engine.specs.Does.{Does, Leaves}
+use Rattle.stair_engine.specs.Laws.{AllIsKept, BytesAreAnswered, UsageIsExact, WordsAreDone}
+use Rattle.stair_engine.specs.Means.{Bears, Counts, Gives, Holds, Means}
+use Rattle.stair_engine.specs.Outside.{Outside, Views, outside}
+use Rattle.stair_engine.specs.Plan.{Plan, Over, Ask, Take, Put, Allocate, answer, if_spelled, input_plan, job_plan, judged, plan_of, stripe_plan, tested_plan, within_limits}
+use Rattle.stair_engine.specs.Question.{Question, Reply, IsReply, Words, Limits, Judgement}
+use Rattle.stair_engine.specs.Story.{Deed, Found, Took, TookLast, TakeFailed, HasPut, PutFailed, Grew, RanOut, IsPart, Leads, Moves}
+use Rattle.stair_engine.proofs.AnswerLaws.{HasBytes-cells}
+use Rattle.stair_engine.proofs.PlanLaws.{stripe_job}
+
+-- ---- a story, deed by deed
+
+-- a plan that is over makes no move
+no_move : (deed : Deed) (status : Status) (rest : Plan) → Moves deed (Over status) rest → ⊥
+no_move Grew status rest moves = moves
+no_move _ status rest moves = moves
+
+-- what a question was answered, and how the plan went on
+record Decided {S K : Type 0} (view : Views S K) (question : Question) (k : Reply question → Plan) (status : Status) (old new : Outside S K) : Type 0 where
+  pub reply : Reply question
+  pub is : IsReply question reply
+  pub counter : ℕ
+  pub counts : Counts (Found question) old.counter counter
+  pub later : Means view (k reply) (Over status) (outside old.source old.sink counter) new
+
+-- what was taken, and how the plan went on
+data Taking {S K : Type 0} (view : Views S K) (n : ℕ) (k short : List ℕ → Plan) (status : Status) (old new : Outside S K) : Type 0 where
+  GaveAll : (bytes : List ℕ) (mid : S) → length bytes ≡ n → Gives view.source (Took bytes) old.source mid
+      → Means view (k bytes) (Over status) (outside mid old.sink old.counter) new → Taking view n k short status old new
+  GaveFewer : (bytes : List ℕ) (mid : S) → length bytes < n → Gives view.source (TookLast bytes) old.source mid
+      → Means view (short bytes) (Over status) (outside mid old.sink old.counter) new → Taking view n k short status old new
+  GaveFault : (bytes : List ℕ) (mid : S) → length bytes < n → Gives view.source (TakeFailed bytes) old.source mid
+      → status ≡ InputFault → new ≡ outside mid old.sink old.counter → Taking view n k short status old new
+
+-- what was put out, and how the plan went on
+data Putting {S K : Type 0} (view : Views S K) (all : List ℕ) (plan : Plan) (status : Status) (old new : Outside S K) : Type 0 where
+  HeldAll : (mid : K) → Holds view.sink (HasPut all) old.sink mid → Means view plan (Over status) (outside old.source mid old.counter) new
+      → Putting view all plan status old new
+  HeldPart : (part : List ℕ) (mid : K) → IsPart part all → Holds view.sink (PutFailed part) old.sink mid → status ≡ OutputFault
+      → new ≡ outside old.source mid old.counter → Putting view all plan status old new
+
+module _ {S K : Type 0} (view : Views S K) where
+  same_outside : (a b : Outside S K) → b.source ≡ a.source → b.sink ≡ a.sink → b.counter ≡ a.counter → b ≡ a
+  same_outside a b source sink counter = λ i. record { source = source i; sink = sink i; counter = counter i }
+
+  -- what comes behind the first deed
+  behind : (deed : Deed) (story : List Deed) (plan from : Plan) (status : Status) (a mid b : Outside S K) (bears : Bears view (deed ∷ story) a b)
+      → bears.gives.0 ≡ mid.source → bears.holds.0 ≡ mid.sink → bears.counts.0 ≡ mid.counter
+      → from ≡ plan → Leads Moves story from (Over status) → Means view plan (Over status) mid b
+  behind deed story plan from status a mid b bears source sink counter same follows = record {
+    story = story;
+    follows = subst (λ (p : Plan). Leads Moves story p (Over status)) same follows;
+    bears = record {
+      gives = subst (λ (x : S). Leads (Gives view.source) story x b.source) source bears.gives.2;
+      holds = subst (λ (x : K). Leads (Holds view.sink) story x b.sink) sink bears.holds.2;
+      counts = subst (λ (x : ℕ). Leads Counts story x b.counter) counter bears.counts.2;
+    };
+  }
+
+  over_ends : (from status : Status) (a b : Outside S K) → Means view (Over from) (Over status) a b → (status ≡ from) × (b ≡ a)
+  over_ends from status a b means = over_at means.story means.follows means.bears
+    where
+      over_at : (story : List Deed) → Leads Moves story (Over from) (Over status) → Bears view story a b → (status ≡ from) × (b ≡ a)
+      over_at [] follows bears = (let same : Over status ≡ Over from = follows in cc, same_outside a b bears.gives bears.holds bears.counts)
+      over_at (deed ∷ story) follows bears = absurd (no_move deed from follows.0 follows.1)
+
+  allocate_ends : (plan : Plan) (status : Status) (a b : Outside S K) → Means view (Allocate plan) (Over status) a b
+      → ((status ≡ OutOfMemory) × (b ≡ a)) ⊎ Means view plan (Over status) a b
+  allocate_ends plan status a b means = allocate_at means.story means.follows means.bears
+    where
+      allocate_at : (story : List Deed) → Leads Moves story (Allocate plan) (Over status) → Bears view story a b
+          → ((status ≡ OutOfMemory) × (b ≡ a)) ⊎ Means view plan (Over status) a b
+      allocate_at [] follows bears = let same : Over status ≡ Allocate plan = follows in absurd cc
+      allocate_at (Grew ∷ story) follows bears =
+          inr (behind Grew story plan follows.0 status a a b bears bears.gives.1 bears.holds.1 bears.counts.1 follows.1 follows.2)
+      allocate_at (RanOut ∷ story) follows bears =
+          inl (over_ends OutOfMemory status a b
+          (behind RanOut story (Over OutOfMemory) follows.0 status a a b bears bears.gives.1 bears.holds.1 bears.counts.1 follows.1 follows.2))
+      allocate_at (_ ∷ story) follows bears = absurd follows.1
+
+  ask_ends : (question : Question) (k : Reply question → Plan) (status : Status) (a b : Outside S K) → Means view (Ask question k) (Over status) a b
+      → Decided view question k status a b
+  ask_ends question k status a b means = ask_at means.story means.follows means.bears
+    where
+      ask_at : (story : List Deed) → Leads Moves story (Ask question k) (Over status) → Bears view story a b → Decided view question k status a b
+      ask_at [] follows bears = let same : Over status ≡ Ask question k = follows in absurd cc
+      ask_at (Found asked ∷ story) follows bears =
+          let moved = follows.1 in
+          record {
+            reply = moved.0;
+            is = moved.2;
+            counter = bears.counts.0;
+            counts = subst (λ (q : Question). Counts (Found q) a.counter bears.counts.0) moved.1 bears.counts.1;
+            later = behind (Found asked) story (k moved.0) follows.0 status a (outside a.source a.sink bears.counts.0) b bears
+                bears.gives.1 bears.holds.1 refl moved.3 follows.2;
+          }
+      ask_at (_ ∷ story) follows bears = absurd follows.1
+
+  take_ends : (n : ℕ) (k short : List ℕ → Plan) (status : Status) (a b : Outside S K) → Means view (Take n k short) (Over status) a b
+      → Taking view n k short status a b
+  take_ends n k short status a b means = take_at means.story means.follows means.bears
+    where
+      take_at : (story : List Deed) → Leads Moves story (Take n k short) (Over status) → Bears view story a b → Taking view n k short status a b
+      take_at [] follows bears = let same : Over status ≡ Take n k short = follows in absurd cc
+      take_at (Took bytes ∷ story) follows bears =
+          GaveAll bytes bears.gives.0 follows.1.0 bears.gives.1
+          (behind (Took bytes) story (k bytes) follows.0 status a (outside bears.gives.0 a.sink a.counter) b bears refl bears.holds.1 bears.counts.1
+          follows.1.1 follows.2)
+      take_at (TookLast bytes ∷ story) follows bears =
+          GaveFewer bytes bears.gives.0 follows.1.0 bears.gives.1
+          (behind (TookLast bytes) story (short bytes) follows.0 status a (outside bears.gives.0 a.sink a.counter) b bears refl bears.holds.1
+          bears.counts.1 follows.1.1 follows.2)
+      take_at (TakeFailed bytes ∷ story) follows bears =
+          let mid = outside bears.gives.0 a.sink a.counter in
+          let ends = over_ends InputFault status mid b
+          (behind (TakeFailed bytes) story (Over InputFault) follows.0 status a mid b bears refl bears.holds.1 bears.counts.1 follows.1.1 follows.2)
+          in
+          GaveFault bytes bears.gives.0 follows.1.0 bears.gives.1 ends.0 ends.1
+      take_at (_ ∷ story) follows bears = absurd follows.1
+
+  put_ends : (all : List ℕ) (plan : Plan) (status : Status) (a b : Outside S K) → Means view (Put all plan) (Over status) a b
+      → Putting view all plan status a b
+  put_ends all plan status a b means = put_at means.story means.follows means.bears
+    where
+      put_at : (story : List Deed) → Leads Moves story (Put all plan) (Over status) → Bears view story a b → Putting view all plan status a b
+      put_at [] follows bears = let same : Over status ≡ Put all plan = follows in absurd cc
+      put_at (HasPut bytes ∷ story) follows bears =
+          HeldAll bears.holds.0 (subst (λ (x : List ℕ). Holds view.sink (HasPut x) a.sink bears.holds.0) follows.1.0 bears.holds.1)
+          (behind (HasPut bytes) story plan follows.0 status a (outside a.source bears.holds.0 a.counter) b bears bears.gives.1 refl bears.counts.1
+          follows.1.1 follows.2)
+      put_at (PutFailed part ∷ story) follows bears =
+          let mid = outside a.source bears.holds.0 a.counter in
+          let ends = over_ends OutputFault status mid b
+          (behind (PutFailed part) story (Over OutputFault) follows.0 status a mid b bears bears.gives.1 refl bears.counts.1 follows.1.1 follows.2)
+          in
+          HeldPart part bears.holds.0 follows.1.0 bears.holds.1 ends.0 ends.1
+      put_at (_ ∷ story) follows bears = absurd follows.1
+
+-- ---- told bytes
+
+-- a fact of every told input
+if_told : (told : Option (List ℕ)) (P : List ℕ → Type 0) → ((input : List ℕ) → P input) → IfSome told P
+if_told None P always = tt
+if_told (Some input) P always = always input
+
+-- behind these bytes none was left
+told_all : (a b : Option (List ℕ)) (bytes : List ℕ) → Consumes a b bytes → IfSome b (λ all. [] ≡ all) → IfSome a (λ input. bytes ≡ input)
+told_all None b bytes consumed none = tt
+told_all (Some x) None bytes consumed none = absurd consumed
+told_all (Some x) (Some y) bytes consumed none = sym (consumed ∙ ap (λ (l : List ℕ). bytes ++ l) (sym none) ∙ append-nil bytes)
+
+-- at least these bytes were told
+told_more : (a b : Option (List ℕ)) (bytes : List ℕ) → Consumes a b bytes → IfSome a (λ input. length bytes ≤ length input)
+told_more None b bytes consumed = tt
+told_more (Some x) None bytes consumed = absurd consumed
+told_more (Some x) (Some y) bytes consumed = omega (arith, ap length consumed, length-append bytes y)
+
+consumed_then_none : (a b c : Option (List ℕ)) (xs ys : List ℕ) → length ys < 1 → Consumes a b xs → Consumes b c ys → Consumes a c xs
+consumed_then_none a b c xs [] few first later = subst (Consumes a c) (append-nil xs) (Consumes-trans a b c xs [] first later)
+consumed_then_none a b c xs (y ∷ ys) few first later = absurd (omega (arith, few))
+
+none_told : (b : Option (List ℕ)) (ys : List ℕ) → length ys < 1 → IfSome b (λ all. ys ≡ all) → IfSome b (λ all. [] ≡ all)
+none_told b [] few is = is
+none_told b (y ∷ ys) few is = absurd (omega (arith, few))
+
+match_true : (P Q : Type 0) (b : Bool) → b ≡ true → P → MatchBool b P Q
+match_true P Q true is p = p
+match_true P Q false is p = cc
+
+match_false : (P Q : Type 0) (b : Bool) → b ≡ false → Q → MatchBool b P Q
+match_false P Q true is q = cc
+match_false P Q false is q = q
+
+-- a part of the output was put
+PutsPart-part : (a b : Option (List ℕ)) (part all : List ℕ) → IsPart part all → Appends a b part → PutsPart a b all
+PutsPart-part a b part all is puts = (
+  length part,
+  omega (arith, ap length is.1, length-append part is.0, is.2),
+  subst (Appends a b) (sym (ap (take (length part)) is.1 ∙ take-append_seam part is.0)) puts,
+)
+
+-- ---- what each ending keeps
+
+-- only where the cells of an encoded stripe were put out is anything counted
+uncounted : (command : Command) (g : Geometry) (status : Status) (n n' : ℕ) → status ≢ Done → status ≢ OutputFault → n' ≡ n
+    → CountsSteps command g status n n'
+uncounted Check g status n n' not_done not_failed same = same
+uncounted Restore g status n n' not_done not_failed same = same
+uncounted (Encode method) g Done n n' not_done not_failed same = absurd (not_done refl)
+uncounted (Encode method) g OutputFault n n' not_done not_failed same = absurd (not_failed refl)
+uncounted (Encode method) g _ n n' not_done not_failed same = same
+
+record Kept {S K : Type 0} (view : Views S K) (command : Command) (g : Geometry) (status : Status) (old new : Outside S K) : Type 0 where
+  pub does : Does view command g status old new
+  pub leaves : Leaves view status old new
+
+module _ {S K : Type 0} (view : Views S K) (command : Command) (g : Geometry) where
+  -- the status and the end are these
+  as_is : (status is : Status) (a b c : Outside S K) → status ≡ is → c ≡ b → Kept view command g is a b → Kept view command g status a c
+  as_is status is a b c same ends kept =
+      subst (λ (s : Status). Kept view command g s a c) (sym same) (subst (λ (x : Outside S K). Kept view command g is a x) (sym ends) kept)
+
+  limit_kept : (k : ℕ) (a : Outside S K) → IsFirstBrokenLimit g k → Kept view command g (Limit k) a a
+  limit_kept k a broken = record {
+    does = record {
+      limits = broken;
+      cause = if_told (view.source.left a.source) _ (λ input. ([], (broken, refl), Appends-nil (view.sink.held a.sink)));
+      taken = Keeps-refl (view.source.left a.source);
+      looked = tt;
+      output = Keeps-refl (view.sink.held a.sink);
+      steps = uncounted command g (Limit k) a.counter a.counter (λ is. cc) (λ is. cc) refl;
+    };
+    leaves = record {
+      input_fault = λ is. cc;
+      output_fault = λ is. cc;
+      input_count = le_refl _;
+      output_count = le_refl _;
+      untouched = refl;
+      refused = refl;
+    };
+  }
+
+  no_memory : (a : Outside S K) → Kept view command g OutOfMemory a a
+  no_memory a = record {
+    does = record {
+      limits = tt;
+      cause = if_told (view.source.left a.source) _ (λ input. tt);
+      taken = Keeps-refl (view.source.left a.source);
+      looked = tt;
+      output = Keeps-refl (view.sink.held a.sink);
+      steps = uncounted command g OutOfMemory a.counter a.counter (λ is. cc) (λ is. cc) refl;
+    };
+    leaves = record {
+      input_fault = λ is. cc;
+      output_fault = λ is. cc;
+      input_count = le_refl _;
+      output_count = le_refl _;
+      untouched = refl;
+      refused = refl;
+    };
+  }
+
+  -- the input has another length
+  length_kept : (took : ℕ) (bytes : List ℕ) (a : Outside S K) (source : S) → IsWithinLimits g → length bytes ≡ took
+      → Consumes (view.source.left a.source) (view.source.left source) bytes
+      → IfSome (view.source.left a.source) (λ input. IsOtherLength (bytes_needed command g) input (bytes_needed command g) took)
+      → MatchBool (view.source.ended source) (took < bytes_needed command g) (took ≡ bytes_needed command g + 1)
+      → view.source.faults a.source ≤ view.source.faults source
+      → Kept view command g (Input (bytes_needed command g) took) a (outside source a.sink a.counter)
+  length_kept took bytes a source limits long consumed other looked count = record {
+    does = record {
+      limits = (limits, tt);
+      cause = IfSome_then (view.source.left a.source) other (λ input is. ([], (limits, is, refl), Appends-nil (view.sink.held a.sink)));
+      taken = (bytes, long, consumed);
+      looked = (refl, looked);
+      output = Keeps-refl (view.sink.held a.sink);
+      steps = uncounted command g (Input (bytes_needed command g) took) a.counter a.counter (λ is. cc) (λ is. cc) refl;
+    };
+    leaves = record {
+      input_fault = λ is. cc;
+      output_fault = λ is. cc;
+      input_count = count;
+      output_count = le_refl _;
+      untouched = refl;
+      refused = tt;
+    };
+  }
+
+  -- the source failed
+  fault_kept : (bytes : List ℕ) (a : Outside S K) (source : S) → IsWithinLimits g → length bytes ≤ bytes_needed command g
+      → Consumes (view.source.left a.source) (view.source.left source) bytes
+      → view.source.faults a.source ≤ view.source.faults source → Rose (view.source.faults a.source) (view.source.faults source)
+      → Kept view command g InputFault a (outside source a.sink a.counter)
+  fault_kept bytes a source limits few consumed count rose = record {
+    does = record {
+      limits = (limits, tt);
+      cause = if_told (view.source.left a.source) _ (λ input. limits);
+      taken = (bytes, few, consumed);
+      looked = tt;
+      output = Keeps-refl (view.sink.held a.sink);
+      steps = uncounted command g InputFault a.counter a.counter (λ is. cc) (λ is. cc) refl;
+    };
+    leaves = record {
+      input_fault = λ is. rose;
+      output_fault = λ is. cc;
+      input_count = count;
+      output_count = le_refl _;
+      untouched = refl;
+      refused = tt;
+    };
+  }
+
+-- a whole input was taken, and the end was seen behind it
+record HasTakenAll {S K : Type 0} (view : Views S K) (command : Command) (g : Geometry) (input : List ℕ) (a : Outside S K) (source : S) : Type 0 where
+  pub limits : IsWithinLimits g
+  pub long : length input ≡ bytes_needed command g
+  pub consumed : Consumes (view.source.left a.source) (view.source.left source) input
+  pub told : IfSome (view.source.left a.source) (λ all. input ≡ all)
+  pub running : view.source.ended a.source ≡ false
+  pub ended : view.source.ended source ≡ true
+  pub count : view.source.faults a.source ≤ view.source.faults source
+
+module _ {S K : Type 0} (view : Views S K) (command : Command) (g : Geometry) (input : List ℕ) (a : Outside S K) (source : S)
+    (all : HasTakenAll view command g input a source) where
+  -- what is judged of the bytes is judged of what was told
+  judged_told : (status : Status) (output : List ℕ) → Judges command g input status output
+      → IfSome (view.source.left a.source) (λ told. IsJudged command g told status output)
+  judged_told status output is =
+      IfSome_then (view.source.left a.source) all.told
+      (λ told same. subst (λ (x : List ℕ). IsJudged command g x status output) same (record { limits = all.limits; whole = all.long; judged = is }))
+
+  -- all was done, or the sink failed
+  done_kept : (output : List ℕ) (status : Status) (n : ℕ) (b : Outside S K) → Judges command g input Done output → IsOutput command g output
+      → CountsSteps command g Done a.counter n → CountsSteps command g OutputFault a.counter n
+      → Means view (answer Done output) (Over status) (outside source a.sink n) b → Kept view command g status a b
+  done_kept output status n b is is_output counts counts' means = put_kept (put_ends view output (Over Done) status (outside source a.sink n) b means)
+    where
+      put_kept : Putting view output (Over Done) status (outside source a.sink n) b → Kept view command g status a b
+      put_kept (HeldAll sink puts later) =
+          let ends = over_ends view Done status (outside source sink n) b later in
+          as_is view command g status Done a (outside source sink n) b ends.0 ends.1 (record {
+            does = record {
+              limits = (all.limits, tt);
+              cause = IfSome_then (view.source.left a.source) (judged_told Done output is) (λ told fact. (output, fact, puts.0));
+              taken = (input, all.long, all.consumed);
+              looked = (all.running, all.ended);
+              output = (output, is_output, puts.0);
+              steps = counts;
+            };
+            leaves = record {
+              input_fault = λ is. cc;
+              output_fault = λ is. cc;
+              input_count = all.count;
+              output_count = puts.1;
+              untouched = tt;
+              refused = tt;
+            };
+          })
+      put_kept (HeldPart part sink in_output puts same ends) =
+          let puts_part = PutsPart-part (view.sink.held a.sink) (view.sink.held sink) part output in_output puts.0 in
+          as_is view command g status OutputFault a (outside source sink n) b same ends (record {
+            does = record {
+              limits = (all.limits, tt);
+              cause = IfSome_then (view.source.left a.source) (judged_told Done output is) (λ told fact. (output, fact, puts_part));
+              taken = (input, all.long, all.consumed);
+              looked = (all.running, all.ended);
+              output = (output, is_output, puts_part);
+              steps = counts';
+            };
+            leaves = record {
+              input_fault = λ is. cc;
+              output_fault = λ is. puts.2;
+              input_count = all.count;
+              output_count = puts.1;
+              untouched = tt;
+              refused = tt;
+            };
+          })
+
+  -- nothing was put out
+  kept_of : (status : Status) → LimitsComeFirst command g status
+      → IfSome (view.source.left a.source) (λ told. HasCause command g told (view.sink.held a.sink) (view.sink.held a.sink) status)
+      → TakesInput command g (view.source.left a.source) (view.source.left source) status
+      → LooksForEnd command g (view.source.ended a.source) (view.source.ended source) status
+      → PutsOut command g (view.sink.held a.sink) (view.sink.held a.sink) status → status ≢ Done → status ≢ InputFault → status ≢ OutputFault
+      → IfNothingIsPutOut status (a.sink ≡ a.sink) → IfRefusedAtOnce status (outside source a.sink a.counter ≡ a)
+      → Kept view command g status a (outside source a.sink a.counter)
+  kept_of status limits cause taken looked output not_done not_input not_output untouched refused = record {
+    does = record {
+      limits = limits;
+      cause = cause;
+      taken = taken;
+      looked = looked;
+      output = output;
+      steps = uncounted command g status a.counter a.counter not_done not_output refl;
+    };
+    leaves = record {
+      input_fault = λ is. absurd (not_input is);
+      output_fault = λ is. absurd (not_output is);
+      input_count = all.count;
+      output_count = le_refl _;
+      untouched = untouched;
+      refused = refused;
+    };
+  }
+
+  refusal : (status : Status) → IfSome (view.source.left a.source) (λ told. IsJudged command g told status [])
+      → ((told : List ℕ) → IsJudged command g told status [] → IsAnswer command g told status [])
+      → IfSome (view.source.left a.source) (λ told. Answers command g told (view.sink.held a.sink) (view.sink.held a.sink) status)
+  refusal status judged answers =
+      IfSome_then (view.source.left a.source) judged (λ told is. ([], answers told is, Appends-nil (view.sink.held a.sink)))
+
+-- ---- along the plan
+
+module _ {S K : Type 0} (view : Views S K) where
+  -- what was judged
+  judged_kept : (command : Command) (g : Geometry) (input : List ℕ) (a : Outside S K) (source : S) → HasTakenAll view command g input a source
+      → (reply : Status) (output : List ℕ) (status : Status) (n : ℕ) (b : Outside S K) → Judges command g input reply output
+      → Counts (Found (Judgement command g input)) a.counter n → Means view (answer reply output) (Over status) (outside source a.sink n) b
+      → Kept view command g status a b
+  judged_kept Check g input a source all Done output status n b is counts means =
+      done_kept view Check g input a source all output status n b is is.2.1 counts counts means
+  judged_kept Check g input a source all (NotCodeword k) output status n b is counts means =
+      let ends = over_ends view (NotCodeword k) status (outside source a.sink n) b means in
+      let told = judged_told view Check g input a source all (NotCodeword k) [] (is.0, is.1, (is.2.0, refl)) in
+      as_is view Check g status (NotCodeword k) a (outside source a.sink a.counter) b ends.0 (ends.1 ∙ ap (λ (m : ℕ). outside source a.sink m) counts)
+      (kept_of view Check g input a source all (NotCodeword k) (all.limits, tt)
+      (refusal view Check g input a source all (NotCodeword k) told (λ x fact. fact)) (input, all.long, all.consumed) (all.running, all.ended)
+      (Keeps-refl (view.sink.held a.sink)) (λ is. cc) (λ is. cc) (λ is. cc) refl tt)
+  judged_kept Check g input a source all _ output status n b is counts means = absurd is.2
+  judged_kept (Encode method) g input a source all Done output status n b is counts means =
+      let encoding = is.2.1 in
+      done_kept view (Encode method) g input a source all output status n b is
+      (is.2.0, encoding.codeword, HasBytes-cells g is.2.0 encoding.of encoding.formed output (sym is.2.2)) counts counts means
+  judged_kept (Encode method) g input a source all _ output status n b is counts means = absurd is.2
+  judged_kept Restore g input a source all Done output status n b is counts means =
+      let holds = is.4.1.1 in
+      done_kept view Restore g input a source all output status n b is
+      (is.4.1.0, holds.meets_equations, HasBytes-cells g is.4.1.0 holds.of holds.well_formed output (sym is.4.1.2)) counts counts means
+  judged_kept Restore g input a source all NoCodeword output status n b is counts means =
+      let ends = over_ends view NoCodeword status (outside source a.sink n) b means in
+      let told = judged_told view Restore g input a source all NoCodeword [] (is.0, is.1, is.2, is.3, (is.4.0, is.4.1, refl)) in
+      as_is view Restore g status NoCodeword a (outside source a.sink a.counter) b ends.0 (ends.1 ∙ ap (λ (m : ℕ). outside source a.sink m) counts)
+      (kept_of view Restore g input a source all NoCodeword (all.limits, tt)
+      (refusal view Restore g input a source all NoCodeword told (λ x fact. fact)) (input, all.long, all.consumed) (all.running, all.ended)
+      (Keeps-refl (view.sink.held a.sink)) (λ is. cc) (λ is. cc) (λ is. cc) refl tt)
+  judged_kept Restore g input a source all (Lost number counted m) output status n b is counts means =
+      let ends = over_ends view (Lost number counted m) status (outside source a.sink n) b means in
+      let told = judged_told view Restore g input a source all (Lost number counted m) []
+      (is.0, is.1, is.2, is.3, (is.4.0, is.4.1, is.4.2, is.4.3, refl))
+      in
+      as_is view Restore g status (Lost number counted m) a (outside source a.sink a.counter) b ends.0
+      (ends.1 ∙ ap (λ (k : ℕ). outside source a.sink k) counts)
+      (kept_of view Restore g input a source all (Lost number counted m) (all.limits, tt)
+      (refusal view Restore g input a source all (Lost number counted m) told (λ x fact. fact)) (input, all.long, all.consumed)
+      (all.running, all.ended) (Keeps-refl (view.sink.held a.sink)) (λ is. cc) (λ is. cc) (λ is. cc) refl tt)
+  judged_kept Restore g input a source all _ output status n b is counts means = absurd is.4
+
+  module _ (command : Command) (g : Geometry) (status : Status) where
+    -- behind the bytes that are needed
+    end_kept : (bytes : List ℕ) (a b : Outside S K) (mid : S) → IsWithinLimits g → length bytes ≡ bytes_needed command g
+        → Gives view.source (Took bytes) a.source mid
+        → Means view (Take 1 (λ more. Over (Input (bytes_needed command g) (bytes_needed command g + 1))) (λ none. judged command g bytes))
+        (Over status) (outside mid a.sink a.counter) b → Kept view command g status a b
+    end_kept bytes a b mid limits long gives means =
+        let n = bytes_needed command g in
+        let left = view.source.left in
+        elim (take_ends view 1 (λ more. Over (Input n (n + 1))) (λ none. judged command g bytes) status (outside mid a.sink a.counter) b means)
+        as (λ _. Kept view command g status a b) [
+          | GaveAll more end one gives' later ↦
+              let ends = over_ends view (Input n (n + 1)) status (outside end a.sink a.counter) b later in
+              let consumed = Consumes-trans (left a.source) (left mid) (left end) bytes more gives.0 gives'.0 in
+              let as_many : length (bytes ++ more) ≡ n + 1 = omega (arith, length-append bytes more, long, one) in
+              let other : IfSome (left a.source) (λ input. IsOtherLength n input n (n + 1)) =
+              IfSome_then (left a.source) (told_more (left a.source) (left end) (bytes ++ more) consumed)
+              (λ input few. record { other = λ same. omega (arith, few, same, as_many); needs = refl; takes = omega (arith, few, as_many) })
+              in
+              as_is view command g status (Input n (n + 1)) a (outside end a.sink a.counter) b ends.0 ends.1
+              (length_kept view command g (n + 1) (bytes ++ more) a end limits as_many consumed other
+              (match_false (n + 1 < n) (n + 1 ≡ n + 1) (view.source.ended end) gives'.2 refl) (omega (arith, gives.3, gives'.3)))
+          | GaveFewer none end few gives' later ↦
+              let all : HasTakenAll view command g bytes a end = record {
+                limits = limits;
+                long = long;
+                consumed = consumed_then_none (left a.source) (left mid) (left end) bytes none few gives.0 gives'.0;
+                told = told_all (left a.source) (left mid) bytes gives.0 (none_told (left mid) none few gives'.1);
+                running = gives.1;
+                ended = gives'.2;
+                count = omega (arith, gives.3, gives'.3);
+              } in
+              let decided = ask_ends view (Judgement command g bytes) (λ reply. answer reply.0 reply.1) status (outside end a.sink a.counter) b later in
+              judged_kept command g bytes a end all decided.reply.0 decided.reply.1 status decided.counter b decided.is decided.counts decided.later
+          | GaveFault more end few gives' same ends ↦
+              as_is view command g status InputFault a (outside end a.sink a.counter) b same ends
+              (fault_kept view command g (bytes ++ more) a end limits (omega (arith, length-append bytes more, long, few))
+              (Consumes-trans (left a.source) (left mid) (left end) bytes more gives.0 gives'.0) (omega (arith, gives.3, gives'.3))
+              (kept-Rose (view.source.faults a.source) (view.source.faults mid) (view.source.faults end) gives.3 gives'.3 gives'.4))
+        ]
+
+    input_kept : (a b : Outside S K) → IsWithinLimits g → Means view (input_plan command g) (Over status) a b → Kept view command g status a b
+    input_kept a b limits means =
+        let n = bytes_needed command g in
+        let left = view.source.left in
+        elim (take_ends view n (λ bytes. Take 1 (λ more. Over (Input n (n + 1))) (λ none. judged command g bytes))
+        (λ bytes. Over (Input n (length bytes))) status a b means) as (λ _. Kept view command g status a b) [
+          | GaveAll bytes mid long gives later ↦ end_kept bytes a b mid limits long gives later
+          | GaveFewer bytes mid few gives later ↦
+              let ends = over_ends view (Input n (length bytes)) status (outside mid a.sink a.counter) b later in
+              let other : IfSome (left a.source) (λ input. IsOtherLength n input n (length bytes)) =
+              IfSome_then (left a.source) gives.1
+              (λ input same. record {
+                other = λ is. omega (arith, ap length same, few, is);
+                needs = refl;
+                takes = omega (arith, ap length same, few);
+              })
+              in
+              as_is view command g status (Input n (length bytes)) a (outside mid a.sink a.counter) b ends.0 ends.1
+              (length_kept view command g (length bytes) bytes a mid limits refl gives.0 other
+              (match_true (length bytes < n) (length bytes ≡ n + 1) (view.source.ended mid) gives.2 few) gives.3)
+          | GaveFault bytes mid few gives same ends ↦
+              as_is view command g status InputFault a (outside mid a.sink a.counter) b same ends
+              (fault_kept view command g bytes a mid limits (omega (arith, few)) gives.0 gives.3 gives.4)
+        ]
+
+    stripe_kept : (a b : Outside S K) → IsWithinLimits g → Means view (stripe_plan command g) (Over status) a b → Kept view command g status a b
+    stripe_kept a b limits means =
+        elim (allocate_ends view (input_plan command g) status a b means) as (λ _. Kept view command g status a b) [
+          | inl out ↦ as_is view command g status OutOfMemory a a b out.0 out.1 (no_memory view command g a)
+          | inr later ↦ input_kept a b limits later
+        ]
+
+    limits_kept : (reply : Option ℕ) (n : ℕ) (a b : Outside S K) → IsReply (Limits g) reply → n ≡ a.counter
+        → Means view (within_limits (stripe_plan command g) reply) (Over status) (outside a.source a.sink n) b → Kept view command g status a b
+    limits_kept None n a b limits same means =
+        stripe_kept a b limits
+        (subst (λ (m : ℕ). Means view (stripe_plan command g) (Over status) (outside a.source a.sink m) b) same means)
+    limits_kept (Some k) n a b broken same means =
+        let ends = over_ends view (Limit k) status (outside a.source a.sink n) b means in
+        as_is view command g status (Limit k) a a b ends.0 (ends.1 ∙ ap (λ (m : ℕ). outside a.source a.sink m) same) (limit_kept view command g k a broken)
+
+    tested_kept : (a b : Outside S K) → Means view (tested_plan command g) (Over status) a b → Kept view command g status a b
+    tested_kept a b means =
+        let decided = ask_ends view (Limits g) (within_limits (stripe_plan command g)) status a b means in
+        limits_kept decided.reply decided.counter a b decided.is decided.counts decided.later
+
+  job_kept : (job : Job) (status : Status) (a b : Outside S K) → Means view (job_plan job) (Over status) a b
+      → Kept view (command_of job) (one_stripe job) status a b
+  job_kept job status a b means =
+      tested_kept (command_of job) (one_stripe job) status a b
+      (subst (λ (plan : Plan). Means view plan (Over status) a b) (stripe_job job) means)
+
+-- how a call of these words went
+data Called {S K : Type 0} (view : Views S K) (words : List (List ℕ)) (status : Status) (old new : Outside S K) : Type 0 where
+  NoMemory : status ≡ OutOfMemory → new ≡ old → Called view words status old new
+  NotSpelled : (IsSpelled words → ⊥) → status ≡ Usage → new ≡ old → Called view words status old new
+  Spelled : (job : Job) → Spells words job → Means view (job_plan job) (Over status) old new → Called view words status old new
+
+-- without faults and want of memory, the cause is that the status is the one for the input
+status_of_cause : (command : Command) (g : Geometry) (input : List ℕ) (held held' : Option (List ℕ)) (input_rose output_rose : Type 0) (status : Status)
+    → HasCause command g input held held' status → (status ≡ InputFault → input_rose) → (status ≡ OutputFault → output_rose)
+    → (input_rose → ⊥) → (output_rose → ⊥) → status ≢ OutOfMemory → Answers command g input held held' status
+status_of_cause command g input held held' input_rose output_rose Done cause on_input on_output sound_input sound_output memory = cause
+status_of_cause command g input held held' input_rose output_rose (NotCodeword b) cause on_input on_output sound_input sound_output memory = cause
+status_of_cause command g input held held' input_rose output_rose NoCodeword cause on_input on_output sound_input sound_output memory = cause
+status_of_cause command g input held held' input_rose output_rose (Limit k) cause on_input on_output sound_input sound_output memory = cause
+status_of_cause command g input held held' input_rose output_rose (Input needed took) cause on_input on_output sound_input sound_output memory = cause
+status_of_cause command g input held held' input_rose output_rose (Lost stripe counts n) cause on_input on_output sound_input sound_output memory = cause
+status_of_cause command g input held held' input_rose output_rose Usage cause on_input on_output sound_input sound_output memory = absurd cause
+status_of_cause command g input held held' input_rose output_rose InputFault cause on_input on_output sound_input sound_output memory =
+    absurd (sound_input (on_input refl))
+status_of_cause command g input held held' input_rose output_rose OutputFault cause on_input on_output sound_input sound_output memory =
+    absurd (sound_output (on_output refl))
+status_of_cause command g input held held' input_rose output_rose OutOfMemory cause on_input on_output sound_input sound_output memory =
+    absurd (memory refl)
+
+module _ {S K : Type 0} (view : Views S K) where
+  spelled_at : (words : List (List ℕ)) (status : Status) (reply : Option Job) (n : ℕ) (a b : Outside S K) → IsReply (Words words) reply
+      → n ≡ a.counter → Means view (if_spelled reply) (Over status) (outside a.source a.sink n) b → Called view words status a b
+  spelled_at words status None n a b not same means =
+      let ends = over_ends view Usage status (outside a.source a.sink n) b means in
+      NotSpelled not ends.0 (ends.1 ∙ ap (λ (m : ℕ). outside a.source a.sink m) same)
+  spelled_at words status (Some job) n a b spells same means =
+      Spelled job spells (subst (λ (m : ℕ). Means view (job_plan job) (Over status) (outside a.source a.sink m) b) same means)
+
+  called : (words : List (List ℕ)) (status : Status) (a b : Outside S K) → Means view (plan_of words) (Over status) a b → Called view words status a b
+  called words status a b means =
+      elim (allocate_ends view (Ask (Words words) if_spelled) status a b means) as (λ _. Called view words status a b) [
+        | inl out ↦ NoMemory out.0 out.1
+        | inr later ↦
+            let decided = ask_ends view (Words words) if_spelled status a b later in
+            spelled_at words status decided.reply decided.counter a b decided.is decided.counts decided.later
+      ]
+
+  pub words_are_done : WordsAreDone view
+  words_are_done words job status a b spells means =
+      elim (called words status a b means) as (λ _. Does view (command_of job) (one_stripe job) status a b) [
+        | NoMemory out ends ↦
+            (as_is view (command_of job) (one_stripe job) status OutOfMemory a a b out ends (no_memory view (command_of job) (one_stripe job) a)).does
+        | NotSpelled not usage ends ↦ absurd (not (job, spells))
+        | Spelled read spelled later ↦
+            subst (λ (j : Job). Does view (command_of j) (one_stripe j) status a b) (spells_once words read job spelled spells)
+            (job_kept view read status a b later).does
+      ]
+
+  pub usage_is_exact : UsageIsExact view
+  usage_is_exact words status a b means memory =
+      elim (called words status a b means) as (λ _. ((status ≡ Usage) ↔ (IsSpelled words → ⊥)) × (status ≢ Usage → IsSpelled words)) [
+        | NoMemory out ends ↦ absurd (memory out)
+        | NotSpelled not usage ends ↦ ((λ is. not, λ none. usage), λ other. absurd (other usage))
+        | Spelled job spelled later ↦
+            let limits = (job_kept view job status a b later).does.limits in
+            let not : status ≢ Usage = λ is. subst (LimitsComeFirst (command_of job) (one_stripe job)) is limits in
+            ((λ is. absurd (not is), λ none. absurd (none (job, spelled))), λ other. (job, spelled))
+      ]
+
+  -- these leave nothing but the status
+  same_kept : (status : Status) (a b : Outside S K) → b ≡ a → status ≢ InputFault → status ≢ OutputFault
+      → IfNothingIsPutOut status (a.sink ≡ a.sink) → IfRefusedAtOnce status (a ≡ a) → Leaves view status a b
+  same_kept status a b ends not_input not_output untouched refused =
+      subst (λ (x : Outside S K). Leaves view status a x) (sym ends) (record {
+        input_fault = λ is. absurd (not_input is);
+        output_fault = λ is. absurd (not_output is);
+        input_count = le_refl _;
+        output_count = le_refl _;
+        untouched = untouched;
+        refused = refused;
+      })
+
+  pub all_is_kept : AllIsKept view
+  all_is_kept words status a b means =
+      elim (called words status a b means) as (λ _. Leaves view status a b) [
+        | NoMemory out ends ↦
+            subst (λ (s : Status). Leaves view s a b) (sym out) (same_kept OutOfMemory a b ends (λ is. cc) (λ is. cc) refl refl)
+        | NotSpelled not usage ends ↦
+            subst (λ (s : Status). Leaves view s a b) (sym usage) (same_kept Usage a b ends (λ is. cc) (λ is. cc) refl refl)
+        | Spelled job spelled later ↦ (job_kept view job status a b later).leaves
+      ]
+
+  pub bytes_are_answered : BytesAreAnswered view
+  bytes_are_answered words job status a b spells means sound_input sound_output memory =
+      let leaves = all_is_kept words status a b means in
+      IfSome_then (view.source.left a.source) (words_are_done words job status a b spells means).cause
+      (λ bytes cause. status_of_cause (command_of job) (one_stripe job) bytes (view.sink.held a.sink) (view.sink.held b.sink)
+      (Rose (view.source.faults a.source) (view.source.faults b.source)) (Rose (view.sink.faults a.sink) (view.sink.faults b.sink)) status cause
+      leaves.input_fault leaves.output_fault sound_input sound_output memory)

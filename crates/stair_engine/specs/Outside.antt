@@ -1,0 +1,40 @@
+-- What the outside of a call shows: its source, its sink and its counter.
+use Rattle.std.specs.Prelude.{ℕ, Bool, List, Option}
+
+-- what a source shows: the bytes that are left, where it tells them, whether it has answered its
+-- end, and its count of faults
+pub record SourceView (S : Type 0) : Type 0 where
+  pub left : S → Option (List ℕ)
+  pub ended : S → Bool
+  pub faults : S → ℕ
+
+-- what a sink shows: the bytes that it holds, where it tells them, and its count of faults
+pub record SinkView (K : Type 0) : Type 0 where
+  pub held : K → Option (List ℕ)
+  pub faults : K → ℕ
+
+pub record Views (S K : Type 0) : Type 0 where
+  pub source : SourceView S
+  pub sink : SinkView K
+
+abbrev pub source_view : {S : Type 0} → (S → Option (List ℕ)) → (S → Bool) → (S → ℕ) → SourceView S
+source_view left ended faults = record { left = left; ended = ended; faults = faults }
+
+abbrev pub sink_view : {K : Type 0} → (K → Option (List ℕ)) → (K → ℕ) → SinkView K
+sink_view held faults = record { held = held; faults = faults }
+
+abbrev pub views : {S K : Type 0} → (S → Option (List ℕ)) → (S → Bool) → (S → ℕ) →
+    (K → Option (List ℕ)) → (K → ℕ) → Views S K
+views left ended faults held put_faults = record {
+  source = source_view left ended faults;
+  sink = sink_view held put_faults;
+}
+
+-- source, sink and counter, at a moment
+pub record Outside (S K : Type 0) : Type 0 where
+  pub source : S
+  pub sink : K
+  pub counter : ℕ
+
+abbrev pub outside : {S K : Type 0} → S → K → ℕ → Outside S K
+outside source sink counter = record { source = source; sink = sink; counter = counter }

@@ -1,0 +1,67 @@
+-- What a command does, whatever comes of it: a plan, which the words give.
+use Rattle.std.specs.Prelude.{ℕ, ◌+◌, List, length, Option, None, Some}
+use Rattle.stair_model.specs.Geometry.{Geometry}
+use Rattle.stair_conf.specs.declared.job.Job.{Job}
+use Rattle.stair_conf.specs.declared.job.Job.TheVariants as job
+use Rattle.stair_engine.specs.declared.status.Status.{Status}
+use Rattle.stair_engine.specs.declared.status.Status.TheVariants.{Done, Usage, Limit, Input}
+use Rattle.stair_engine.specs.Task.{Command, one_stripe}
+use Rattle.stair_engine.specs.Task.Command.{Check, Encode, Restore}
+use Rattle.stair_engine.specs.Answer.{bytes_needed}
+use Rattle.stair_engine.specs.Question.{Question, Reply, Words, Limits, Judgement}
+
+pub data Plan : Type 0 where
+  -- the call ends so
+  Over : Status → Plan
+  -- a question is decided, and the reply says how to go on
+  Ask : (question : Question) → (Reply question → Plan) → Plan
+  -- so many bytes of the input, at least one, and then the first; or fewer, where the end comes
+  -- before, and then the second
+  Take : ℕ → (List ℕ → Plan) → (List ℕ → Plan) → Plan
+  -- these bytes are put out
+  Put : List ℕ → Plan → Plan
+  -- memory may be short here
+  Allocate : Plan → Plan
+
+-- All of the input is so many bytes, behind which one more is looked for.
+abbrev pub whole_input : ℕ → (List ℕ → Plan) → Plan
+whole_input needed k = Take needed
+    (λ bytes. Take 1 (λ more. Over (Input needed (needed + 1))) (λ none. k bytes))
+    (λ bytes. Over (Input needed (length bytes)))
+
+-- the output is put out where all was done
+abbrev pub answer : Status → List ℕ → Plan
+answer Done output = Put output (Over Done)
+answer status output = Over status
+
+-- what is judged of a whole input
+abbrev pub judged : Command → Geometry → List ℕ → Plan
+judged command g input = Ask (Judgement command g input) (λ reply. answer reply.0 reply.1)
+
+abbrev pub input_plan : Command → Geometry → Plan
+input_plan command g = whole_input (bytes_needed command g) (judged command g)
+
+abbrev pub stripe_plan : Command → Geometry → Plan
+stripe_plan command g = Allocate (input_plan command g)
+
+abbrev pub within_limits : Plan → Option ℕ → Plan
+within_limits plan None = plan
+within_limits plan (Some k) = Over (Limit k)
+
+abbrev pub tested_plan : Command → Geometry → Plan
+tested_plan command g = Ask (Limits g) (within_limits (stripe_plan command g))
+
+-- a row for each command
+abbrev pub job_plan : Job → Plan
+job_plan (job.Check n m r e) = tested_plan Check (one_stripe (job.Check n m r e))
+job_plan (job.Stripe method n m r e) =
+    tested_plan (Encode method) (one_stripe (job.Stripe method n m r e))
+job_plan (job.Restore n m r e) = tested_plan Restore (one_stripe (job.Restore n m r e))
+
+abbrev pub if_spelled : Option Job → Plan
+if_spelled None = Over Usage
+if_spelled (Some job) = job_plan job
+
+-- what the words say; memory may be short where they are read
+abbrev pub plan_of : List (List ℕ) → Plan
+plan_of words = Allocate (Ask (Words words) if_spelled)

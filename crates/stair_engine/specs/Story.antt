@@ -1,0 +1,37 @@
+-- What a call did: a story, whose first deed comes first, and how it follows a plan.
+use Rattle.std.specs.Prelude.{◌≡◌, ℕ, ◌<◌, List, [], ◌∷◌, ◌++◌, length}
+use Rattle.stair_engine.specs.declared.status.Status.TheVariants.{InputFault, OutputFault, OutOfMemory}
+use Rattle.stair_engine.specs.Question.{Question, Reply, IsReply}
+use Rattle.stair_engine.specs.Plan.{Plan, Over, Ask, Take, Put, Allocate}
+
+pub data Deed : Type 0 where
+  -- a question was decided
+  Found : Question → Deed
+  -- all that was asked for was taken; fewer, and then the end came; fewer, and then a fault
+  Took TookLast TakeFailed : List ℕ → Deed
+  -- all of it was put out; a part, and then a fault came
+  HasPut PutFailed : List ℕ → Deed
+  -- there was memory; there was none
+  Grew RanOut : Deed
+
+-- the front of a list, and not all of it
+abbrev pub IsPart : List ℕ → List ℕ → Type 0
+IsPart part all = (rest : List ℕ) × (all ≡ part ++ rest) × (0 < length rest)
+
+-- One move of a plan: the deed is of the kind that the plan wants, and the rest is what it says then.
+abbrev pub Moves : Deed → Plan → Plan → Type 0
+Moves (Found asked) (Ask question k) rest =
+    (reply : Reply question) × (asked ≡ question) × IsReply question reply × (rest ≡ k reply)
+Moves (Took bytes) (Take n k short) rest = (length bytes ≡ n) × (rest ≡ k bytes)
+Moves (TookLast bytes) (Take n k short) rest = (length bytes < n) × (rest ≡ short bytes)
+Moves (TakeFailed bytes) (Take n k short) rest = (length bytes < n) × (rest ≡ Over InputFault)
+Moves (HasPut bytes) (Put all plan) rest = (bytes ≡ all) × (rest ≡ plan)
+Moves (PutFailed part) (Put all plan) rest = IsPart part all × (rest ≡ Over OutputFault)
+Moves Grew (Allocate plan) rest = rest ≡ plan
+Moves RanOut (Allocate plan) rest = rest ≡ Over OutOfMemory
+Moves _ _ rest = ⊥
+
+-- The deeds lead from the one to the other: each leads on by `One` from what the deeds before it led to.
+abbrev pub Leads : {X : Type 0} → (Deed → X → X → Type 0) → List Deed → X → X → Type 0
+Leads One [] old new = new ≡ old
+Leads {X} One (deed ∷ story) old new = (mid : X) × One deed old mid × Leads One story mid new

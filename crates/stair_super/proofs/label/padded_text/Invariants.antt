@@ -1,0 +1,6 @@
+-- The bytes so far, with zeros behind them.
+use Rattle.std.proofs.Common.{◌≡◌, ◌-◌, ◌++◌, take, replicate}
+use Rattle.stair_super.proofs.label.padded_text.Given as goal
+
+abbrev pub invariant-loop-at : goal.invariant-loop-at
+invariant-loop-at l = l.bytes ≡ take l.at l.text ++ replicate (64 - l.at) 0
