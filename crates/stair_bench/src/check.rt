@@ -1,7 +1,7 @@
 ghost use Rattle.std.specs.Prelude.{◌≤◌, length};
 ghost use Rattle.stair_model.specs.Stripe.{IsStripeOf};
 
-use stair_base::{Geometry, SECTOR, Stripe};
+use stair_base::{Geometry, Stripe};
 use stair_mds::Symbols;
 
 /// The hash of no bytes, and what each byte multiplies it by (Fowler, Noll and Vo's FNV-1a, of 64 bits).
@@ -42,8 +42,8 @@ pub(crate) fn check_of_stripe(geometry: &Geometry, stripe: &Stripe) -> u64
     hash
 }
 
-/// The same check of the bytes of these blocks.
-pub(crate) fn check_of_blocks(blocks: &[[u8; SECTOR]]) -> u64 {
+/// The same check of the bytes of these blocks, or of these sealed sectors.
+pub(crate) fn check_of_blocks<const N: usize>(blocks: &[[u8; N]]) -> u64 {
     let mut hash = OF_NOTHING;
     for block in blocks {
         hash = hash_on(hash, block);

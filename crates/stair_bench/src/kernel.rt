@@ -59,15 +59,19 @@ pub(crate) enum Kernel {
     Update(Layout),
     /// A copy of the data cells that those are encoded from.
     CopyCells(Layout),
-    /// Sectors of an image file, written and then synced.
+    /// Sectors of an image file, sealed.
+    SealSectors,
+    /// The same sectors, written and then synced.
     WriteSectors,
     /// The same sectors, read.
     ReadSectors,
+    /// A new array on image files.
+    CreateArray,
 }
 
 impl Kernel {
     /// Those that need no file.
-    pub(crate) const IN_MEMORY: [Kernel; 30] = [
+    pub(crate) const IN_MEMORY: [Kernel; 31] = [
         Kernel::MultiplyAdd,
         Kernel::Solve(Row::EightTwo),
         Kernel::CopySymbols(Row::EightTwo),
@@ -98,10 +102,15 @@ impl Kernel {
         Kernel::Restore(Layout::ThirtyTwoDevices),
         Kernel::RestoreInTurn(Layout::ThirtyTwoDevices),
         Kernel::CopyCells(Layout::ThirtyTwoDevices),
+        Kernel::SealSectors,
     ];
 
-    /// Those over an image file.
-    const OVER_A_FILE: [Kernel; 2] = [Kernel::WriteSectors, Kernel::ReadSectors];
+    /// Those over image files.
+    const OVER_FILES: [Kernel; 3] = [
+        Kernel::WriteSectors,
+        Kernel::ReadSectors,
+        Kernel::CreateArray,
+    ];
 
     /// What it does, and the numbers that it does it for.
     fn words(self) -> (&'static str, &'static str) {
@@ -114,8 +123,10 @@ impl Kernel {
             Kernel::RestoreInTurn(layout) => ("restore-in-turn", layout.name()),
             Kernel::Update(layout) => ("update", layout.name()),
             Kernel::CopyCells(layout) => ("copy-cells", layout.name()),
+            Kernel::SealSectors => ("seal", "sectors"),
             Kernel::WriteSectors => ("write", "sectors"),
             Kernel::ReadSectors => ("read", "sectors"),
+            Kernel::CreateArray => ("create", "array"),
         }
     }
 
@@ -123,7 +134,7 @@ impl Kernel {
     pub(crate) fn named(name: &str) -> Option<Kernel> {
         Kernel::IN_MEMORY
             .into_iter()
-            .chain(Kernel::OVER_A_FILE)
+            .chain(Kernel::OVER_FILES)
             .find(|kernel| is_pair(name, kernel.words()))
     }
 }

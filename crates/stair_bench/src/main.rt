@@ -1,6 +1,7 @@
 //! `stair_bench [KERNEL ROUNDS]`: runs a kernel so many times, or one small round of each, and prints what it made.
 #![tactic(auto)]
 
+mod arrays;
 mod check;
 mod encoding;
 mod fault;

@@ -1,12 +1,13 @@
 ghost use Rattle.std.specs.Prelude.{◌≡◌, ◌-◌, ◌<◌, ◌≤◌, IfOk, length};
 ghost use Rattle.std.specs.List.{range_with_len};
 
+use crate::arrays::check_of_creating;
 use crate::check::{check_of, check_of_blocks};
 use crate::encoding::{check_of_copying_cells, check_of_encoding, check_of_updating};
 use crate::fault::Fault;
 use crate::kernel::{Code, Kernel};
 use crate::restoring::check_of_restoring;
-use crate::sectors::{check_of_reading, check_of_writing};
+use crate::sectors::{check_of_reading, check_of_sealing, check_of_writing};
 use crate::varied::varied;
 use stair_base::SECTOR;
 use stair_gf::{Steps, mul_add};
@@ -42,8 +43,10 @@ pub(crate) fn check_of_rounds<F: Files + Drop>(
             check_of_updating::<Brand>(alloc, &layout.geometry(), rounds, steps)?
         }
         Kernel::CopyCells(layout) => check_of_copying_cells(alloc, &layout.geometry(), rounds)?,
+        Kernel::SealSectors => check_of_sealing(alloc, rounds)?,
         Kernel::WriteSectors => check_of_writing(rt, alloc, rounds)?,
         Kernel::ReadSectors => check_of_reading(rt, alloc, rounds)?,
+        Kernel::CreateArray => check_of_creating(rt, alloc, rounds)?,
     })
 }
 

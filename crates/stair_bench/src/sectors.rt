@@ -3,12 +3,27 @@ use crate::fault::Fault;
 use crate::varied::varied;
 use stair_base::SECTOR;
 use stair_filerack::FileRack;
+use stair_image::{SECTOR_BYTES, seal};
 use stair_rack::{Got, Rack, Reply};
 use std::alloc::{AllocError, Global};
 use std::fs::Files;
 
-/// How many sectors a round writes or reads.
+/// How many sectors a round seals, writes or reads.
 const SECTORS: u16 = 64;
+
+/// Seals sectors that vary under their numbers, so many times, and gives a check of them.
+pub(crate) fn check_of_sealing(alloc: Global, rounds: u32) -> Result<u64, AllocError> {
+    let sectors = varied_sectors(alloc)?;
+    let mut sealed = vec![in alloc; [0; SECTOR_BYTES]; usize::from(SECTORS)]?;
+    for _round in 0..rounds {
+        let mut number = 0;
+        for (into, sector) in sealed.iter_mut().zip(&sectors) {
+            *into = seal(number, sector);
+            number = number.wrapping_add(1);
+        }
+    }
+    Ok(check_of_blocks(&sealed))
+}
 
 /// Writes sectors that vary to the image file of slot 0 in the current folder, so many times, syncs it, and gives a check of
 /// what was written.

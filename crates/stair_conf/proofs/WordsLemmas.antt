@@ -8,9 +8,11 @@ use Rattle.std.proofs.lemmas.List.Elements.{All-append, All-cons, All-map, All-n
 use Rattle.stair_conf.specs.declared.job.Method.{Method}
 use Rattle.stair_conf.specs.declared.job.Method.TheVariants.{Standard, Up, Down, Fewest}
 use Rattle.stair_conf.specs.declared.job.Job.{Job}
-use Rattle.stair_conf.specs.declared.job.Job.TheVariants.{Check, Stripe, Restore}
+use Rattle.stair_conf.specs.declared.job.Job.TheVariants.{OneStripe, Create}
+use Rattle.stair_conf.specs.declared.job.StripeCommand.{StripeCommand}
+use Rattle.stair_conf.specs.declared.job.StripeCommand.TheVariants.{Check, Encode, Restore}
 use Rattle.stair_conf.specs.Commands.{HasNoOption, IsPlainWord}
-use Rattle.stair_conf.specs.Words.{IsCommandLine, IsCommandWord, Spells, SpellsGeometry, method_word}
+use Rattle.stair_conf.specs.Words.{IsCommandLine, IsCommandWord, Spells, SpellsGeometry, command_words, method_word}
 use Rattle.stair_conf.proofs.NumberLemmas.{begins-decimal, map_decimal_injective}
 
 -- ---- the first words
@@ -41,15 +43,17 @@ in_front first before words n m r e spells = record {
 
 -- the command's word
 abbrev pub word_of : Job → List ℕ
-word_of (Check n m r e) = codes "check"
-word_of (Stripe method n m r e) = codes "stripe"
-word_of (Restore n m r e) = codes "restore"
+word_of (OneStripe Check n m r e) = codes "check"
+word_of (OneStripe (Encode method) n m r e) = codes "stripe"
+word_of (OneStripe Restore n m r e) = codes "restore"
+word_of Create = codes "create"
 
 -- the words of a job begin with the command's
 pub first_word : (words : List (List ℕ)) (job : Job) → Spells words job → get_or words 0 [] ≡ word_of job
-first_word words (Check n m r e) spells = ap (λ ws. get_or ws 0 []) spells.spelled
-first_word words (Stripe method n m r e) spells = ap (λ ws. get_or ws 0 []) spells.spelled
-first_word words (Restore n m r e) spells = ap (λ ws. get_or ws 0 []) spells.spelled
+first_word words (OneStripe Check n m r e) spells = ap (λ ws. get_or ws 0 []) spells.spelled
+first_word words (OneStripe (Encode method) n m r e) spells = ap (λ ws. get_or ws 0 []) spells.spelled
+first_word words (OneStripe Restore n m r e) spells = ap (λ ws. get_or ws 0 []) spells.spelled
+first_word words Create spells = ap (λ ws. get_or ws 0 []) spells
 
 -- ---- no word of a job begins with a hyphen
 
@@ -77,16 +81,18 @@ one_plain : (word : List ℕ) → IsPlainWord word → HasNoOption (word ∷ [])
 one_plain word plain = All-cons IsPlainWord word [] plain (All-nil IsPlainWord)
 
 pub job_plain : (words : List (List ℕ)) (job : Job) → Spells words job → HasNoOption words
-job_plain words (Check n m r e) spells = geometry_plain _ words n m r e (one_plain (codes "check") (omega arith)) spells
-job_plain words (Stripe method n m r e) spells =
+job_plain words (OneStripe Check n m r e) spells = geometry_plain _ words n m r e (one_plain (codes "check") (omega arith)) spells
+job_plain words (OneStripe (Encode method) n m r e) spells =
     geometry_plain _ words n m r e
     (All-cons IsPlainWord (codes "stripe") (method_word method ∷ []) (omega arith) (one_plain (method_word method) (method_plain method))) spells
-job_plain words (Restore n m r e) spells = geometry_plain _ words n m r e (one_plain (codes "restore") (omega arith)) spells
+job_plain words (OneStripe Restore n m r e) spells = geometry_plain _ words n m r e (one_plain (codes "restore") (omega arith)) spells
+job_plain words Create spells = rw spells (one_plain (codes "create") (omega arith))
 
 command_word : (words : List (List ℕ)) (job : Job) → Spells words job → IsCommandWord (get_or words 0 [])
-command_word words (Check n m r e) spells = inl (ap (λ ws. get_or ws 0 []) spells.spelled)
-command_word words (Stripe method n m r e) spells = inr (inl (ap (λ ws. get_or ws 0 []) spells.spelled))
-command_word words (Restore n m r e) spells = inr (inr (ap (λ ws. get_or ws 0 []) spells.spelled))
+command_word words (OneStripe Check n m r e) spells = inl (ap (λ ws. get_or ws 0 []) spells.spelled)
+command_word words (OneStripe (Encode method) n m r e) spells = inr (inl (ap (λ ws. get_or ws 0 []) spells.spelled))
+command_word words (OneStripe Restore n m r e) spells = inr (inr (inl (ap (λ ws. get_or ws 0 []) spells.spelled)))
+command_word words Create spells = inr (inr (inr (ap (λ ws. get_or ws 0 []) spells)))
 
 -- the words of a job are a command line
 pub job_line : (words : List (List ℕ)) (job : Job) → Spells words job → IsCommandLine words
@@ -117,21 +123,36 @@ same_method Down Down same = refl
 same_method Fewest Fewest same = refl
 same_method _ _ same = cc
 
-pub spells_once : (words : List (List ℕ)) (a b : Job) → Spells words a → Spells words b → a ≡ b
-spells_once words (Check n m r e) (Check n' m' r' e') one two =
+-- commands on one stripe with the same words are one job
+one_stripe_once : (words : List (List ℕ)) (a b : StripeCommand) (n m r : ℕ) (e : List ℕ) (n' m' r' : ℕ) (e' : List ℕ)
+    → SpellsGeometry (command_words a) words n m r e → SpellsGeometry (command_words b) words n' m' r' e' → OneStripe a n m r e ≡ OneStripe b n' m' r' e'
+one_stripe_once words Check Check n m r e n' m' r' e' one two =
     let same = geometry_once (codes "check" ∷ []) words n m r e n' m' r' e' one two in
-    λ i. Check (same.0 i) (same.1 i) (same.2 i) (same.3 i)
-spells_once words (Stripe method n m r e) (Stripe method' n' m' r' e') one two =
+    λ i. OneStripe Check (same.0 i) (same.1 i) (same.2 i) (same.3 i)
+one_stripe_once words (Encode method) (Encode method') n m r e n' m' r' e' one two =
     let words_are = sym one.spelled ∙ two.spelled in
     let method_words : method_word method ≡ method_word method' = cc in
     let method_is = same_method method method' method_words in
     let moved : SpellsGeometry (codes "stripe" ∷ method_word method ∷ []) words n' m' r' e' =
     rw method_words two in
     let same = geometry_once (codes "stripe" ∷ method_word method ∷ []) words n m r e n' m' r' e' one moved in
-    λ i. Stripe (method_is i) (same.0 i) (same.1 i) (same.2 i) (same.3 i)
-spells_once words (Restore n m r e) (Restore n' m' r' e') one two =
+    λ i. OneStripe (Encode (method_is i)) (same.0 i) (same.1 i) (same.2 i) (same.3 i)
+one_stripe_once words Restore Restore n m r e n' m' r' e' one two =
     let same = geometry_once (codes "restore" ∷ []) words n m r e n' m' r' e' one two in
-    λ i. Restore (same.0 i) (same.1 i) (same.2 i) (same.3 i)
-spells_once words a b one two =
-    let first = sym (first_word words a one) ∙ first_word words b two in
+    λ i. OneStripe Restore (same.0 i) (same.1 i) (same.2 i) (same.3 i)
+one_stripe_once words a b n m r e n' m' r' e' one two =
+    let first = sym (first_word words (OneStripe a n m r e) one) ∙ first_word words (OneStripe b n' m' r' e') two in
     cc
+
+-- no command on one stripe has the word `create`
+no_stripe : (words : List (List ℕ)) (command : StripeCommand) (n m r : ℕ) (e : List ℕ) → SpellsGeometry (command_words command) words n m r e
+    → words ≡ codes "create" ∷ [] → ⊥
+no_stripe words Check n m r e one two = let same = sym one.spelled ∙ two in cc
+no_stripe words (Encode method) n m r e one two = let same = sym one.spelled ∙ two in cc
+no_stripe words Restore n m r e one two = let same = sym one.spelled ∙ two in cc
+
+pub spells_once : (words : List (List ℕ)) (a b : Job) → Spells words a → Spells words b → a ≡ b
+spells_once words (OneStripe a n m r e) (OneStripe b n' m' r' e') one two = one_stripe_once words a b n m r e n' m' r' e' one two
+spells_once words (OneStripe a n m r e) Create one two = absurd (no_stripe words a n m r e one two)
+spells_once words Create (OneStripe b n m r e) one two = absurd (no_stripe words b n m r e two one)
+spells_once words Create Create one two = refl

@@ -6,7 +6,9 @@ use Rattle.stair_conf.specs.Commands.{HasNoOption}
 use Rattle.stair_conf.specs.declared.job.Method.{Method}
 use Rattle.stair_conf.specs.declared.job.Method.TheVariants.{Standard, Up, Down, Fewest}
 use Rattle.stair_conf.specs.declared.job.Job.{Job}
-use Rattle.stair_conf.specs.declared.job.Job.TheVariants.{Check, Stripe, Restore}
+use Rattle.stair_conf.specs.declared.job.Job.TheVariants.{OneStripe, Create}
+use Rattle.stair_conf.specs.declared.job.StripeCommand.{StripeCommand}
+use Rattle.stair_conf.specs.declared.job.StripeCommand.TheVariants.{Check, Encode, Restore}
 
 -- the word is this number's decimal text
 pub record IsNumber (word : List ℕ) (n : ℕ) : Type 0 where
@@ -39,12 +41,16 @@ pub record SpellsGeometry (before words : List (List ℕ)) (n m r : ℕ) (e : Li
   pub r_fits : r < 2 ^ 64
   pub e_fit : All (λ x. x < 2 ^ 64) e
 
+-- the words before the numbers
+abbrev pub command_words : StripeCommand → List (List ℕ)
+command_words Check = codes "check" ∷ []
+command_words (Encode method) = codes "stripe" ∷ method_word method ∷ []
+command_words Restore = codes "restore" ∷ []
+
 -- the words are those of the job
 abbrev pub Spells : List (List ℕ) → Job → Type 0
-Spells words (Check n m r e) = SpellsGeometry (codes "check" ∷ []) words n m r e
-Spells words (Stripe method n m r e) = SpellsGeometry
-    (codes "stripe" ∷ method_word method ∷ []) words n m r e
-Spells words (Restore n m r e) = SpellsGeometry (codes "restore" ∷ []) words n m r e
+Spells words (OneStripe command n m r e) = SpellsGeometry (command_words command) words n m r e
+Spells words Create = words ≡ codes "create" ∷ []
 
 -- the words spell a job
 abbrev pub IsSpelled : List (List ℕ) → Type 0
@@ -52,7 +58,8 @@ IsSpelled words = (job : Job) × Spells words job
 
 -- the word of a command
 abbrev pub IsCommandWord : List ℕ → Type 0
-IsCommandWord word = (word ≡ codes "check") ⊎ (word ≡ codes "stripe") ⊎ (word ≡ codes "restore")
+IsCommandWord word = (word ≡ codes "check") ⊎ (word ≡ codes "stripe")
+    ⊎ (word ≡ codes "restore") ⊎ (word ≡ codes "create")
 
 -- a command's word comes first, and no word begins with a hyphen: memory is taken for such words alone
 pub record IsCommandLine (words : List (List ℕ)) : Type 0 where

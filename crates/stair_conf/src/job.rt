@@ -13,14 +13,27 @@ pub enum Method {
     Fewest,
 }
 
+/// What is to be done with one stripe.
+#[derive(Clone, Copy, Debug, PartialEq, Eq)]
+pub enum StripeCommand {
+    /// `check`: whether it is a codeword.
+    Check,
+    /// `stripe METHOD`: it is encoded from blocks.
+    Encode(Method),
+    /// `restore`: its erased cells, from those that are held.
+    Restore,
+}
+
 /// What the words ask for.
 ///
 /// The numbers are as written: whether they are the shape of an array is not tested here. The letters are those of Li and
 /// Lee, STAIR Codes (FAST 2014): N devices, M of which may fail, R sectors in a chunk, and the coverage E.. of the others.
 #[derive(Debug, Drop)]
 pub enum Job {
-    /// `check N M R E..`: whether a stripe is a codeword.
-    Check {
+    /// `check N M R E..`, `stripe METHOD N M R E..` or `restore N M R E..`: one stripe.
+    OneStripe {
+        /// What is to be done with it.
+        command: StripeCommand,
         /// The number N.
         n: u64,
         /// The number M.
@@ -30,28 +43,6 @@ pub enum Job {
         /// The numbers E in the order of the words, at least one.
         e: Numbers,
     },
-    /// `stripe METHOD N M R E..`: the encoded stripe of some blocks.
-    Stripe {
-        /// The word METHOD.
-        method: Method,
-        /// The number N.
-        n: u64,
-        /// The number M.
-        m: u64,
-        /// The number R.
-        r: u64,
-        /// The numbers E in the order of the words, at least one.
-        e: Numbers,
-    },
-    /// `restore N M R E..`: the erased cells of a stripe, from those that are held.
-    Restore {
-        /// The number N.
-        n: u64,
-        /// The number M.
-        m: u64,
-        /// The number R.
-        r: u64,
-        /// The numbers E in the order of the words, at least one.
-        e: Numbers,
-    },
+    /// `create`: an array, of the geometry that a text says.
+    Create,
 }

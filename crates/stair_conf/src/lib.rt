@@ -17,7 +17,7 @@ mod words;
 
 pub use config::read_config;
 pub use fault::{ConfigFault, WordsFault};
-pub use job::{Job, Method};
+pub use job::{Job, Method, StripeCommand};
 pub use key::Key;
 pub use numbers::Numbers;
 pub use words::read_words;

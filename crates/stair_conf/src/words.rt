@@ -1,14 +1,16 @@
-ghost use Rattle.std.specs.Prelude.{◌≡◌, false, true, map, string_bytes, IfOk, Any, slice_index};
+ghost use Rattle.std.specs.Prelude.{◌≡◌, ◌≢◌, false, true, length, map, string_bytes, IfOk, Any, slice_index};
 ghost use Rattle.stair_conf.specs.Commands.{HasNoOption};
 ghost use Rattle.stair_conf.specs.Words.{Spells, IsCommandLine};
 ghost use Rattle.stair_conf.specs.declared.job.Job.{Job};
+ghost use Rattle.stair_conf.specs.declared.job.Job.TheVariants.{OneStripe};
 
 use crate::commands::{read_geometry, read_stripe};
 use crate::matches::GeometryNumbers;
-use crate::{Job, WordsFault};
+use crate::{Job, StripeCommand, WordsFault};
 use std::alloc::Global;
 
-/// Reads the words of a command: `check N M R E..`, `stripe METHOD N M R E..` or `restore N M R E..`, with at least one E.
+/// Reads the words of a command: `check N M R E..`, `stripe METHOD N M R E..` or `restore N M R E..`, with at least one E,
+/// or `create` alone.
 ///
 /// METHOD is `standard`, `up`, `down` or `fewest`. A number is decimal digits with no sign and no leading zero, below 2^64.
 /// All other words are `Usage`, unless memory runs out before that is known. Memory is taken only where a command's word
@@ -26,19 +28,41 @@ pub fn read_words(alloc: Global, words: &[String]) -> Result<Job, WordsFault>
         return Err(WordsFault::Usage);
     }
     match command.as_str() {
-        "check" => {
-            let GeometryNumbers { n, m, r, e } = read_geometry(alloc, words)?;
-            Ok(Job::Check { n, m, r, e })
-        }
+        "check" => Ok(one_stripe(StripeCommand::Check, read_geometry(alloc, words)?)),
         "stripe" => {
-            let (method, GeometryNumbers { n, m, r, e }) = read_stripe(alloc, words)?;
-            Ok(Job::Stripe { method, n, m, r, e })
+            let (method, numbers) = read_stripe(alloc, words)?;
+            Ok(one_stripe(StripeCommand::Encode(method), numbers))
         }
-        "restore" => {
-            let GeometryNumbers { n, m, r, e } = read_geometry(alloc, words)?;
-            Ok(Job::Restore { n, m, r, e })
-        }
+        "restore" => Ok(one_stripe(StripeCommand::Restore, read_geometry(alloc, words)?)),
+        "create" => alone(words, Job::Create),
         _ => Err(WordsFault::Usage),
+    }
+}
+
+// The job of a command on one stripe.
+fn one_stripe(command: StripeCommand, numbers: GeometryNumbers) -> Job
+    ensures { result ≡ OneStripe command numbers.n numbers.m numbers.r numbers.e }
+{
+    let GeometryNumbers { n, m, r, e } = numbers;
+    Job::OneStripe {
+        command,
+        n,
+        m,
+        r,
+        e,
+    }
+}
+
+// The job of a command that has no values, where its word stands alone.
+fn alone(words: &[String], job: Job) -> Result<Job, WordsFault>
+    ensures ok { IfOk result (λ read. (read ≡ job) × (length words.now ≡ 1)) }
+    ensures usage { result ≡ Err WordsFault.Usage → length words.now ≢ 1 }
+    ensures memory { result ≢ Err WordsFault.Memory }
+{
+    if words.len() == 1 {
+        Ok(job)
+    } else {
+        Err(WordsFault::Usage)
     }
 }
 

@@ -16,7 +16,7 @@ use Rattle.stair_model.proofs.CoverageLaws.{count_in_slot-none}
 use Rattle.stair_model.specs.Restoring.{IsRestored, SameHeld}
 use Rattle.stair_conf.specs.declared.job.Method.{Method}
 use Rattle.stair_engine.specs.declared.status.Status.TheVariants.{Done, NoCodeword, Lost}
-use Rattle.stair_engine.specs.Task.Command.{Encode, Restore}
+use Rattle.stair_conf.specs.declared.job.StripeCommand.TheVariants.{Encode, Restore}
 use Rattle.stair_engine.specs.Answer.{HasBytes, Judges, cell_bytes, map_bytes}
 use Rattle.stair_engine.specs.Encode.{IsCostOfMethod, TakesSteps}
 use Rattle.stair_engine.specs.Restore.{CountsErased, IsErasedBy}

@@ -132,6 +132,8 @@ module _ {S : Type 0} (view : SourceView S) where
       → TakesBytes view first mid xs a b → CutsShort view mid b c fault → CutsShort view first a c fault
   CutsShort-later first mid xs a b c fault.Memory before cut = absurd cut
   CutsShort-later first mid xs a b c fault.Output before cut = absurd cut
+  CutsShort-later first mid xs a b c (fault.Text config) before cut = absurd cut
+  CutsShort-later first mid xs a b c (fault.Create refusal) before cut = absurd cut
   CutsShort-later first mid xs a b c (fault.Length needed took) before cut =
       let ys = cut.1.0 in
       let mid_took : mid.took ≡ first.took + length xs = ap (λ (k : Intake). k.took) before.counted in
@@ -162,6 +164,8 @@ module _ {S T : Type 0} (view : SourceView S) (needed : ℕ) (IsInput : T → Li
   pub whole_cut : (a b : S) (fault : Fault) → CutsShort view (intake_of needed) a b fault → TakesWhole view needed (Err fault) IsInput a b
   whole_cut a b fault.Memory cut = absurd cut
   whole_cut a b fault.Output cut = absurd cut
+  whole_cut a b (fault.Text config) cut = absurd cut
+  whole_cut a b (fault.Create refusal) cut = absurd cut
   whole_cut a b (fault.Length wanted took) cut =
       let bytes = cut.1.0 in
       let took_is : took ≡ length bytes = omega (arith, cut.1.1) in
@@ -199,6 +203,8 @@ module _ {S T : Type 0} (view : SourceView S) (needed : ℕ) (IsInput : T → Li
       → TookSoFar view bytes a b → GoesOn view looked b c fault → TakesWhole view needed (Err fault) IsInput a c
   whole_goes_on bytes a b c fault.Memory looked same some long took more = absurd more
   whole_goes_on bytes a b c fault.Output looked same some long took more = absurd more
+  whole_goes_on bytes a b c (fault.Text config) looked same some long took more = absurd more
+  whole_goes_on bytes a b c (fault.Create refusal) looked same some long took more = absurd more
   whole_goes_on bytes a b c (fault.Length wanted count) looked same some long took more = record {
     bytes = [];
     is_input = tt;

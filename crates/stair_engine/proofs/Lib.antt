@@ -7,3 +7,8 @@ pub mod MapLaws
 pub mod AnswerLaws
 pub mod RestoreLaws
 pub mod MeaningLaws
+mod CreateLaws
+mod RackLaws
+mod CallLaws
+mod CompleteLaws
+mod StepLaws

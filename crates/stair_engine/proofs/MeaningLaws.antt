@@ -1,5 +1,5 @@
 -- What follows from a call that means what its words say: its story is taken apart, deed by deed, along its plan.
-use Rattle.std.proofs.Common.{◌≡◌, ◌≢◌, ℕ, ◌+◌, ◌<◌, ◌≤◌, ◌⊎◌, ◌↔◌, le_refl, Bool, true, false, inl, inr, List, [], ◌∷◌, ◌++◌, None, Some, IfSome, length, take, refl, sym, ap, ◌∙◌, subst, arith, length-append, append-nil}
+use Rattle.std.proofs.Common.{◌≡◌, ◌≢◌, ℕ, ◌+◌, ◌<◌, ◌≤◌, ◌⊎◌, le_refl, Bool, true, false, inl, inr, List, [], ◌∷◌, ◌++◌, None, Some, IfSome, length, take, refl, sym, ap, ◌∙◌, subst, arith, length-append, append-nil}
 use Rattle.std.specs.Prelude.{Option, MatchBool}
 use Rattle.std.specs.Io.KnownBytes.{Appends, Consumes}
 use Rattle.std.proofs.KnownBytes.{Appends-nil, Consumes-trans, Keeps-refl}
@@ -9,27 +9,28 @@ use Rattle.stair_model.specs.Geometry.{Geometry, IsWithinLimits, IsFirstBrokenLi
 use Rattle.stair_rack.specs.Count.{Rose, kept-Rose}
 use Rattle.stair_conf.specs.Words.{IsSpelled, Spells}
 use Rattle.stair_conf.specs.declared.job.Job.{Job}
+use Rattle.stair_conf.specs.declared.job.Job.TheVariants.{OneStripe}
 use Rattle.stair_conf.proofs.WordsLemmas.{spells_once}
 use Rattle.stair_engine.specs.declared.status.Status.{Status}
-use Rattle.stair_engine.specs.declared.status.Status.TheVariants.{Done, NotCodeword, NoCodeword, Usage, Limit, Input, InputFault, OutputFault, Lost, OutOfMemory}
-use Rattle.stair_engine.specs.Task.{Command, command_of, one_stripe}
-use Rattle.stair_engine.specs.Task.Command.{Check, Encode, Restore}
+use Rattle.stair_engine.specs.declared.status.Status.TheVariants.{Done, NotCodeword, NoCodeword, Usage, Limit, Key, NotToml, Input, InputFault, OutputFault, Lost, AlreadyArray, SmallDevice, Gone, OutOfMemory}
+use Rattle.stair_conf.specs.declared.job.StripeCommand.{StripeCommand}
+use Rattle.stair_engine.specs.Task.{one_stripe}
+use Rattle.stair_conf.specs.declared.job.StripeCommand.TheVariants.{Check, Encode, Restore}
 use Rattle.stair_engine.specs.Answer.{IsAnswer, IsJudged, IsOtherLength, Judges, bytes_needed}
 use Rattle.stair_engine.specs.Cause.{Answers, CountsSteps, HasCause, IfNothingIsPutOut, IfRefusedAtOnce, IsOutput, LimitsComeFirst, LooksForEnd, PutsOut, PutsPart, TakesInput}
 use Rattle.stair_engine.specs.Does.{Does, Leaves}
-use Rattle.stair_engine.specs.Laws.{AllIsKept, BytesAreAnswered, UsageIsExact, WordsAreDone}
+use Rattle.stair_engine.specs.Laws.{BytesAreAnswered, WordsAreDone}
 use Rattle.stair_engine.specs.Means.{Bears, Counts, Gives, Holds, Means}
 use Rattle.stair_engine.specs.Outside.{Outside, Views, outside}
 use Rattle.stair_engine.specs.Plan.{Plan, Over, Ask, Take, Put, Allocate, answer, if_spelled, input_plan, job_plan, judged, plan_of, stripe_plan, tested_plan, within_limits}
 use Rattle.stair_engine.specs.Question.{Question, Reply, IsReply, Words, Limits, Judgement}
 use Rattle.stair_engine.specs.Story.{Deed, Found, Took, TookLast, TakeFailed, HasPut, PutFailed, Grew, RanOut, IsPart, Leads, Moves}
 use Rattle.stair_engine.proofs.AnswerLaws.{HasBytes-cells}
-use Rattle.stair_engine.proofs.PlanLaws.{stripe_job}
 
 -- ---- a story, deed by deed
 
 -- a plan that is over makes no move
-no_move : (deed : Deed) (status : Status) (rest : Plan) → Moves deed (Over status) rest → ⊥
+pub no_move : (deed : Deed) (status : Status) (rest : Plan) → Moves deed (Over status) rest → ⊥
 no_move Grew status rest moves = moves
 no_move _ status rest moves = moves
 
@@ -168,7 +169,7 @@ told_all (Some x) None bytes consumed none = absurd consumed
 told_all (Some x) (Some y) bytes consumed none = sym (consumed ∙ ap (λ (l : List ℕ). bytes ++ l) (sym none) ∙ append-nil bytes)
 
 -- at least these bytes were told
-told_more : (a b : Option (List ℕ)) (bytes : List ℕ) → Consumes a b bytes → IfSome a (λ input. length bytes ≤ length input)
+pub told_more : (a b : Option (List ℕ)) (bytes : List ℕ) → Consumes a b bytes → IfSome a (λ input. length bytes ≤ length input)
 told_more None b bytes consumed = tt
 told_more (Some x) None bytes consumed = absurd consumed
 told_more (Some x) (Some y) bytes consumed = omega (arith, ap length consumed, length-append bytes y)
@@ -200,7 +201,7 @@ PutsPart-part a b part all is puts = (
 -- ---- what each ending keeps
 
 -- only where the cells of an encoded stripe were put out is anything counted
-uncounted : (command : Command) (g : Geometry) (status : Status) (n n' : ℕ) → status ≢ Done → status ≢ OutputFault → n' ≡ n
+uncounted : (command : StripeCommand) (g : Geometry) (status : Status) (n n' : ℕ) → status ≢ Done → status ≢ OutputFault → n' ≡ n
     → CountsSteps command g status n n'
 uncounted Check g status n n' not_done not_failed same = same
 uncounted Restore g status n n' not_done not_failed same = same
@@ -208,11 +209,12 @@ uncounted (Encode method) g Done n n' not_done not_failed same = absurd (not_don
 uncounted (Encode method) g OutputFault n n' not_done not_failed same = absurd (not_failed refl)
 uncounted (Encode method) g _ n n' not_done not_failed same = same
 
-record Kept {S K : Type 0} (view : Views S K) (command : Command) (g : Geometry) (status : Status) (old new : Outside S K) : Type 0 where
+pub record Kept {S K : Type 0} (view : Views S K) (command : StripeCommand) (g : Geometry) (status : Status) (old new : Outside S K) : Type 0 where
   pub does : Does view command g status old new
   pub leaves : Leaves view status old new
+  pub refused : IfRefusedAtOnce status (new ≡ old)
 
-module _ {S K : Type 0} (view : Views S K) (command : Command) (g : Geometry) where
+module _ {S K : Type 0} (view : Views S K) (command : StripeCommand) (g : Geometry) where
   -- the status and the end are these
   as_is : (status is : Status) (a b c : Outside S K) → status ≡ is → c ≡ b → Kept view command g is a b → Kept view command g status a c
   as_is status is a b c same ends kept =
@@ -234,8 +236,8 @@ module _ {S K : Type 0} (view : Views S K) (command : Command) (g : Geometry) wh
       input_count = le_refl _;
       output_count = le_refl _;
       untouched = refl;
-      refused = refl;
     };
+    refused = refl;
   }
 
   no_memory : (a : Outside S K) → Kept view command g OutOfMemory a a
@@ -254,8 +256,8 @@ module _ {S K : Type 0} (view : Views S K) (command : Command) (g : Geometry) wh
       input_count = le_refl _;
       output_count = le_refl _;
       untouched = refl;
-      refused = refl;
     };
+    refused = refl;
   }
 
   -- the input has another length
@@ -280,8 +282,8 @@ module _ {S K : Type 0} (view : Views S K) (command : Command) (g : Geometry) wh
       input_count = count;
       output_count = le_refl _;
       untouched = refl;
-      refused = tt;
     };
+    refused = tt;
   }
 
   -- the source failed
@@ -304,12 +306,12 @@ module _ {S K : Type 0} (view : Views S K) (command : Command) (g : Geometry) wh
       input_count = count;
       output_count = le_refl _;
       untouched = refl;
-      refused = tt;
     };
+    refused = tt;
   }
 
 -- a whole input was taken, and the end was seen behind it
-record HasTakenAll {S K : Type 0} (view : Views S K) (command : Command) (g : Geometry) (input : List ℕ) (a : Outside S K) (source : S) : Type 0 where
+record HasTakenAll {S K : Type 0} (view : Views S K) (command : StripeCommand) (g : Geometry) (input : List ℕ) (a : Outside S K) (source : S) : Type 0 where
   pub limits : IsWithinLimits g
   pub long : length input ≡ bytes_needed command g
   pub consumed : Consumes (view.source.left a.source) (view.source.left source) input
@@ -318,7 +320,7 @@ record HasTakenAll {S K : Type 0} (view : Views S K) (command : Command) (g : Ge
   pub ended : view.source.ended source ≡ true
   pub count : view.source.faults a.source ≤ view.source.faults source
 
-module _ {S K : Type 0} (view : Views S K) (command : Command) (g : Geometry) (input : List ℕ) (a : Outside S K) (source : S)
+module _ {S K : Type 0} (view : Views S K) (command : StripeCommand) (g : Geometry) (input : List ℕ) (a : Outside S K) (source : S)
     (all : HasTakenAll view command g input a source) where
   -- what is judged of the bytes is judged of what was told
   judged_told : (status : Status) (output : List ℕ) → Judges command g input status output
@@ -351,8 +353,8 @@ module _ {S K : Type 0} (view : Views S K) (command : Command) (g : Geometry) (i
               input_count = all.count;
               output_count = puts.1;
               untouched = tt;
-              refused = tt;
             };
+            refused = tt;
           })
       put_kept (HeldPart part sink in_output puts same ends) =
           let puts_part = PutsPart-part (view.sink.held a.sink) (view.sink.held sink) part output in_output puts.0 in
@@ -371,8 +373,8 @@ module _ {S K : Type 0} (view : Views S K) (command : Command) (g : Geometry) (i
               input_count = all.count;
               output_count = puts.1;
               untouched = tt;
-              refused = tt;
             };
+            refused = tt;
           })
 
   -- nothing was put out
@@ -398,8 +400,8 @@ module _ {S K : Type 0} (view : Views S K) (command : Command) (g : Geometry) (i
       input_count = all.count;
       output_count = le_refl _;
       untouched = untouched;
-      refused = refused;
     };
+    refused = refused;
   }
 
   refusal : (status : Status) → IfSome (view.source.left a.source) (λ told. IsJudged command g told status [])
@@ -412,7 +414,7 @@ module _ {S K : Type 0} (view : Views S K) (command : Command) (g : Geometry) (i
 
 module _ {S K : Type 0} (view : Views S K) where
   -- what was judged
-  judged_kept : (command : Command) (g : Geometry) (input : List ℕ) (a : Outside S K) (source : S) → HasTakenAll view command g input a source
+  judged_kept : (command : StripeCommand) (g : Geometry) (input : List ℕ) (a : Outside S K) (source : S) → HasTakenAll view command g input a source
       → (reply : Status) (output : List ℕ) (status : Status) (n : ℕ) (b : Outside S K) → Judges command g input reply output
       → Counts (Found (Judgement command g input)) a.counter n → Means view (answer reply output) (Over status) (outside source a.sink n) b
       → Kept view command g status a b
@@ -454,7 +456,7 @@ module _ {S K : Type 0} (view : Views S K) where
       (all.running, all.ended) (Keeps-refl (view.sink.held a.sink)) (λ is. cc) (λ is. cc) (λ is. cc) refl tt)
   judged_kept Restore g input a source all _ output status n b is counts means = absurd is.4
 
-  module _ (command : Command) (g : Geometry) (status : Status) where
+  module _ (command : StripeCommand) (g : Geometry) (status : Status) where
     -- behind the bytes that are needed
     end_kept : (bytes : List ℕ) (a b : Outside S K) (mid : S) → IsWithinLimits g → length bytes ≡ bytes_needed command g
         → Gives view.source (Took bytes) a.source mid
@@ -536,25 +538,19 @@ module _ {S K : Type 0} (view : Views S K) where
         let ends = over_ends view (Limit k) status (outside a.source a.sink n) b means in
         as_is view command g status (Limit k) a a b ends.0 (ends.1 ∙ ap (λ (m : ℕ). outside a.source a.sink m) same) (limit_kept view command g k a broken)
 
-    tested_kept : (a b : Outside S K) → Means view (tested_plan command g) (Over status) a b → Kept view command g status a b
+    pub tested_kept : (a b : Outside S K) → Means view (tested_plan command g) (Over status) a b → Kept view command g status a b
     tested_kept a b means =
         let decided = ask_ends view (Limits g) (within_limits (stripe_plan command g)) status a b means in
         limits_kept decided.reply decided.counter a b decided.is decided.counts decided.later
 
-  job_kept : (job : Job) (status : Status) (a b : Outside S K) → Means view (job_plan job) (Over status) a b
-      → Kept view (command_of job) (one_stripe job) status a b
-  job_kept job status a b means =
-      tested_kept (command_of job) (one_stripe job) status a b
-      (subst (λ (plan : Plan). Means view plan (Over status) a b) (stripe_job job) means)
-
 -- how a call of these words went
-data Called {S K : Type 0} (view : Views S K) (words : List (List ℕ)) (status : Status) (old new : Outside S K) : Type 0 where
+pub data Called {S K : Type 0} (view : Views S K) (words : List (List ℕ)) (status : Status) (old new : Outside S K) : Type 0 where
   NoMemory : status ≡ OutOfMemory → new ≡ old → Called view words status old new
   NotSpelled : (IsSpelled words → ⊥) → status ≡ Usage → new ≡ old → Called view words status old new
   Spelled : (job : Job) → Spells words job → Means view (job_plan job) (Over status) old new → Called view words status old new
 
 -- without faults and want of memory, the cause is that the status is the one for the input
-status_of_cause : (command : Command) (g : Geometry) (input : List ℕ) (held held' : Option (List ℕ)) (input_rose output_rose : Type 0) (status : Status)
+status_of_cause : (command : StripeCommand) (g : Geometry) (input : List ℕ) (held held' : Option (List ℕ)) (input_rose output_rose : Type 0) (status : Status)
     → HasCause command g input held held' status → (status ≡ InputFault → input_rose) → (status ≡ OutputFault → output_rose)
     → (input_rose → ⊥) → (output_rose → ⊥) → status ≢ OutOfMemory → Answers command g input held held' status
 status_of_cause command g input held held' input_rose output_rose Done cause on_input on_output sound_input sound_output memory = cause
@@ -568,8 +564,19 @@ status_of_cause command g input held held' input_rose output_rose InputFault cau
     absurd (sound_input (on_input refl))
 status_of_cause command g input held held' input_rose output_rose OutputFault cause on_input on_output sound_input sound_output memory =
     absurd (sound_output (on_output refl))
+status_of_cause command g input held held' input_rose output_rose (Key key) cause on_input on_output sound_input sound_output memory = absurd cause
+status_of_cause command g input held held' input_rose output_rose NotToml cause on_input on_output sound_input sound_output memory = absurd cause
+status_of_cause command g input held held' input_rose output_rose (AlreadyArray slot) cause on_input on_output sound_input sound_output memory = absurd cause
+status_of_cause command g input held held' input_rose output_rose (SmallDevice slot has needs) cause on_input on_output sound_input sound_output memory = absurd cause
+status_of_cause command g input held held' input_rose output_rose (Gone slot) cause on_input on_output sound_input sound_output memory = absurd cause
 status_of_cause command g input held held' input_rose output_rose OutOfMemory cause on_input on_output sound_input sound_output memory =
     absurd (memory refl)
+
+-- a sink that is left is one into which nothing was put
+pub not_put : {K : Type 0} (status : Status) (sink : K) → IfNothingIsPutOut status (sink ≡ sink)
+not_put Done sink = tt
+not_put OutputFault sink = tt
+not_put _ sink = refl
 
 module _ {S K : Type 0} (view : Views S K) where
   spelled_at : (words : List (List ℕ)) (status : Status) (reply : Option Job) (n : ℕ) (a b : Outside S K) → IsReply (Words words) reply
@@ -580,7 +587,7 @@ module _ {S K : Type 0} (view : Views S K) where
   spelled_at words status (Some job) n a b spells same means =
       Spelled job spells (subst (λ (m : ℕ). Means view (job_plan job) (Over status) (outside a.source a.sink m) b) same means)
 
-  called : (words : List (List ℕ)) (status : Status) (a b : Outside S K) → Means view (plan_of words) (Over status) a b → Called view words status a b
+  pub called : (words : List (List ℕ)) (status : Status) (a b : Outside S K) → Means view (plan_of words) (Over status) a b → Called view words status a b
   called words status a b means =
       elim (allocate_ends view (Ask (Words words) if_spelled) status a b means) as (λ _. Called view words status a b) [
         | inl out ↦ NoMemory out.0 out.1
@@ -589,55 +596,37 @@ module _ {S K : Type 0} (view : Views S K) where
             spelled_at words status decided.reply decided.counter a b decided.is decided.counts decided.later
       ]
 
-  pub words_are_done : WordsAreDone view
-  words_are_done words job status a b spells means =
-      elim (called words status a b means) as (λ _. Does view (command_of job) (one_stripe job) status a b) [
+  -- a command on one stripe keeps this
+  pub stripe_kept_by : (words : List (List ℕ)) (command : StripeCommand) (n m r : ℕ) (e : List ℕ) (status : Status) (a b : Outside S K)
+      → Spells words (OneStripe command n m r e) → Means view (plan_of words) (Over status) a b → Kept view command (one_stripe n m r e) status a b
+  stripe_kept_by words command n m r e status a b spells means =
+      elim (called words status a b means) as (λ _. Kept view command (one_stripe n m r e) status a b) [
         | NoMemory out ends ↦
-            (as_is view (command_of job) (one_stripe job) status OutOfMemory a a b out ends (no_memory view (command_of job) (one_stripe job) a)).does
-        | NotSpelled not usage ends ↦ absurd (not (job, spells))
+            as_is view command (one_stripe n m r e) status OutOfMemory a a b out ends (no_memory view command (one_stripe n m r e) a)
+        | NotSpelled not usage ends ↦ absurd (not (OneStripe command n m r e, spells))
         | Spelled read spelled later ↦
-            subst (λ (j : Job). Does view (command_of j) (one_stripe j) status a b) (spells_once words read job spelled spells)
-            (job_kept view read status a b later).does
+            tested_kept view command (one_stripe n m r e) status a b
+            (subst (λ (j : Job). Means view (job_plan j) (Over status) a b) (spells_once words read (OneStripe command n m r e) spelled spells) later)
       ]
 
-  pub usage_is_exact : UsageIsExact view
-  usage_is_exact words status a b means memory =
-      elim (called words status a b means) as (λ _. ((status ≡ Usage) ↔ (IsSpelled words → ⊥)) × (status ≢ Usage → IsSpelled words)) [
-        | NoMemory out ends ↦ absurd (memory out)
-        | NotSpelled not usage ends ↦ ((λ is. not, λ none. usage), λ other. absurd (other usage))
-        | Spelled job spelled later ↦
-            let limits = (job_kept view job status a b later).does.limits in
-            let not : status ≢ Usage = λ is. subst (LimitsComeFirst (command_of job) (one_stripe job)) is limits in
-            ((λ is. absurd (not is), λ none. absurd (none (job, spelled))), λ other. (job, spelled))
-      ]
+  pub words_are_done : WordsAreDone view
+  words_are_done words command n m r e status a b spells means = (stripe_kept_by words command n m r e status a b spells means).does
 
   -- these leave nothing but the status
-  same_kept : (status : Status) (a b : Outside S K) → b ≡ a → status ≢ InputFault → status ≢ OutputFault
-      → IfNothingIsPutOut status (a.sink ≡ a.sink) → IfRefusedAtOnce status (a ≡ a) → Leaves view status a b
-  same_kept status a b ends not_input not_output untouched refused =
+  pub same_kept : (status : Status) (a b : Outside S K) → b ≡ a → status ≢ InputFault → status ≢ OutputFault → Leaves view status a b
+  same_kept status a b ends not_input not_output =
       subst (λ (x : Outside S K). Leaves view status a x) (sym ends) (record {
         input_fault = λ is. absurd (not_input is);
         output_fault = λ is. absurd (not_output is);
         input_count = le_refl _;
         output_count = le_refl _;
-        untouched = untouched;
-        refused = refused;
+        untouched = not_put status a.sink;
       })
 
-  pub all_is_kept : AllIsKept view
-  all_is_kept words status a b means =
-      elim (called words status a b means) as (λ _. Leaves view status a b) [
-        | NoMemory out ends ↦
-            subst (λ (s : Status). Leaves view s a b) (sym out) (same_kept OutOfMemory a b ends (λ is. cc) (λ is. cc) refl refl)
-        | NotSpelled not usage ends ↦
-            subst (λ (s : Status). Leaves view s a b) (sym usage) (same_kept Usage a b ends (λ is. cc) (λ is. cc) refl refl)
-        | Spelled job spelled later ↦ (job_kept view job status a b later).leaves
-      ]
-
   pub bytes_are_answered : BytesAreAnswered view
-  bytes_are_answered words job status a b spells means sound_input sound_output memory =
-      let leaves = all_is_kept words status a b means in
-      IfSome_then (view.source.left a.source) (words_are_done words job status a b spells means).cause
-      (λ bytes cause. status_of_cause (command_of job) (one_stripe job) bytes (view.sink.held a.sink) (view.sink.held b.sink)
+  bytes_are_answered words command n m r e status a b spells means sound_input sound_output memory =
+      let kept = stripe_kept_by words command n m r e status a b spells means in
+      IfSome_then (view.source.left a.source) kept.does.cause
+      (λ bytes cause. status_of_cause command (one_stripe n m r e) bytes (view.sink.held a.sink) (view.sink.held b.sink)
       (Rose (view.source.faults a.source) (view.source.faults b.source)) (Rose (view.sink.faults a.sink) (view.sink.faults b.sink)) status cause
-      leaves.input_fault leaves.output_fault sound_input sound_output memory)
+      kept.leaves.input_fault kept.leaves.output_fault sound_input sound_output memory)

@@ -2,17 +2,15 @@
 use Rattle.std.proofs.Common.{◌≡◌, ℕ, List, [], ◌∷◌, ◌++◌, Result, Ok, Err, refl, sym, subst}
 use Rattle.std.specs.Result.{IsErrAnd}
 use Rattle.stair_model.specs.Geometry.{Geometry}
-use Rattle.stair_conf.specs.declared.job.Job.{Job}
-use Rattle.stair_conf.specs.declared.job.Job.TheVariants as job
 use Rattle.stair_engine.specs.Answer.{Judges, bytes_needed}
-use Rattle.stair_engine.specs.Task.{Command, command_of, one_stripe}
+use Rattle.stair_conf.specs.declared.job.StripeCommand.{StripeCommand}
 use Rattle.stair_engine.specs.declared.fault.Fault.{Fault}
 use Rattle.stair_engine.specs.declared.status.Status.{Status}
 use Rattle.stair_engine.specs.declared.status.Status.TheVariants.{OutOfMemory, OutputFault}
 use Rattle.stair_engine.specs.Fault.{status_of, status_of_fault}
 use Rattle.stair_engine.specs.Means.{Counts, Gives, Holds, Means}
 use Rattle.stair_engine.specs.Outside.{Outside, SinkView, Views, outside}
-use Rattle.stair_engine.specs.Plan.{Plan, Over, Ask, Put, Allocate, answer, input_plan, job_plan, judged, tested_plan, whole_input}
+use Rattle.stair_engine.specs.Plan.{Plan, Over, Ask, Put, Allocate, answer, input_plan, judged, whole_input}
 use Rattle.stair_engine.specs.Question.{Question, Reply, IsReply, Judgement}
 use Rattle.stair_engine.specs.Story.{Deed, Found, Took, TookLast, TakeFailed, HasPut, PutFailed, Grew, RanOut, IsPart, Leads, Moves}
 use Rattle.stair_engine.specs.Taking.{TakesOnly, TakesWhole, after_input}
@@ -37,15 +35,9 @@ takes_count (TookLast bytes ∷ story) counter only = (counter, refl, takes_coun
 takes_count (TakeFailed bytes ∷ story) counter only = (counter, refl, takes_count story counter only)
 takes_count (_ ∷ story) counter only = absurd only
 
--- the plan of a job on one stripe
-pub stripe_job : (job : Job) → job_plan job ≡ tested_plan (command_of job) (one_stripe job)
-stripe_job (job.Check n m r e) = refl
-stripe_job (job.Stripe method n m r e) = refl
-stripe_job (job.Restore n m r e) = refl
-
 module _ {S K : Type 0} (view : Views S K) where
   -- one part of a plan, and then the next
-  pub and_then : {plan mid rest : Plan} {a b c : Outside S K} → Means view plan mid a b → Means view mid rest b c → Means view plan rest a c
+  abbrev pub and_then : {plan mid rest : Plan} {a b c : Outside S K} → Means view plan mid a b → Means view mid rest b c → Means view plan rest a c
   and_then {plan} {mid} {rest} {a} {b} {c} first later = record {
     story = first.story ++ later.story;
     follows = leads_then Moves first.story later.story plan mid rest first.follows later.follows;
@@ -57,7 +49,7 @@ module _ {S K : Type 0} (view : Views S K) where
   }
 
   -- one deed
-  does : (deed : Deed) (plan rest : Plan) (a b : Outside S K) → Moves deed plan rest → Gives view.source deed a.source b.source
+  abbrev pub does : (deed : Deed) (plan rest : Plan) (a b : Outside S K) → Moves deed plan rest → Gives view.source deed a.source b.source
       → Holds view.sink deed a.sink b.sink → Counts deed a.counter b.counter → Means view plan rest a b
   does deed plan rest a b moves gives holds counts = record {
     story = deed ∷ [];
@@ -107,14 +99,14 @@ module _ {S K : Type 0} (view : Views S K) where
   hands_on plan a b (Err y) fault is means = subst (λ (k : Fault). Means view plan (Over (status_of_fault k)) a b) (sym is) means
 
   -- a whole input was judged
-  judges : (command : Command) (g : Geometry) (input : List ℕ) (status : Status) (output : List ℕ) (source : S) (sink : K) (n n' : ℕ)
+  judges : (command : StripeCommand) (g : Geometry) (input : List ℕ) (status : Status) (output : List ℕ) (source : S) (sink : K) (n n' : ℕ)
       → Judges command g input status output → Counts (Found (Judgement command g input)) n n'
       → Means view (judged command g input) (answer status output) (outside source sink n) (outside source sink n')
   judges command g input status output source sink n n' is counts =
       finds (Judgement command g input) (λ reply. answer reply.0 reply.1) (status, output) source sink n n' is counts
 
   -- a whole input was taken, and judged
-  pub takes_judged : {T : Type 0} (command : Command) (g : Geometry) (x : T) (IsInput : T → List ℕ → Type 0) (source source' : S) (sink : K) (n n' : ℕ)
+  pub takes_judged : {T : Type 0} (command : StripeCommand) (g : Geometry) (x : T) (IsInput : T → List ℕ → Type 0) (source source' : S) (sink : K) (n n' : ℕ)
       (whole : TakesWhole view.source (bytes_needed command g) (Ok x) IsInput source source') (status : Status) (output : List ℕ)
       → Judges command g whole.bytes status output → Counts (Found (Judgement command g whole.bytes)) n n'
       → Means view (input_plan command g) (answer status output) (outside source sink n) (outside source' sink n')
@@ -123,11 +115,6 @@ module _ {S K : Type 0} (view : Views S K) where
       (judges command g whole.bytes status output source' sink n n' is counts)
 
   -- the geometry is the one that the code told
-  pub of_geometry : (command : Command) (told g : Geometry) (rest : Plan) (a b : Outside S K) → told ≡ g
+  pub of_geometry : (command : StripeCommand) (told g : Geometry) (rest : Plan) (a b : Outside S K) → told ≡ g
       → Means view (input_plan command told) rest a b → Means view (input_plan command g) rest a b
   of_geometry command told g rest a b same means = subst (λ (of : Geometry). Means view (input_plan command of) rest a b) same means
-
-  -- the job asks for this stripe
-  pub of_job : (job : Job) (rest : Plan) (a b : Outside S K) → Means view (tested_plan (command_of job) (one_stripe job)) rest a b
-      → Means view (job_plan job) rest a b
-  of_job job rest a b means = subst (λ (plan : Plan). Means view plan rest a b) (sym (stripe_job job)) means

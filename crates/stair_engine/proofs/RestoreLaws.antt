@@ -10,8 +10,8 @@ use Rattle.stair_model.specs.Geometry.{Geometry}
 use Rattle.stair_model.specs.Stripe.{Stripe, IsSector, cell}
 use Rattle.stair_model.specs.CellSet.{CellSet, HasCell}
 use Rattle.stair_engine.specs.declared.status.Status.{Status}
-use Rattle.stair_engine.specs.declared.status.Status.TheVariants.{Done, NotCodeword, NoCodeword, Usage, Limit, Input, InputFault, OutputFault, Lost, OutOfMemory}
-use Rattle.stair_engine.specs.Task.Command.{Restore}
+use Rattle.stair_engine.specs.declared.status.Status.TheVariants.{Done, NotCodeword, NoCodeword, Usage, Limit, Key, NotToml, Input, InputFault, OutputFault, Lost, AlreadyArray, SmallDevice, Gone, OutOfMemory}
+use Rattle.stair_conf.specs.declared.job.StripeCommand.TheVariants.{Restore}
 use Rattle.stair_engine.specs.Answer.{HasBytes, IsAnswer, IsJudged, cell_bytes, map_bytes}
 use Rattle.stair_engine.specs.Laws.{DifferAtErased, cell_of_input}
 use Rattle.stair_engine.specs.Restore.{HoldsCells, IsErasedBy, JudgesErased}
@@ -127,6 +127,11 @@ judges_same g erased x y (Limit k) output same judges = absurd judges
 judges_same g erased x y (Input needed took) output same judges = absurd judges
 judges_same g erased x y InputFault output same judges = absurd judges
 judges_same g erased x y OutputFault output same judges = absurd judges
+judges_same g erased x y (Key key) output same judges = absurd judges
+judges_same g erased x y NotToml output same judges = absurd judges
+judges_same g erased x y (AlreadyArray slot) output same judges = absurd judges
+judges_same g erased x y (SmallDevice slot has needs) output same judges = absurd judges
+judges_same g erased x y (Gone slot) output same judges = absurd judges
 judges_same g erased x y OutOfMemory output same judges = absurd judges
 
 judged_same : (g : Geometry) (a b : List ℕ) (status : Status) (output : List ℕ) → DifferAtErased g a b
@@ -170,6 +175,11 @@ answer_same g a b differ (Lost stripe counts n) output is = judged_same g a b (L
 answer_same g a b differ Usage output is = absurd is
 answer_same g a b differ InputFault output is = absurd is
 answer_same g a b differ OutputFault output is = absurd is
+answer_same g a b differ (Key key) output is = absurd is
+answer_same g a b differ NotToml output is = absurd is
+answer_same g a b differ (AlreadyArray slot) output is = absurd is
+answer_same g a b differ (SmallDevice slot has needs) output is = absurd is
+answer_same g a b differ (Gone slot) output is = absurd is
 answer_same g a b differ OutOfMemory output is = absurd is
 
 -- the inputs differ the other way round too

@@ -9,9 +9,9 @@ use Rattle.stair_model.specs.Codeword.{IsCodeword}
 use Rattle.stair_model.specs.Equation.{IsFirstBroken}
 use Rattle.stair_base.specs.Equations.{equation_of}
 use Rattle.stair_engine.specs.declared.status.Status.{Status}
-use Rattle.stair_engine.specs.declared.status.Status.TheVariants.{Done, NotCodeword, NoCodeword, Usage, Limit, Input, InputFault, OutputFault, Lost, OutOfMemory}
-use Rattle.stair_engine.specs.Task.{Command}
-use Rattle.stair_engine.specs.Task.Command.{Check, Encode, Restore}
+use Rattle.stair_engine.specs.declared.status.Status.TheVariants.{Done, NotCodeword, NoCodeword, Usage, Limit, Key, NotToml, Input, InputFault, OutputFault, Lost, AlreadyArray, SmallDevice, Gone, OutOfMemory}
+use Rattle.stair_conf.specs.declared.job.StripeCommand.{StripeCommand}
+use Rattle.stair_conf.specs.declared.job.StripeCommand.TheVariants.{Check, Encode, Restore}
 use Rattle.stair_engine.specs.Encode.{HasBlocks, JudgesBlocks}
 use Rattle.stair_engine.specs.Restore.{IsErasedBy, JudgesErased}
 
@@ -28,7 +28,7 @@ abbrev pub block_bytes : Geometry → ℕ
 block_bytes g = data_cells g * SECTOR
 
 -- the bytes of the input: `check` takes the cells of a stripe, `stripe` its blocks, and `restore` a map before the cells
-abbrev pub bytes_needed : Command → Geometry → ℕ
+abbrev pub bytes_needed : StripeCommand → Geometry → ℕ
 bytes_needed Check g = cell_bytes g
 bytes_needed (Encode method) g = block_bytes g
 bytes_needed Restore g = map_bytes g + cell_bytes g
@@ -52,7 +52,7 @@ JudgesStripe g stripe (NotCodeword b) output = IsFirstBroken g stripe (equation_
 JudgesStripe g stripe _ output = ⊥
 
 -- the status and the output for an input of the length that the command needs
-abbrev pub Judges : Command → Geometry → List ℕ → Status → List ℕ → Type 0
+abbrev pub Judges : StripeCommand → Geometry → List ℕ → Status → List ℕ → Type 0
 Judges Check g input status output = (stripe : Stripe) × HasBytes g stripe input
     × JudgesStripe g stripe status output
 Judges (Encode method) g input status output =
@@ -62,7 +62,7 @@ Judges Restore g input status output =
     × HasBytes g stripe (drop (map_bytes g) input) × JudgesErased g erased stripe status output
 
 -- the input has the length that the command needs, and is judged
-pub record IsJudged (command : Command) (g : Geometry) (input : List ℕ) (status : Status)
+pub record IsJudged (command : StripeCommand) (g : Geometry) (input : List ℕ) (status : Status)
     (output : List ℕ) : Type 0 where
   pub limits : IsWithinLimits g
   pub whole : length input ≡ bytes_needed command g
@@ -75,7 +75,7 @@ pub record IsOtherLength (bytes : ℕ) (input : List ℕ) (needed took : ℕ) : 
   pub takes : took ≡ min (length input) (bytes + 1)
 
 -- The status and the output for this input, of a geometry that may break a limit.
-abbrev pub IsAnswer : Command → Geometry → List ℕ → Status → List ℕ → Type 0
+abbrev pub IsAnswer : StripeCommand → Geometry → List ℕ → Status → List ℕ → Type 0
 IsAnswer command g input (Limit k) output = IsFirstBrokenLimit g k × (output ≡ [])
 IsAnswer command g input (Input needed took) output =
     IsWithinLimits g × IsOtherLength (bytes_needed command g) input needed took × (output ≡ [])
@@ -85,6 +85,11 @@ IsAnswer command g input NoCodeword output = IsJudged command g input NoCodeword
 IsAnswer command g input (Lost stripe counts n) output =
     IsJudged command g input (Lost stripe counts n) output
 IsAnswer command g input Usage output = ⊥
+IsAnswer command g input (Key key) output = ⊥
+IsAnswer command g input NotToml output = ⊥
+IsAnswer command g input (AlreadyArray slot) output = ⊥
+IsAnswer command g input (SmallDevice slot has needs) output = ⊥
+IsAnswer command g input (Gone slot) output = ⊥
 IsAnswer command g input InputFault output = ⊥
 IsAnswer command g input OutputFault output = ⊥
 IsAnswer command g input OutOfMemory output = ⊥

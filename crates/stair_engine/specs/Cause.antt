@@ -6,9 +6,9 @@ use Rattle.stair_model.specs.Geometry.{Geometry, IsWithinLimits, IsFirstBrokenLi
 use Rattle.stair_model.specs.Stripe.{Stripe}
 use Rattle.stair_model.specs.Codeword.{IsCodeword}
 use Rattle.stair_engine.specs.declared.status.Status.{Status}
-use Rattle.stair_engine.specs.declared.status.Status.TheVariants.{Done, NotCodeword, NoCodeword, Usage, Limit, Input, InputFault, OutputFault, Lost, OutOfMemory}
-use Rattle.stair_engine.specs.Task.{Command}
-use Rattle.stair_engine.specs.Task.Command.{Check, Encode, Restore}
+use Rattle.stair_engine.specs.declared.status.Status.TheVariants.{Done, NotCodeword, NoCodeword, Usage, Limit, Key, NotToml, Input, InputFault, OutputFault, Lost, AlreadyArray, SmallDevice, Gone, OutOfMemory}
+use Rattle.stair_conf.specs.declared.job.StripeCommand.{StripeCommand}
+use Rattle.stair_conf.specs.declared.job.StripeCommand.TheVariants.{Check, Encode, Restore}
 use Rattle.stair_engine.specs.Answer.{HasBytes, IsAnswer, bytes_needed, codeword_line}
 use Rattle.stair_engine.specs.Encode.{TakesSteps}
 
@@ -17,14 +17,14 @@ abbrev pub PutsPart : Option (List ℕ) → Option (List ℕ) → List ℕ → T
 PutsPart old new bytes = (count : ℕ) × (count < length bytes) × Appends old new (take count bytes)
 
 -- the status is the one for this input, and its output was put out
-abbrev pub Answers : Command → Geometry → List ℕ → Option (List ℕ) → Option (List ℕ) → Status →
+abbrev pub Answers : StripeCommand → Geometry → List ℕ → Option (List ℕ) → Option (List ℕ) → Status →
     Type 0
 Answers command g input old new status = (output : List ℕ) × IsAnswer command g input status output
     × Appends old new output
 
 -- Why a status comes, beside faults and want of memory: it is the one for this input, or a fault came in its place. A fault
 -- of the source comes only within the limits, and one of the sink only where the output was being put out.
-abbrev pub HasCause : Command → Geometry → List ℕ → Option (List ℕ) → Option (List ℕ) → Status →
+abbrev pub HasCause : StripeCommand → Geometry → List ℕ → Option (List ℕ) → Option (List ℕ) → Status →
     Type 0
 HasCause command g input old new InputFault = IsWithinLimits g
 HasCause command g input old new OutputFault = (output : List ℕ)
@@ -39,9 +39,14 @@ HasCause command g input old new (Input needed took) =
 HasCause command g input old new (Lost stripe counts n) =
     Answers command g input old new (Lost stripe counts n)
 HasCause command g input old new Usage = ⊥
+HasCause command g input old new (Key key) = ⊥
+HasCause command g input old new NotToml = ⊥
+HasCause command g input old new (AlreadyArray slot) = ⊥
+HasCause command g input old new (SmallDevice slot has needs) = ⊥
+HasCause command g input old new (Gone slot) = ⊥
 
 -- an equation is told by `check` alone, and erased cells and held ones by `restore` alone
-abbrev pub IsToldBy : Status → Command → Type 0
+abbrev pub IsToldBy : Status → StripeCommand → Type 0
 IsToldBy (NotCodeword b) Check = ⊤
 IsToldBy (NotCodeword b) (Encode method) = ⊥
 IsToldBy (NotCodeword b) Restore = ⊥
@@ -54,9 +59,14 @@ IsToldBy (Lost stripe counts n) Restore = ⊤
 IsToldBy _ command = ⊤
 
 -- the limits are tested before the input, whatever the source tells
-abbrev pub LimitsComeFirst : Command → Geometry → Status → Type 0
+abbrev pub LimitsComeFirst : StripeCommand → Geometry → Status → Type 0
 LimitsComeFirst command g (Limit k) = IsFirstBrokenLimit g k
 LimitsComeFirst command g Usage = ⊥
+LimitsComeFirst command g (Key key) = ⊥
+LimitsComeFirst command g NotToml = ⊥
+LimitsComeFirst command g (AlreadyArray slot) = ⊥
+LimitsComeFirst command g (SmallDevice slot has needs) = ⊥
+LimitsComeFirst command g (Gone slot) = ⊥
 LimitsComeFirst command g OutOfMemory = ⊤
 LimitsComeFirst command g status = IsWithinLimits g × IsToldBy status command
 
@@ -82,7 +92,7 @@ abbrev pub TakesAtMost : Option (List ℕ) → Option (List ℕ) → ℕ → Typ
 TakesAtMost old new most = (taken : List ℕ) × (length taken ≤ most) × Consumes old new taken
 
 -- Exactly the bytes that the command needs are taken, and one more only to tell that it came.
-abbrev pub TakesInput : Command → Geometry → Option (List ℕ) → Option (List ℕ) → Status → Type 0
+abbrev pub TakesInput : StripeCommand → Geometry → Option (List ℕ) → Option (List ℕ) → Status → Type 0
 TakesInput command g old new Usage = Keeps old new
 TakesInput command g old new (Limit k) = Keeps old new
 TakesInput command g old new OutOfMemory = Keeps old new
@@ -93,7 +103,7 @@ TakesInput command g old new _ = TakesCount old new (bytes_needed command g)
 -- Of every source, also one that doesn't tell its bytes, by whether it had ended before and has ended now: an input is judged
 -- only after the end was seen behind it, and one of another length ended before the bytes that are needed, or did not end
 -- behind them.
-abbrev pub LooksForEnd : Command → Geometry → Bool → Bool → Status → Type 0
+abbrev pub LooksForEnd : StripeCommand → Geometry → Bool → Bool → Status → Type 0
 LooksForEnd command g old new Usage = ⊤
 LooksForEnd command g old new (Limit k) = ⊤
 LooksForEnd command g old new OutOfMemory = ⊤
@@ -107,13 +117,13 @@ abbrev pub IsCodewordBytes : Geometry → List ℕ → Type 0
 IsCodewordBytes g output = (codeword : Stripe) × IsCodeword g codeword × HasBytes g codeword output
 
 -- what a command puts out where all was done: a line, or the cells of a codeword
-abbrev pub IsOutput : Command → Geometry → List ℕ → Type 0
+abbrev pub IsOutput : StripeCommand → Geometry → List ℕ → Type 0
 IsOutput Check g output = output ≡ codeword_line
 IsOutput (Encode method) g output = IsCodewordBytes g output
 IsOutput Restore g output = IsCodewordBytes g output
 
 -- the output is put out where all was done, a part of it where the sink failed, and nothing else ever
-abbrev pub PutsOut : Command → Geometry → Option (List ℕ) → Option (List ℕ) → Status → Type 0
+abbrev pub PutsOut : StripeCommand → Geometry → Option (List ℕ) → Option (List ℕ) → Status → Type 0
 PutsOut command g old new Done = (output : List ℕ) × IsOutput command g output
     × Appends old new output
 PutsOut command g old new OutputFault = (output : List ℕ) × IsOutput command g output
@@ -122,7 +132,7 @@ PutsOut command g old new _ = Keeps old new
 
 -- the counter rose by the steps of the method's encoder where the cells of an encoded stripe, or a part
 -- of them, were put out; nothing else is counted
-abbrev pub CountsSteps : Command → Geometry → Status → ℕ → ℕ → Type 0
+abbrev pub CountsSteps : StripeCommand → Geometry → Status → ℕ → ℕ → Type 0
 CountsSteps (Encode method) g Done old new = TakesSteps method g old new
 CountsSteps (Encode method) g OutputFault old new = TakesSteps method g old new
 CountsSteps _ g _ old new = new ≡ old

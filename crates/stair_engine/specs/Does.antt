@@ -5,12 +5,12 @@ use Rattle.stair_model.specs.Geometry.{Geometry}
 use Rattle.stair_rack.specs.Count.{Rose}
 use Rattle.stair_engine.specs.declared.status.Status.{Status}
 use Rattle.stair_engine.specs.declared.status.Status.TheVariants.{InputFault, OutputFault}
-use Rattle.stair_engine.specs.Task.{Command}
-use Rattle.stair_engine.specs.Cause.{CountsSteps, HasCause, IfNothingIsPutOut, IfRefusedAtOnce, LimitsComeFirst, LooksForEnd, PutsOut, TakesInput}
+use Rattle.stair_conf.specs.declared.job.StripeCommand.{StripeCommand}
+use Rattle.stair_engine.specs.Cause.{CountsSteps, HasCause, IfNothingIsPutOut, LimitsComeFirst, LooksForEnd, PutsOut, TakesInput}
 use Rattle.stair_engine.specs.Outside.{Outside, Views}
 
 -- what a command keeps
-pub record Does {S K : Type 0} (view : Views S K) (command : Command) (g : Geometry)
+pub record Does {S K : Type 0} (view : Views S K) (command : StripeCommand) (g : Geometry)
     (status : Status) (old new : Outside S K) : Type 0 where
   pub limits : LimitsComeFirst command g status
   -- of a source that tells its bytes, whatever came
@@ -33,5 +33,3 @@ pub record Leaves {S K : Type 0} (view : Views S K) (status : Status) (old new :
   pub input_count : view.source.faults old.source ≤ view.source.faults new.source
   pub output_count : view.sink.faults old.sink ≤ view.sink.faults new.sink
   pub untouched : IfNothingIsPutOut status (new.sink ≡ old.sink)
-  -- source, sink and counter
-  pub refused : IfRefusedAtOnce status (new ≡ old)

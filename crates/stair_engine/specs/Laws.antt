@@ -1,19 +1,23 @@
--- What the laws say of the three commands on one stripe.
-use Rattle.std.specs.Prelude.{◌≡◌, ◌≢◌, ℕ, ◌+◌, ◌*◌, ◌<◌, ◌↔◌, List, length, drop, take, slice_index, All, IfSome}
+-- What the laws say of a call that means what its words say.
+use Rattle.std.specs.Prelude.{◌≡◌, ◌≢◌, ℕ, ◌+◌, ◌*◌, ◌<◌, ◌↔◌, List, length, drop, take, slice_index, All, IfSome, IsTrue}
 use Rattle.stair_model.specs.Geometry.{Geometry}
 use Rattle.stair_model.specs.Stripe.{SECTOR}
 use Rattle.stair_rack.specs.Count.{Rose}
 use Rattle.stair_conf.specs.Words.{IsSpelled, Spells}
 use Rattle.stair_conf.specs.declared.job.Job.{Job}
+use Rattle.stair_conf.specs.declared.job.Job.TheVariants.{OneStripe, Create}
+use Rattle.stair_conf.specs.declared.job.StripeCommand.{StripeCommand}
 use Rattle.stair_engine.specs.declared.status.Status.{Status}
-use Rattle.stair_engine.specs.declared.status.Status.TheVariants.{Usage, OutOfMemory}
+use Rattle.stair_engine.specs.declared.status.Status.TheVariants.{Done, Usage, OutOfMemory}
 use Rattle.stair_engine.specs.Answer.{map_bytes}
-use Rattle.stair_engine.specs.Cause.{Answers}
+use Rattle.stair_engine.specs.Cause.{Answers, IfRefusedAtOnce}
+use Rattle.stair_engine.specs.Create.{IsComplete, MakesArray}
 use Rattle.stair_engine.specs.Does.{Does, Leaves}
 use Rattle.stair_engine.specs.Means.{Means}
 use Rattle.stair_engine.specs.Outside.{Outside, Views}
 use Rattle.stair_engine.specs.Plan.{Over, plan_of}
-use Rattle.stair_engine.specs.Task.{command_of, one_stripe}
+use Rattle.stair_engine.specs.Rack.{MeansOver, RackView}
+use Rattle.stair_engine.specs.Task.{one_stripe}
 
 -- the bytes of cell (i, j) behind the map
 abbrev pub cell_of_input : Geometry → List ℕ → ℕ → ℕ → List ℕ
@@ -34,30 +38,62 @@ pub record DifferAtErased (g : Geometry) (a b : List ℕ) : Type 0 where
 -- it does the job that the words spell
 abbrev pub WordsAreDone : {S K : Type 0} → Views S K → Type 0
 WordsAreDone {S} {K} view =
-    (words : List (List ℕ)) (job : Job) (status : Status) (old new : Outside S K) →
-    Spells words job → Means view (plan_of words) (Over status) old new →
-    Does view (command_of job) (one_stripe job) status old new
+    (words : List (List ℕ)) (command : StripeCommand) (n m r : ℕ) (e : List ℕ) (status : Status)
+    (old new : Outside S K) → Spells words (OneStripe command n m r e) →
+    Means view (plan_of words) (Over status) old new →
+    Does view command (one_stripe n m r e) status old new
 
 -- the words spell no job exactly where the answer is Usage, if there was memory
-abbrev pub UsageIsExact : {S K : Type 0} → Views S K → Type 0
-UsageIsExact {S} {K} view =
-    (words : List (List ℕ)) (status : Status) (old new : Outside S K) →
-    Means view (plan_of words) (Over status) old new → status ≢ OutOfMemory →
+abbrev pub UsageIsExact : {R S K : Type 0} → RackView R → Views S K → Type 0
+UsageIsExact {R} {S} {K} rack view =
+    (words : List (List ℕ)) (status : Status) (old new : Outside S K) (first last : R) →
+    MeansOver rack view (plan_of words) (Over status) old new first last → status ≢ OutOfMemory →
     ((status ≡ Usage) ↔ (IsSpelled words → ⊥)) × (status ≢ Usage → IsSpelled words)
 
 -- of a source that tells its bytes, without faults and want of memory, status and output are those
 -- for these bytes
 abbrev pub BytesAreAnswered : {S K : Type 0} → Views S K → Type 0
 BytesAreAnswered {S} {K} view =
-    (words : List (List ℕ)) (job : Job) (status : Status) (old new : Outside S K) →
-    Spells words job → Means view (plan_of words) (Over status) old new →
+    (words : List (List ℕ)) (command : StripeCommand) (n m r : ℕ) (e : List ℕ) (status : Status)
+    (old new : Outside S K) → Spells words (OneStripe command n m r e) →
+    Means view (plan_of words) (Over status) old new →
     (Rose (view.source.faults old.source) (view.source.faults new.source) → ⊥) →
     (Rose (view.sink.faults old.sink) (view.sink.faults new.sink) → ⊥) → status ≢ OutOfMemory →
-    IfSome (view.source.left old.source) (λ bytes. Answers (command_of job) (one_stripe job) bytes
+    IfSome (view.source.left old.source) (λ bytes. Answers command (one_stripe n m r e) bytes
     (view.sink.held old.sink) (view.sink.held new.sink) status)
 
 -- whatever the words are
-abbrev pub AllIsKept : {S K : Type 0} → Views S K → Type 0
-AllIsKept {S} {K} view =
-    (words : List (List ℕ)) (status : Status) (old new : Outside S K) →
-    Means view (plan_of words) (Over status) old new → Leaves view status old new
+abbrev pub AllIsKept : {R S K : Type 0} → RackView R → Views S K → Type 0
+AllIsKept {R} {S} {K} rack view =
+    (words : List (List ℕ)) (status : Status) (old new : Outside S K) (first last : R) →
+    MeansOver rack view (plan_of words) (Over status) old new first last →
+    Leaves view status old new
+
+-- No other command makes a call on the rack; and what it refuses before the input leaves source, sink and counter.
+abbrev pub RackIsLeft : {R S K : Type 0} → RackView R → Views S K → Type 0
+RackIsLeft {R} {S} {K} rack view =
+    (words : List (List ℕ)) (status : Status) (old new : Outside S K) (first last : R) →
+    MeansOver rack view (plan_of words) (Over status) old new first last →
+    (Spells words Create → ⊥) → (last ≡ first) × IfRefusedAtOnce status (new ≡ old)
+
+-- `create` made an array, of the geometry that the input says, where its rack is honest
+abbrev pub ArrayIsMade : {R S K : Type 0} → RackView R → Views S K → Type 0
+ArrayIsMade {R} {S} {K} rack view =
+    (words : List (List ℕ)) (status : Status) (old new : Outside S K) (first last : R) →
+    MeansOver rack view (plan_of words) (Over status) old new first last →
+    Spells words Create → IsTrue rack.honest → status ≡ Done →
+    MakesArray (view.source.left old.source) (rack.history first) (rack.history last)
+
+-- where memory was short no device was written
+abbrev pub MemoryComesFirst : {R S K : Type 0} → RackView R → Views S K → Type 0
+MemoryComesFirst {R} {S} {K} rack view =
+    (words : List (List ℕ)) (old new : Outside S K) (first last : R) →
+    MeansOver rack view (plan_of words) (Over OutOfMemory) old new first last → last ≡ first
+
+-- each job is done where it can be
+abbrev pub AllIsComplete : {R S K : Type 0} → RackView R → Views S K → Type 0
+AllIsComplete {R} {S} {K} rack view =
+    (words : List (List ℕ)) (job : Job) (status : Status) (old new : Outside S K)
+    (first last : R) → Spells words job →
+    MeansOver rack view (plan_of words) (Over status) old new first last →
+    IsComplete rack view job status old new first last

@@ -1,6 +1,7 @@
 -- What the top call does.
 pub mod Task
 pub mod Status
+pub mod Action
 pub mod Fault
 pub mod Restore
 pub mod Encode
@@ -10,6 +11,8 @@ pub mod Plan
 pub mod Story
 pub mod Outside
 pub mod Means
+pub mod Rack
+pub mod Create
 pub mod Streams
 pub mod Taking
 pub mod Cause

@@ -7,7 +7,7 @@ use Rattle.stair_engine.specs.Outside.{Outside, SinkView, SourceView, Views}
 use Rattle.stair_engine.specs.Plan.{Plan}
 use Rattle.stair_engine.specs.Question.{Judgement}
 use Rattle.stair_engine.specs.Story.{Deed, Found, Took, TookLast, TakeFailed, HasPut, PutFailed, Leads, Moves}
-use Rattle.stair_engine.specs.Task.Command.{Encode}
+use Rattle.stair_conf.specs.declared.job.StripeCommand.TheVariants.{Encode}
 
 -- What a source shows of a deed. Told bytes begin with those that were taken, and lose them; where the
 -- end came these were all. A deed of another kind leaves the source as it was.

@@ -1,14 +1,19 @@
 -- What a command does, whatever comes of it: a plan, which the words give.
-use Rattle.std.specs.Prelude.{ℕ, ◌+◌, List, length, Option, None, Some}
-use Rattle.stair_model.specs.Geometry.{Geometry}
+use Rattle.std.specs.Prelude.{ℕ, ◌+◌, List, [], ◌∷◌, ◌++◌, codes, length, Option, None, Some, Result, Ok, Err}
+use Rattle.std.specs.Fmt.{decimal}
+use Rattle.hex.specs.Hex.{encode_lower}
+use Rattle.stair_model.specs.Geometry.{Geometry, block_count}
+use Rattle.stair_conf.specs.declared.fault.ConfigFault.{ConfigFault}
 use Rattle.stair_conf.specs.declared.job.Job.{Job}
 use Rattle.stair_conf.specs.declared.job.Job.TheVariants as job
 use Rattle.stair_engine.specs.declared.status.Status.{Status}
 use Rattle.stair_engine.specs.declared.status.Status.TheVariants.{Done, Usage, Limit, Input}
-use Rattle.stair_engine.specs.Task.{Command, one_stripe}
-use Rattle.stair_engine.specs.Task.Command.{Check, Encode, Restore}
+use Rattle.stair_conf.specs.declared.job.StripeCommand.{StripeCommand}
+use Rattle.stair_engine.specs.Task.{one_stripe}
+use Rattle.stair_engine.specs.Action.{Action, Create, OkOf}
 use Rattle.stair_engine.specs.Answer.{bytes_needed}
-use Rattle.stair_engine.specs.Question.{Question, Reply, Words, Limits, Judgement}
+use Rattle.stair_engine.specs.Fault.{status_of_config}
+use Rattle.stair_engine.specs.Question.{Question, Reply, Words, Limits, Text, Judgement}
 
 pub data Plan : Type 0 where
   -- the call ends so
@@ -22,6 +27,8 @@ pub data Plan : Type 0 where
   Put : List ℕ → Plan → Plan
   -- memory may be short here
   Allocate : Plan → Plan
+  -- this is done to an array, and what it gives says how to go on; a refusal ends the call
+  Do : (action : Action) → (OkOf action → Plan) → Plan
 
 -- All of the input is so many bytes, behind which one more is looked for.
 abbrev pub whole_input : ℕ → (List ℕ → Plan) → Plan
@@ -35,28 +42,44 @@ answer Done output = Put output (Over Done)
 answer status output = Over status
 
 -- what is judged of a whole input
-abbrev pub judged : Command → Geometry → List ℕ → Plan
+abbrev pub judged : StripeCommand → Geometry → List ℕ → Plan
 judged command g input = Ask (Judgement command g input) (λ reply. answer reply.0 reply.1)
 
-abbrev pub input_plan : Command → Geometry → Plan
+abbrev pub input_plan : StripeCommand → Geometry → Plan
 input_plan command g = whole_input (bytes_needed command g) (judged command g)
 
-abbrev pub stripe_plan : Command → Geometry → Plan
+abbrev pub stripe_plan : StripeCommand → Geometry → Plan
 stripe_plan command g = Allocate (input_plan command g)
 
 abbrev pub within_limits : Plan → Option ℕ → Plan
 within_limits plan None = plan
 within_limits plan (Some k) = Over (Limit k)
 
-abbrev pub tested_plan : Command → Geometry → Plan
+abbrev pub tested_plan : StripeCommand → Geometry → Plan
 tested_plan command g = Ask (Limits g) (within_limits (stripe_plan command g))
+
+-- a geometry text is the whole input, and has at most so many bytes
+abbrev pub TEXT_LIMIT : ℕ
+TEXT_LIMIT = 4096
+
+-- the line for an array that was made
+abbrev pub created_line : Geometry → List ℕ
+created_line g = codes "created " ++ (encode_lower g.id
+    ++ (codes " blocks " ++ (decimal (block_count g) ++ 10 ∷ [])))
+
+-- The line is made before the devices are touched, so that memory can't be short after that.
+abbrev pub making_plan : Result Geometry ConfigFault → Plan
+making_plan (Ok g) = Allocate (Do (Create g) (λ done. Put (created_line g) (Over Done)))
+making_plan (Err fault) = Over (status_of_config fault)
+
+abbrev pub create_plan : Plan
+create_plan = Take (TEXT_LIMIT + 1) (λ more. Over (Input TEXT_LIMIT (TEXT_LIMIT + 1)))
+    (λ text. Allocate (Ask (Text text) making_plan))
 
 -- a row for each command
 abbrev pub job_plan : Job → Plan
-job_plan (job.Check n m r e) = tested_plan Check (one_stripe (job.Check n m r e))
-job_plan (job.Stripe method n m r e) =
-    tested_plan (Encode method) (one_stripe (job.Stripe method n m r e))
-job_plan (job.Restore n m r e) = tested_plan Restore (one_stripe (job.Restore n m r e))
+job_plan (job.OneStripe command n m r e) = tested_plan command (one_stripe n m r e)
+job_plan job.Create = create_plan
 
 abbrev pub if_spelled : Option Job → Plan
 if_spelled None = Over Usage

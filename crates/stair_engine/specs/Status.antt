@@ -1,10 +1,11 @@
 -- The number and the line of each status.
 use Rattle.std.specs.Prelude.{ℕ, List, [], ◌++◌, codes, take, flat_map}
 use Rattle.std.specs.Fmt.{decimal}
+use Rattle.stair_conf.specs.Config.{name_of}
 use Rattle.stair_base.specs.declared.equations.Broken.{Broken}
 use Rattle.stair_base.specs.declared.equations.Broken.TheVariants.{Row, Global}
 use Rattle.stair_engine.specs.declared.status.Status.{Status}
-use Rattle.stair_engine.specs.declared.status.Status.TheVariants.{Done, NotCodeword, NoCodeword, Usage, Limit, Input, InputFault, OutputFault, Lost, OutOfMemory}
+use Rattle.stair_engine.specs.declared.status.Status.TheVariants.{Done, NotCodeword, NoCodeword, Usage, Limit, Key, NotToml, Input, InputFault, OutputFault, Lost, AlreadyArray, SmallDevice, Gone, OutOfMemory}
 
 abbrev pub code_of : Status → ℕ
 code_of Done = 0
@@ -12,10 +13,15 @@ code_of (NotCodeword broken) = 1
 code_of NoCodeword = 1
 code_of Usage = 2
 code_of (Limit k) = 3
+code_of (Key key) = 3
+code_of NotToml = 3
 code_of (Input needed took) = 4
 code_of InputFault = 5
 code_of OutputFault = 6
 code_of (Lost stripe counts n) = 10
+code_of (AlreadyArray slot) = 12
+code_of (SmallDevice slot has needs) = 13
+code_of (Gone slot) = 15
 code_of OutOfMemory = 17
 
 abbrev pub equation_line : Broken → List ℕ
@@ -33,12 +39,18 @@ abbrev pub line_of : Status → List ℕ
 line_of Done = []
 line_of (NotCodeword broken) = codes "not a codeword: " ++ equation_line broken
 line_of NoCodeword = codes "no codeword holds these cells"
-line_of Usage = codes "usage: stair FOLDER check|stripe|restore"
+line_of Usage = codes "usage: stair FOLDER check|stripe|restore|create"
 line_of (Limit k) = codes "geometry: limit " ++ decimal k
+line_of (Key key) = codes "geometry: key " ++ name_of key
+line_of NotToml = codes "geometry: not TOML"
 line_of (Input needed took) = codes "input: needed " ++ decimal needed ++ codes ", took "
     ++ decimal took
 line_of InputFault = codes "input failed"
 line_of OutputFault = codes "output failed"
 line_of (Lost stripe counts n) = codes "lost: stripe " ++ decimal stripe ++ codes " counts"
     ++ counts_text counts n
+line_of (AlreadyArray slot) = codes "array already: slot " ++ decimal slot
+line_of (SmallDevice slot has needs) = codes "small device: slot " ++ decimal slot ++ codes " has "
+    ++ decimal has ++ codes " of " ++ decimal needs ++ codes " sectors"
+line_of (Gone slot) = codes "gone: slot " ++ decimal slot
 line_of OutOfMemory = codes "out of memory"

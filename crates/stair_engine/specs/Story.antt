@@ -1,8 +1,9 @@
 -- What a call did: a story, whose first deed comes first, and how it follows a plan.
-use Rattle.std.specs.Prelude.{◌≡◌, ℕ, ◌<◌, List, [], ◌∷◌, ◌++◌, length}
+use Rattle.std.specs.Prelude.{◌≡◌, ℕ, ◌<◌, List, [], ◌∷◌, ◌++◌, length, Ok, Err}
+use Rattle.stair_engine.specs.Action.{Action, OkOf, Outcome, refused}
 use Rattle.stair_engine.specs.declared.status.Status.TheVariants.{InputFault, OutputFault, OutOfMemory}
 use Rattle.stair_engine.specs.Question.{Question, Reply, IsReply}
-use Rattle.stair_engine.specs.Plan.{Plan, Over, Ask, Take, Put, Allocate}
+use Rattle.stair_engine.specs.Plan.{Plan, Over, Ask, Take, Put, Allocate, Do}
 
 pub data Deed : Type 0 where
   -- a question was decided
@@ -13,10 +14,17 @@ pub data Deed : Type 0 where
   HasPut PutFailed : List ℕ → Deed
   -- there was memory; there was none
   Grew RanOut : Deed
+  -- this was done to an array, or refused
+  Did : (action : Action) → Outcome action → Deed
 
 -- the front of a list, and not all of it
 abbrev pub IsPart : List ℕ → List ℕ → Type 0
 IsPart part all = (rest : List ℕ) × (all ≡ part ++ rest) × (0 < length rest)
+
+-- how a plan goes on after this came of an action
+abbrev pub after : (action : Action) → (OkOf action → Plan) → Outcome action → Plan
+after action k (Ok done) = k done
+after action k (Err refusal) = Over (refused action refusal)
 
 -- One move of a plan: the deed is of the kind that the plan wants, and the rest is what it says then.
 abbrev pub Moves : Deed → Plan → Plan → Type 0
@@ -29,6 +37,8 @@ Moves (HasPut bytes) (Put all plan) rest = (bytes ≡ all) × (rest ≡ plan)
 Moves (PutFailed part) (Put all plan) rest = IsPart part all × (rest ≡ Over OutputFault)
 Moves Grew (Allocate plan) rest = rest ≡ plan
 Moves RanOut (Allocate plan) rest = rest ≡ Over OutOfMemory
+Moves (Did did came) (Do action k) rest =
+    (outcome : Outcome action) × (Did did came ≡ Did action outcome) × (rest ≡ after action k outcome)
 Moves _ _ rest = ⊥
 
 -- The deeds lead from the one to the other: each leads on by `One` from what the deeds before it led to.

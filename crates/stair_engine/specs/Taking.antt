@@ -13,7 +13,7 @@ use Rattle.stair_engine.specs.Encode.{HasBlocks, HoldsBlocks}
 use Rattle.stair_engine.specs.Fault.{status_of_fault}
 use Rattle.stair_engine.specs.Means.{Gives}
 use Rattle.stair_engine.specs.Outside.{SourceView}
-use Rattle.stair_engine.specs.Plan.{Plan, Over, whole_input}
+use Rattle.stair_engine.specs.Plan.{Plan, Over, TEXT_LIMIT, whole_input}
 use Rattle.stair_engine.specs.Restore.{IsErasedBy}
 use Rattle.stair_engine.specs.Story.{Deed, Took, TookLast, TakeFailed, Leads, Moves}
 
@@ -103,3 +103,14 @@ HoldsInput g stripe input =
 abbrev pub IsMapAndCells : Geometry → Stripe → CellSet → List ℕ → Type 0
 IsMapAndCells g stripe erased input = IsErasedBy g (take (map_bytes g) input) erased
     × HasBytes g stripe (drop (map_bytes g) input)
+
+-- a text of at most so many bytes, and then the end; or it was refused
+abbrev pub TakesText : {S : Type 0} → SourceView S → Result ℕ Fault → List ℕ → S → S → Type 0
+TakesText view (Ok count) into old new = (count < TEXT_LIMIT + 1)
+    × Gives view (TookLast (take count into)) old new
+TakesText view (Err (fault.Length needed took)) into old new =
+    (needed ≡ TEXT_LIMIT) × (took ≡ TEXT_LIMIT + 1) × (length into ≡ TEXT_LIMIT + 1)
+    × Gives view (Took into) old new
+TakesText view (Err fault.Input) into old new =
+    (taken : List ℕ) × (length taken < TEXT_LIMIT + 1) × Gives view (TakeFailed taken) old new
+TakesText view (Err _) into old new = ⊥

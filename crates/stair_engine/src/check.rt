@@ -7,7 +7,7 @@ ghost use Rattle.stair_engine.specs.Means.{Means};
 ghost use Rattle.stair_engine.specs.Outside.{outside, source_view, views};
 ghost use Rattle.stair_engine.specs.Plan.{Over, stripe_plan};
 ghost use Rattle.stair_engine.specs.Taking.{TakesWhole};
-ghost use Rattle.stair_engine.specs.Task.Command.{Check};
+ghost use Rattle.stair_conf.specs.declared.job.StripeCommand.TheVariants.{Check};
 
 use crate::cells::{cell_bytes, take_stripe};
 use crate::fault::Fault;

@@ -7,7 +7,7 @@ ghost use Rattle.stair_engine.specs.Means.{Means};
 ghost use Rattle.stair_engine.specs.Outside.{outside, source_view, views};
 ghost use Rattle.stair_engine.specs.Plan.{Over, input_plan, stripe_plan};
 ghost use Rattle.stair_engine.specs.Taking.{HoldsInput, TakesWhole};
-ghost use Rattle.stair_engine.specs.Task.Command.{Encode};
+ghost use Rattle.stair_conf.specs.declared.job.StripeCommand.TheVariants.{Encode};
 
 use crate::blocks::{block_bytes, take_blocks};
 use crate::cells::put_stripe;

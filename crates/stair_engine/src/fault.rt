@@ -1,6 +1,8 @@
 ghost use Rattle.std.specs.Prelude.{◌≡◌};
-ghost use Rattle.stair_engine.specs.declared.fault.Fault.TheVariants.{Memory};
+ghost use Rattle.stair_engine.specs.declared.fault.Fault.TheVariants.{Memory, Text, Create};
 
+use stair_array::CreateFault;
+use stair_conf::ConfigFault;
 use std::alloc::AllocError;
 
 /// Why a call ended before the answer was known or put out.
@@ -14,6 +16,10 @@ pub(crate) enum Fault {
     Input,
     /// The sink failed.
     Output,
+    /// The geometry text was refused, or there was no memory to read it.
+    Text(ConfigFault),
+    /// There is no array.
+    Create(CreateFault),
 }
 
 impl From<AllocError> for Fault {
@@ -21,5 +27,21 @@ impl From<AllocError> for Fault {
 
     fn from(_error: AllocError) -> Fault {
         Fault::Memory
+    }
+}
+
+impl From<ConfigFault> for Fault {
+    ghost from_gives = { λ config fault. fault ≡ Text config };
+
+    fn from(fault: ConfigFault) -> Fault {
+        Fault::Text(fault)
+    }
+}
+
+impl From<CreateFault> for Fault {
+    ghost from_gives = { λ refusal fault. fault ≡ Create refusal };
+
+    fn from(fault: CreateFault) -> Fault {
+        Fault::Create(fault)
     }
 }

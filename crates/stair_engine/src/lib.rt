@@ -4,6 +4,7 @@
 mod blocks;
 mod cells;
 mod check;
+mod create;
 mod encode;
 mod fault;
 mod intake;
@@ -16,26 +17,30 @@ mod task;
 #[cfg(test)]
 mod tests;
 
-ghost use Rattle.std.specs.Prelude.{◌≡◌, map, string_bytes};
-ghost use Rattle.stair_conf.specs.Words.{IsCommandLine};
+ghost use Rattle.std.specs.Prelude.{◌≡◌, IsTrue, map, string_bytes};
+ghost use Rattle.stair_conf.specs.Words.{IsCommandLine, Spells};
+ghost use Rattle.stair_conf.specs.declared.job.Job.{Job as Jobs};
+ghost use Rattle.stair_conf.specs.declared.job.Job.TheVariants.{Create};
+ghost use Rattle.stair_engine.specs.Create.{IsComplete, MakesArray};
 ghost use Rattle.stair_engine.specs.Fault.{status_of};
 ghost use Rattle.stair_engine.specs.Means.{Means};
 ghost use Rattle.stair_engine.specs.Outside.{outside, views};
 ghost use Rattle.stair_engine.specs.Plan.{Over, job_plan, plan_of, stripe_plan};
-ghost use Rattle.stair_engine.specs.Task.{command_of};
+ghost use Rattle.stair_engine.specs.Rack.{MeansOver, rack_view};
 
 use check::check;
+use create::create;
 use encode::encode;
 use fault::Fault;
 use restore::restore;
 use stair_base::Geometry;
-use stair_conf::{Job, WordsFault, read_words};
+use stair_conf::{Job, StripeCommand, WordsFault, read_words};
 use stair_gf::Steps;
-use stair_rack::{Sink, Source};
+use stair_rack::{Rack, Sink, Source};
 pub use status::Status;
 use std::alloc::Global;
 use std::sync::ledger::Ledger;
-use task::geometry_of;
+use task::one_stripe;
 
 /// Does what the words say, over this input and output, and tells what came of it.
 ///
@@ -53,70 +58,105 @@ use task::geometry_of;
 /// cells are covered and a codeword has the held ones, it puts out the n·r cells of that codeword. `Lost`, with stripe 0,
 /// comes where the erased cells are not covered, and `NoCodeword` where they are and no codeword has the held ones.
 ///
-/// `OutOfMemory` may come in place of any other answer, once a command's word came first and no word begins with a hyphen.
+/// These three commands make no call on the rack.
 ///
-/// The words are tested first, then the limits of the geometry, then the input: what is refused before the input is taken
-/// leaves input, output and counter as they were, and nothing is put out before the answer is known. `InputFault` leaves the
-/// output as it was, and after `OutputFault` a part of the output stands.
-pub fn stair<S: Source, K: Sink, L: Ledger>(
+/// `create` takes a geometry text from the input, of at most 4,096 bytes, and makes the array that it says on the devices of
+/// slots 0 to n-1, as [`stair_array::create`] tells. Then it puts out `created`, the array's identity in lower case,
+/// `blocks`, the number of its blocks, and a newline. `NotToml`, `Key` and `Limit` come before any device is looked at;
+/// `Gone`, `SmallDevice` and `AlreadyArray` before any is written, but for a slot that goes meanwhile. After `OutputFault`
+/// there is an array.
+///
+/// `OutOfMemory` may come in place of any other answer, once a command's word came first and no word begins with a hyphen.
+/// No device was written then.
+///
+/// The words are tested first, then the limits of the geometry of a stripe, then the input: what is refused before the input
+/// is taken leaves input, output and counter as they were, and nothing is put out before the answer is known. `InputFault`
+/// leaves the output as it was, and after `OutputFault` a part of the output stands.
+pub fn stair<R: Rack, S: Source, K: Sink, L: Ledger>(
     alloc: Global,
     words: &[String],
+    rack: &mut R,
     input: &mut S,
     output: &mut K,
     steps: &mut Steps<L>,
 ) -> Status
-    // The call went as the plan of the words says, and source, sink and counter bear it out.
-    ensures means { Means (views S.left S.ended S.faults K.held K.faults)
+    // The call went as the plan of the words says, and source, sink, counter and rack bear it out.
+    ensures means { MeansOver (rack_view R.is_honest R.history R.bads R.gones)
+        (views S.left S.ended S.faults K.held K.faults)
         (plan_of (map string_bytes words.now)) (Over result)
-        (outside input.old output.old steps.old) (outside input.new output.new steps.new) }
+        (outside input.old output.old steps.old) (outside input.new output.new steps.new)
+        rack.old rack.new }
 
     // Want of memory: only where a command's word comes first and no word begins with a hyphen.
     ensures memory { result ≡ Status.OutOfMemory → IsCommandLine (map string_bytes words.now) }
+
+    // What `create` made on an honest rack: the array of the geometry that the input says, whose blocks are zeros.
+    ensures created { IsTrue R.is_honest → Spells (map string_bytes words.now) Create →
+        result ≡ Status.Done →
+        MakesArray (S.left input.old) (R.history rack.old) (R.history rack.new) }
+
+    // Where it can be done, and neither source nor sink fails, the answer is Done or want of memory.
+    ensures complete { (job : Jobs) → Spells (map string_bytes words.now) job →
+        IsComplete (rack_view R.is_honest R.history R.bads R.gones)
+        (views S.left S.ended S.faults K.held K.faults) job result
+        (outside input.old output.old steps.old) (outside input.new output.new steps.new)
+        rack.old rack.new }
 {
     match read_words(alloc, words) {
-        Ok(job) => work(alloc, job, input, output, steps),
+        Ok(job) => work(alloc, job, rack, input, output, steps),
         Err(WordsFault::Usage) => Status::Usage,
         Err(WordsFault::Memory) => Status::OutOfMemory,
     }
 }
 
-/// Does the job. A broken limit is told without asking for memory.
-fn work<S: Source, K: Sink, L: Ledger>(
+/// Does the job. A broken limit of a stripe's geometry is told without asking for memory.
+fn work<R: Rack, S: Source, K: Sink, L: Ledger>(
     alloc: Global,
     job: Job,
+    rack: &mut R,
     input: &mut S,
     output: &mut K,
     steps: &mut Steps<L>,
 ) -> Status
-    ensures { Means (views S.left S.ended S.faults K.held K.faults)
-        (job_plan job) (Over result)
-        (outside input.old output.old steps.old) (outside input.new output.new steps.new) }
+    ensures { MeansOver (rack_view R.is_honest R.history R.bads R.gones)
+        (views S.left S.ended S.faults K.held K.faults) (job_plan job) (Over result)
+        (outside input.old output.old steps.old) (outside input.new output.new steps.new)
+        rack.old rack.new }
 {
-    match geometry_of(&job) {
-        Ok(geometry) => {
-            let done = run(alloc, &job, &geometry, input, output, steps);
-            done.unwrap_or_else(Status::from)
-        }
-        Err(fault) => Status::Limit(fault.limit),
+    match job {
+        Job::OneStripe {
+            command,
+            n,
+            m,
+            r,
+            e,
+        } => match one_stripe(n, m, r, &e) {
+            Ok(geometry) => {
+                let done = run(alloc, command, &geometry, input, output, steps);
+                done.unwrap_or_else(Status::from)
+            }
+            Err(fault) => Status::Limit(fault.limit),
+        },
+        Job::Create => create(alloc, rack, input, output).unwrap_or_else(Status::from),
     }
 }
 
-/// Does the job with a stripe of this geometry.
+/// Does this with a stripe of this geometry.
 fn run<S: Source, K: Sink, L: Ledger>(
     alloc: Global,
-    job: &Job,
+    command: StripeCommand,
     geometry: &Geometry,
     input: &mut S,
     output: &mut K,
     steps: &mut Steps<L>,
 ) -> Result<Status, Fault>
     ensures { Means (views S.left S.ended S.faults K.held K.faults)
-        (stripe_plan (command_of job.now) geometry.now) (Over (status_of result))
+        (stripe_plan command geometry.now) (Over (status_of result))
         (outside input.old output.old steps.old) (outside input.new output.new steps.new) }
 {
-    match job {
-        Job::Check { .. } => check(alloc, geometry, input, output),
-        Job::Stripe { method, .. } => encode(alloc, *method, geometry, input, output, steps),
-        Job::Restore { .. } => restore(alloc, geometry, input, output),
+    match command {
+        StripeCommand::Check => check(alloc, geometry, input, output),
+        StripeCommand::Encode(method) => encode(alloc, method, geometry, input, output, steps),
+        StripeCommand::Restore => restore(alloc, geometry, input, output),
     }
 }

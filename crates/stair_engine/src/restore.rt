@@ -7,7 +7,7 @@ ghost use Rattle.stair_engine.specs.Means.{Means};
 ghost use Rattle.stair_engine.specs.Outside.{outside, source_view, views};
 ghost use Rattle.stair_engine.specs.Plan.{Over, input_plan, stripe_plan};
 ghost use Rattle.stair_engine.specs.Taking.{IsMapAndCells, TakesWhole};
-ghost use Rattle.stair_engine.specs.Task.Command.{Restore};
+ghost use Rattle.stair_conf.specs.declared.job.StripeCommand.TheVariants.{Restore};
 
 use crate::cells::{cell_bytes, put_stripe, take_stripe};
 use crate::fault::Fault;

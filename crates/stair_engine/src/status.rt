@@ -1,7 +1,9 @@
 ghost use Rattle.std.specs.Prelude.{◌≡◌, Some};
 
 use crate::fault::Fault;
+use stair_array::CreateFault;
 use stair_base::Broken;
+use stair_conf::{ConfigFault, Key};
 use std::fmt;
 
 /// What a call came to.
@@ -17,7 +19,12 @@ pub enum Status {
     Usage,
     /// The geometry breaks this limit, and none before it.
     Limit(u8),
-    /// The input had another length than the command needs, in bytes. At most one byte more than needed is taken.
+    /// The geometry text lacks this key, or has another kind of value there, and no key before it.
+    Key(Key),
+    /// The geometry text isn't TOML.
+    NotToml,
+    /// The input had another length than the command needs, in bytes, or a geometry text is too long. At most one byte more
+    /// than needed is taken.
     Input {
         needed: u64,
         took: u64,
@@ -33,6 +40,16 @@ pub enum Status {
         counts: [u8; 32],
         n: u8,
     },
+    /// The medium of this slot has a superblock, of whatever array.
+    AlreadyArray(u8),
+    /// The device of a slot has too few sectors.
+    SmallDevice {
+        slot: u8,
+        has: u32,
+        needs: u32,
+    },
+    /// This slot is gone.
+    Gone(u8),
     /// There was no memory.
     OutOfMemory,
 }
@@ -48,6 +65,41 @@ impl From<Fault> for Status {
             Fault::Length { needed, took } => Status::Input { needed, took },
             Fault::Input => Status::InputFault,
             Fault::Output => Status::OutputFault,
+            Fault::Text(fault) => Status::from(fault),
+            Fault::Create(fault) => Status::from(fault),
+        }
+    }
+}
+
+impl From<ConfigFault> for Status {
+    ghost use Rattle.stair_engine.specs.Fault.{status_of_config};
+
+    ghost from_gives = { λ fault status. status ≡ status_of_config fault };
+
+    fn from(fault: ConfigFault) -> Status {
+        match fault {
+            ConfigFault::NotToml => Status::NotToml,
+            ConfigFault::Key(key) => Status::Key(key),
+            ConfigFault::Limit(limit) => Status::Limit(limit),
+            ConfigFault::Memory => Status::OutOfMemory,
+        }
+    }
+}
+
+impl From<CreateFault> for Status {
+    ghost use Rattle.stair_engine.specs.Action.{status_of_create};
+
+    ghost from_gives = { λ fault status. status ≡ status_of_create fault };
+
+    fn from(fault: CreateFault) -> Status {
+        match fault {
+            CreateFault::Gone(slot) => Status::Gone(slot),
+            CreateFault::SmallDevice { slot, has, needs } => Status::SmallDevice {
+                slot,
+                has,
+                needs,
+            },
+            CreateFault::AlreadyArray(slot) => Status::AlreadyArray(slot),
         }
     }
 }
@@ -63,11 +115,14 @@ impl Status {
             Status::Done => 0,
             Status::NotCodeword(_) | Status::NoCodeword => 1,
             Status::Usage => 2,
-            Status::Limit(_) => 3,
+            Status::Limit(_) | Status::Key(_) | Status::NotToml => 3,
             Status::Input { .. } => 4,
             Status::InputFault => 5,
             Status::OutputFault => 6,
             Status::Lost { .. } => 10,
+            Status::AlreadyArray(_) => 12,
+            Status::SmallDevice { .. } => 13,
+            Status::Gone(_) => 15,
             Status::OutOfMemory => 17,
         }
     }
@@ -90,8 +145,10 @@ impl fmt::Display for Status {
                 write!(f, "not a codeword: global {l} {h} byte {byte}")
             }
             Status::NoCodeword => write!(f, "no codeword holds these cells"),
-            Status::Usage => write!(f, "usage: stair FOLDER check|stripe|restore"),
+            Status::Usage => write!(f, "usage: stair FOLDER check|stripe|restore|create"),
             Status::Limit(limit) => write!(f, "geometry: limit {limit}"),
+            Status::Key(key) => write!(f, "geometry: key {}", key.name()),
+            Status::NotToml => write!(f, "geometry: not TOML"),
             Status::Input { needed, took } => { write!(f, "input: needed {needed}, took {took}") }
             Status::InputFault => write!(f, "input failed"),
             Status::OutputFault => write!(f, "output failed"),
@@ -102,6 +159,11 @@ impl fmt::Display for Status {
                 };
                 write!(f, "lost: stripe {stripe} counts{listed}")
             }
+            Status::AlreadyArray(slot) => write!(f, "array already: slot {slot}"),
+            Status::SmallDevice { slot, has, needs } => {
+                write!(f, "small device: slot {slot} has {has} of {needs} sectors")
+            }
+            Status::Gone(slot) => write!(f, "gone: slot {slot}"),
             Status::OutOfMemory => write!(f, "out of memory"),
         }
     }

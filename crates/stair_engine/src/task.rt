@@ -1,22 +1,17 @@
 ghost use Rattle.std.specs.Prelude.{◌≡◌, IfOk, IfErr, OnOk};
 ghost use Rattle.stair_model.specs.Geometry.{IsFirstBrokenLimit, IsWithinLimits};
-ghost use Rattle.stair_engine.specs.Task.{by_of as by_of_method, one_stripe};
+ghost use Rattle.stair_engine.specs.Task.{by_of as by_of_method, one_stripe as stripe_of};
 
 use stair_base::{Geometry, GeometryFault};
 use stair_codec::By;
-use stair_conf::{Job, Method};
+use stair_conf::{Method, Numbers};
 
-/// The geometry of the one stripe that a job asks for.
-pub(crate) fn geometry_of(job: &Job) -> Result<Geometry, GeometryFault>
-    ensures ok { IfOk result (λ geometry. geometry ≡ one_stripe job.now) }
-    ensures within { OnOk result (IsWithinLimits (one_stripe job.now)) }
-    ensures broken { IfErr result (λ fault. IsFirstBrokenLimit (one_stripe job.now) fault.limit) }
+/// The geometry of one stripe with these numbers, and a zero identity.
+pub(crate) fn one_stripe(n: u64, m: u64, r: u64, e: &Numbers) -> Result<Geometry, GeometryFault>
+    ensures ok { IfOk result (λ geometry. geometry ≡ stripe_of n m r e.now) }
+    ensures within { OnOk result (IsWithinLimits (stripe_of n m r e.now)) }
+    ensures broken { IfErr result (λ fault. IsFirstBrokenLimit (stripe_of n m r e.now) fault.limit) }
 {
-    let (n, m, r, e) = match job {
-        Job::Check { n, m, r, e } => (*n, *m, *r, e),
-        Job::Stripe { n, m, r, e, .. } => (*n, *m, *r, e),
-        Job::Restore { n, m, r, e } => (*n, *m, *r, e),
-    };
     Geometry::new(n, m, r, e.as_slice(), 1, [0; 16])
 }
 

@@ -4,6 +4,8 @@ ghost use Rattle.std.specs.Prelude.{◌≡◌, ◌<◌};
 
 use super::*;
 use stair_base::{Broken, SECTOR};
+use stair_conf::Key;
+use stair_memrack::MemRack;
 use stair_rack::{MemSink, MemSource};
 use std::alloc::AllocError;
 use std::marker::Brand;
@@ -61,6 +63,42 @@ const LINE: Bytes = (b"codeword\n", b"");
 
 const NOTHING: Bytes = (b"", b"");
 
+const CREATE: &str = "create";
+
+// The geometry of an array of four devices, which need 17 sectors.
+const TEXT: Bytes = (
+    b"n = 4\nm = 1\nr = 2\ne = [1]\nstripes = 3\nid = '00000000000000000000000000000A04'\n",
+    b"",
+);
+
+const CREATED: Bytes = (b"created 00000000000000000000000000000a04 blocks 15\n", b"");
+
+// One more stripe, which takes two more sectors.
+const FOUR_STRIPES: Bytes = (
+    b"n = 4\nm = 1\nr = 2\ne = [1]\nstripes = 4\nid = '00000000000000000000000000000A04'\n",
+    b"",
+);
+
+const FIVE_DEVICES: Bytes = (
+    b"n = 5\nm = 1\nr = 2\ne = [1]\nstripes = 1\nid = '00000000000000000000000000000A04'\n",
+    b"",
+);
+
+const WITHOUT_M: Bytes = (
+    b"n = 4\nr = 2\ne = [1]\nstripes = 3\nid = '00000000000000000000000000000A04'\n",
+    b"",
+);
+
+const TWO_PARITIES: Bytes = (
+    b"n = 4\nm = 2\nr = 2\ne = [1]\nstripes = 3\nid = '00000000000000000000000000000A04'\n",
+    b"",
+);
+
+// A comment of 4,097 bytes, and one that ends within 4,096.
+const LONG_TEXT: Bytes = (b"#", &[b' '; 8]);
+
+const LONG_COMMENT: Bytes = (b"# not a table\n]", &[b' '; 7]);
+
 const CHECK: &str = "check 4 1 2 1";
 
 const STRIPE: &str = "stripe down 4 1 2 1";
@@ -90,6 +128,17 @@ const SHORT: Status = Status::Input {
     took: 2560,
 };
 
+const TOO_LONG: Status = Status::Input {
+    needed: 4096,
+    took: 4097,
+};
+
+const SMALL: Status = Status::SmallDevice {
+    slot: 0,
+    has: 17,
+    needs: 19,
+};
+
 const LOST: Status = Status::Lost {
     stripe: 0,
     counts: [
@@ -106,7 +155,7 @@ type Ends = (Option<u64>, usize);
 const WHOLE: Ends = (None, 32 * SECTOR);
 
 // Each row is a command line, its input, the ends, the status, and what is put out where there is room.
-const CALLS: [(&str, Bytes, Ends, Status, Bytes); 22] = [
+const CALLS: [(&str, Bytes, Ends, Status, Bytes); 32] = [
     (CHECK, FOUR, WHOLE, Status::Done, LINE),
     (CHECK, ROW_BROKEN, WHOLE, IN_ROW, NOTHING),
     (CHECK, GLOBAL_BROKEN, WHOLE, IN_GLOBAL, NOTHING),
@@ -136,20 +185,40 @@ const CALLS: [(&str, Bytes, Ends, Status, Bytes); 22] = [
         NOTHING,
     ),
     (RESTORE, COVERED, (None, 1), Status::OutputFault, FOUR),
+    // over four blank media of 17 sectors
+    (CREATE, TEXT, WHOLE, Status::Done, CREATED),
+    (CREATE, TEXT, (None, 7), Status::OutputFault, CREATED),
+    (CREATE, TEXT, (Some(9), 0), Status::InputFault, NOTHING),
+    (CREATE, LONG_TEXT, WHOLE, TOO_LONG, NOTHING),
+    (CREATE, LONG_COMMENT, WHOLE, Status::NotToml, NOTHING),
+    (CREATE, WITHOUT_M, WHOLE, Status::Key(Key::M), NOTHING),
+    (CREATE, TWO_PARITIES, WHOLE, Status::Limit(3), NOTHING),
+    (CREATE, FOUR_STRIPES, WHOLE, SMALL, NOTHING),
+    (CREATE, FIVE_DEVICES, WHOLE, Status::Gone(4), NOTHING),
+    ("create 4", TEXT, WHOLE, Status::Usage, NOTHING),
 ];
 
 // Each row is a status, the exit status of the program, and the line on standard error.
-const LINES: [(Status, u8, &str); 11] = [
+const LINES: [(Status, u8, &str); 16] = [
     (Status::Done, 0, ""),
     (IN_ROW, 1, "not a codeword: row 0 parity 0 byte 0"),
     (IN_GLOBAL, 1, "not a codeword: global 0 0 byte 0"),
     (Status::NoCodeword, 1, "no codeword holds these cells"),
-    (Status::Usage, 2, "usage: stair FOLDER check|stripe|restore"),
+    (
+        Status::Usage,
+        2,
+        "usage: stair FOLDER check|stripe|restore|create",
+    ),
     (Status::Limit(3), 3, "geometry: limit 3"),
+    (Status::Key(Key::Stripes), 3, "geometry: key stripes"),
+    (Status::NotToml, 3, "geometry: not TOML"),
     (SHORT, 4, "input: needed 4096, took 2560"),
     (Status::InputFault, 5, "input failed"),
     (Status::OutputFault, 6, "output failed"),
     (LOST, 10, "lost: stripe 0 counts 2 0 1 1"),
+    (Status::AlreadyArray(31), 12, "array already: slot 31"),
+    (SMALL, 13, "small device: slot 0 has 17 of 19 sectors"),
+    (Status::Gone(4), 15, "gone: slot 4"),
     (Status::OutOfMemory, 17, "out of memory"),
 ];
 
@@ -178,14 +247,23 @@ struct Outcome {
     put: Vec<u8>,
 }
 
-fn run(alloc: Global, words: &[String], bytes: &[u8], ends: Ends) -> Result<Outcome, AllocError> {
-    run_on::<Brand>(Blank::new(1), alloc, words, bytes, ends)
+fn run(
+    alloc: Global,
+    rack: &mut MemRack,
+    line: &str,
+    input: Bytes,
+    ends: Ends,
+) -> Result<Outcome, AllocError> {
+    let bytes = bytes_of(alloc, input)?;
+    let words = words_of(alloc, line)?;
+    run_on::<Brand>(Blank::new(1), alloc, rack, &words, &bytes, ends)
 }
 
 // The same, with the counter on a ledger of its own.
 fn run_on<L: Ledger>(
     blank: Blank,
     alloc: Global,
+    rack: &mut MemRack,
     words: &[String],
     bytes: &[u8],
     ends: Ends,
@@ -198,7 +276,7 @@ fn run_on<L: Ledger>(
     let mut input = MemSource::new(alloc, bytes, 100, fail_at)?;
     let mut output = MemSink::new(alloc, room)?;
     let mut steps = Steps::<L>::new(blank);
-    let status = stair(alloc, words, &mut input, &mut output, &mut steps);
+    let status = stair(alloc, words, rack, &mut input, &mut output, &mut steps);
     let put = output.bytes().to_vec(alloc)?;
     Ok(Outcome { status, put })
 }
@@ -207,15 +285,28 @@ fn run_on<L: Ledger>(
 #[test]
 fn each_command_is_done_and_a_fault_ends_it(rt: HostRuntime) -> Result<(), Fail> {
     for (line, input, ends, status, put) in CALLS {
-        let bytes = bytes_of(rt.alloc(), input)?;
-        let words = words_of(rt.alloc(), line)?;
-        let came = run(rt.alloc(), &words, &bytes, ends)?;
+        let mut rack = MemRack::new(rt.alloc(), 4, 17, &[], 1000)?;
+        let came = run(rt.alloc(), &mut rack, line, input, ends)?;
         let mut front = bytes_of(rt.alloc(), put)?;
         front.truncate(ends.1);
         assert_eq!(rt; came.status, status, "{line} {input:?} {ends:?}");
         assert!(rt; came.put == front, "{line} {input:?} {ends:?}");
     }
-    laws::plan_laws::<MemSource, MemSink>();
+    laws::plan_laws::<MemRack, MemSource, MemSink>();
+    Ok(())
+}
+
+// An array stands also where its line couldn't be put out, and then no other one can be made.
+#[test]
+fn an_array_is_made_once(rt: HostRuntime) -> Result<(), Fail> {
+    for room in [0, 64] {
+        let mut rack = MemRack::new(rt.alloc(), 4, 17, &[], 1000)?;
+        let first = run(rt.alloc(), &mut rack, CREATE, TEXT, (None, room))?;
+        assert_eq!(rt; first.status == Status::Done, room == 64);
+        let again = run(rt.alloc(), &mut rack, CREATE, TEXT, WHOLE)?;
+        assert_eq!(rt; again.status, Status::AlreadyArray(0));
+        assert!(rt; again.put.is_empty());
+    }
     Ok(())
 }
 

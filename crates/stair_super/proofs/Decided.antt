@@ -21,7 +21,7 @@ use Rattle.stair_super.proofs.Once.{absent_joined}
 
 -- ---- facts that are decided
 
-known_if : {P Q : Type 0} → (P → Q) → (Q → P) → IsKnown P → IsKnown Q
+pub known_if : {P Q : Type 0} → (P → Q) → (Q → P) → IsKnown P → IsKnown Q
 known_if to from (inl p) = inl (to p)
 known_if to from (inr not) = inr (λ q. not (from q))
 
@@ -34,10 +34,10 @@ known_implied (inr not) q = inl (λ p. absurd (not p))
 known_implied (inl p) (inl q) = inl (λ _. q)
 known_implied (inl p) (inr not) = inr (λ f. not (f p))
 
-known_lt : (a b : ℕ) → IsKnown (a < b)
+pub known_lt : (a b : ℕ) → IsKnown (a < b)
 known_lt a b = elim (cases_lt a b) [ inl lt ↦ inl lt | inr le ↦ inr (λ lt. omega arith) ]
 
-known_text : (xs ys : List ℕ) → IsKnown (xs ≡ ys)
+pub known_text : (xs ys : List ℕ) → IsKnown (xs ≡ ys)
 known_text [] [] = inl refl
 known_text [] (y ∷ ys) = inr (λ e. cc)
 known_text (x ∷ xs) [] = inr (λ e. cc)

@@ -1,31 +1,51 @@
 -- The job that was read is the one that the words spell.
-use Rattle.std.proofs.Common.{◌≡◌, Err, None, Some, refl, subst}
+use Rattle.std.proofs.Common.{◌≡◌, Err, None, Some, map, refl, string_bytes, subst}
 use Rattle.stair_conf.proofs.WordsLemmas.{job_line}
 use Rattle.stair_conf.specs.declared.fault.WordsFault.{WordsFault}
 use Rattle.stair_conf.specs.declared.fault.WordsFault.TheVariants.{Usage}
-use Rattle.stair_engine.specs.Outside.{views}
-use Rattle.stair_engine.specs.Plan.{if_spelled}
+use Rattle.stair_engine.specs.Outside.{outside, views}
+use Rattle.stair_engine.specs.Plan.{Over, Ask, if_spelled, plan_of}
 use Rattle.stair_engine.specs.Question.{Words}
-use Rattle.stair_engine.proofs.PlanLaws.{and_then, finds, grows, runs_out}
+use Rattle.stair_engine.specs.Rack.{MeansOver, rack_view}
+use Rattle.stair_engine.specs.Story.{Found}
+use Rattle.stair_engine.proofs.CallLaws.{array_is_made}
+use Rattle.stair_engine.proofs.CompleteLaws.{all_is_complete}
+use Rattle.stair_engine.proofs.RackLaws.{over_one, over_then}
+use Rattle.stair_engine.proofs.StepLaws.{over_grows, over_runs_out}
 use Rattle.stair_engine.proofs.stair.Goals as goal
 
-pub returns-in-Ok-clause-means : goal.returns-in-Ok-clause-means
-returns-in-Ok-clause-means g c =
+pub returns-in-Ok : goal.returns-in-Ok
+returns-in-Ok g c =
     let view = views g.S.Source.left g.S.Source.ended g.S.Source.faults g.K.Sink.held g.K.Sink.faults in
-    and_then view (grows view _ _)
-    (and_then view (finds view (Words _) if_spelled (Some c.in-Ok.job) _ _ _ _ c.in-Ok.ensures.ok refl) c.work.ensures)
-
-pub returns-in-Ok-clause-memory : goal.returns-in-Ok-clause-memory
-returns-in-Ok-clause-memory g c memory = job_line _ c.in-Ok.job c.in-Ok.ensures.ok
+    let rack = rack_view g.R.Rack.is_honest g.R.Rack.history g.R.Rack.bads g.R.Rack.gones in
+    let words = map string_bytes c.args.words.now in
+    let old = outside c.args.input.now c.args.output.now c.args.steps.now in
+    let over : MeansOver rack view (plan_of words) (Over c.work.result) old _ c.args.rack.now _ =
+    over_then rack view (over_grows rack view (Ask (Words words) if_spelled) old c.args.rack.now)
+    (over_then rack view
+    (over_one rack view (Found (Words words)) (Ask (Words words) if_spelled) (if_spelled (Some c.in-Ok.job)) old old c.args.rack.now c.args.rack.now
+    (Some c.in-Ok.job, refl, c.in-Ok.ensures.ok, refl) refl refl refl refl) c.work.ensures) in
+    record {
+      means = over;
+      memory = λ memory. job_line _ c.in-Ok.job c.in-Ok.ensures.ok;
+      created = λ honest spells done. array_is_made rack view words c.work.result old _ c.args.rack.now _ over spells honest done;
+      complete = λ job spells. all_is_complete rack view words job c.work.result old _ c.args.rack.now _ spells over;
+    }
 
 pub returns-in-Err-Usage-clause-means : goal.returns-in-Err-Usage-clause-means
 returns-in-Err-Usage-clause-means g c =
     let view = views g.S.Source.left g.S.Source.ended g.S.Source.faults g.K.Sink.held g.K.Sink.faults in
+    let rack = rack_view g.R.Rack.is_honest g.R.Rack.history g.R.Rack.bads g.R.Rack.gones in
+    let words = map string_bytes c.args.words.now in
+    let old = outside c.args.input.now c.args.output.now c.args.steps.now in
     let usage : c.read_words.result ≡ Err Usage =
     subst (λ (fault : WordsFault). c.read_words.result ≡ Err fault) c.in-Err-Usage.field-0-is c.in-Err-Usage.is
     in
-    and_then view (grows view _ _)
-    (finds view (Words _) if_spelled None _ _ _ _ (λ spelled. c.read_words.ensures.usage usage spelled.0 spelled.1) refl)
+    over_then rack view (over_grows rack view (Ask (Words words) if_spelled) old c.args.rack.now)
+    (over_one rack view (Found (Words words)) (Ask (Words words) if_spelled) (if_spelled None) old old c.args.rack.now c.args.rack.now
+    (None, refl, (λ spelled. c.read_words.ensures.usage usage spelled.0 spelled.1), refl) refl refl refl refl)
 
 pub returns-in-Err-Memory-clause-means : goal.returns-in-Err-Memory-clause-means
-returns-in-Err-Memory-clause-means g c = runs_out (views g.S.Source.left g.S.Source.ended g.S.Source.faults g.K.Sink.held g.K.Sink.faults) _ _
+returns-in-Err-Memory-clause-means g c =
+    over_runs_out (rack_view g.R.Rack.is_honest g.R.Rack.history g.R.Rack.bads g.R.Rack.gones)
+    (views g.S.Source.left g.S.Source.ended g.S.Source.faults g.K.Sink.held g.K.Sink.faults) _ _ _

@@ -1,16 +1,20 @@
--- What was done is the plan of the job, of the geometry that was tested.
+-- What was done is the plan of the job.
 use Rattle.std.proofs.Common.{◌≡◌, None, Some, Result, Ok, Err, refl, subst, sym}
 use Rattle.std.specs.Prelude.{MatchResult}
 use Rattle.stair_model.specs.Geometry.{Geometry}
+use Rattle.stair_conf.specs.declared.job.Job.{Job}
 use Rattle.stair_engine.specs.Fault.{status_of, status_of_fault}
 use Rattle.stair_engine.specs.Means.{Means}
 use Rattle.stair_engine.specs.Outside.{outside, views}
-use Rattle.stair_engine.specs.Plan.{Over, stripe_plan, within_limits}
+use Rattle.stair_engine.specs.Plan.{Over, create_plan, job_plan, stripe_plan, tested_plan, within_limits}
 use Rattle.stair_engine.specs.Question.{Limits}
-use Rattle.stair_engine.specs.Task.{command_of, one_stripe}
+use Rattle.stair_engine.specs.Rack.{MeansOver, rack_view}
+use Rattle.stair_engine.specs.Task.{one_stripe}
 use Rattle.stair_engine.specs.declared.fault.Fault.{Fault}
 use Rattle.stair_engine.specs.declared.status.Status.{Status}
-use Rattle.stair_engine.proofs.PlanLaws.{and_then, finds, of_job}
+use Rattle.stair_engine.specs.declared.status.Status.TheVariants.{Limit}
+use Rattle.stair_engine.proofs.PlanLaws.{and_then, finds}
+use Rattle.stair_engine.proofs.RackLaws.{over_still, stripe_calls_none}
 use Rattle.stair_engine.proofs.work.Goals as goal
 
 status_is : (status : Status) (done : Result Status Fault) → MatchResult done (λ answer. status ≡ answer) (λ fault. status ≡ status_of_fault fault)
@@ -21,24 +25,41 @@ status_is status (Err fault) is = is
 pub returns-in-Ok : goal.returns-in-Ok
 returns-in-Ok g c =
     let view = views g.S.Source.left g.S.Source.ended g.S.Source.faults g.K.Sink.held g.K.Sink.faults in
-    let job = c.args.job in
-    let of = one_stripe job in
+    let rack = rack_view g.R.Rack.is_honest g.R.Rack.history g.R.Rack.bads g.R.Rack.gones in
+    let o = c.in-OneStripe in
+    let of = one_stripe o.n o.m o.r o.e in
     let status = c.unwrap_or_else.result in
     let is : status ≡ status_of c.run-done.result = status_is _ c.run-done.result c.unwrap_or_else.ensures in
     let old = outside c.args.input.now c.args.output.now c.args.steps.now in
     let new = outside c.run-done.new.input c.run-done.new.output c.run-done.new.steps in
-    let ran : Means view (stripe_plan (command_of job) of) (Over status) old new =
-    subst (λ (k : Geometry). Means view (stripe_plan (command_of job) k) (Over status) old new) c.in-Ok.ensures.ok
-    (subst (λ (s : Status). Means view (stripe_plan (command_of job) c.in-Ok.geometry) (Over s) old new) (sym is) c.run-done.ensures)
+    let ran : Means view (stripe_plan o.command of) (Over status) old new =
+    subst (λ (k : Geometry). Means view (stripe_plan o.command k) (Over status) old new) c.in-Ok.ensures.ok
+    (subst (λ (s : Status). Means view (stripe_plan o.command c.in-Ok.geometry) (Over s) old new) (sym is) c.run-done.ensures)
     in
-    of_job view job _ _ _
+    subst (λ (job : Job). MeansOver rack view (job_plan job) (Over status) old new c.args.rack.now c.args.rack.now) (sym o.is)
+    (over_still rack view (tested_plan o.command of) (Over status) old new c.args.rack.now (stripe_calls_none o.command of)
     (and_then view
-    (finds view (Limits of) (within_limits (stripe_plan (command_of job) of)) None _ _ _ _ c.in-Ok.ensures.within refl) ran)
+    (finds view (Limits of) (within_limits (stripe_plan o.command of)) None _ _ _ _ c.in-Ok.ensures.within refl) ran))
+
+pub returns-in-OneStripe : goal.returns-in-OneStripe
+returns-in-OneStripe g c =
+    let view = views g.S.Source.left g.S.Source.ended g.S.Source.faults g.K.Sink.held g.K.Sink.faults in
+    let rack = rack_view g.R.Rack.is_honest g.R.Rack.history g.R.Rack.bads g.R.Rack.gones in
+    let o = c.in-OneStripe in
+    let of = one_stripe o.n o.m o.r o.e in
+    let old = outside c.args.input.now c.args.output.now c.args.steps.now in
+    subst (λ (job : Job). MeansOver rack view (job_plan job) (Over (Limit c.in-Err.fault.limit)) old old c.args.rack.now c.args.rack.now) (sym o.is)
+    (over_still rack view (tested_plan o.command of) (Over (Limit c.in-Err.fault.limit)) old old c.args.rack.now (stripe_calls_none o.command of)
+    (finds view (Limits of) (within_limits (stripe_plan o.command of)) (Some _) _ _ _ _ c.in-Err.ensures.broken refl))
 
 pub returns : goal.returns
 returns g c =
     let view = views g.S.Source.left g.S.Source.ended g.S.Source.faults g.K.Sink.held g.K.Sink.faults in
-    let job = c.args.job in
-    let of = one_stripe job in
-    of_job view job _ _ _
-    (finds view (Limits of) (within_limits (stripe_plan (command_of job) of)) (Some _) _ _ _ _ c.in-Err.ensures.broken refl)
+    let rack = rack_view g.R.Rack.is_honest g.R.Rack.history g.R.Rack.bads g.R.Rack.gones in
+    let status = c.unwrap_or_else-in-Create.result in
+    let is : status ≡ status_of c.create.result = status_is _ c.create.result c.unwrap_or_else-in-Create.ensures in
+    let old = outside c.args.input.now c.args.output.now c.args.steps.now in
+    let new = outside c.create.new.input c.create.new.output c.args.steps.now in
+    subst (λ (job : Job). MeansOver rack view (job_plan job) (Over status) old new c.args.rack.now c.create.new.rack) (sym c.in-Create.is)
+    (subst (λ (s : Status). MeansOver rack view create_plan (Over s) old new c.args.rack.now c.create.new.rack) (sym is)
+    (c.create.ensures c.args.steps.now))

@@ -6,7 +6,7 @@ use Rattle.stair_engine.specs.declared.fault.Fault.TheVariants.{Memory, Output}
 use Rattle.stair_engine.specs.declared.status.Status.TheVariants.{Done, NotCodeword}
 use Rattle.stair_engine.specs.Outside.{views}
 use Rattle.stair_engine.specs.Plan.{Over, input_plan}
-use Rattle.stair_engine.specs.Task.Command.{Check}
+use Rattle.stair_conf.specs.declared.job.StripeCommand.TheVariants.{Check}
 use Rattle.stair_engine.proofs.PlanLaws.{and_then, cannot_put, grows, hands_on, puts, runs_out, takes_judged, takes_whole}
 use Rattle.stair_engine.proofs.check.check.Goals as goal
 

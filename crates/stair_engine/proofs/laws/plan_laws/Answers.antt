@@ -1,8 +1,21 @@
 use Rattle.stair_engine.specs.Outside.{views}
-use Rattle.stair_engine.proofs.MeaningLaws.{all_is_kept, bytes_are_answered, usage_is_exact, words_are_done}
+use Rattle.stair_engine.specs.Rack.{rack_view}
+use Rattle.stair_engine.proofs.MeaningLaws.{bytes_are_answered, words_are_done}
+use Rattle.stair_engine.proofs.CallLaws.{all_is_kept, array_is_made, memory_comes_first, rack_is_left, usage_is_exact}
+use Rattle.stair_engine.proofs.CompleteLaws.{all_is_complete}
 use Rattle.stair_engine.proofs.laws.plan_laws.Goals as goal
 
 pub returns : goal.returns
 returns g c =
     let view = views g.S.Source.left g.S.Source.ended g.S.Source.faults g.K.Sink.held g.K.Sink.faults in
-    record { usage = usage_is_exact view; done = words_are_done view; answers = bytes_are_answered view; kept = all_is_kept view }
+    let rack = rack_view g.R.Rack.is_honest g.R.Rack.history g.R.Rack.bads g.R.Rack.gones in
+    record {
+      usage = usage_is_exact rack view;
+      done = words_are_done view;
+      answers = bytes_are_answered view;
+      kept = all_is_kept rack view;
+      left = rack_is_left rack view;
+      memory = memory_comes_first rack view;
+      created = array_is_made rack view;
+      complete = all_is_complete rack view;
+    }

@@ -2,7 +2,7 @@
 use Rattle.stair_engine.specs.declared.fault.Fault.TheVariants.{Memory}
 use Rattle.stair_engine.specs.Outside.{views}
 use Rattle.stair_engine.specs.Plan.{input_plan}
-use Rattle.stair_engine.specs.Task.Command.{Restore}
+use Rattle.stair_conf.specs.declared.job.StripeCommand.TheVariants.{Restore}
 use Rattle.stair_engine.proofs.PlanLaws.{and_then, grows, hands_on, of_geometry, runs_out}
 use Rattle.stair_engine.proofs.restore.restore.Goals as goal
 

@@ -8,7 +8,7 @@ use Rattle.stair_engine.specs.declared.fault.Fault.TheVariants.{Output}
 use Rattle.stair_engine.specs.declared.status.Status.TheVariants.{Done, Lost, NoCodeword}
 use Rattle.stair_engine.specs.Outside.{views}
 use Rattle.stair_engine.specs.Plan.{Over}
-use Rattle.stair_engine.specs.Task.Command.{Restore}
+use Rattle.stair_conf.specs.declared.job.StripeCommand.TheVariants.{Restore}
 use Rattle.stair_engine.proofs.AnswerLaws.{judged_lost, judged_none, judged_restored}
 use Rattle.stair_engine.proofs.PlanLaws.{and_then, cannot_put, hands_on, of_geometry, puts, takes_judged, takes_whole}
 use Rattle.stair_engine.proofs.restore.restore_by.Goals as goal

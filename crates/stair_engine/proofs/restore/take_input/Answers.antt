@@ -2,7 +2,7 @@
 use Rattle.std.proofs.Common.{◌≡◌, ℕ, ◌+◌, ◌*◌, ◌<◌, ◌++◌, length, length-append, ap, ap₂, ◌∙◌, arith}
 use Rattle.std.specs.List.{concat}
 use Rattle.stair_model.specs.Geometry.{Geometry, IsWithinLimits}
-use Rattle.stair_engine.specs.Task.Command.{Restore}
+use Rattle.stair_conf.specs.declared.job.StripeCommand.TheVariants.{Restore}
 use Rattle.stair_engine.specs.Answer.{bytes_needed}
 use Rattle.stair_engine.specs.Outside.{source_view}
 use Rattle.stair_engine.specs.Taking.{intake_of}

@@ -1,0 +1,21 @@
+-- Lemmas of this crate.
+pub mod BlockLemmas
+pub mod CreatedLemmas
+pub mod NewArrayLemmas
+pub mod ExampleLemmas
+pub mod LookLemmas
+pub mod DeviceLemmas
+pub mod PulledLemmas
+pub mod CreateLemmas
+pub mod WordLemmas
+pub mod FormLemmas
+pub mod CommitLemmas
+pub mod CertainLemmas
+pub mod ToleranceLemmas
+pub mod DegradedLemmas
+pub mod IdentityLemmas
+pub mod DeterminedLemmas
+pub mod AloneLemmas
+pub mod OutsideLemmas
+pub mod ReturnLemmas
+pub mod CreatesLemmas

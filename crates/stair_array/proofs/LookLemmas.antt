@@ -1,0 +1,578 @@
+-- What a look at one slot tells.
+use Rattle.std.proofs.Common.{◌≡◌, ◌≢◌, ℕ, ◌+◌, ◌<◌, ◌≤◌, below_more, Bool, true, false, List, ◌++◌, ◌⊎◌, inl, inr, refl, sym, ap, ◌∙◌, subst, arith, Option, None, Some, if◌then◌else◌, true≢false}
+use Rattle.std.specs.Prelude.{◌&&◌, ◌==◌, IfSome, IsSome, IsTrue, is_some, not}
+use Rattle.std.proofs.lemmas.Bool.{cases_Bool, cases_eq, false≢true, lt-ltb}
+use Rattle.stair_model.specs.Geometry.{Geometry, sectors_needed}
+use Rattle.stair_rack.specs.Answers.{Calls, Told, Untold, IsBesideAttach, IsHistory, IsNoAttach, Ran, any_call, is_good, is_readable, is_ready}
+use Rattle.stair_rack.specs.Count.{Rose, Rose-kept, kept-Rose}
+use Rattle.stair_rack.specs.History.{Happening, SlotCall, Attach, Sectors, Read, Write, Sync, SlotState, slot_state, stopped}
+use Rattle.stair_rack.specs.Media.{has_sector}
+use Rattle.stair_rack.specs.Moments.{AtSomeMoment}
+use Rattle.stair_rack.specs.Offline.{ButForOutside, Here, Lost, IsHeld, IsOffline}
+use Rattle.stair_rack.specs.RackCounts.{NoneFalls}
+use Rattle.stair_rack.specs.Sector.{Cell, Good, Damaged, Torn, TornOverDamage, Sector, content}
+use Rattle.stair_rack.specs.Stretch.{IsNoWrite, NothingWritten, every_slot}
+use Rattle.stair_rack.specs.declared.rack.Got.{Got}
+use Rattle.stair_rack.specs.declared.rack.Got.TheVariants as got
+use Rattle.stair_rack.specs.declared.rack.Reply.TheVariants as reply
+use Rattle.stair_rack.proofs.StepLemmas.{kept, slot_after_call}
+use Rattle.stair_rack.proofs.MomentLemmas.{IsThis, at_end, at_some_mapped, at_some_wider, calls_ran, moment_between, ran_any, ran_join, ran_none, ran_weakened}
+use Rattle.stair_rack.proofs.KeptLemmas.{IsKept-now, IsLooking, SectorKeeps-looking, keeps_sector}
+use Rattle.stair_rack.proofs.OfflineLemmas.{WasPulled-sooner, and-false, and-true_left, held_on, offline_from_unready, offline_now, refused}
+use Rattle.stair_rack.proofs.CallLemmas.{attach_done, attach_found, attach_gone, read_bad, sectors_of_last, sync_gone}
+use Rattle.stair_rack.proofs.ReadLemmas.{read_answered, ready_unpulled, was_read_bad, was_read_good, was_read_gone, was_read_wider}
+use Rattle.stair_rack.proofs.PassCounts.{NoneFalls-same, NoneFalls-then}
+use Rattle.stair_rack.proofs.StretchLemmas.{none_written}
+use Rattle.stair_rack.proofs.TidyLemmas.{history_called, history_on, history_tidy}
+use Rattle.stair_super.specs.Spelling.{SpellsSuperblock}
+use Rattle.stair_super.specs.Superblock.{Superblock}
+use Rattle.stair_member.specs.Superblocks.{HasSuper, HoldsSuper}
+use Rattle.stair_array.specs.Look.{AreJudged, IsJudged, IsLook, IsLookAt, IsFoundAs, IsReadOf, IsRefusedAt, IsSearched, IsTaken, WasGoneToRead}
+use Rattle.stair_array.specs.declared.fault.CreateFault.{CreateFault}
+use Rattle.stair_array.specs.declared.look.Found.{Found}
+use Rattle.stair_array.specs.declared.look.Found.TheVariants as found
+use Rattle.stair_array.specs.Looking.{Telling, Finding, WasGone, WasSmall, Holds, HadSectors, IsBare, IsFound, IsLarge, IsLater, IsReading, IsRefused, Passed, cells_at, telling}
+use Rattle.stair_array.specs.Represents.{IsLargeEnough}
+
+-- CALLS
+
+pub reads_beside : (slot j : ℕ) (c : SlotCall) → IsReadOf slot j c → IsBesideAttach c
+reads_beside slot j (Attach answer) is = absurd is
+reads_beside slot j (Sectors size) is = absurd is
+reads_beside slot j (Read k answer) is = tt
+reads_beside slot j (Write k bytes answer) is = absurd is
+reads_beside slot j (Sync answer) is = absurd is
+
+pub reads_look : (slot j : ℕ) (c : SlotCall) → IsReadOf slot j c → IsLookAt slot j c
+reads_look slot j (Attach answer) is = absurd is
+reads_look slot j (Sectors size) is = absurd is
+reads_look slot j (Read k answer) is = (is, tt)
+reads_look slot j (Write k bytes answer) is = absurd is
+reads_look slot j (Sync answer) is = absurd is
+
+reads_looking : (slot j : ℕ) (c : SlotCall) → IsReadOf slot j c → IsLooking c
+reads_looking slot j (Attach answer) is = tt
+reads_looking slot j (Sectors size) is = tt
+reads_looking slot j (Read k answer) is = tt
+reads_looking slot j (Write k bytes answer) is = absurd is
+reads_looking slot j (Sync answer) is = absurd is
+
+pub read_ran : {old new : List Happening} {j k : ℕ} {answer : Got} → Calls old new j (Read k answer) → Ran (IsReadOf j) old new
+read_ran {j = j} {k = k} {answer = answer} called =
+    ran_weakened {allowed = IsThis j (Read k answer)} {more = IsReadOf j}
+    (λ i c this. subst (IsReadOf j i) (sym this.1) this.0) (calls_ran called)
+
+-- a call on the slot that writes nothing
+pub look_ran : {old new : List Happening} {j : ℕ} {c : SlotCall} → IsNoWrite c → Calls old new j c → Ran (IsLookAt j) old new
+look_ran {j = j} {c = c} spares called =
+    ran_weakened {allowed = IsThis j c} {more = IsLookAt j} (λ i d this. (this.0, subst IsNoWrite (sym this.1) spares)) (calls_ran called)
+
+pub reads_ran : {old new : List Happening} {j : ℕ} → Ran (IsReadOf j) old new → Ran (IsLookAt j) old new
+reads_ran {j = j} ran = ran_weakened {allowed = IsReadOf j} {more = IsLookAt j} (reads_look j) ran
+
+-- no look at another slot attaches this one
+pub look_elsewhere : {old new : List Happening} {i : ℕ} (j : ℕ) → i ≢ j → Ran (IsLookAt i) old new → Ran (IsNoAttach j) old new
+look_elsewhere {i = i} j other ran =
+    ran_weakened {allowed = IsLookAt i} {more = IsNoAttach j} (λ l c is same. absurd (other (sym is.0 ∙ same))) ran
+
+reads_no_attach : {old new : List Happening} {j : ℕ} → Ran (IsReadOf j) old new → Ran (IsNoAttach j) old new
+reads_no_attach {j = j} ran = ran_weakened {allowed = IsReadOf j} {more = IsNoAttach j} (λ l c is same. reads_beside j l c is) ran
+
+call_no_attach : {old new : List Happening} {j : ℕ} {c : SlotCall} → IsBesideAttach c → Calls old new j c → Ran (IsNoAttach j) old new
+call_no_attach {j = j} {c = c} beside called =
+    ran_weakened {allowed = IsThis j c} {more = IsNoAttach j} (λ l d this same. subst IsBesideAttach (sym this.1) beside) (calls_ran called)
+
+-- LONGER STRETCHES
+
+rose_wider : {a b c d : ℕ} → a ≤ b → Rose b c → b ≤ c → c ≤ d → Rose a d
+rose_wider {a} {b} {c} {d} first rose within second = Rose-kept a c d (kept-Rose a b c first within rose) second
+
+pub later_join : {old mid new : Telling} → IsLater old mid → IsLater mid new → IsLater old new
+later_join first second = record {
+  counts = NoneFalls-then first.counts second.counts;
+  honest = first.honest ∙ second.honest;
+  ran = λ honest. ran_join (first.ran (second.honest ∙ honest)) (second.ran honest);
+}
+
+pub later_none : (now : Telling) → IsLater now now
+later_none now = record { counts = NoneFalls-same now.bads now.gones; honest = refl; ran = λ honest. ran_none now.history }
+
+-- of racks that say the same of their honesty
+module _ (old mid new later : Telling) (first : IsLater old mid) (same : mid.honest ≡ new.honest) (within : NoneFalls mid.bads new.bads mid.gones new.gones)
+    (second : IsLater new later) where
+  honest_before : IsTrue later.honest → IsTrue mid.honest
+  honest_before honest = same ∙ second.honest ∙ honest
+
+  honest_within : IsTrue later.honest → IsTrue new.honest
+  honest_within honest = second.honest ∙ honest
+
+  some_wider : (P : List Happening → Type 0) → IsTrue later.honest → AtSomeMoment P mid.history new.history → AtSomeMoment P old.history later.history
+  some_wider P honest some =
+      at_some_wider {a = any_call} {b = any_call} {P = P} (first.ran (honest_before honest)) (second.ran honest) some
+
+  bads_wider : Rose mid.bads new.bads → Rose old.bads later.bads
+  bads_wider rose = rose_wider first.counts.bad.not_less rose within.bad.not_less second.counts.bad.not_less
+
+  gones_wider : (j : ℕ) → Rose (mid.gones j) (new.gones j) → Rose (old.gones j) (later.gones j)
+  gones_wider j rose = rose_wider (first.counts.gone j).not_less rose (within.gone j).not_less (second.counts.gone j).not_less
+
+  reading_wider : (j k : ℕ) (cell : Cell) → IsReading j k mid new cell → IsReading j k old later cell
+  reading_wider j k (Good bytes) was = λ honest.
+      was_read_wider {a = any_call} {b = any_call} (first.ran (honest_before honest)) (second.ran honest) (was (honest_within honest))
+  reading_wider j k Damaged was = (
+    bads_wider was.0,
+    λ honest. was_read_wider {a = any_call} {b = any_call} (first.ran (honest_before honest)) (second.ran honest) (was.1 (honest_within honest)),
+  )
+  reading_wider j k Torn was = absurd was
+  reading_wider j k TornOverDamage was = absurd was
+
+  large_wider : (g : Geometry) (j : ℕ) → IsLarge g j mid new → IsLarge g j old later
+  large_wider g j is below honest =
+      let was = is below (honest_within honest) in
+      (was.0, was.1, some_wider (λ h. (slot_state h j).size ≡ Some was.0) honest was.2)
+
+  bare_wider : (j : ℕ) (cell : ℕ → Cell) → IsBare j mid new cell → IsBare j old later cell
+  bare_wider j cell is none honest = some_wider (λ h. ¬ HasSuper (cells_at h j)) honest (is none (honest_within honest))
+
+  -- an offline slot is offline since an earlier moment
+  offline_sooner : (h : List Happening) (j : ℕ) → IsTrue later.honest → IsOffline mid.history h j → IsOffline old.history h j
+  offline_sooner h j honest (IsOffline.NoMedium none) = IsOffline.NoMedium none
+  offline_sooner h j honest (IsOffline.Unattached not_attached pulled) =
+      IsOffline.Unattached not_attached (WasPulled-sooner {allowed = any_call} h j (first.ran (honest_before honest)) pulled)
+  offline_sooner h j honest (IsOffline.RackStopped is) = IsOffline.RackStopped is
+
+  -- what bears a finding out does so in each longer stretch
+  pub found_wider : (g : Geometry) (j : ℕ) (finding : Finding) → IsFound g j mid new finding → IsFound g j old later finding
+  found_wider g j WasGone was = (
+    gones_wider j was.0,
+    λ honest.
+        at_some_mapped {P = λ h. IsOffline mid.history h j} {Q = λ h. IsOffline old.history h j}
+        (λ h at is. offline_sooner h j honest is) (some_wider (λ h. IsOffline mid.history h j) honest (was.1 (honest_within honest))),
+  )
+  found_wider g j (WasSmall has) was =
+      (was.0, was.1, λ honest. some_wider (λ h. (slot_state h j).size ≡ Some has) honest (was.2 (honest_within honest)))
+  found_wider g j (Holds cell) was =
+      (λ k below. reading_wider j k (cell k) (was.0 k below), large_wider g j was.1, bare_wider j cell was.2)
+
+  pub passed_wider : (g : Geometry) (j : ℕ) → Passed g j mid new → Passed g j old later
+  passed_wider g j was = record { finding = was.finding; found = found_wider g j was.finding was.found; passes = was.passes }
+
+-- ONE READ
+
+no_super : (cell : Cell) (s : Superblock) → is_good cell ≡ false → ¬ HoldsSuper cell s
+no_super cell s bad holds = true≢false (sym (ap is_good holds.good) ∙ bad)
+
+spells_of : (bytes : List ℕ) (s : Superblock) → HoldsSuper (Good bytes) s → SpellsSuperblock bytes s
+spells_of bytes s holds =
+    let both : Good bytes ≡ Good holds.bytes = holds.good in
+    let same : holds.bytes ≡ bytes = cc in
+    subst (λ x. SpellsSuperblock x s) same holds.spells
+
+super_of : (bytes : List ℕ) (o : Option Superblock) → IfSome o (λ s. SpellsSuperblock bytes s) → is_some o ≡ true
+    → (s : Superblock) × HoldsSuper (Good bytes) s
+super_of bytes None spells is = absurd (false≢true is)
+super_of bytes (Some s) spells is = (s, record { bytes = bytes; good = refl; spells = spells })
+
+none_of : (o : Option Superblock) → is_some o ≡ false → o ≡ None
+none_of None is = refl
+none_of (Some s) is = absurd (true≢false is)
+
+ready_of_good : {old new : List Happening} {j k : ℕ} → Calls old new j (Read k got.Good) → is_ready new j ≡ true
+ready_of_good {old} {new} {j} {k} called = ready_parts (is_ready new j) (is_readable (slot_state new j) k) (read_answered old new j k got.Good called)
+  where
+    ready_parts : (ready readable : Bool) → got.Good ≡ (if ready then (if readable then got.Good else got.Bad) else got.Gone) → ready ≡ true
+    ready_parts true readable is = refl
+    ready_parts false readable is = absurd (cc)
+
+ready_of_bad : {old new : List Happening} {j k : ℕ} → Calls old new j (Read k got.Bad) → is_ready new j ≡ true
+ready_of_bad {old} {new} {j} {k} called = ready_parts (is_ready new j) (is_readable (slot_state new j) k) (read_answered old new j k got.Bad called)
+  where
+    ready_parts : (ready readable : Bool) → got.Bad ≡ (if ready then (if readable then got.Good else got.Bad) else got.Gone) → ready ≡ true
+    ready_parts true readable is = refl
+    ready_parts false readable is = absurd (cc)
+
+-- what a sector that read as bad holds at the end of the read
+bad_now : {old new : List Happening} {j k : ℕ} → IsHistory old → Calls old new j (Read k got.Bad) → is_good (content ((slot_state new j).sector k)) ≡ false
+bad_now {old} {new} {j} {k} is called =
+    let tidy = history_tidy (history_called is called) in
+    elim (cases_Bool (has_sector (slot_state new j).size k)) [
+      | inl has ↦
+          and-false (has_sector (slot_state new j).size k) (is_good (content ((slot_state new j).sector k))) (read_bad old new j k called).0 has
+      | inr past ↦ ap (λ s. is_good (content s)) (tidy.past_end j k past)
+    ]
+
+module _ (honest : Bool) (old new : List Happening) (bads bads' : ℕ) (gones gones' : ℕ → ℕ) (j k : ℕ) where
+  pub judged_good : (bytes : List ℕ) (o : Option Superblock) → (IsTrue honest → Calls old new j (Read k got.Good))
+      → (IsTrue honest → content ((slot_state new j).sector k) ≡ Good bytes) → IfSome o (λ s. SpellsSuperblock bytes s)
+      → (o ≡ None → (s : Superblock) → ¬ SpellsSuperblock bytes s)
+      → IsJudged j k (telling honest old bads gones) (telling honest new bads' gones') (is_some o)
+  judged_good bytes o told good spells none = record {
+    cell = Good bytes;
+    reading = λ is. was_read_good (λ cell. cell ≡ Good bytes) (told is) (good is);
+    holds = super_of bytes o spells;
+    bare = λ off s holds. none (none_of o off) s (spells_of bytes s holds);
+    ready = λ is. ready_of_good (told is);
+    now = λ is off s holds.
+        none (none_of o off) s (spells_of bytes s (subst (λ cell. HoldsSuper cell s) (good is) holds));
+  }
+
+  pub judged_bad : (IsTrue honest → IsHistory old) → (IsTrue honest → Calls old new j (Read k got.Bad)) → Rose bads bads'
+      → IsJudged j k (telling honest old bads gones) (telling honest new bads' gones') false
+  judged_bad began told rose = record {
+    cell = Damaged;
+    reading = (rose, λ is. was_read_bad (began is) (told is));
+    holds = λ is. absurd (false≢true is);
+    bare = λ off s. no_super Damaged s refl;
+    ready = λ is. ready_of_bad (told is);
+    now = λ is off s. no_super (content ((slot_state new j).sector k)) s (bad_now (began is) (told is));
+  }
+
+  pub gone_to_read : (IsTrue honest → Calls old new j (Read k got.Gone)) → Rose (gones j) (gones' j)
+      → WasGoneToRead j (telling honest old bads gones) (telling honest new bads' gones')
+  gone_to_read told rose = record { gone = rose; unready = λ is. was_read_gone (told is) }
+
+-- BOTH PLACES
+
+-- the cell of each place, by its number
+abbrev pub both : Cell → Cell → ℕ → Cell
+both first second k = if k == 0 then first else second
+
+place_cases : (k : ℕ) → k < 2 → (k ≡ 0) ⊎ (k ≡ 1)
+place_cases k below = elim (cases_eq k 0) [ inl is ↦ inl is | inr other ↦ inr (omega arith) ]
+
+module _ (honest : Bool) (old mid new : List Happening) (bads bads' bads'' : ℕ) (gones gones' gones'' : ℕ → ℕ) (j : ℕ) (x y : Bool)
+    (a : IsJudged j 0 (telling honest old bads gones) (telling honest mid bads' gones') x)
+    (b : IsJudged j 1 (telling honest mid bads' gones') (telling honest new bads'' gones'') y) (began : IsTrue honest → IsHistory old)
+    (ran : IsTrue honest → Ran (IsReadOf j) old mid) (ran' : IsTrue honest → Ran (IsReadOf j) mid new) (counts : NoneFalls bads bads' gones gones')
+    (counts' : NoneFalls bads' bads'' gones' gones'') where
+  first_later : IsLater (telling honest old bads gones) (telling honest mid bads' gones')
+  first_later = record { counts = counts; honest = refl; ran = λ is. ran_any (ran is) }
+
+  second_later : IsLater (telling honest mid bads' gones') (telling honest new bads'' gones'')
+  second_later = record { counts = counts'; honest = refl; ran = λ is. ran_any (ran' is) }
+
+  readings : (k : ℕ) → k < 2 → IsReading j k (telling honest old bads gones) (telling honest new bads'' gones'') (both a.cell b.cell k)
+  readings k below =
+      elim (place_cases k below) [
+        | inl is ↦
+            subst (λ l. IsReading j l (telling honest old bads gones) (telling honest new bads'' gones'') (both a.cell b.cell l)) (sym is)
+            (reading_wider (telling honest old bads gones) (telling honest old bads gones) (telling honest mid bads' gones')
+            (telling honest new bads'' gones'') (later_none (telling honest old bads gones)) refl counts second_later j 0 a.cell a.reading)
+        | inr is ↦
+            subst (λ l. IsReading j l (telling honest old bads gones) (telling honest new bads'' gones'') (both a.cell b.cell l)) (sym is)
+            (reading_wider (telling honest old bads gones) (telling honest mid bads' gones') (telling honest new bads'' gones'')
+            (telling honest new bads'' gones'') first_later refl counts' (later_none (telling honest new bads'' gones'')) j 1 b.cell b.reading)
+      ]
+
+  -- the slot is in use from the one read to the other, so the first place holds what it held, or is damaged
+  first_still : IsTrue honest → ((s : Superblock) → ¬ HoldsSuper (content ((slot_state mid j).sector 0)) s)
+      → (s : Superblock) → ¬ HoldsSuper (content ((slot_state new j).sector 0)) s
+  first_still is none s = judged (kept_on some)
+    where
+      same : Sector → Type 0
+      same t = t ≡ (slot_state mid j).sector 0
+
+      some : IsSome (slot_state mid j).size
+      some =
+          (history_tidy (history_on {allowed = IsReadOf j} (began is) (ran is))).attached j
+          (and-true_left (slot_state mid j).attached (not (stopped mid)) (a.ready is))
+
+      kept_on : IsSome (slot_state mid j).size → ButForOutside mid new j 0 same
+      kept_on some =
+          kept {allowed = IsReadOf j} {P = λ h. ButForOutside mid h j 0 same}
+          (keeps_sector {allowed = IsReadOf j} {j = j} {k = 0} {P = same} (slot_state mid j).pulls
+          (SectorKeeps-looking {allowed = IsReadOf j} j 0 same (reads_looking j j))) (ran' is) (IsKept-now mid j 0 some)
+
+      judged : ButForOutside mid new j 0 same → ¬ HoldsSuper (content ((slot_state new j).sector 0)) s
+      judged (Here pulls some' (inl damage)) holds = no_super (content ((slot_state new j).sector 0)) s (ap (λ t. is_good (content t)) damage) holds
+      judged (Here pulls some' (inr still)) holds = none s (subst (λ t. HoldsSuper (content t) s) still holds)
+      judged (Lost pulled) holds = ready_unpulled {allowed = IsReadOf j} j (λ c is'. reads_beside j j c is') (ran' is) (b.ready is) pulled
+
+  bare_at_end : IsTrue honest → x ≡ false → y ≡ false → ¬ HasSuper (cells_at new j)
+  bare_at_end is off off' has =
+      elim (place_cases has.place has.place_in) [
+        | inl at ↦ first_still is (a.now is off) has.super (subst (λ k. HoldsSuper (cells_at new j k) has.super) at has.holds)
+        | inr at ↦ b.now is off' has.super (subst (λ k. HoldsSuper (cells_at new j k) has.super) at has.holds)
+      ]
+
+  has_first : x ≡ true → HasSuper (both a.cell b.cell)
+  has_first on = record { place = 0; place_in = omega arith; super = (a.holds on).0; holds = (a.holds on).1 }
+
+  has_second : y ≡ true → HasSuper (both a.cell b.cell)
+  has_second on = record { place = 1; place_in = omega arith; super = (b.holds on).0; holds = (b.holds on).1 }
+
+  has_none : x ≡ false → y ≡ false → ¬ HasSuper (both a.cell b.cell)
+  has_none off off' has =
+      elim (place_cases has.place has.place_in) [
+        | inl at ↦ a.bare off has.super (subst (λ k. HoldsSuper (both a.cell b.cell k) has.super) at has.holds)
+        | inr at ↦ b.bare off' has.super (subst (λ k. HoldsSuper (both a.cell b.cell k) has.super) at has.holds)
+      ]
+
+  bare_at_some : IsBare j (telling honest old bads gones) (telling honest new bads'' gones'') (both a.cell b.cell)
+  bare_at_some none is =
+      let first : x ≡ false = elim (cases_Bool x) [ inl on ↦ absurd (none (has_first on)) | inr off ↦ off ] in
+      let second : y ≡ false = elim (cases_Bool y) [ inl on ↦ absurd (none (has_second on)) | inr off ↦ off ] in
+      at_end {a = any_call} {P = λ h. ¬ HasSuper (cells_at h j)} (ran_join (ran_any (ran is)) (ran_any (ran' is))) (bare_at_end is first second)
+
+  judged_both : (has : Bool) → (has ≡ true → HasSuper (both a.cell b.cell)) → (has ≡ false → ¬ HasSuper (both a.cell b.cell))
+      → AreJudged j (telling honest old bads gones) (telling honest new bads'' gones'') has
+  judged_both has on off = record { cell = both a.cell b.cell; reading = readings; holds = on; bare = off; moment = bare_at_some }
+
+  pub judged_first : x ≡ true → AreJudged j (telling honest old bads gones) (telling honest new bads'' gones'') true
+  judged_first on = judged_both true (λ is. has_first on) (λ is. absurd (true≢false is))
+
+  pub judged_second : y ≡ true → AreJudged j (telling honest old bads gones) (telling honest new bads'' gones'') true
+  judged_second on = judged_both true (λ is. has_second on) (λ is. absurd (true≢false is))
+
+  pub judged_none : x ≡ false → y ≡ false → AreJudged j (telling honest old bads gones) (telling honest new bads'' gones'') false
+  judged_none off off' = judged_both false (λ is. absurd (false≢true is)) (λ is. has_none off off')
+
+-- A SLOT OF THE ARRAY
+
+-- a call is a later moment
+pub later_called : (honest : Bool) (old new : List Happening) (bads bads' : ℕ) (gones gones' : ℕ → ℕ) (j : ℕ) (c : SlotCall)
+    → (IsTrue honest → Calls old new j c) → NoneFalls bads bads' gones gones' → IsLater (telling honest old bads gones) (telling honest new bads' gones')
+later_called honest old new bads bads' gones gones' j c told counts =
+    record { counts = counts; honest = refl; ran = λ is. ran_any {allowed = IsThis j c} (calls_ran (told is)) }
+
+-- so are reads of a slot
+pub later_read : (honest : Bool) (old new : List Happening) (bads bads' : ℕ) (gones gones' : ℕ → ℕ) (j : ℕ) → (IsTrue honest → Ran (IsReadOf j) old new)
+    → NoneFalls bads bads' gones gones' → IsLater (telling honest old bads gones) (telling honest new bads' gones')
+later_read honest old new bads bads' gones gones' j ran counts = record { counts = counts; honest = refl; ran = λ is. ran_any (ran is) }
+
+-- an attach that finds the medium is told: the slot is attached
+pub attach_uses : {old new : List Happening} {j : ℕ} → Calls old new j (Attach reply.Done) → (slot_state new j).attached ≡ true
+attach_uses {old} {new} {j} (Told acts runs answered is) =
+    ap (λ (b : SlotState). b.attached) (ap (λ h. slot_state h j) is ∙ slot_after_call (acts ++ old) j (Attach reply.Done))
+attach_uses {old} {new} {j} (Untold acts runs answered is_stopped nothing is) =
+    let gone : reply.Done ≡ reply.Gone = refused (acts ++ old) j (Attach reply.Done) is_stopped answered in
+    absurd (cc)
+
+-- gone at its attach
+pub gone_attach : (g : Geometry) (honest : Bool) (old new : List Happening) (bads bads' : ℕ) (gones gones' : ℕ → ℕ) (j : ℕ)
+    → (IsTrue honest → Calls old new j (Attach reply.Gone)) → Rose (gones j) (gones' j)
+    → IsFound g j (telling honest old bads gones) (telling honest new bads' gones') WasGone
+gone_attach g honest old new bads bads' gones gones' j told rose = (
+  rose,
+  λ is.
+      at_end {a = IsThis j (Attach reply.Gone)} {P = λ h. IsOffline old h j} (calls_ran (told is))
+      (elim (attach_gone old new j (told is)) [ inl none ↦ IsOffline.NoMedium none | inr stop ↦ IsOffline.RackStopped stop ]),
+)
+
+-- After its attach: gone at a call of this stretch.
+pub gone_after : (g : Geometry) (honest : Bool) (old mid new : List Happening) (bads bads' bads'' : ℕ) (gones gones' gones'' : ℕ → ℕ) (j : ℕ)
+    → IsLater (telling honest old bads gones) (telling honest mid bads' gones')
+    → IsLater (telling honest mid bads' gones') (telling honest new bads'' gones'') → Rose (gones' j) (gones'' j)
+    → (IsTrue honest → IsOffline old new j) → IsFound g j (telling honest old bads gones) (telling honest new bads'' gones'') WasGone
+gone_after g honest old mid new bads bads' bads'' gones gones' gones'' j first second rose offline = (
+  kept-Rose (gones j) (gones' j) (gones'' j) (first.counts.gone j).not_less (second.counts.gone j).not_less rose,
+  λ is. at_end {a = any_call} {P = λ h. IsOffline old h j} (ran_join (first.ran is) (second.ran is)) (offline is),
+)
+
+module _ (old att : List Happening) (j : ℕ) (attached : Calls old att j (Attach reply.Done)) where
+  held_from : IsHeld old att j
+  held_from = attach_done old att j old (omega arith) attached
+
+  pub offline_at_sync : {new : List Happening} → Calls att new j (Sync reply.Gone) → IsOffline old new j
+  offline_at_sync {new} synced = offline_now (sync_gone att new j old synced held_from)
+
+  pub offline_at_read : {now new : List Happening} → Ran (IsNoAttach j) att now → Ran (IsReadOf j) now new → is_ready new j ≡ false → IsOffline old new j
+  offline_at_read {now} {new} ran reads unready =
+      offline_now (offline_from_unready (held_on {allowed = any_call} j (ran_join (ran_any ran) (ran_any reads)) held_from) unready)
+
+  -- what `sectors` answered is the size of the medium that was attached
+  size_was : {now next : List Happening} (has : ℕ) → Ran (IsNoAttach j) att now → Calls now next j (Sectors has) → (slot_state att j).size ≡ Some has
+  size_was {now} {next} has ran called = attach_found old att j attached ∙ ap Some (sym (sectors_of_last att now next j has ran called))
+
+  had_sectors : {now next new : List Happening} (has : ℕ) → Ran (IsNoAttach j) att now → Calls now next j (Sectors has) → Ran any_call next new
+      → HadSectors j has old new
+  had_sectors {now} {next} {new} has ran called later =
+      let after : Ran any_call att new = ran_join (ran_any ran) (ran_join (ran_any {allowed = IsThis j (Sectors has)} (calls_ran called)) later) in
+      record {
+        moment = att;
+        is_one = moment_between {a = IsThis j (Attach reply.Done)} {b = any_call} (calls_ran attached) after;
+        holds = size_was has ran called;
+      }
+
+  large_from : {now next : List Happening} (g : Geometry) (has : ℕ) → Ran (IsNoAttach j) att now → Calls now next j (Sectors has) → sectors_needed g ≤ has
+      → IsLargeEnough g (slot_state att j).size
+  large_from g has ran called enough k below =
+      subst (λ size. IsTrue (has_sector size k)) (sym (size_was has ran called)) (lt-ltb k has (omega (arith, below, enough)))
+
+  pub taken_from : {now next new : List Happening} (g : Geometry) (has : ℕ) → Ran (IsNoAttach j) att now → Calls now next j (Sectors has)
+      → sectors_needed g ≤ has → Ran (IsNoAttach j) next new → IsHistory att → IsTaken g j old new
+  taken_from {now} {next} {new} g has ran called enough later history = record {
+    taken = att;
+    history = history;
+    before = ran_any {allowed = IsThis j (Attach reply.Done)} (calls_ran attached);
+    since = ran_join ran (ran_join (call_no_attach tt called) later);
+    in_use = attach_uses attached;
+    large = large_from g has ran called enough;
+  }
+
+-- WHAT IS FOUND
+
+-- What a search tells is a finding of the whole look.
+searched_as : (g : Geometry) (j : ℕ) (old mid new : Telling) (result : Found) → IsLater old mid → IsLater mid new
+    → (WasGoneToRead j mid new → IsFound g j old new WasGone) → IsLarge g j old new → IsSearched j mid new result → IsFoundAs g j old new result
+searched_as g j old mid new found.Gone first second gone large was = gone was
+searched_as g j old mid new (found.Small has) first second gone large was = absurd was
+searched_as g j old mid new found.Bare first second gone large was = (
+  was.cell,
+  (
+    λ k below. reading_wider old mid new new first second.honest second.counts (later_none new) j k (was.cell k) (was.reading k below),
+    large,
+    bare_wider old mid new new first second.honest second.counts (later_none new) j was.cell was.moment,
+  ),
+  was.bare refl,
+)
+searched_as g j old mid new found.Super first second gone large was = (
+  was.cell,
+  (
+    λ k below. reading_wider old mid new new first second.honest second.counts (later_none new) j k (was.cell k) (was.reading k below),
+    large,
+    bare_wider old mid new new first second.honest second.counts (later_none new) j was.cell was.moment,
+  ),
+  was.holds refl,
+)
+
+module _ (g : Geometry) (honest : Bool) (old att : List Happening) (bads bads' : ℕ) (gones gones' : ℕ → ℕ) (j : ℕ)
+    (attached : IsTrue honest → Calls old att j (Attach reply.Done)) (counts : NoneFalls bads bads' gones gones') where
+  att_later : IsLater (telling honest old bads gones) (telling honest att bads' gones')
+  att_later = later_called honest old att bads bads' gones gones' j (Attach reply.Done) attached counts
+
+  -- a slot that isn't the array's
+  pub found_other : (new : List Happening) (bads'' : ℕ) (gones'' : ℕ → ℕ) (result : Found) → g.n ≤ j → (IsTrue honest → Ran (IsReadOf j) att new)
+      → NoneFalls bads' bads'' gones' gones'' → IsSearched j (telling honest att bads' gones') (telling honest new bads'' gones'') result
+      → IsFoundAs g j (telling honest old bads gones) (telling honest new bads'' gones'') result
+  found_other new bads'' gones'' result past ran counts' was =
+      searched_as g j (telling honest old bads gones) (telling honest att bads' gones') (telling honest new bads'' gones'') result att_later
+      (later_read honest att new bads' bads'' gones' gones'' j ran counts')
+      (λ lost.
+      gone_after g honest old att new bads bads' bads'' gones gones' gones'' j att_later
+      (later_read honest att new bads' bads'' gones' gones'' j ran counts') lost.gone
+      (λ is. offline_at_read old att j (attached is) (ran_none att) (ran is) (lost.unready is))) (λ below is. absurd (omega (arith, past, below))) was
+
+  -- a slot of the array that is gone to its sync
+  pub found_unsynced : (new : List Happening) (bads'' : ℕ) (gones'' : ℕ → ℕ) → (IsTrue honest → Calls att new j (Sync reply.Gone))
+      → NoneFalls bads' bads'' gones' gones'' → Rose (gones' j) (gones'' j)
+      → IsFound g j (telling honest old bads gones) (telling honest new bads'' gones'') WasGone
+  found_unsynced new bads'' gones'' synced counts' rose =
+      gone_after g honest old att new bads bads' bads'' gones gones' gones'' j att_later
+      (later_called honest att new bads' bads'' gones' gones'' j (Sync reply.Gone) synced counts') rose
+      (λ is. offline_at_sync old att j (attached is) (synced is))
+
+  -- one that was synced, and answered its sectors
+  module _ (syn sec : List Happening) (bads₁ bads₂ : ℕ) (gones₁ gones₂ : ℕ → ℕ) (has : ℕ) (synced : IsTrue honest → Calls att syn j (Sync reply.Done))
+      (counts₁ : NoneFalls bads' bads₁ gones' gones₁) (measured : IsTrue honest → Calls syn sec j (Sectors has))
+      (counts₂ : NoneFalls bads₁ bads₂ gones₁ gones₂) (below : j < g.n) where
+    syn_ran : IsTrue honest → Ran (IsNoAttach j) att syn
+    syn_ran is = call_no_attach tt (synced is)
+
+    sec_later : IsLater (telling honest old bads gones) (telling honest sec bads₂ gones₂)
+    sec_later =
+        later_join att_later
+        (later_join (later_called honest att syn bads' bads₁ gones' gones₁ j (Sync reply.Done) synced counts₁)
+        (later_called honest syn sec bads₁ bads₂ gones₁ gones₂ j (Sectors has) measured counts₂))
+
+    pub found_small : has < sectors_needed g → IsFound g j (telling honest old bads gones) (telling honest sec bads₂ gones₂) (WasSmall has)
+    found_small small =
+        (below, small, λ is. had_sectors old att j (attached is) has (syn_ran is) (measured is) (ran_none sec))
+
+    pub found_own : (new : List Happening) (bads'' : ℕ) (gones'' : ℕ → ℕ) (result : Found) → sectors_needed g ≤ has
+        → (IsTrue honest → Ran (IsReadOf j) sec new) → NoneFalls bads₂ bads'' gones₂ gones''
+        → IsSearched j (telling honest sec bads₂ gones₂) (telling honest new bads'' gones'') result
+        → IsFoundAs g j (telling honest old bads gones) (telling honest new bads'' gones'') result
+    found_own new bads'' gones'' result enough ran counts' was =
+        searched_as g j (telling honest old bads gones) (telling honest sec bads₂ gones₂) (telling honest new bads'' gones'') result sec_later
+        (later_read honest sec new bads₂ bads'' gones₂ gones'' j ran counts')
+        (λ lost.
+        gone_after g honest old sec new bads bads₂ bads'' gones gones₂ gones'' j sec_later
+        (later_read honest sec new bads₂ bads'' gones₂ gones'' j ran counts') lost.gone
+        (λ is.
+        offline_at_read old att j (attached is) (ran_join (syn_ran is) (call_no_attach tt (measured is))) (ran is) (lost.unready is)))
+        (λ within is. (has, enough, had_sectors old att j (attached is) has (syn_ran is) (measured is) (ran_any (ran is)))) was
+
+    pub taken_own : (new : List Happening) → sectors_needed g ≤ has → IsTrue honest → Ran (IsReadOf j) sec new → IsHistory att
+        → IsTaken g j old new
+    taken_own new enough is ran history =
+        taken_from old att j (attached is) g has (syn_ran is) (measured is) enough (reads_no_attach ran) history
+
+-- ALL SLOTS
+
+-- a slot that was taken is so in each longer stretch in which it isn't attached anew
+pub taken_on : {g : Geometry} {j : ℕ} {old mid new : List Happening} → IsTaken g j old mid → Ran (IsNoAttach j) mid new → IsTaken g j old new
+taken_on {j = j} t ran =
+    record { taken = t.taken; history = t.history; before = t.before; since = ran_join {allowed = IsNoAttach j} t.since ran; in_use = t.in_use; large = t.large }
+
+pub taken_sooner : {g : Geometry} {j : ℕ} {old mid new : List Happening} → Ran any_call old mid → IsTaken g j mid new → IsTaken g j old new
+taken_sooner ran t = record { taken = t.taken; history = t.history; before = ran_join ran t.before; since = t.since; in_use = t.in_use; large = t.large }
+
+-- The slots below this one passed.
+pub record LookedSoFar (g : Geometry) (i : ℕ) (old now : Telling) : Type 0 where
+  pub each : (j : ℕ) → j < i → Passed g j old now
+  pub taken : IsTrue now.honest → (j : ℕ) → j < i → j < g.n → IsTaken g j old.history now.history
+  pub ran : IsTrue now.honest → Ran IsLook old.history now.history
+  pub counts : NoneFalls old.bads now.bads old.gones now.gones
+
+pub looked_none : (g : Geometry) (now : Telling) → LookedSoFar g 0 now now
+looked_none g now = record {
+  each = λ j below. absurd (omega arith);
+  taken = λ is j below. absurd (omega arith);
+  ran = λ is. ran_none now.history;
+  counts = NoneFalls-same now.bads now.gones;
+}
+
+pub look_any : {old new : List Happening} {j : ℕ} → Ran (IsLookAt j) old new → Ran IsLook old new
+look_any {j = j} ran = ran_weakened {allowed = IsLookAt j} {more = IsLook} (λ i c is. is.1) ran
+
+-- nothing was written by looks
+pub looks_unwritten : {old new : List Happening} → Ran IsLook old new → NothingWritten old new
+looks_unwritten ran = none_written {allowed = IsLook} {slots = every_slot} (λ j c is on. is) ran
+
+module _ (g : Geometry) (i : ℕ) (honest : Bool) (old now next : List Happening) (bads bads' bads'' : ℕ) (gones gones' gones'' : ℕ → ℕ)
+    (so_far : LookedSoFar g i (telling honest old bads gones) (telling honest now bads' gones')) (ran : IsTrue honest → Ran (IsLookAt i) now next)
+    (counts : NoneFalls bads' bads'' gones' gones'') where
+  so_far_later : IsLater (telling honest old bads gones) (telling honest now bads' gones')
+  so_far_later = record { counts = so_far.counts; honest = refl; ran = λ is. ran_any {allowed = IsLook} (so_far.ran is) }
+
+  next_later : IsLater (telling honest now bads' gones') (telling honest next bads'' gones'')
+  next_later = record { counts = counts; honest = refl; ran = λ is. ran_any {allowed = IsLookAt i} (ran is) }
+
+  still_passed : (j : ℕ) → j < i → Passed g j (telling honest old bads gones) (telling honest next bads'' gones'')
+  still_passed j below =
+      passed_wider (telling honest old bads gones) (telling honest old bads gones) (telling honest now bads' gones') (telling honest next bads'' gones'')
+      (later_none (telling honest old bads gones)) refl so_far.counts next_later g j (so_far.each j below)
+
+  ran_next : IsTrue honest → Ran IsLook old next
+  ran_next is = ran_join (so_far.ran is) (look_any (ran is))
+
+  pub looked_more : Passed g i (telling honest now bads' gones') (telling honest next bads'' gones'')
+      → (IsTrue honest → i < g.n → IsTaken g i now next)
+      → LookedSoFar g (i + 1) (telling honest old bads gones) (telling honest next bads'' gones'')
+  looked_more passed taken = record {
+    each =
+        below_more (λ j. Passed g j (telling honest old bads gones) (telling honest next bads'' gones'')) i still_passed
+        (passed_wider (telling honest old bads gones) (telling honest now bads' gones') (telling honest next bads'' gones'')
+        (telling honest next bads'' gones'') so_far_later refl counts (later_none (telling honest next bads'' gones'')) g i passed);
+    taken = λ is.
+        below_more (λ j. j < g.n → IsTaken g j old next) i
+        (λ j below within. taken_on (so_far.taken is j below within) (look_elsewhere j (omega arith) (ran is)))
+        (λ within. taken_sooner (ran_any {allowed = IsLook} (so_far.ran is)) (taken is within));
+    ran = ran_next;
+    counts = NoneFalls-then so_far.counts counts;
+  }
+
+  pub refused_here : (fault : CreateFault) → i < 32 → IsRefusedAt g fault i (telling honest now bads' gones') (telling honest next bads'' gones'')
+      → IsRefused g fault (telling honest old bads gones) (telling honest next bads'' gones'')
+  refused_here fault below was = record {
+    slot = i;
+    slot_in = below;
+    before = still_passed;
+    finding = was.finding;
+    found =
+        found_wider (telling honest old bads gones) (telling honest now bads' gones') (telling honest next bads'' gones'')
+        (telling honest next bads'' gones'') so_far_later refl counts (later_none (telling honest next bads'' gones'')) g i was.finding was.found;
+    refused = was.refused;
+    unwritten = λ is. looks_unwritten (ran_next is);
+  }

@@ -1,0 +1,85 @@
+-- The three stages, one after the other.
+use Rattle.std.proofs.Common.{inl, refl, arith}
+use Rattle.std.proofs.lemmas.Result.{err_from_is_err_and, on_ok_weaker}
+use Rattle.stair_rack.proofs.MomentLemmas.{ran_any}
+use Rattle.stair_rack.proofs.StretchLemmas.{each_join}
+use Rattle.stair_array.specs.Looking.{IsLater, IsNotCreated, Telling, telling}
+use Rattle.stair_array.specs.Making.{IsBehind, IsPlace, IsStoppedBy, NoneCame}
+use Rattle.stair_array.proofs.CreateLemmas.{all_finished, came_after, given_up, laying_no_place, looks_no_place, looks_spare, making_spares, on_err}
+use Rattle.stair_array.proofs.CreatesLemmas.{ends_so, is_made, not_created}
+use Rattle.stair_array.proofs.DeviceLemmas.{making_no_attach}
+use Rattle.stair_array.proofs.LookLemmas.{later_join, later_none, taken_on}
+use Rattle.stair_array.proofs.new_array.create.Goals as goal
+
+-- a slot was refused before anything was written
+pub returns-in_err-look_at_all : goal.returns-in_err-look_at_all
+returns-in_err-look_at_all g c =
+    let tell : g.row.R.Denot → Telling =
+    λ rack. telling g.R.Rack.is_honest (g.R.Rack.history rack) (g.R.Rack.bads rack) (g.R.Rack.gones rack) in
+    let of = c.args.geometry.now in
+    let later : IsLater (tell c.args.rack.now) (tell c.look_at_all.new.rack) =
+    record { counts = c.look_at_all.ensures.counts; honest = refl; ran = λ honest. ran_any (c.look_at_all.ensures.ran honest) } in
+    let p = err_from_is_err_and c.from_residual.result c.from_residual.ensures.1 in
+    rw (p.1, p.2)
+    (not_created of _ (tell c.args.rack.now) (tell c.look_at_all.new.rack) (inl c.in_err-look_at_all.ensures.refused) later
+    (λ honest. looks_spare of (c.look_at_all.ensures.ran honest)) (λ honest. NoneCame (looks_no_place (c.look_at_all.ensures.ran honest))))
+
+-- a slot was gone while the devices were laid out
+pub returns-in_err-lay_out_all : goal.returns-in_err-lay_out_all
+returns-in_err-lay_out_all g c =
+    let tell : g.row.R.Denot → Telling =
+    λ rack. telling g.R.Rack.is_honest (g.R.Rack.history rack) (g.R.Rack.bads rack) (g.R.Rack.gones rack) in
+    let of = c.args.geometry.now in
+    let old = tell c.args.rack.now in
+    let looked = tell c.look_at_all.new.rack in
+    let laid = tell c.lay_out_all.new.rack in
+    let first : IsLater old looked =
+    record { counts = c.look_at_all.ensures.counts; honest = refl; ran = λ honest. ran_any (c.look_at_all.ensures.ran honest) } in
+    let second : IsLater looked laid =
+    record { counts = c.lay_out_all.ensures.counts; honest = refl; ran = λ honest. ran_any (c.lay_out_all.ensures.ran honest) } in
+    let p = err_from_is_err_and c.from_residual-in_err-lay_out_all.result c.from_residual-in_err-lay_out_all.ensures.1 in
+    rw (p.1, p.2)
+    (not_created of _ old laid
+    (given_up of c.in_err-lay_out_all.field-0.0 old looked looked laid c.in_ok-look_at_all.ensures.passed (later_none looked) second second
+    (λ honest j below. c.in_ok-look_at_all.ensures.taken honest j (omega (arith, below, c.lay_out_all.ensures.limits.devices)) below)
+    c.in_err-lay_out_all.ensures.gone) (later_join first second)
+    (λ honest. each_join (looks_spare of (c.look_at_all.ensures.ran honest)) (making_spares of IsBehind (c.lay_out_all.ensures.ran honest)))
+    (λ honest. NoneCame (each_join (looks_no_place (c.look_at_all.ensures.ran honest)) (laying_no_place (c.lay_out_all.ensures.ran honest)))))
+
+pub returns : goal.returns
+returns g c =
+    let tell : g.row.R.Denot → Telling =
+    λ rack. telling g.R.Rack.is_honest (g.R.Rack.history rack) (g.R.Rack.bads rack) (g.R.Rack.gones rack) in
+    let of = c.args.geometry.now in
+    let old = tell c.args.rack.now in
+    let looked = tell c.look_at_all.new.rack in
+    let laid = tell c.lay_out_all.new.rack in
+    let new = tell c.enrol_all.new.rack in
+    let first : IsLater old looked =
+    record { counts = c.look_at_all.ensures.counts; honest = refl; ran = λ honest. ran_any (c.look_at_all.ensures.ran honest) } in
+    let second : IsLater looked laid =
+    record { counts = c.lay_out_all.ensures.counts; honest = refl; ran = λ honest. ran_any (c.lay_out_all.ensures.ran honest) } in
+    let third : IsLater laid new =
+    record { counts = c.enrol_all.ensures.counts; honest = refl; ran = λ honest. ran_any (c.enrol_all.ensures.ran honest) } in
+    let written = later_join second third in
+    ends_so of c.enrol_all.result old new
+    (on_err c.enrol_all.result (λ fault. IsStoppedBy of fault laid new) (λ fault. IsNotCreated of fault old new) c.enrol_all.ensures.gone
+    (λ fault is.
+    given_up of fault old looked laid new c.in_ok-look_at_all.ensures.passed second third written
+    (λ honest j below.
+    taken_on (c.in_ok-look_at_all.ensures.taken honest j (omega (arith, below, c.lay_out_all.ensures.limits.devices)) below)
+    (making_no_attach j (c.lay_out_all.ensures.ran honest))) is))
+    (record { mid = looked; passed = c.in_ok-look_at_all.ensures.passed; later = written }) (later_join first written)
+    (λ honest.
+    each_join (looks_spare of (c.look_at_all.ensures.ran honest))
+    (each_join (making_spares of IsBehind (c.lay_out_all.ensures.ran honest)) (making_spares of IsPlace (c.enrol_all.ensures.ran honest))))
+    (λ honest.
+    came_after of old.history looked.history laid.history new.history c.lay_out_all.ensures.limits (c.in_ok-look_at_all.ensures.taken honest)
+    (c.in_ok-lay_out_all.ensures.made honest) (c.look_at_all.ensures.ran honest) (c.lay_out_all.ensures.ran honest) (c.enrol_all.ensures.ran honest))
+    (λ honest.
+    on_ok_weaker c.enrol_all.result
+    (λ made.
+    is_made of old.history new.history c.lay_out_all.ensures.limits c.enrol_all.ensures.id
+    (all_finished of old.history looked.history laid.history new.history c.lay_out_all.ensures.limits (c.in_ok-look_at_all.ensures.taken honest)
+    (c.in_ok-lay_out_all.ensures.made honest) (c.lay_out_all.ensures.ran honest) (c.enrol_all.ensures.ran honest) made))
+    (c.enrol_all.ensures.made honest))

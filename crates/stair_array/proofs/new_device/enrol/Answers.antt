@@ -1,0 +1,53 @@
+-- The one place, and then the other.
+use Rattle.std.proofs.Common.{◌≡◌, ap, subst, sym, ◌∙◌, arith}
+use Rattle.stair_rack.specs.declared.rack.Reply.TheVariants as reply
+use Rattle.stair_rack.proofs.MomentLemmas.{ran_join, ran_none}
+use Rattle.stair_rack.proofs.PassCounts.{Done-compared, Gone-compared, NoneFalls-same}
+use Rattle.stair_super.specs.Spelling.{spelled}
+use Rattle.stair_super.specs.Superblock.{IsWellFormed, superblock_of}
+use Rattle.stair_super.specs.declared.configuration.Configuration.{Configuration}
+use Rattle.stair_array.specs.Created.{first_super}
+use Rattle.stair_array.specs.Looking.{telling}
+use Rattle.stair_array.proofs.CreatedLemmas.{first_formed}
+use Rattle.stair_array.proofs.DeviceLemmas.{place_gone, place_ran, places_made}
+use Rattle.stair_array.proofs.new_device.enrol.Goals as goal
+
+pub new-requires : goal.new-requires
+new-requires g c =
+    subst (λ (array : Configuration). IsWellFormed (superblock_of array c.args.slot 1 1)) (sym c.requires.first)
+    (first_formed c.args.array.now.geometry c.args.slot c.requires.limits c.requires.slot_in)
+
+pub returns-then-eq-clause-gone : goal.returns-then-eq-clause-gone
+returns-then-eq-clause-gone g c is =
+    let gone : c.write_through.result ≡ reply.Gone = Gone-compared c.write_through.result (sym c.eq.ensures ∙ c.if-eq.true) in
+    place_gone c.args.array.now.geometry c.args.slot 0 c.write_super-block.result c.write_through.result (telling g.R.Rack.is_honest (g.R.Rack.history c.args.rack.now) (g.R.Rack.bads c.args.rack.now) (g.R.Rack.gones c.args.rack.now))
+    (telling g.R.Rack.is_honest (g.R.Rack.history c.args.rack.now) (g.R.Rack.bads c.args.rack.now) (g.R.Rack.gones c.args.rack.now))
+    (telling g.R.Rack.is_honest (g.R.Rack.history c.write_through.new.rack) (g.R.Rack.bads c.write_through.new.rack) (g.R.Rack.gones c.write_through.new.rack)) (omega arith) gone (NoneFalls-same _ _) c.write_through.ensures.counts (c.write_through.ensures.gone gone)
+    (λ honest. ran_none _) c.write_through.ensures.told
+
+pub returns-then-eq-clause-ran : goal.returns-then-eq-clause-ran
+returns-then-eq-clause-ran g c honest =
+    place_ran c.args.slot 0 c.write_super-block.result c.write_through.result (omega arith) (c.write_through.ensures.told honest)
+
+pub returns-clause-made : goal.returns-clause-made
+returns-clause-made g c honest done' =
+    let done : c.write_through.result ≡ reply.Done = Done-compared c.write_through.result (sym c.eq.ensures ∙ c.if-eq.false) in
+    let text : c.write_super-block.result ≡ spelled (first_super c.args.array.now.geometry c.args.slot) =
+    c.write_super-block.ensures.text
+    ∙ ap spelled (c.new.ensures ∙ ap (λ (array : Configuration). superblock_of array c.args.slot 1 1) c.requires.first) in
+    places_made c.args.array.now.geometry c.args.slot c.write_super-block.result c.write_through.result c.write_through-2.result
+    (g.R.Rack.history c.args.rack.now) (g.R.Rack.history c.write_through.new.rack) (g.R.Rack.history c.write_through-2.new.rack) text done done'
+    (c.write_through.ensures.told honest) (c.write_through-2.ensures.told honest)
+
+pub returns-clause-gone : goal.returns-clause-gone
+returns-clause-gone g c gone =
+    place_gone c.args.array.now.geometry c.args.slot 1 c.write_super-block.result c.write_through-2.result (telling g.R.Rack.is_honest (g.R.Rack.history c.args.rack.now) (g.R.Rack.bads c.args.rack.now) (g.R.Rack.gones c.args.rack.now))
+    (telling g.R.Rack.is_honest (g.R.Rack.history c.write_through.new.rack) (g.R.Rack.bads c.write_through.new.rack) (g.R.Rack.gones c.write_through.new.rack))
+    (telling g.R.Rack.is_honest (g.R.Rack.history c.write_through-2.new.rack) (g.R.Rack.bads c.write_through-2.new.rack) (g.R.Rack.gones c.write_through-2.new.rack)) (omega arith) gone c.write_through.ensures.counts c.write_through-2.ensures.counts (c.write_through-2.ensures.gone gone)
+    (λ honest. place_ran c.args.slot 0 c.write_super-block.result c.write_through.result (omega arith) (c.write_through.ensures.told honest))
+    c.write_through-2.ensures.told
+
+pub returns-clause-ran : goal.returns-clause-ran
+returns-clause-ran g c honest =
+    ran_join (place_ran c.args.slot 0 c.write_super-block.result c.write_through.result (omega arith) (c.write_through.ensures.told honest))
+    (place_ran c.args.slot 1 c.write_super-block.result c.write_through-2.result (omega arith) (c.write_through-2.ensures.told honest))

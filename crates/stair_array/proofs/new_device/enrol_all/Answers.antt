@@ -1,0 +1,73 @@
+-- Each turn gives the next slot's device its superblock.
+use Rattle.std.proofs.Common.{◌≡◌, ap, length, refl, subst, sym, ◌∙◌, arith}
+use Rattle.stair_model.specs.Geometry.{Geometry}
+use Rattle.stair_rack.specs.declared.rack.Reply.TheVariants as reply
+use Rattle.stair_rack.proofs.PassCounts.{Done-compared, Gone-compared, NoneFalls-then}
+use Rattle.stair_super.specs.declared.configuration.Configuration.{Configuration}
+use Rattle.stair_array.specs.Looking.{telling}
+use Rattle.stair_array.specs.Making.{AreMade, IsPlace, IsStoppedAt}
+use Rattle.stair_array.proofs.DeviceLemmas.{made_more, made_none, made_ran, made_stopped}
+use Rattle.stair_array.proofs.new_device.enrol_all.Goals as goal
+
+pub loop-slot-init : goal.loop-slot-init
+loop-slot-init g c = record { made = made_none _ _ _; id = λ begun. absurd (omega arith) }
+
+pub loop-slot-preserved : goal.loop-slot-preserved
+loop-slot-preserved g c =
+    let same : c.first_configuration-array.result.geometry ≡ c.args.geometry.now =
+    ap (λ (array : Configuration). array.geometry) c.first_configuration-array.ensures.value in
+    let done : c.enrol.result ≡ reply.Done = Done-compared c.enrol.result (sym c.eq.ensures ∙ c.if-eq.false) in
+    record {
+      made =
+          made_more c.args.geometry.now IsPlace c.loop-slot.slot (telling g.R.Rack.is_honest (g.R.Rack.history c.args.rack.now) (g.R.Rack.bads c.args.rack.now) (g.R.Rack.gones c.args.rack.now))
+          (telling g.R.Rack.is_honest (g.R.Rack.history c.loop-slot.rack) (g.R.Rack.bads c.loop-slot.rack) (g.R.Rack.gones c.loop-slot.rack))
+          (telling g.R.Rack.is_honest (g.R.Rack.history c.enrol.new.rack) (g.R.Rack.bads c.enrol.new.rack) (g.R.Rack.gones c.enrol.new.rack)) c.loop-slot.invariant.made refl
+          (rw c.n-slot-end.ensures.value at c.loop-slot-test.true) c.enrol.ensures.ran c.enrol.ensures.counts
+          (λ honest.
+          subst (λ (x : Geometry). AreMade x IsPlace c.loop-slot.slot (g.R.Rack.history c.loop-slot.rack) (g.R.Rack.history c.enrol.new.rack)) same
+          (c.enrol.ensures.made honest done));
+      id = λ begun. subst (λ (x : Geometry). length x.id ≡ 16) same c.enrol.ensures.id;
+    }
+
+pub returns-then-eq-clause-gone : goal.returns-then-eq-clause-gone
+returns-then-eq-clause-gone g c =
+    let same : c.first_configuration-array.result.geometry ≡ c.args.geometry.now =
+    ap (λ (array : Configuration). array.geometry) c.first_configuration-array.ensures.value in
+    let gone : c.enrol.result ≡ reply.Gone = Gone-compared c.enrol.result (sym c.eq.ensures ∙ c.if-eq.true) in
+    made_stopped c.args.geometry.now IsPlace c.loop-slot.slot (telling g.R.Rack.is_honest (g.R.Rack.history c.args.rack.now) (g.R.Rack.bads c.args.rack.now) (g.R.Rack.gones c.args.rack.now))
+    (telling g.R.Rack.is_honest (g.R.Rack.history c.loop-slot.rack) (g.R.Rack.bads c.loop-slot.rack) (g.R.Rack.gones c.loop-slot.rack))
+    (telling g.R.Rack.is_honest (g.R.Rack.history c.enrol.new.rack) (g.R.Rack.bads c.enrol.new.rack) (g.R.Rack.gones c.enrol.new.rack)) c.loop-slot.invariant.made refl
+    (rw c.n-slot-end.ensures.value at c.loop-slot-test.true) c.enrol.ensures.ran c.enrol.ensures.counts
+    (subst (λ (x : Geometry). IsStoppedAt x c.loop-slot.slot (telling g.R.Rack.is_honest (g.R.Rack.history c.loop-slot.rack) (g.R.Rack.bads c.loop-slot.rack) (g.R.Rack.gones c.loop-slot.rack))
+    (telling g.R.Rack.is_honest (g.R.Rack.history c.enrol.new.rack) (g.R.Rack.bads c.enrol.new.rack) (g.R.Rack.gones c.enrol.new.rack))) same (c.enrol.ensures.gone gone))
+
+pub returns-then-eq-clause-ran : goal.returns-then-eq-clause-ran
+returns-then-eq-clause-ran g c honest =
+    made_ran c.args.geometry.now IsPlace c.loop-slot.slot (telling g.R.Rack.is_honest (g.R.Rack.history c.args.rack.now) (g.R.Rack.bads c.args.rack.now) (g.R.Rack.gones c.args.rack.now))
+    (telling g.R.Rack.is_honest (g.R.Rack.history c.loop-slot.rack) (g.R.Rack.bads c.loop-slot.rack) (g.R.Rack.gones c.loop-slot.rack))
+    (telling g.R.Rack.is_honest (g.R.Rack.history c.enrol.new.rack) (g.R.Rack.bads c.enrol.new.rack) (g.R.Rack.gones c.enrol.new.rack)) c.loop-slot.invariant.made refl
+    (rw c.n-slot-end.ensures.value at c.loop-slot-test.true) c.enrol.ensures.ran c.enrol.ensures.counts
+    honest
+
+pub returns-then-eq-clause-counts : goal.returns-then-eq-clause-counts
+returns-then-eq-clause-counts g c = NoneFalls-then c.loop-slot.invariant.made.counts c.enrol.ensures.counts
+
+pub returns-then-eq-clause-id : goal.returns-then-eq-clause-id
+returns-then-eq-clause-id g c =
+    let same : c.first_configuration-array.result.geometry ≡ c.args.geometry.now =
+    ap (λ (array : Configuration). array.geometry) c.first_configuration-array.ensures.value in
+    subst (λ (x : Geometry). length x.id ≡ 16) same c.enrol.ensures.id
+
+pub returns-clause-made : goal.returns-clause-made
+returns-clause-made g c honest j below =
+    let all : c.loop-slot.slot ≡ c.args.geometry.now.n = omega (arith, c.n-slot-end.ensures.value) in
+    c.loop-slot.invariant.made.each honest j (omega (arith, all, below))
+
+pub returns-clause-ran : goal.returns-clause-ran
+returns-clause-ran g c = c.loop-slot.invariant.made.ran
+
+pub returns-clause-counts : goal.returns-clause-counts
+returns-clause-counts g c = c.loop-slot.invariant.made.counts
+
+pub returns-clause-id : goal.returns-clause-id
+returns-clause-id g c = c.loop-slot.invariant.id (omega (arith, c.n-slot-end.ensures.value, c.n-slot-end.ensures.limits.devices))

@@ -1,0 +1,87 @@
+-- What `create` knows of a slot that it looked at.
+use Rattle.std.specs.Prelude.{◌≡◌, ◌<◌, ℕ, Bool, true, false, IsTrue, List}
+use Rattle.stair_model.specs.Geometry.{Geometry}
+use Rattle.stair_rack.specs.Answers.{IsHistory, IsNoAttach, Ran, any_call, is_ready}
+use Rattle.stair_rack.specs.Count.{Rose}
+use Rattle.stair_rack.specs.History.{Happening, SlotCall, Attach, Sectors, Read, Write, Sync, slot_state}
+use Rattle.stair_rack.specs.Sector.{Cell, content}
+use Rattle.stair_rack.specs.Stretch.{IsNoWrite}
+use Rattle.stair_super.specs.Superblock.{Superblock}
+use Rattle.stair_member.specs.Superblocks.{HasSuper, HoldsSuper}
+use Rattle.stair_array.specs.Looking.{Telling, Finding, WasGone, WasSmall, Holds, IsBare, IsFound, IsReading, IsRefusedFor}
+use Rattle.stair_array.specs.Represents.{IsLargeEnough}
+use Rattle.stair_array.specs.declared.fault.CreateFault.{CreateFault}
+use Rattle.stair_array.specs.declared.look.Found.{Found}
+use Rattle.stair_array.specs.declared.look.Found.TheVariants as found
+
+-- a call on this slot that writes nothing
+abbrev pub IsLookAt : ℕ → ℕ → SlotCall → Type 0
+IsLookAt slot j call = (j ≡ slot) × IsNoWrite call
+
+-- a call that writes nothing, on whatever slot
+abbrev pub IsLook : ℕ → SlotCall → Type 0
+IsLook j call = IsNoWrite call
+
+-- a read of this slot
+abbrev pub IsReadOf : ℕ → ℕ → SlotCall → Type 0
+IsReadOf slot j (Attach answer) = ⊥
+IsReadOf slot j (Sectors size) = ⊥
+IsReadOf slot j (Read k answer) = j ≡ slot
+IsReadOf slot j (Write k bytes answer) = ⊥
+IsReadOf slot j (Sync answer) = ⊥
+
+-- the slot was gone to a read, and isn't in use
+pub record WasGoneToRead (j : ℕ) (old new : Telling) : Type 0 where
+  pub gone : Rose (old.gones j) (new.gones j)
+  pub unready : IsTrue new.honest → is_ready new.history j ≡ false
+
+-- Sector k was read, and it holds a superblock or not, as this says.
+pub record IsJudged (j k : ℕ) (old new : Telling) (has : Bool) : Type 0 where
+  pub cell : Cell
+  pub reading : IsReading j k old new cell
+  pub holds : has ≡ true → (s : Superblock) × HoldsSuper cell s
+  pub bare : has ≡ false → (s : Superblock) → ¬ HoldsSuper cell s
+  -- at the end of the read the slot is in use, and the sector holds none then where it held none
+  pub ready : IsTrue new.honest → is_ready new.history j ≡ true
+  pub now : IsTrue new.honest → has ≡ false → (s : Superblock)
+      → ¬ HoldsSuper (content ((slot_state new.history j).sector k)) s
+
+-- Both superblock places were read, and one of them holds a superblock or none does, as this says.
+pub record AreJudged (j : ℕ) (old new : Telling) (has : Bool) : Type 0 where
+  pub cell : ℕ → Cell
+  pub reading : (k : ℕ) → k < 2 → IsReading j k old new (cell k)
+  pub holds : has ≡ true → HasSuper cell
+  pub bare : has ≡ false → ¬ HasSuper cell
+  pub moment : IsBare j old new cell
+
+-- what a search of the two superblock places found, in short
+abbrev pub IsSearched : ℕ → Telling → Telling → Found → Type 0
+IsSearched j old new found.Gone = WasGoneToRead j old new
+IsSearched j old new (found.Small has) = ⊥
+IsSearched j old new found.Bare = AreJudged j old new false
+IsSearched j old new found.Super = AreJudged j old new true
+
+-- what was found of slot j, in short
+abbrev pub IsFoundAs : Geometry → ℕ → Telling → Telling → Found → Type 0
+IsFoundAs g j old new found.Gone = IsFound g j old new WasGone
+IsFoundAs g j old new (found.Small has) = IsFound g j old new (WasSmall has)
+IsFoundAs g j old new found.Bare =
+    (cell : ℕ → Cell) × IsFound g j old new (Holds cell) × (¬ HasSuper cell)
+IsFoundAs g j old new found.Super =
+    (cell : ℕ → Cell) × IsFound g j old new (Holds cell) × HasSuper cell
+
+-- slot j was looked at, and refused
+pub record IsRefusedAt (g : Geometry) (fault : CreateFault) (j : ℕ) (old new : Telling)
+    : Type 0 where
+  pub finding : Finding
+  pub found : IsFound g j old new finding
+  pub refused : IsRefusedFor g j finding fault
+
+-- Slot j was attached after old, to a medium that is large enough, and not again since then.
+pub record IsTaken (g : Geometry) (j : ℕ) (old now : List Happening) : Type 0 where
+  pub taken : List Happening
+  pub history : IsHistory taken
+  pub before : Ran any_call old taken
+  pub since : Ran (IsNoAttach j) taken now
+  pub in_use : (slot_state taken j).attached ≡ true
+  pub large : IsLargeEnough g (slot_state taken j).size

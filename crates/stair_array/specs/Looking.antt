@@ -1,0 +1,140 @@
+-- What `create` looks at before it writes anything, and what it refuses.
+use Rattle.std.specs.Prelude.{◌≡◌, ◌<◌, ◌≤◌, ◌⊎◌, ℕ, Bool, false, IsTrue, List, Some}
+use Rattle.stair_model.specs.Geometry.{Geometry, sectors_needed}
+use Rattle.stair_rack.specs.Answers.{Ran, any_call, is_good}
+use Rattle.stair_rack.specs.Count.{Rose}
+use Rattle.stair_rack.specs.History.{Happening, slot_state}
+use Rattle.stair_rack.specs.Moments.{AtSomeMoment}
+use Rattle.stair_rack.specs.Offline.{IsOffline}
+use Rattle.stair_rack.specs.RackCounts.{NoneFalls}
+use Rattle.stair_rack.specs.Reading.{WasRead}
+use Rattle.stair_rack.specs.Sector.{Cell, Good, Damaged, content}
+use Rattle.stair_rack.specs.Stretch.{NothingWritten}
+use Rattle.stair_member.specs.Superblocks.{HasSuper}
+use Rattle.stair_array.specs.declared.fault.CreateFault.{CreateFault}
+use Rattle.stair_array.specs.declared.fault.CreateFault.TheVariants.{Gone, SmallDevice, AlreadyArray}
+
+-- what a rack tells at a moment; its history only where it is honest
+pub record Telling : Type 0 where
+  pub honest : Bool
+  pub history : List Happening
+  pub bads : ℕ
+  pub gones : ℕ → ℕ
+
+abbrev pub telling : Bool → List Happening → ℕ → (ℕ → ℕ) → Telling
+telling honest history bads gones =
+    record { honest = honest; history = history; bads = bads; gones = gones }
+
+-- What was found of a slot: it was gone at one of the calls; its medium has too few sectors, so many; or its two superblock
+-- places hold these cells, damaged where one read as bad.
+pub data Finding : Type 0 where
+  WasGone : Finding
+  WasSmall : ℕ → Finding
+  Holds : (ℕ → Cell) → Finding
+
+-- THE RULE, of slot j: a slot of the array must be there and large enough, and on none may there be a superblock.
+
+abbrev pub Passes : Geometry → ℕ → Finding → Type 0
+Passes g j WasGone = g.n ≤ j
+Passes g j (WasSmall has) = ⊥
+Passes g j (Holds cell) = ¬ HasSuper cell
+
+abbrev pub IsRefusedFor : Geometry → ℕ → Finding → CreateFault → Type 0
+IsRefusedFor g j WasGone (Gone slot) = (j < g.n) × (slot ≡ j)
+IsRefusedFor g j (WasSmall has) (SmallDevice slot has' needs) =
+    (slot ≡ j) × (has' ≡ has) × (needs ≡ sectors_needed g)
+IsRefusedFor g j (Holds cell) (AlreadyArray slot) = (slot ≡ j) × HasSuper cell
+IsRefusedFor g j finding fault = ⊥
+
+-- WHAT BEARS A FINDING OUT, from one moment to another.
+
+-- this cell was read, in the slot that is in use; where it read as bad its count rose
+abbrev pub IsReading : ℕ → ℕ → Telling → Telling → Cell → Type 0
+IsReading j k old new (Good bytes) =
+    IsTrue new.honest → WasRead (λ cell. cell ≡ Good bytes) old.history new.history j k
+IsReading j k old new Damaged = Rose old.bads new.bads
+    × (IsTrue new.honest → WasRead (λ cell. is_good cell ≡ false) old.history new.history j k)
+IsReading j k old new cell = ⊥
+
+-- at some moment the medium of the slot had so many sectors
+abbrev pub HadSectors : ℕ → ℕ → List Happening → List Happening → Type 0
+HadSectors j count old new = AtSomeMoment (λ h. (slot_state h j).size ≡ Some count) old new
+
+-- what a read would have found in the sectors of the slot
+abbrev pub cells_at : List Happening → ℕ → ℕ → Cell
+cells_at h j k = content ((slot_state h j).sector k)
+
+-- The medium of a slot of the array was large enough.
+abbrev pub IsLarge : Geometry → ℕ → Telling → Telling → Type 0
+IsLarge g j old new = j < g.n → IsTrue new.honest
+    → (has : ℕ) × (sectors_needed g ≤ has) × HadSectors j has old.history new.history
+
+-- of cells without a superblock: at some one moment none was in either place
+abbrev pub IsBare : ℕ → Telling → Telling → (ℕ → Cell) → Type 0
+IsBare j old new cell = ¬ HasSuper cell → IsTrue new.honest
+    → AtSomeMoment (λ h. ¬ HasSuper (cells_at h j)) old.history new.history
+
+abbrev pub IsFound : Geometry → ℕ → Telling → Telling → Finding → Type 0
+IsFound g j old new WasGone = Rose (old.gones j) (new.gones j)
+    × (IsTrue new.honest → AtSomeMoment (λ h. IsOffline old.history h j) old.history new.history)
+IsFound g j old new (WasSmall has) = (j < g.n) × (has < sectors_needed g)
+    × (IsTrue new.honest → HadSectors j has old.history new.history)
+IsFound g j old new (Holds cell) = ((k : ℕ) → k < 2 → IsReading j k old new (cell k))
+    × IsLarge g j old new × IsBare j old new cell
+
+-- WHAT COMES OF THE LOOK
+
+-- slot j was looked at, and passed
+pub record Passed (g : Geometry) (j : ℕ) (old new : Telling) : Type 0 where
+  pub finding : Finding
+  pub found : IsFound g j old new finding
+  pub passes : Passes g j finding
+
+-- no device was written
+abbrev pub IsUnwritten : Telling → Telling → Type 0
+IsUnwritten old new = IsTrue new.honest → NothingWritten old.history new.history
+
+-- all 32 slots passed, and no device was written
+pub record AllPassed (g : Geometry) (old new : Telling) : Type 0 where
+  pub each : (j : ℕ) → j < 32 → Passed g j old new
+  pub unwritten : IsUnwritten old new
+
+-- This slot was refused, those below it passed, and no device was written.
+pub record IsRefused (g : Geometry) (fault : CreateFault) (old new : Telling) : Type 0 where
+  pub slot : ℕ
+  pub slot_in : slot < 32
+  pub before : (j : ℕ) → j < slot → Passed g j old new
+  pub finding : Finding
+  pub found : IsFound g slot old new finding
+  pub refused : IsRefusedFor g slot finding fault
+  pub unwritten : IsUnwritten old new
+
+-- the same rack at a later moment
+pub record IsLater (old new : Telling) : Type 0 where
+  pub counts : NoneFalls old.bads new.bads old.gones new.gones
+  pub honest : old.honest ≡ new.honest
+  pub ran : IsTrue new.honest → Ran any_call old.history new.history
+
+-- A slot of the array was gone while the devices were written, and is offline.
+abbrev pub IsGoneInWriting : Geometry → CreateFault → Telling → Telling → Telling → Type 0
+IsGoneInWriting g (Gone slot) old mid new = (slot < g.n)
+    × Rose (mid.gones slot) (new.gones slot)
+    × (IsTrue new.honest → IsOffline old.history new.history slot)
+IsGoneInWriting g fault old mid new = ⊥
+
+-- all slots passed, and then the devices were written, up to this fault
+pub record IsGivenUp (g : Geometry) (fault : CreateFault) (old new : Telling) : Type 0 where
+  pub mid : Telling
+  pub passed : AllPassed g old mid
+  pub later : IsLater mid new
+  pub gone : IsGoneInWriting g fault old mid new
+
+-- why there is no array
+abbrev pub IsNotCreated : Geometry → CreateFault → Telling → Telling → Type 0
+IsNotCreated g fault old new = IsRefused g fault old new ⊎ IsGivenUp g fault old new
+
+-- all slots had passed before anything was written
+pub record WasLookedAt (g : Geometry) (old new : Telling) : Type 0 where
+  pub mid : Telling
+  pub passed : AllPassed g old mid
+  pub later : IsLater mid new

@@ -1,0 +1,90 @@
+-- What `create` knows of a device that it wrote.
+use Rattle.std.specs.Prelude.{◌≡◌, ◌<◌, ◌≤◌, ℕ, true, IsTrue, List, ⊤}
+use Rattle.stair_model.specs.Device.{gate_sector}
+use Rattle.stair_model.specs.Geometry.{Geometry, sectors_needed}
+use Rattle.stair_rack.specs.Count.{Rose}
+use Rattle.stair_rack.specs.History.{Happening, Made, Stopped, Acted, Called, SlotCall, Attach, Sectors, Read, Write, Sync, slot_state}
+use Rattle.stair_rack.specs.Moments.{IsMoment}
+use Rattle.stair_rack.specs.Offline.{ButForOutside, IsOffline}
+use Rattle.stair_rack.specs.Passes.{Landed}
+use Rattle.stair_rack.specs.Sector.{Good, settled}
+use Rattle.stair_rack.specs.Stretch.{EachHappening}
+use Rattle.stair_array.specs.Created.{created_sector}
+use Rattle.stair_array.specs.Look.{IsTaken}
+use Rattle.stair_array.specs.Looking.{Telling}
+use Rattle.stair_array.specs.declared.fault.CreateFault.{CreateFault}
+use Rattle.stair_array.specs.declared.fault.CreateFault.TheVariants.{Gone, SmallDevice, AlreadyArray}
+
+-- a write to one of these sectors of one of these slots, or a sync of one
+abbrev pub IsMaking : (ℕ → Type 0) → (ℕ → Type 0) → ℕ → SlotCall → Type 0
+IsMaking slots part j (Attach answer) = ⊥
+IsMaking slots part j (Sectors size) = ⊥
+IsMaking slots part j (Read k answer) = ⊥
+IsMaking slots part j (Write k bytes answer) = slots j × part k
+IsMaking slots part j (Sync answer) = slots j
+
+-- the slots of the array
+abbrev pub IsSlotOf : Geometry → ℕ → Type 0
+IsSlotOf g j = j < g.n
+
+-- the superblock places, and what lies behind them
+abbrev pub IsPlace : ℕ → Type 0
+IsPlace k = k < gate_sector
+
+abbrev pub IsBehind : ℕ → Type 0
+IsBehind k = gate_sector ≤ k
+
+-- Of these sectors of slot j each got what a new array has there, and it is on the disk but for the outside.
+pub record AreMade (g : Geometry) (part : ℕ → Type 0) (j : ℕ) (old new : List Happening)
+    : Type 0 where
+  pub landed : (k : ℕ) → part k → k < sectors_needed g
+      → Landed old new j k (created_sector g j k)
+  pub stands : (k : ℕ) → part k → k < sectors_needed g
+      → ButForOutside old new j k (λ s. s ≡ settled (Good (created_sector g j k)))
+
+-- slot j was gone; where it had been taken it is offline
+pub record IsStoppedAt (g : Geometry) (j : ℕ) (old new : Telling) : Type 0 where
+  pub gone : Rose (old.gones j) (new.gones j)
+  pub offline : IsTrue new.honest → (before : List Happening) → IsTaken g j before old.history
+      → IsOffline before new.history j
+
+-- the writing stopped at a slot of the array that was gone
+abbrev pub IsStoppedBy : Geometry → CreateFault → Telling → Telling → Type 0
+IsStoppedBy g (Gone slot) old new = (slot < g.n) × IsStoppedAt g slot old new
+IsStoppedBy g (SmallDevice slot has needs) old new = ⊥
+IsStoppedBy g (AlreadyArray slot) old new = ⊥
+
+-- THE ORDER: superblocks come last
+
+-- no write to a superblock place
+abbrev pub IsNoPlaceWrite : SlotCall → Type 0
+IsNoPlaceWrite (Attach answer) = ⊤
+IsNoPlaceWrite (Sectors size) = ⊤
+IsNoPlaceWrite (Read k answer) = ⊤
+IsNoPlaceWrite (Write k bytes answer) = IsBehind k
+IsNoPlaceWrite (Sync answer) = ⊤
+
+abbrev pub WritesNoPlace : List Happening → Happening → Type 0
+WritesNoPlace h (Made image) = ⊤
+WritesNoPlace h Stopped = ⊤
+WritesNoPlace h (Acted j act) = ⊤
+WritesNoPlace h (Called j call) = IsNoPlaceWrite call
+
+-- no superblock place was written from old to new
+abbrev pub NoPlaceWritten : List Happening → List Happening → Type 0
+NoPlaceWritten old new = EachHappening WritesNoPlace old new
+
+-- Slot j is laid out: behind its superblock places it has what a new array has there, on the disk, but for what the outside
+-- did since a moment at which it was in use.
+pub record IsLaidOut (g : Geometry) (j : ℕ) (old now : List Happening) : Type 0 where
+  pub since : List Happening
+  pub is_one : IsMoment old since now
+  pub in_use : (slot_state since j).attached ≡ true
+  pub stands : (k : ℕ) → IsBehind k → k < sectors_needed g
+      → ButForOutside since now j k (λ s. s ≡ settled (Good (created_sector g j k)))
+
+-- No superblock place was written, or none was before all slots of the array were laid out.
+pub data SuperblocksCameLast (g : Geometry) (old new : List Happening) : Type 0 where
+  NoneCame : NoPlaceWritten old new → SuperblocksCameLast g old new
+  CameAfter : (mid : List Happening) → IsMoment old mid new → NoPlaceWritten old mid
+      → ((j : ℕ) → j < g.n → IsLaidOut g j old mid) → SuperblocksCameLast g old new

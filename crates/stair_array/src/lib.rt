@@ -1,0 +1,13 @@
+//! An array over the devices of a rack.
+#![tactic(auto)]
+
+mod fault;
+pub mod laws;
+mod look;
+mod new_array;
+mod new_device;
+#[cfg(test)]
+mod tests;
+
+pub use fault::CreateFault;
+pub use new_array::create;

@@ -1,0 +1,163 @@
+// What `create` looks at before it writes anything.
+ghost use Rattle.std.specs.Prelude.{◌≡◌, ◌<◌, ℕ, IfErr, IsTrue, MatchOption, OnOk};
+ghost use Rattle.stair_rack.specs.Answers.{IsHistory, Ran};
+ghost use Rattle.stair_rack.specs.RackCounts.{NoneFalls};
+ghost use Rattle.stair_array.specs.Look.{
+  IsFoundAs,
+  IsJudged,
+  IsLook,
+  IsLookAt,
+  IsReadOf,
+  IsRefusedAt,
+  IsSearched,
+  IsTaken,
+  WasGoneToRead,
+};
+ghost use Rattle.stair_array.specs.Looking.{AllPassed, IsRefused, Passed, telling};
+
+use crate::fault::CreateFault;
+use stair_base::Geometry;
+use stair_rack::{Got, Rack, Reply};
+use stair_super::read_super;
+
+// What was found of a slot.
+enum Found {
+    // it was gone at one of the calls
+    Gone,
+    // its medium has too few sectors: so many
+    Small(u32),
+    // no superblock place of its medium holds a superblock
+    Bare,
+    // one does
+    Super,
+}
+
+// Looks at all slots in rising order, up to the first that is refused.
+pub(crate) fn look_at_all<R: Rack>(rack: &mut R, geometry: &Geometry) -> Result<(), CreateFault>
+    ensures refused { IfErr result (λ fault. IsRefused geometry.now fault
+        (telling R.is_honest (R.history rack.old) (R.bads rack.old) (R.gones rack.old))
+        (telling R.is_honest (R.history rack.new) (R.bads rack.new) (R.gones rack.new))) }
+    ensures passed { OnOk result (AllPassed geometry.now
+        (telling R.is_honest (R.history rack.old) (R.bads rack.old) (R.gones rack.old))
+        (telling R.is_honest (R.history rack.new) (R.bads rack.new) (R.gones rack.new))) }
+    ensures taken { IsTrue R.is_honest → OnOk result ((j : ℕ) → j < 32 → j < geometry.now.n →
+        IsTaken geometry.now j (R.history rack.old) (R.history rack.new)) }
+    ensures ran { IsTrue R.is_honest →
+        Ran IsLook (R.history rack.old) (R.history rack.new) }
+    ensures counts { NoneFalls (R.bads rack.old) (R.bads rack.new) (R.gones rack.old)
+        (R.gones rack.new) }
+{
+    for slot in 0..32u8 {
+        look_at(rack, geometry, slot)?;
+    }
+    Ok(())
+}
+
+// Looks at one slot, and refuses it by the rule.
+fn look_at<R: Rack>(rack: &mut R, geometry: &Geometry, slot: u8) -> Result<(), CreateFault>
+    requires { slot < 32 }
+    ensures refused { IfErr result (λ fault. IsRefusedAt geometry.now fault slot
+        (telling R.is_honest (R.history rack.old) (R.bads rack.old) (R.gones rack.old))
+        (telling R.is_honest (R.history rack.new) (R.bads rack.new) (R.gones rack.new))) }
+    ensures passed { OnOk result (Passed geometry.now slot
+        (telling R.is_honest (R.history rack.old) (R.bads rack.old) (R.gones rack.old))
+        (telling R.is_honest (R.history rack.new) (R.bads rack.new) (R.gones rack.new))) }
+    ensures taken { IsTrue R.is_honest → OnOk result (slot < geometry.now.n →
+        IsTaken geometry.now slot (R.history rack.old) (R.history rack.new)) }
+    ensures ran { IsTrue R.is_honest →
+        Ran (IsLookAt slot) (R.history rack.old) (R.history rack.new) }
+    ensures counts { NoneFalls (R.bads rack.old) (R.bads rack.new) (R.gones rack.old)
+        (R.gones rack.new) }
+{
+    match find(rack, geometry, slot) {
+        Found::Gone if slot < geometry.n() => Err(CreateFault::Gone(slot)),
+        Found::Gone => Ok(()),
+        Found::Small(has) => Err(CreateFault::SmallDevice {
+            slot,
+            has,
+            needs: geometry.need(),
+        }),
+        Found::Bare => Ok(()),
+        Found::Super => Err(CreateFault::AlreadyArray(slot)),
+    }
+}
+
+// A slot of the array is synced and measured too, since it is to be written.
+fn find<R: Rack>(rack: &mut R, geometry: &Geometry, slot: u8) -> Found
+    requires { slot < 32 }
+    ensures told { IsFoundAs geometry.now slot
+        (telling R.is_honest (R.history rack.old) (R.bads rack.old) (R.gones rack.old))
+        (telling R.is_honest (R.history rack.new) (R.bads rack.new) (R.gones rack.new))
+        result }
+    ensures taken { IsTrue R.is_honest → result ≡ Found.Bare → slot < geometry.now.n →
+        IsTaken geometry.now slot (R.history rack.old) (R.history rack.new) }
+    ensures ran { IsTrue R.is_honest →
+        Ran (IsLookAt slot) (R.history rack.old) (R.history rack.new) }
+    ensures counts { NoneFalls (R.bads rack.old) (R.bads rack.new) (R.gones rack.old)
+        (R.gones rack.new) }
+{
+    if rack.attach(slot) == Reply::Gone {
+        return Found::Gone;
+    }
+    if slot >= geometry.n() {
+        return find_super(rack, slot);
+    }
+    if rack.sync(slot) == Reply::Gone {
+        return Found::Gone;
+    }
+    let has = rack.sectors(slot);
+    if has < geometry.need() {
+        return Found::Small(has);
+    }
+    find_super(rack, slot)
+}
+
+// Looks for a superblock in the two superblock places of a slot that was attached. Both are read unless the slot is gone.
+fn find_super<R: Rack>(rack: &mut R, slot: u8) -> Found
+    requires { slot < 32 }
+    ensures told { IsSearched slot
+        (telling R.is_honest (R.history rack.old) (R.bads rack.old) (R.gones rack.old))
+        (telling R.is_honest (R.history rack.new) (R.bads rack.new) (R.gones rack.new))
+        result }
+    ensures ran { IsTrue R.is_honest →
+        Ran (IsReadOf slot) (R.history rack.old) (R.history rack.new) }
+    ensures counts { NoneFalls (R.bads rack.old) (R.bads rack.new) (R.gones rack.old)
+        (R.gones rack.new) }
+{
+    let Some(first) = holds_super(rack, slot, 0) else {
+        return Found::Gone;
+    };
+    let Some(second) = holds_super(rack, slot, 1) else {
+        return Found::Gone;
+    };
+    if first || second {
+        Found::Super
+    } else {
+        Found::Bare
+    }
+}
+
+// Whether a sector holds a superblock; None where the slot is gone.
+fn holds_super<R: Rack>(rack: &mut R, slot: u8, sector: u32) -> Option<bool>
+    requires { slot < 32 }
+    ensures began { IsTrue R.is_honest → IsHistory (R.history rack.old) }
+    ensures told { MatchOption result
+        (WasGoneToRead slot
+        (telling R.is_honest (R.history rack.old) (R.bads rack.old) (R.gones rack.old))
+        (telling R.is_honest (R.history rack.new) (R.bads rack.new) (R.gones rack.new)))
+        (λ has. IsJudged slot sector
+        (telling R.is_honest (R.history rack.old) (R.bads rack.old) (R.gones rack.old))
+        (telling R.is_honest (R.history rack.new) (R.bads rack.new) (R.gones rack.new))
+        has) }
+    ensures ran { IsTrue R.is_honest →
+        Ran (IsReadOf slot) (R.history rack.old) (R.history rack.new) }
+    ensures counts { NoneFalls (R.bads rack.old) (R.bads rack.new) (R.gones rack.old)
+        (R.gones rack.new) }
+{
+    let mut bytes = [0; 512];
+    match rack.read(slot, sector, &mut bytes) {
+        Got::Good => Some(read_super(&bytes).is_some()),
+        Got::Bad => Some(false),
+        Got::Gone => None,
+    }
+}

@@ -1,0 +1,293 @@
+-- What follows from a call that means what its words say, whatever they are.
+use Rattle.std.proofs.Common.{◌≡◌, ◌≢◌, ◌∙◌, ◌↔◌, ℕ, ◌≤◌, le_refl, List, [], ◌∷◌, Option, None, Some, IfSome, IsTrue, Ok, refl, sym, subst}
+use Rattle.stair_model.specs.Geometry.{Geometry}
+use Rattle.stair_array.specs.Creates.{Creates}
+use Rattle.stair_array.specs.declared.fault.CreateFault.{CreateFault}
+use Rattle.stair_array.specs.declared.fault.CreateFault.TheVariants as fault
+use Rattle.stair_conf.specs.Config.{TextReadsAs}
+use Rattle.stair_conf.specs.Words.{IsSpelled, Spells}
+use Rattle.stair_conf.specs.declared.fault.ConfigFault.{ConfigFault}
+use Rattle.stair_conf.specs.declared.fault.ConfigFault.TheVariants as config
+use Rattle.stair_conf.specs.declared.job.Job.{Job}
+use Rattle.stair_conf.specs.declared.job.Job.TheVariants.{OneStripe, Create}
+use Rattle.stair_conf.proofs.WordsLemmas.{spells_once}
+use Rattle.stair_engine.specs.Action.{status_of_create}
+use Rattle.stair_engine.specs.Cause.{IfNothingIsPutOut, IfRefusedAtOnce, LimitsComeFirst}
+use Rattle.stair_engine.specs.Does.{Leaves}
+use Rattle.stair_engine.specs.Fault.{status_of_config}
+use Rattle.stair_engine.specs.Laws.{AllIsKept, MemoryComesFirst, RackIsLeft, UsageIsExact, ArrayIsMade}
+use Rattle.stair_engine.specs.Means.{Bears, Counts, Gives, Holds}
+use Rattle.stair_engine.specs.Create.{MakesArray}
+use Rattle.stair_engine.specs.Outside.{Outside, Views}
+use Rattle.stair_engine.specs.Plan.{Plan, Over, Ask, create_plan, if_spelled, job_plan, plan_of}
+use Rattle.stair_engine.specs.Question.{Question, IsReply, Words}
+use Rattle.stair_engine.specs.Rack.{MeansOver, RackView, Works, told_of}
+use Rattle.stair_engine.specs.Story.{Deed, Found, Grew, RanOut, Leads, Moves}
+use Rattle.stair_engine.specs.Task.{one_stripe}
+use Rattle.stair_engine.specs.declared.status.Status.{Status}
+use Rattle.stair_engine.specs.declared.status.Status.TheVariants.{Done, Usage, Input, InputFault, OutputFault, OutOfMemory}
+use Rattle.stair_engine.proofs.CreateLaws.{CreateWent, Making, Reading, create_went}
+use Rattle.stair_engine.proofs.CreateLaws.CreateWent.{Long, Failed, Whole}
+use Rattle.stair_engine.proofs.CreateLaws.Reading.{Unread, Faulty, Says}
+use Rattle.stair_engine.proofs.CreateLaws.Making.{ShortOfMemory, NotMade, Made, MadeUntold}
+use Rattle.stair_engine.proofs.MeaningLaws.{not_put, no_move, same_kept, tested_kept}
+use Rattle.stair_engine.proofs.RackLaws.{left_along, stripe_calls_none, works_still}
+
+-- how a call of these words went, over a rack
+pub data CalledOver {R S K : Type 0} (rack : RackView R) (view : Views S K) (words : List (List ℕ)) (status : Status) (old new : Outside S K) (first last : R) : Type 0 where
+  NoMemory : status ≡ OutOfMemory → new ≡ old → last ≡ first → CalledOver rack view words status old new first last
+  NotSpelled : (IsSpelled words → ⊥) → status ≡ Usage → new ≡ old → last ≡ first → CalledOver rack view words status old new first last
+  Spelled : (job : Job) → Spells words job → MeansOver rack view (job_plan job) (Over status) old new first last
+      → CalledOver rack view words status old new first last
+
+module _ {R S K : Type 0} (rack : RackView R) (view : Views S K) where
+  -- what comes behind the first deed
+  behind_over : (deed : Deed) (story : List Deed) (plan from : Plan) (status : Status) (a mid b : Outside S K) (x z y : R)
+      (bears : Bears view (deed ∷ story) a b) (works : Leads (Works rack) (deed ∷ story) x y)
+      → bears.gives.0 ≡ mid.source → bears.holds.0 ≡ mid.sink → bears.counts.0 ≡ mid.counter → works.0 ≡ z
+      → from ≡ plan → Leads Moves story from (Over status) → MeansOver rack view plan (Over status) mid b z y
+  behind_over deed story plan from status a mid b x z y bears works source sink counter at same follows = record {
+    means = record {
+      story = story;
+      follows = subst (λ (p : Plan). Leads Moves story p (Over status)) same follows;
+      bears = record {
+        gives = subst (λ (s : S). Leads (Gives view.source) story s b.source) source bears.gives.2;
+        holds = subst (λ (k : K). Leads (Holds view.sink) story k b.sink) sink bears.holds.2;
+        counts = subst (λ (n : ℕ). Leads Counts story n b.counter) counter bears.counts.2;
+      };
+    };
+    works = subst (λ (w : R). Leads (Works rack) story w y) at works.2;
+  }
+
+  over_done : (from status : Status) (a b : Outside S K) (x y : R) → MeansOver rack view (Over from) (Over status) a b x y
+      → (status ≡ from) × (b ≡ a) × (y ≡ x)
+  over_done from status a b x y over = at over.means.story over.means.follows over.means.bears over.works
+    where
+      at : (story : List Deed) → Leads Moves story (Over from) (Over status) → Bears view story a b → Leads (Works rack) story x y
+          → (status ≡ from) × (b ≡ a) × (y ≡ x)
+      at [] follows bears works =
+          let same : Over status ≡ Over from = follows in
+          (cc, λ i. record { source = bears.gives i; sink = bears.holds i; counter = bears.counts i }, works)
+      at (deed ∷ story) follows bears works = absurd (no_move deed from follows.0 follows.1)
+
+  spelled_over : (words : List (List ℕ)) (status : Status) (reply : Option Job) (a b : Outside S K) (x y : R) → IsReply (Words words) reply
+      → MeansOver rack view (if_spelled reply) (Over status) a b x y → CalledOver rack view words status a b x y
+  spelled_over words status None a b x y not over =
+      let ends = over_done Usage status a b x y over in NotSpelled not ends.0 ends.1 ends.2
+  spelled_over words status (Some job) a b x y spells over = Spelled job spells over
+
+  asked_over : (words : List (List ℕ)) (status : Status) (a b : Outside S K) (x y : R) → MeansOver rack view (Ask (Words words) if_spelled) (Over status) a b x y
+      → CalledOver rack view words status a b x y
+  asked_over words status a b x y over = at over.means.story over.means.follows over.means.bears over.works
+    where
+      at : (story : List Deed) → Leads Moves story (Ask (Words words) if_spelled) (Over status) → Bears view story a b → Leads (Works rack) story x y
+          → CalledOver rack view words status a b x y
+      at [] follows bears works = let same : Over status ≡ Ask (Words words) if_spelled = follows in absurd cc
+      at (Found asked ∷ story) follows bears works =
+          let moved = follows.1 in
+          let uncounted : bears.counts.0 ≡ a.counter = subst (λ (q : Question). Counts (Found q) a.counter bears.counts.0) moved.1 bears.counts.1 in
+          spelled_over words status moved.0 a b x y moved.2
+          (behind_over (Found asked) story (if_spelled moved.0) follows.0 status a a b x x y bears works bears.gives.1 bears.holds.1 uncounted works.1 moved.3
+          follows.2)
+      at (_ ∷ story) follows bears works = absurd follows.1
+
+  pub called_over : (words : List (List ℕ)) (status : Status) (a b : Outside S K) (x y : R) → MeansOver rack view (plan_of words) (Over status) a b x y
+      → CalledOver rack view words status a b x y
+  called_over words status a b x y over = at over.means.story over.means.follows over.means.bears over.works
+    where
+      at : (story : List Deed) → Leads Moves story (plan_of words) (Over status) → Bears view story a b → Leads (Works rack) story x y
+          → CalledOver rack view words status a b x y
+      at [] follows bears works = let same : Over status ≡ plan_of words = follows in absurd cc
+      at (Grew ∷ story) follows bears works =
+          asked_over words status a b x y
+          (behind_over Grew story (Ask (Words words) if_spelled) follows.0 status a a b x x y bears works bears.gives.1 bears.holds.1 bears.counts.1 works.1
+          follows.1 follows.2)
+      at (RanOut ∷ story) follows bears works =
+          let ends = over_done OutOfMemory status a b x y
+          (behind_over RanOut story (Over OutOfMemory) follows.0 status a a b x x y bears works bears.gives.1 bears.holds.1 bears.counts.1 works.1
+          follows.1 follows.2) in
+          NoMemory ends.0 ends.1 ends.2
+      at (_ ∷ story) follows bears works = absurd follows.1
+
+-- ---- how `create` ends
+
+-- the statuses of a refused text
+config_status : (fault : ConfigFault) → (status_of_config fault ≢ InputFault) × (status_of_config fault ≢ OutputFault) × (status_of_config fault ≢ Usage)
+    × (status_of_config fault ≢ Done)
+config_status config.NotToml = ((λ is. cc), (λ is. cc), (λ is. cc), (λ is. cc))
+config_status (config.Key key) = ((λ is. cc), (λ is. cc), (λ is. cc), (λ is. cc))
+config_status (config.Limit k) = ((λ is. cc), (λ is. cc), (λ is. cc), (λ is. cc))
+config_status config.Memory = ((λ is. cc), (λ is. cc), (λ is. cc), (λ is. cc))
+
+-- those of a refused array
+create_status : (fault : CreateFault) → (status_of_create fault ≢ InputFault) × (status_of_create fault ≢ OutputFault) × (status_of_create fault ≢ Usage)
+    × (status_of_create fault ≢ Done) × (status_of_create fault ≢ OutOfMemory)
+create_status (fault.Gone slot) = ((λ is. cc), (λ is. cc), (λ is. cc), (λ is. cc), (λ is. cc))
+create_status (fault.SmallDevice slot has needs) = ((λ is. cc), (λ is. cc), (λ is. cc), (λ is. cc), (λ is. cc))
+create_status (fault.AlreadyArray slot) = ((λ is. cc), (λ is. cc), (λ is. cc), (λ is. cc), (λ is. cc))
+
+module _ {S K X : Type 0} (view : Views S K) (W : Deed → X → X → Type 0) where
+  -- nothing was put out, and no fault is answered
+  quiet : (status : Status) (a b : Outside S K) → status ≢ InputFault → status ≢ OutputFault → view.source.faults a.source ≤ view.source.faults b.source
+      → b.sink ≡ a.sink → Leaves view status a b
+  quiet status a b not_input not_output count sink = record {
+    input_fault = λ is. absurd (not_input is);
+    output_fault = λ is. absurd (not_output is);
+    input_count = count;
+    output_count = subst (λ (k : K). view.sink.faults a.sink ≤ view.sink.faults k) (sym sink) (le_refl _);
+    untouched = subst (λ (k : K). IfNothingIsPutOut status (k ≡ a.sink)) (sym sink) (not_put status a.sink);
+  }
+
+  making_leaves : (g : Geometry) (status : Status) (a b : Outside S K) (x y : X) → view.source.faults a.source ≤ view.source.faults b.source
+      → Making (Holds view.sink) W g status a.sink b.sink x y → Leaves view status a b
+  making_leaves g status a b x y count (ShortOfMemory is sink same) =
+      quiet status a b (λ other. cc) (λ other. cc) count sink
+  making_leaves g status a b x y count (NotMade refusal did is sink) =
+      let not = create_status refusal in quiet status a b (λ other. not.0 (sym is ∙ other)) (λ other. not.1 (sym is ∙ other)) count sink
+  making_leaves g status a b x y count (Made did held is) = record {
+    input_fault = λ other. cc;
+    output_fault = λ other. cc;
+    input_count = count;
+    output_count = held.1;
+    untouched = subst (λ (s : Status). IfNothingIsPutOut s (b.sink ≡ a.sink)) (sym is) tt;
+  }
+  making_leaves g status a b x y count (MadeUntold part did all held is) = record {
+    input_fault = λ other. cc;
+    output_fault = λ other. held.2;
+    input_count = count;
+    output_count = held.1;
+    untouched = subst (λ (s : Status). IfNothingIsPutOut s (b.sink ≡ a.sink)) (sym is) tt;
+  }
+
+  reading_leaves : (text : List ℕ) (status : Status) (a b : Outside S K) (x y : X) → view.source.faults a.source ≤ view.source.faults b.source
+      → Reading (Holds view.sink) W text status a.sink b.sink x y → Leaves view status a b
+  reading_leaves text status a b x y count (Unread is sink same) = quiet status a b (λ other. cc) (λ other. cc) count sink
+  reading_leaves text status a b x y count (Faulty fault reads is sink same) =
+      let not = config_status fault in quiet status a b (λ other. not.0 (sym is ∙ other)) (λ other. not.1 (sym is ∙ other)) count sink
+  reading_leaves text status a b x y count (Says g reads making) = making_leaves g status a b x y count making
+
+  create_leaves : (status : Status) (a b : Outside S K) (x y : X) → CreateWent view W status a b x y → Leaves view status a b
+  create_leaves status a b x y (Long bytes long gives is sink same) = quiet status a b (λ other. cc) (λ other. cc) gives.3 sink
+  create_leaves status a b x y (Failed bytes gives is sink same) = record {
+    input_fault = λ other. gives.4;
+    output_fault = λ other. cc;
+    input_count = gives.3;
+    output_count = subst (λ (k : K). view.sink.faults a.sink ≤ view.sink.faults k) (sym sink) (le_refl _);
+    untouched = subst (λ (k : K). IfNothingIsPutOut status (k ≡ a.sink)) (sym sink) (not_put status a.sink);
+  }
+  create_leaves status a b x y (Whole text short gives reading) = reading_leaves text status a b x y gives.3 reading
+
+  create_no_usage : (status : Status) (a b : Outside S K) (x y : X) → CreateWent view W status a b x y → status ≢ Usage
+  create_no_usage status a b x y (Long bytes long gives is sink same) other = cc
+  create_no_usage status a b x y (Failed bytes gives is sink same) other = cc
+  create_no_usage status a b x y (Whole text short gives (Unread is sink same)) other = cc
+  create_no_usage status a b x y (Whole text short gives (Faulty fault reads is sink same)) other = (config_status fault).2 (sym is ∙ other)
+  create_no_usage status a b x y (Whole text short gives (Says g reads (ShortOfMemory is sink same))) other = cc
+  create_no_usage status a b x y (Whole text short gives (Says g reads (NotMade refusal did is sink))) other = (create_status refusal).2 (sym is ∙ other)
+  create_no_usage status a b x y (Whole text short gives (Says g reads (Made did held is))) other = cc
+  create_no_usage status a b x y (Whole text short gives (Says g reads (MadeUntold part did all held is))) other = cc
+
+  -- where memory was short nothing was done to an array
+  create_short : (status : Status) (a b : Outside S K) (x y : X) → CreateWent view W status a b x y → status ≡ OutOfMemory → y ≡ x
+  create_short status a b x y (Long bytes long gives is sink same) other = same
+  create_short status a b x y (Failed bytes gives is sink same) other = same
+  create_short status a b x y (Whole text short gives (Unread is sink same)) other = same
+  create_short status a b x y (Whole text short gives (Faulty fault reads is sink same)) other = same
+  create_short status a b x y (Whole text short gives (Says g reads (ShortOfMemory is sink same))) other = same
+  create_short status a b x y (Whole text short gives (Says g reads (NotMade refusal did is sink))) other =
+      absurd ((create_status refusal).4 (sym is ∙ other))
+  create_short status a b x y (Whole text short gives (Says g reads (Made did held is))) other = let clash : Done ≡ OutOfMemory = sym is ∙ other in cc
+  create_short status a b x y (Whole text short gives (Says g reads (MadeUntold part did all held is))) other =
+      let clash : OutputFault ≡ OutOfMemory = sym is ∙ other in cc
+
+-- what was taken is all that a source told
+all_told : (told : Option (List ℕ)) (text : List ℕ) (g : Geometry) → IfSome told (λ all. text ≡ all) → TextReadsAs text (Ok g)
+    → IfSome told (λ all. TextReadsAs all (Ok g))
+all_told None text g same reads = tt
+all_told (Some all) text g same reads = subst (λ (t : List ℕ). TextReadsAs t (Ok g)) same reads
+
+module _ {R S K : Type 0} (rack : RackView R) (view : Views S K) where
+  pub went_over : (status : Status) (a b : Outside S K) (x y : R) → MeansOver rack view create_plan (Over status) a b x y
+      → CreateWent view (Works rack) status a b x y
+  went_over status a b x y over = create_went view (Works rack) (works_still rack) status a b x y over.means over.works
+
+  pub all_is_kept : AllIsKept rack view
+  all_is_kept words status a b x y over =
+      elim (called_over rack view words status a b x y over) as (λ _. Leaves view status a b) [
+        | NoMemory out ends still ↦ same_kept view status a b ends (λ is. cc) (λ is. cc)
+        | NotSpelled not usage ends still ↦ same_kept view status a b ends (λ is. cc) (λ is. cc)
+        | Spelled job spells later ↦ job_leaves job later
+      ]
+    where
+      job_leaves : (job : Job) → MeansOver rack view (job_plan job) (Over status) a b x y → Leaves view status a b
+      job_leaves (OneStripe command n m r e) later = (tested_kept view command (one_stripe n m r e) status a b later.means).leaves
+      job_leaves Create later = create_leaves view (Works rack) status a b x y (went_over status a b x y later)
+
+  pub rack_is_left : RackIsLeft rack view
+  rack_is_left words status a b x y over other =
+      elim (called_over rack view words status a b x y over) as (λ _. (y ≡ x) × IfRefusedAtOnce status (b ≡ a)) [
+        | NoMemory out ends still ↦ (still, subst (λ (s : Status). IfRefusedAtOnce s (b ≡ a)) (sym out) ends)
+        | NotSpelled not usage ends still ↦ (still, subst (λ (s : Status). IfRefusedAtOnce s (b ≡ a)) (sym usage) ends)
+        | Spelled job spells later ↦ job_left job spells later
+      ]
+    where
+      job_left : (job : Job) → Spells words job → MeansOver rack view (job_plan job) (Over status) a b x y → (y ≡ x) × IfRefusedAtOnce status (b ≡ a)
+      job_left (OneStripe command n m r e) spells later = (
+        left_along rack later.means.story _ (Over status) x y (stripe_calls_none command (one_stripe n m r e)) later.means.follows later.works,
+        (tested_kept view command (one_stripe n m r e) status a b later.means).refused,
+      )
+      job_left Create spells later = absurd (other spells)
+
+  pub memory_comes_first : MemoryComesFirst rack view
+  memory_comes_first words a b x y over =
+      elim (called_over rack view words OutOfMemory a b x y over) as (λ _. y ≡ x) [
+        | NoMemory out ends still ↦ still
+        | NotSpelled not usage ends still ↦ still
+        | Spelled job spells later ↦ job_short job later
+      ]
+    where
+      job_short : (job : Job) → MeansOver rack view (job_plan job) (Over OutOfMemory) a b x y → y ≡ x
+      job_short (OneStripe command n m r e) later =
+          left_along rack later.means.story _ (Over OutOfMemory) x y (stripe_calls_none command (one_stripe n m r e)) later.means.follows later.works
+      job_short Create later = create_short view (Works rack) OutOfMemory a b x y (went_over OutOfMemory a b x y later) refl
+
+  made_so : (status : Status) (a b : Outside S K) (x y : R) → CreateWent view (Works rack) status a b x y → IsTrue rack.honest → status ≡ Done
+      → MakesArray (view.source.left a.source) (rack.history x) (rack.history y)
+  made_so status a b x y (Long bytes long gives is sink same) honest done = absurd (let clash : Input _ _ ≡ Done = sym is ∙ done in cc)
+  made_so status a b x y (Failed bytes gives is sink same) honest done = absurd (let clash : InputFault ≡ Done = sym is ∙ done in cc)
+  made_so status a b x y (Whole text short gives (Unread is sink same)) honest done = absurd (let clash : OutOfMemory ≡ Done = sym is ∙ done in cc)
+  made_so status a b x y (Whole text short gives (Faulty fault reads is sink same)) honest done = absurd ((config_status fault).3 (sym is ∙ done))
+  made_so status a b x y (Whole text short gives (Says g reads (ShortOfMemory is sink same))) honest done =
+      absurd (let clash : OutOfMemory ≡ Done = sym is ∙ done in cc)
+  made_so status a b x y (Whole text short gives (Says g reads (NotMade refusal did is sink))) honest done = absurd ((create_status refusal).3 (sym is ∙ done))
+  made_so status a b x y (Whole text short gives (Says g reads (Made did held is))) honest done =
+      let creates : Creates g (Ok tt) (told_of rack x) (told_of rack y) = did in
+      record { geometry = g; said = all_told (view.source.left a.source) text g gives.1 reads; made = creates.made honest }
+  made_so status a b x y (Whole text short gives (Says g reads (MadeUntold part did all held is))) honest done =
+      absurd (let clash : OutputFault ≡ Done = sym is ∙ done in cc)
+
+  pub array_is_made : ArrayIsMade rack view
+  array_is_made words status a b x y over spells honest done =
+      elim (called_over rack view words status a b x y over) as (λ _. MakesArray (view.source.left a.source) (rack.history x) (rack.history y)) [
+        | NoMemory out ends still ↦ absurd (let clash : OutOfMemory ≡ Done = sym out ∙ done in cc)
+        | NotSpelled not usage ends still ↦ absurd (not (Create, spells))
+        | Spelled job read later ↦
+            made_so status a b x y (went_over status a b x y
+            (subst (λ (j : Job). MeansOver rack view (job_plan j) (Over status) a b x y) (spells_once words job Create read spells) later)) honest done
+      ]
+
+  pub usage_is_exact : UsageIsExact rack view
+  usage_is_exact words status a b x y over memory =
+      elim (called_over rack view words status a b x y over) as (λ _. ((status ≡ Usage) ↔ (IsSpelled words → ⊥)) × (status ≢ Usage → IsSpelled words)) [
+        | NoMemory out ends still ↦ absurd (memory out)
+        | NotSpelled not usage ends still ↦ ((λ is. not, λ none. usage), λ other. absurd (other usage))
+        | Spelled job spells later ↦
+            let not = job_no_usage job later in
+            ((λ is. absurd (not is), λ none. absurd (none (job, spells))), λ other. (job, spells))
+      ]
+    where
+      job_no_usage : (job : Job) → MeansOver rack view (job_plan job) (Over status) a b x y → status ≢ Usage
+      job_no_usage (OneStripe command n m r e) later is =
+          subst (LimitsComeFirst command (one_stripe n m r e)) is
+          (tested_kept view command (one_stripe n m r e) status a b later.means).does.limits
+      job_no_usage Create later is = create_no_usage view (Works rack) status a b x y (went_over status a b x y later) is

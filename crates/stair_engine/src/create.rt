@@ -1,0 +1,63 @@
+ghost use Rattle.std.specs.Prelude.{◌≡◌, ℕ, IfOk, IfErr, length, string_bytes};
+ghost use Rattle.stair_engine.specs.Fault.{status_of};
+ghost use Rattle.stair_engine.specs.Outside.{outside, source_view, views};
+ghost use Rattle.stair_engine.specs.Plan.{Over, create_plan, created_line as line_of_created};
+ghost use Rattle.stair_engine.specs.Rack.{MeansOver, rack_view};
+ghost use Rattle.stair_engine.specs.Taking.{TakesText};
+
+use crate::fault::Fault;
+use crate::status::Status;
+use crate::streams::{Filled, fill, put_all};
+use stair_base::Geometry;
+use stair_conf::read_config;
+use stair_rack::{Rack, Sink, Source};
+use std::alloc::{AllocError, Global};
+
+// A geometry text has at most so many bytes.
+const TEXT_LIMIT: usize = 4096;
+
+/// Takes a geometry text, makes the array that it says on the devices of the rack, and puts out a line on it.
+pub(crate) fn create<R: Rack, S: Source, K: Sink>(
+    alloc: Global,
+    rack: &mut R,
+    input: &mut S,
+    output: &mut K,
+) -> Result<Status, Fault>
+    ensures { (counter : ℕ) → MeansOver (rack_view R.is_honest R.history R.bads R.gones)
+        (views S.left S.ended S.faults K.held K.faults) create_plan (Over (status_of result))
+        (outside input.old output.old counter) (outside input.new output.new counter)
+        rack.old rack.new }
+{
+    let mut text = [0; TEXT_LIMIT + 1];
+    let length = take_text(input, &mut text)?;
+    let geometry = read_config(alloc, &text[..length])?;
+    // Memory is asked for before the devices are touched.
+    let line = created_line(alloc, &geometry)?;
+    stair_array::create(rack, &geometry)?;
+    put_all(output, line.as_bytes())?;
+    Ok(Status::Done)
+}
+
+/// Takes a text up to the end of the input, and tells how many bytes it has.
+fn take_text<S: Source>(input: &mut S, into: &mut [u8]) -> Result<usize, Fault>
+    requires { length into.old ≡ 4097 }
+    ensures { TakesText (source_view S.left S.ended S.faults) result into.new
+        input.old input.new }
+{
+    match fill(input, into) {
+        Filled::Short(count) => Ok(count),
+        Filled::Whole => Err(Fault::Length {
+            needed: TEXT_LIMIT as u64,
+            took: TEXT_LIMIT as u64 + 1,
+        }),
+        Filled::Failed => Err(Fault::Input),
+    }
+}
+
+/// The line for an array that was made.
+fn created_line(alloc: Global, geometry: &Geometry) -> Result<String, AllocError>
+    ensures { IfOk result (λ line. string_bytes line ≡ line_of_created geometry.now) }
+{
+    let id = hex::encode(alloc, geometry.id())?;
+    format!(in alloc; "created {id} blocks {}\n", geometry.blocks())
+}

@@ -1,0 +1,52 @@
+-- The order of an array's superblocks, of those too that a newer one hides.
+use Rattle.std.specs.Prelude.{◌≡◌, ◌<◌, ◌≤◌, ◌⊎◌, ℕ}
+use Rattle.stair_model.specs.Geometry.{Geometry}
+use Rattle.stair_rack.specs.Media.{Image}
+use Rattle.stair_rack.specs.Sector.{Cell}
+use Rattle.stair_super.specs.Superblock.{Superblock}
+use Rattle.stair_member.specs.Counting.{AllBut}
+use Rattle.stair_member.specs.Superblocks.{HoldsSuper, Counts}
+use Rattle.stair_member.specs.Current.{IsLost, Serves}
+
+-- A medium of slot j with these cells bears this superblock of the array for the slot, in either place. A newer one in the
+-- other place may hide it.
+pub record Bears (g : Geometry) (j : ℕ) (cell : ℕ → Cell) (s : Superblock) : Type 0 where
+  pub place : ℕ
+  pub place_in : place < 2
+  pub holds : HoldsSuper (cell place) s
+  pub slot : s.slot ≡ j
+  pub identity : s.array.geometry ≡ g
+
+-- no superblock that a slot's medium bears has a greater epoch
+abbrev pub NoEpochAbove : Geometry → Image → ℕ → Type 0
+NoEpochAbove g image draw = (j : ℕ) (s : Superblock) → Bears g j ((image j).cell) s
+    → s.array.epoch ≤ draw
+
+-- where slot j counts and no place of it is lost, its draw is at least every epoch that a medium bears
+abbrev pub HasReserved : Geometry → Image → ℕ → Type 0
+HasReserved g image j = (s : Superblock) → Counts g image j s
+    → ¬ IsLost ((image j).cell 0) → ¬ IsLost ((image j).cell 1) → NoEpochAbove g image s.draw
+
+-- The superblocks of the image are in order, hidden ones too.
+pub record IsOrderly (g : Geometry) (image : Image) : Type 0 where
+  -- every epoch that a medium bears was drawn on all slots but m, so that the next one is drawn above it
+  pub reserved : AllBut g.n g.m (HasReserved g image)
+  -- an epoch names one configuration
+  pub one_list : (i j : ℕ) (a b : Superblock) → Bears g i ((image i).cell) a
+      → Bears g j ((image j).cell) b → a.array.epoch ≡ b.array.epoch → a.array ≡ b.array
+
+-- slot j serves, and its draw is at least every epoch that a medium bears
+pub record HasGreatestDraw (offline : ℕ → Type 0) (g : Geometry) (image : Image)
+    (current : Superblock) (j : ℕ) : Type 0 where
+  pub serves : Serves offline g image current j
+  pub above : NoEpochAbove g image serves.live.super.draw
+
+-- Slot j bears a superblock of the array for the slot with this draw and this epoch, unless that place of it is lost, and
+-- none of a greater draw.
+pub record IsLastDrawn (g : Geometry) (image : Image) (draw epoch j : ℕ) : Type 0 where
+  pub place : ℕ
+  pub place_in : place < 2
+  pub last : IsLost ((image j).cell place)
+      ⊎ ((s : Superblock) × HoldsSuper ((image j).cell place) s × (s.draw ≡ draw)
+      × (s.array.epoch ≡ epoch) × (s.slot ≡ j) × (s.array.geometry ≡ g))
+  pub greatest : (s : Superblock) → Bears g j ((image j).cell) s → s.draw ≤ draw

@@ -1,0 +1,77 @@
+//! Laws of the superblocks of media, of the slots that are live or have failed, and of the order of superblocks.
+
+ghost use Rattle.std.specs.Prelude.{◌≡◌, ◌*◌, ◌<◌, ◌≤◌, ◌↔◌, ◌⊎◌, ℕ, Bool, IsTrue};
+ghost use Rattle.stair_model.specs.Geometry.{Geometry, IsWithinLimits};
+ghost use Rattle.stair_model.specs.Slots.{Slots, HasSlot};
+ghost use Rattle.stair_rack.specs.Media.{Image};
+ghost use Rattle.stair_rack.specs.Sector.{Cell};
+ghost use Rattle.stair_super.specs.Superblock.{Superblock};
+ghost use Rattle.stair_member.specs.Counting.{MoreThan, AtMost, AllBut};
+ghost use Rattle.stair_member.specs.Current.{IsCurrent, IsFailed, IsLive, IsLost, Serves};
+ghost use Rattle.stair_member.specs.Reserve.{
+  Bears,
+  HasGreatestDraw,
+  HasReserved,
+  IsLastDrawn,
+  IsOrderly,
+};
+ghost use Rattle.stair_member.specs.Superblocks.{
+  Counts,
+  CountsFor,
+  HasSuper,
+  Identifies,
+  IsSuperOf,
+};
+
+/// Which superblock a medium has, and which is current. It does nothing.
+pub fn superblock_laws()
+    // a medium has one superblock at most
+    ensures one_super { (cell : ℕ → Cell) (s t : Superblock) → IsSuperOf cell s →
+        IsSuperOf cell t → s ≡ t }
+    // and it is decided whether it has one: it has where a place of it holds one
+    ensures decided { (cell : ℕ → Cell) →
+        ((s : Superblock) × IsSuperOf cell s) ⊎ (¬ HasSuper cell) }
+    // it counts for one array, so that no two arrays that stand have a slot in common
+    ensures one_identity { (g other : Geometry) (image : Image) (j : ℕ) → CountsFor g image j →
+        CountsFor other image j → g ≡ other }
+    // there is one current superblock at most, and one where the array stands
+    ensures one_current { (g : Geometry) (image : Image) (a b : Superblock) → IsCurrent g image a →
+        IsCurrent g image b → a ≡ b }
+    ensures has_current { (g : Geometry) (image : Image) → Identifies g image →
+        (current : Superblock) × IsCurrent g image current }
+{}
+
+/// Which slots serve, and what their superblocks have drawn, where these slots are offline. It does nothing.
+pub fn failure_laws()
+    // a slot below n serves exactly where it hasn't failed
+    ensures serve { (offline : Slots) (g : Geometry) (image : Image) (current : Superblock)
+        (j : ℕ) → j < g.n → Serves (HasSlot offline) g image current j ↔
+        (¬ IsFailed (HasSlot offline) g image current j) }
+    // where at most m have failed all but m serve
+    ensures others { (offline : Slots) (g : Geometry) (image : Image) (current : Superblock) →
+        AtMost g.m (IsFailed (HasSlot offline) g image current) →
+        AllBut g.n g.m (Serves (HasSlot offline) g image current) }
+    // and where the superblocks are in order one of these has drawn every epoch that a medium bears
+    ensures draw { (offline : Slots) (g : Geometry) (image : Image) (current : Superblock) →
+        IsWithinLimits g → AtMost g.m (IsFailed (HasSlot offline) g image current) →
+        IsOrderly g image → (j : ℕ) × HasGreatestDraw (HasSlot offline) g image current j }
+    // where all but m bear the last draw with an epoch, none earlier than it is current
+    ensures newest { (offline : Slots) (g : Geometry) (image : Image) (current : Superblock)
+        (draw epoch : ℕ) → IsWithinLimits g → IsCurrent g image current →
+        AtMost g.m (IsFailed (HasSlot offline) g image current) →
+        AllBut g.n g.m (IsLastDrawn g image draw epoch) → epoch ≤ current.array.epoch }
+    // and where no medium bears an epoch above that draw, every epoch is reserved again
+    ensures reserved { (g : Geometry) (image : Image) (draw epoch : ℕ) →
+        ((j : ℕ) (s : Superblock) → Bears g j ((image j).cell) s → s.array.epoch ≤ draw) →
+        AllBut g.n g.m (IsLastDrawn g image draw epoch) → AllBut g.n g.m (HasReserved g image) }
+{}
+
+/// More than m slots and at most m slots exclude each other. It does nothing.
+pub fn counting_laws()
+    ensures apart { (m : ℕ) (test : ℕ → Bool) → MoreThan m (λ j. IsTrue (test j)) →
+        ¬ AtMost m (λ j. IsTrue (test j)) }
+    // of n slots with n > 2m, some one is among all but m twice
+    ensures common { (n m : ℕ) (a b : ℕ → Bool) → n ≤ 32 → 2 * m < n →
+        AllBut n m (λ j. IsTrue (a j)) → AllBut n m (λ j. IsTrue (b j)) →
+        (j : ℕ) × (j < n) × IsTrue (a j) × IsTrue (b j) }
+{}
