@@ -27,8 +27,9 @@ use Rattle.stair_member.specs.Superblocks.{HasSuper, HoldsSuper}
 use Rattle.stair_array.specs.Created.{IsNewArray, IsNewDevice, IsNewSlot, NoneComesBack, created_sector}
 use Rattle.stair_array.specs.Created as created
 use Rattle.stair_array.specs.Look.{IsLook, IsTaken}
-use Rattle.stair_array.specs.Looking.{Telling, Finding, WasGone, WasSmall, Holds, AllPassed, HadSectors, IsFound, IsGoneInWriting, IsLater, IsNotCreated, IsReading, IsRefusedFor, IsUnwritten, cells_at}
-use Rattle.stair_array.specs.Making.{AreMade, IsBehind, IsLaidOut, IsMaking, IsNoPlaceWrite, IsPlace, IsSlotOf, IsStoppedBy, NoPlaceWritten, SuperblocksCameLast, CameAfter, WritesNoPlace}
+use Rattle.stair_member.specs.Telling.{IsLater, IsReading, Telling}
+use Rattle.stair_array.specs.Looking.{Finding, WasGone, WasSmall, Holds, AllPassed, HadSectors, IsFound, IsGoneInWriting, IsNotCreated, IsRefusedFor, IsUnwritten, cells_at}
+use Rattle.stair_array.specs.Making.{AreMade, IsBehind, IsLaidOut, IsMaking, IsNoPlaceWrite, IsPlace, IsSlotOf, IsStoppedBy, IsWriteWithin, NoPlaceWritten, SuperblocksCameLast, CameAfter, WritesNoPlace, WritesWithin, WrittenWithin}
 use Rattle.stair_array.specs.Represents.{AreSteady, IsLargeEnough}
 use Rattle.stair_array.specs.declared.fault.CreateFault.{CreateFault}
 use Rattle.stair_array.specs.declared.fault.CreateFault.TheVariants.{Gone, SmallDevice, AlreadyArray}
@@ -182,15 +183,17 @@ abbrev pub every_sector : ℕ → Type 0
 every_sector k = ⊤
 
 -- what lies behind the superblock places was made, and then these were
-pub made_whole : (g : Geometry) (j : ℕ) (slots : ℕ → Type 0) (old mid new : List Happening) → AreMade g IsBehind j old mid → AreMade g IsPlace j mid new
-    → Ran any_call old mid → Ran (IsMaking slots IsPlace) mid new → AreMade g every_sector j old new
+pub made_whole : (g : Geometry) (j : ℕ) (slots : ℕ → Type 0) (old mid new : List Happening) → AreMade g (IsBehind g) j old mid
+    → AreMade g IsPlace j mid new → Ran any_call old mid → Ran (IsMaking slots IsPlace) mid new → AreMade g every_sector j old new
 made_whole g j slots old mid new behind places ran ran' = record {
-  landed = λ k is below. elim (cases_lt k 2) [ inl place ↦ after.landed k place below | inr past ↦ before.landed k past below ];
-  stands = λ k is below. elim (cases_lt k 2) [ inl place ↦ after.stands k place below | inr past ↦ before.stands k past below ];
+  landed = λ k is below. elim (cases_lt k 2) [ inl place ↦ after.landed k place below | inr past ↦ before.landed k (past, below) below ];
+  stands = λ k is below. elim (cases_lt k 2) [ inl place ↦ after.stands k place below | inr past ↦ before.stands k (past, below) below ];
 }
   where
-    before : AreMade g IsBehind j old new
-    before = made_on {allowed = IsMaking slots IsPlace} behind ran' (λ k past bytes may. let place : k < 2 = may.1 in omega arith)
+    before : AreMade g (IsBehind g) j old new
+    before =
+        made_on {allowed = IsMaking slots IsPlace} behind ran'
+        (λ k past bytes may. let place : k < 2 = may.1 in let beyond : 2 ≤ k = past.0 in omega arith)
 
     after : AreMade g IsPlace j old new
     after = made_sooner ran places
@@ -200,8 +203,8 @@ pub record IsFinished (g : Geometry) (j : ℕ) (old new : List Happening) : Type
   pub slot : IsTaken g j old new
   pub sectors : AreMade g every_sector j slot.taken new
 
-finished : (g : Geometry) (j : ℕ) (slots : ℕ → Type 0) (old now mid new : List Happening) → IsTaken g j old now → AreMade g IsBehind j now mid
-    → AreMade g IsPlace j mid new → Ran (IsMaking slots IsBehind) now mid → Ran (IsMaking slots IsPlace) mid new → IsFinished g j old new
+finished : (g : Geometry) (j : ℕ) (slots : ℕ → Type 0) (old now mid new : List Happening) → IsTaken g j old now → AreMade g (IsBehind g) j now mid
+    → AreMade g IsPlace j mid new → Ran (IsMaking slots (IsBehind g)) now mid → Ran (IsMaking slots IsPlace) mid new → IsFinished g j old new
 finished g j slots old now mid new t behind places ran ran' = record {
   slot = record {
     taken = t.taken;
@@ -209,13 +212,13 @@ finished g j slots old now mid new t behind places ran ran' = record {
     before = t.before;
     since =
         ran_join t.since
-        (ran_join (making_no_attach {slots = slots} {part = IsBehind} j ran) (making_no_attach {slots = slots} {part = IsPlace} j ran'));
+        (ran_join (making_no_attach {slots = slots} {part = IsBehind g} j ran) (making_no_attach {slots = slots} {part = IsPlace} j ran'));
     in_use = t.in_use;
     large = t.large;
   };
   sectors =
       made_sooner (ran_any {allowed = IsNoAttach j} t.since)
-      (made_whole g j slots now mid new behind places (ran_any {allowed = IsMaking slots IsBehind} ran) ran');
+      (made_whole g j slots now mid new behind places (ran_any {allowed = IsMaking slots (IsBehind g)} ran) ran');
 }
 
 module _ (g : Geometry) (j : ℕ) (old new : List Happening) (f : IsFinished g j old new) where
@@ -299,8 +302,8 @@ module _ (g : Geometry) (j : ℕ) (old new : List Happening) (f : IsFinished g j
 -- ALL SLOTS
 
 pub all_finished : (g : Geometry) (old now mid new : List Happening) → IsWithinLimits g → ((j : ℕ) → j < 32 → j < g.n → IsTaken g j old now)
-    → ((j : ℕ) → j < g.n → AreMade g IsBehind j now mid) → Ran (IsMaking (IsSlotOf g) IsBehind) now mid → Ran (IsMaking (IsSlotOf g) IsPlace) mid new
-    → ((j : ℕ) → j < g.n → AreMade g IsPlace j mid new) → (j : ℕ) → j < g.n → IsFinished g j old new
+    → ((j : ℕ) → j < g.n → AreMade g (IsBehind g) j now mid) → Ran (IsMaking (IsSlotOf g) (IsBehind g)) now mid
+    → Ran (IsMaking (IsSlotOf g) IsPlace) mid new → ((j : ℕ) → j < g.n → AreMade g IsPlace j mid new) → (j : ℕ) → j < g.n → IsFinished g j old new
 all_finished g old now mid new limits taken behind ran ran' places j below =
     finished g j (IsSlotOf g) old now mid new (taken j (omega (arith, below, limits.devices)) below) (behind j below) (places j below) ran ran'
 
@@ -331,6 +334,45 @@ making_spares g part ran = none_written {allowed = IsMaking (IsSlotOf g) part} {
     spares j (Write k bytes answer) is past = let below : j < g.n = is.0 in absurd (omega arith)
     spares j (Sync answer) is past = tt
 
+-- NO SECTOR THAT THE ARRAY DOESN'T NEED
+
+written_within : (g : Geometry) {allowed : ℕ → SlotCall → Type 0} {old new : List Happening}
+    → ((j : ℕ) (c : SlotCall) → allowed j c → IsWriteWithin g c) → Ran allowed old new → WrittenWithin g old new
+written_within g {allowed} within ran = each_of_ran {allowed = allowed} {P = WritesWithin g} act (λ h j c may. within j c may) ran
+  where
+    act : (h : List Happening) (e : Happening) → IsAct h e → WritesWithin g h e
+    act h (Made image) may = tt
+    act h Stopped may = tt
+    act h (Acted j a) may = tt
+    act h (Called j c) may = absurd may
+
+pub looks_within : (g : Geometry) {old new : List Happening} → Ran IsLook old new → WrittenWithin g old new
+looks_within g ran = written_within g {allowed = IsLook} within ran
+  where
+    within : (j : ℕ) (c : SlotCall) → IsLook j c → IsWriteWithin g c
+    within j (Attach answer) is = tt
+    within j (Sectors size) is = tt
+    within j (Read k answer) is = tt
+    within j (Write k bytes answer) is = absurd is
+    within j (Sync answer) is = tt
+
+making_writes_within : (g : Geometry) (slots part : ℕ → Type 0) {old new : List Happening} → ((k : ℕ) → part k → k < sectors_needed g)
+    → Ran (IsMaking slots part) old new → WrittenWithin g old new
+making_writes_within g slots part needed ran = written_within g {allowed = IsMaking slots part} within ran
+  where
+    within : (j : ℕ) (c : SlotCall) → IsMaking slots part j c → IsWriteWithin g c
+    within j (Attach answer) is = tt
+    within j (Sectors size) is = tt
+    within j (Read k answer) is = tt
+    within j (Write k bytes answer) is = needed k is.1
+    within j (Sync answer) is = tt
+
+pub laying_within : (g : Geometry) {old new : List Happening} → Ran (IsMaking (IsSlotOf g) (IsBehind g)) old new → WrittenWithin g old new
+laying_within g ran = making_writes_within g (IsSlotOf g) (IsBehind g) (λ k is. is.1) ran
+
+pub enrolling_within : (g : Geometry) {old new : List Happening} → Ran (IsMaking (IsSlotOf g) IsPlace) old new → WrittenWithin g old new
+enrolling_within g ran = making_writes_within g (IsSlotOf g) IsPlace (λ k is. let place : k < 2 = is in omega arith) ran
+
 -- SUPERBLOCKS COME LAST
 
 spared : {allowed : ℕ → SlotCall → Type 0} {old new : List Happening} → ((j : ℕ) (c : SlotCall) → allowed j c → IsNoPlaceWrite c) → Ran allowed old new
@@ -353,33 +395,34 @@ looks_no_place ran = spared {allowed = IsLook} spares ran
     spares j (Write k bytes answer) is = absurd is
     spares j (Sync answer) is = tt
 
-pub laying_no_place : {slots : ℕ → Type 0} {old new : List Happening} → Ran (IsMaking slots IsBehind) old new → NoPlaceWritten old new
-laying_no_place {slots} ran = spared {allowed = IsMaking slots IsBehind} spares ran
+pub laying_no_place : (g : Geometry) {slots : ℕ → Type 0} {old new : List Happening} → Ran (IsMaking slots (IsBehind g)) old new
+    → NoPlaceWritten old new
+laying_no_place g {slots} ran = spared {allowed = IsMaking slots (IsBehind g)} spares ran
   where
-    spares : (j : ℕ) (c : SlotCall) → IsMaking slots IsBehind j c → IsNoPlaceWrite c
+    spares : (j : ℕ) (c : SlotCall) → IsMaking slots (IsBehind g) j c → IsNoPlaceWrite c
     spares j (Attach answer) is = absurd is
     spares j (Sectors size) is = absurd is
     spares j (Read k answer) is = absurd is
-    spares j (Write k bytes answer) is = is.1
+    spares j (Write k bytes answer) is = is.1.0
     spares j (Sync answer) is = tt
 
-laid_out : (g : Geometry) (j : ℕ) (slots : ℕ → Type 0) (old now mid : List Happening) → IsTaken g j old now → AreMade g IsBehind j now mid
-    → Ran (IsMaking slots IsBehind) now mid → IsLaidOut g j old mid
+laid_out : (g : Geometry) (j : ℕ) (slots : ℕ → Type 0) (old now mid : List Happening) → IsTaken g j old now → AreMade g (IsBehind g) j now mid
+    → Ran (IsMaking slots (IsBehind g)) now mid → IsLaidOut g j old mid
 laid_out g j slots old now mid t behind ran = record {
   since = t.taken;
   is_one =
       moment_between {a = any_call} {b = any_call} t.before
-      (ran_join (ran_any {allowed = IsNoAttach j} t.since) (ran_any {allowed = IsMaking slots IsBehind} ran));
+      (ran_join (ran_any {allowed = IsNoAttach j} t.since) (ran_any {allowed = IsMaking slots (IsBehind g)} ran));
   in_use = t.in_use;
-  stands = λ k is below. IsKept-since (pulls_on {allowed = IsNoAttach j} j t.since) (behind.stands k is below);
+  stands = λ k is below. IsKept-since (pulls_on {allowed = IsNoAttach j} j t.since) (behind.stands k (is, below) below);
 }
 
 pub came_after : (g : Geometry) (old now mid new : List Happening) → IsWithinLimits g → ((j : ℕ) → j < 32 → j < g.n → IsTaken g j old now)
-    → ((j : ℕ) → j < g.n → AreMade g IsBehind j now mid) → Ran IsLook old now → Ran (IsMaking (IsSlotOf g) IsBehind) now mid
+    → ((j : ℕ) → j < g.n → AreMade g (IsBehind g) j now mid) → Ran IsLook old now → Ran (IsMaking (IsSlotOf g) (IsBehind g)) now mid
     → Ran (IsMaking (IsSlotOf g) IsPlace) mid new → SuperblocksCameLast g old new
 came_after g old now mid new limits taken behind looks laying last =
     CameAfter mid
     (moment_between {a = any_call} {b = IsMaking (IsSlotOf g) IsPlace}
-    (ran_join (ran_any {allowed = IsLook} looks) (ran_any {allowed = IsMaking (IsSlotOf g) IsBehind} laying)) last)
-    (each_join (looks_no_place looks) (laying_no_place laying))
+    (ran_join (ran_any {allowed = IsLook} looks) (ran_any {allowed = IsMaking (IsSlotOf g) (IsBehind g)} laying)) last)
+    (each_join (looks_no_place looks) (laying_no_place g laying))
     (λ j below. laid_out g j (IsSlotOf g) old now mid (taken j (omega (arith, below, limits.devices)) below) (behind j below) laying)

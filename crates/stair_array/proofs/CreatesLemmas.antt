@@ -5,8 +5,9 @@ use Rattle.stair_model.specs.Geometry.{Geometry, IsWithinLimits}
 use Rattle.stair_rack.specs.History.{Happening}
 use Rattle.stair_rack.specs.Stretch.{NoneWritten}
 use Rattle.stair_array.specs.Creates.{Creates, IsMade}
-use Rattle.stair_array.specs.Looking.{IsLater, IsNotCreated, Telling, WasLookedAt}
-use Rattle.stair_array.specs.Making.{SuperblocksCameLast}
+use Rattle.stair_member.specs.Telling.{IsLater, Telling}
+use Rattle.stair_array.specs.Looking.{IsNotCreated, WasLookedAt}
+use Rattle.stair_array.specs.Making.{SuperblocksCameLast, WrittenWithin}
 use Rattle.stair_array.specs.declared.fault.CreateFault.{CreateFault}
 use Rattle.stair_array.proofs.CreateLemmas.{IsFinished, finished_all_steady, finished_history, finished_image, finished_landed, never_refused}
 use Rattle.stair_array.proofs.NewArrayLemmas.{media_of_array, new_consistent, new_represents}
@@ -15,18 +16,23 @@ use Rattle.stair_array.proofs.NewArrayLemmas.{media_of_array, new_consistent, ne
 abbrev pub AreSpared : Geometry → Telling → Telling → Type 0
 AreSpared g old new = IsTrue new.honest → NoneWritten (λ j. g.n ≤ j) old.history new.history
 
+-- nor a sector behind those that the array needs
+abbrev pub StayWithin : Geometry → Telling → Telling → Type 0
+StayWithin g old new = IsTrue new.honest → WrittenWithin g old.history new.history
+
 -- and superblocks came last
 abbrev pub AreOrdered : Geometry → Telling → Telling → Type 0
 AreOrdered g old new = IsTrue new.honest → SuperblocksCameLast g old.history new.history
 
 pub not_created : (g : Geometry) (fault : CreateFault) (old new : Telling) → IsNotCreated g fault old new → IsLater old new → AreSpared g old new
-    → AreOrdered g old new → Creates g (Err fault) old new
-not_created g fault old new why later spared last = record {
+    → StayWithin g old new → AreOrdered g old new → Creates g (Err fault) old new
+not_created g fault old new why later spared within last = record {
   refused = why;
   looked = tt;
   counts = later.counts;
   made = λ honest. tt;
   others = spared;
+  within = within;
   order = last;
   complete = λ honest can. absurd (never_refused g old new honest (later.ran honest) can.online can.large can.bare fault why);
 }
@@ -47,15 +53,16 @@ is_made g old new limits id each =
 
 -- at its end
 pub ends_so : (g : Geometry) (answer : Result (Unit {0}) CreateFault) (old new : Telling) → IfErr answer (λ fault. IsNotCreated g fault old new)
-    → WasLookedAt g old new → IsLater old new → AreSpared g old new → AreOrdered g old new → (IsTrue new.honest → OnOk answer (IsMade g old.history new.history))
-    → Creates g answer old new
-ends_so g (Ok done) old new refused looked later spared last made = record {
+    → WasLookedAt g old new → IsLater old new → AreSpared g old new → StayWithin g old new → AreOrdered g old new
+    → (IsTrue new.honest → OnOk answer (IsMade g old.history new.history)) → Creates g answer old new
+ends_so g (Ok done) old new refused looked later spared within last made = record {
   refused = tt;
   looked = looked;
   counts = later.counts;
   made = made;
   others = spared;
+  within = within;
   order = last;
   complete = λ honest can. refl;
 }
-ends_so g (Err fault) old new refused looked later spared last made = not_created g fault old new refused later spared last
+ends_so g (Err fault) old new refused looked later spared within last made = not_created g fault old new refused later spared within last

@@ -1,16 +1,18 @@
 -- Degraded images: of each other, and what they keep.
-use Rattle.std.proofs.Common.{◌≡◌, ℕ, ◌⊎◌, inl, inr, sym, refl, ap, ◌∙◌, subst}
+use Rattle.std.proofs.Common.{◌≡◌, ℕ, ◌≤◌, ◌⊎◌, inl, inr, sym, refl, ap, ◌∙◌, subst, arith}
+use Rattle.std.proofs.lemmas.Bool.{cases_lt}
 use Rattle.std.specs.Prelude.{false}
 use Rattle.stair_model.specs.Geometry.{Geometry}
 use Rattle.stair_rack.specs.Media.{Image, SlotImage, has_sector}
 use Rattle.stair_rack.specs.Sector.{Cell, Damaged}
 use Rattle.stair_super.specs.Superblock.{Superblock}
 use Rattle.stair_member.specs.Current.{IsLost}
-use Rattle.stair_member.specs.Reserve.{Bears, HasReserved, IsOrderly}
-use Rattle.stair_member.specs.Superblocks.{Counts, HoldsSuper}
-use Rattle.stair_member.proofs.SuperLemmas.{super_cells}
+use Rattle.stair_member.specs.Reserve.{Bears, HasReached, HasReserved, IsOrderly}
+use Rattle.stair_member.specs.Superblocks.{Counts, HoldsSuper, IsSuperOf, First, Second}
+use Rattle.stair_member.proofs.CountingLemmas.{all_but_mapped}
+use Rattle.stair_member.proofs.SuperLemmas.{holds_once, super_cells}
 use Rattle.stair_array.specs.Degraded.{AreAllDamaged, AreDamagedCopies, IsDegraded, IsDegradedSlot, Taken, Blank, Stays}
-use Rattle.stair_array.proofs.FormLemmas.{good_before, same_kept}
+use Rattle.stair_array.proofs.FormLemmas.{good_before, good_kept, same_kept}
 
 -- copies of copies, of which some more may be damaged
 pub copies_again : {a b c : ℕ → Cell} → AreDamagedCopies a b → AreDamagedCopies b c → AreDamagedCopies a c
@@ -82,23 +84,82 @@ counts_before {more = more} {less = less} {j = j} {s = s} copies first second co
   identity = counts.identity;
 }
 
+-- in which place it lies
+pub super_at : {cell : ℕ → Cell} {s : Superblock} → IsSuperOf cell s → HoldsSuper (cell 0) s ⊎ HoldsSuper (cell 1) s
+super_at (First holds rest) = inl holds
+super_at (Second holds rest) = inr holds
+
+-- the superblocks of an image are in order where its cells are those of such an image, of which some may be damaged
+module _ (g : Geometry) (more less : Image) (copies : (j : ℕ) → AreDamagedCopies (more j).cell (less j).cell)
+    (orderly : IsOrderly g more) where
+  lost_before : (j k : ℕ) → ¬ IsLost ((less j).cell k) → ¬ IsLost ((more j).cell k)
+  lost_before j k kept lost = kept (subst IsLost (sym (same_kept (copies j k) kept)) lost)
+
+  reserved_before : (j : ℕ) → HasReserved g more j → HasReserved g less j
+  reserved_before j reserved s counts first second i t bears =
+      reserved s (counts_before {more = more} {less = less} (copies j) first second counts)
+      (lost_before j 0 first) (lost_before j 1 second) i t (bears_before (copies i) bears)
+
+  reached_before : (epoch j : ℕ) → HasReached g more epoch j → HasReached g less epoch j
+  reached_before epoch j reached s counts first second =
+      reached s (counts_before {more = more} {less = less} (copies j) first second counts)
+      (lost_before j 0 first) (lost_before j 1 second)
+
+  -- where both places hold superblocks, the medium has the one that it had
+  hidden_apart : (j : ℕ) (first second s newest : Superblock) → HoldsSuper ((less j).cell 0) first → HoldsSuper ((less j).cell 1) second
+      → Bears g j ((less j).cell) s → IsSuperOf ((less j).cell) newest → Counts g less j newest × (s.array.epoch ≤ newest.array.epoch)
+  hidden_apart j first second s newest in_first in_second bears super =
+      let before =
+      orderly.hidden j s newest (bears_before (copies j) bears)
+      (super_cells ((less j).cell) ((more j).cell) newest (same_kept (copies j 0) (good_kept in_first.good))
+      (same_kept (copies j 1) (good_kept in_second.good)) super) in
+      (record { super = super; slot = before.0.slot; identity = before.0.identity }, before.1)
+
+  -- where they are one and the same
+  hidden_same : (j : ℕ) (s newest : Superblock) → Bears g j ((less j).cell) s → IsSuperOf ((less j).cell) newest → newest ≡ s
+      → Counts g less j newest × (s.array.epoch ≤ newest.array.epoch)
+  hidden_same j s newest bears super same = (
+    record {
+      super = super;
+      slot = ap (λ (t : Superblock). t.slot) same ∙ bears.slot;
+      identity = ap (λ (t : Superblock). t.array.geometry) same ∙ bears.identity;
+    },
+    let epoch : newest.array.epoch ≡ s.array.epoch = ap (λ (t : Superblock). t.array.epoch) same in omega arith,
+  )
+
+  hidden_before : (j : ℕ) (s newest : Superblock) → Bears g j ((less j).cell) s → IsSuperOf ((less j).cell) newest
+      → Counts g less j newest × (s.array.epoch ≤ newest.array.epoch)
+  hidden_before j s newest bears super =
+      elim (cases_lt bears.place 1) [
+        | inl below ↦
+            let here : HoldsSuper ((less j).cell 0) s = subst (λ (k : ℕ). HoldsSuper ((less j).cell k) s) (omega arith) bears.holds in
+            elim (super_at super) [
+              | inl at ↦ hidden_same j s newest bears super (holds_once ((less j).cell 0) newest s at here)
+              | inr at ↦ hidden_apart j s newest s newest here at bears super
+            ]
+        | inr above ↦
+            let here : HoldsSuper ((less j).cell 1) s =
+            subst (λ (k : ℕ). HoldsSuper ((less j).cell k) s) (omega (arith, bears.place_in)) bears.holds in
+            elim (super_at super) [
+              | inl at ↦ hidden_apart j newest s s newest at here bears super
+              | inr at ↦ hidden_same j s newest bears super (holds_once ((less j).cell 1) newest s at here)
+            ]
+      ]
+
+  pub orderly_copies : IsOrderly g less
+  orderly_copies = record {
+    reserved = all_but_mapped {P = HasReserved g more} {Q = HasReserved g less} (λ j below reserved. reserved_before j reserved) orderly.reserved;
+    one_list = λ i j a b first second.
+        orderly.one_list i j a b (bears_before (copies i) first) (bears_before (copies j) second);
+    hidden = hidden_before;
+    reached = λ i j a b first second earlier.
+        all_but_mapped {P = HasReached g more a.array.epoch} {Q = HasReached g less a.array.epoch}
+        (λ k below reached. reached_before a.array.epoch k reached)
+        (orderly.reached i j a b (bears_before (copies i) first) (bears_before (copies j) second) earlier);
+    joined = λ i k j a b first second upto here there.
+        orderly.joined i k j a b (bears_before (copies i) first) (bears_before (copies k) second) upto here there;
+  }
+
 -- the superblocks of a degraded image are in order
 pub orderly_before : (g : Geometry) (more less : Image) → IsDegraded more less → IsOrderly g more → IsOrderly g less
-orderly_before g more less degraded orderly = record {
-  reserved = record {
-    exceptions = orderly.reserved.exceptions;
-    formed = orderly.reserved.formed;
-    few = orderly.reserved.few;
-    others = λ j below other. reserved_before j (orderly.reserved.others j below other);
-  };
-  one_list = λ i j a b first second.
-      orderly.one_list i j a b (bears_before (degraded_copies (degraded i)) first) (bears_before (degraded_copies (degraded j)) second);
-}
-  where
-    reserved_before : (j : ℕ) → HasReserved g more j → HasReserved g less j
-    reserved_before j reserved s counts first second i t bears =
-        let copies = degraded_copies (degraded j) in
-        reserved s (counts_before {more = more} {less = less} copies first second counts)
-        (λ lost. first (subst IsLost (sym (same_kept (copies 0) first)) lost))
-        (λ lost. second (subst IsLost (sym (same_kept (copies 1) second)) lost)) i t
-        (bears_before (degraded_copies (degraded i)) bears)
+orderly_before g more less degraded orderly = orderly_copies g more less (λ j. degraded_copies (degraded j)) orderly

@@ -28,7 +28,7 @@ use Rattle.stair_super.specs.declared.configuration.Configuration.{Configuration
 use Rattle.stair_super.specs.declared.mark.Mark.{Mark}
 use Rattle.stair_array.specs.Created.{created_sector, first_configuration, first_joins, first_marks, first_super}
 use Rattle.stair_array.specs.Look.{IsTaken}
-use Rattle.stair_array.specs.Looking.{Telling}
+use Rattle.stair_member.specs.Telling.{Telling}
 use Rattle.stair_array.specs.Making.{AreMade, IsBehind, IsMaking, IsPlace, IsSlotOf, IsStoppedAt, IsStoppedBy}
 use Rattle.stair_array.specs.declared.fault.CreateFault.TheVariants.{Gone}
 use Rattle.stair_array.proofs.CreatedLemmas.{created_place}
@@ -140,7 +140,7 @@ behind g j k = if nat_lt k gate_sector then None else (if nat_lt k (sectors_need
 behind_there : (g : Geometry) (j k : ℕ) → gate_sector ≤ k → k < sectors_needed g → behind g j k ≡ Some (created_sector g j k)
 behind_there g j k past below = cond-false _ _ _ (le-ltb k gate_sector past) ∙ cond-true _ _ _ (lt-ltb k (sectors_needed g) below)
 
-behind_is : (g : Geometry) (j k : ℕ) (bytes : List ℕ) → behind g j k ≡ Some bytes → (gate_sector ≤ k) × (k < sectors_needed g)
+behind_is : (g : Geometry) (j k : ℕ) (bytes : List ℕ) → behind g j k ≡ Some bytes → IsBehind g k
 behind_is g j k bytes is =
     elim (cases_lt k gate_sector) [
       | inl before ↦
@@ -218,9 +218,9 @@ module _ (g : Geometry) (slot sector : ℕ) (bytes : List ℕ) (old now next : T
       (λ attached k bytes' at. reach k (behind_is g slot k bytes' at).1 attached))
 
   pub laid_gone_ran : IsTrue next.honest → Calls now.history next.history slot (Write sector bytes reply.Gone)
-      → Ran (IsMaking (IsSlot slot) IsBehind) old.history next.history
+      → Ran (IsMaking (IsSlot slot) (IsBehind g)) old.history next.history
   laid_gone_ran is called =
-      making_writes (behind g) (IsSlot slot) IsBehind (λ j k bytes' on at. (behind_is g j k bytes' at).0) (laid_step reply.Gone is called).ran
+      making_writes (behind g) (IsSlot slot) (IsBehind g) (λ j k bytes' on at. behind_is g j k bytes' at) (laid_step reply.Gone is called).ran
 
 pub all_sectors : (g : Geometry) (sector last : ℕ) → last ≡ sectors_needed g → (3 ≤ last → sector ≤ last) → last ≤ sector
     → sector ≡ sectors_needed g
@@ -237,11 +237,12 @@ module _ (g : Geometry) (slot : ℕ) (answer : Reply) (old now next : Telling) (
       now.history next.history (so_far.writing (same ∙ is)) (λ j k bytes on at. (on, (behind_is g j k bytes at).0, (behind_is g j k bytes at).1))
       (SyncStep-call slot answer now.history next.history (called is)) (λ j on. on) (λ j on fine. on)
 
-  pub laid_made : answer ≡ reply.Done → IsTrue next.honest → AreMade g IsBehind slot old.history next.history
+  pub laid_made : answer ≡ reply.Done → IsTrue next.honest → AreMade g (IsBehind g) slot old.history next.history
   laid_made done is =
-      made_from g IsBehind slot (behind g) (IsSlot slot) (λ j. ⊥ ⊎ ((j ≡ slot) × (answer ≡ reply.Gone))) old.history next.history (laid_phase is) refl
+      made_from g (IsBehind g) slot (behind g) (IsSlot slot) (λ j. ⊥ ⊎ ((j ≡ slot) × (answer ≡ reply.Gone))) old.history next.history
+      (laid_phase is) refl
       (λ gone. elim gone [ inl none ↦ none | inr at ↦ let never : reply.Done ≡ reply.Gone = sym done ∙ at.1 in absurd (cc) ])
-      (λ k past below. behind_there g slot k past below)
+      (λ k past below. behind_there g slot k past.0 below)
 
   pub laid_unsynced : answer ≡ reply.Gone → Rose (now.gones slot) (next.gones slot) → NoneFalls now.bads next.bads now.gones next.gones
       → IsStoppedAt g slot old next
@@ -251,9 +252,9 @@ module _ (g : Geometry) (slot : ℕ) (answer : Reply) (old now next : Telling) (
       (λ is before held reach.
       (laid_phase is).shut before slot (inr (refl, gone)) held (λ attached k bytes at. reach k (behind_is g slot k bytes at).1 attached))
 
-  pub laid_ran : IsTrue next.honest → Ran (IsMaking (IsSlot slot) IsBehind) old.history next.history
+  pub laid_ran : IsTrue next.honest → Ran (IsMaking (IsSlot slot) (IsBehind g)) old.history next.history
   laid_ran is =
-      making_phase (behind g) (IsSlot slot) (λ j. ⊥ ⊎ ((j ≡ slot) × (answer ≡ reply.Gone))) IsBehind (λ j k bytes on at. (behind_is g j k bytes at).0)
+      making_phase (behind g) (IsSlot slot) (λ j. ⊥ ⊎ ((j ≡ slot) × (answer ≡ reply.Gone))) (IsBehind g) (λ j k bytes on at. behind_is g j k bytes at)
       (laid_phase is)
 
 -- THE SUPERBLOCK PLACES

@@ -1,7 +1,7 @@
 -- There is a rack of new devices for each geometry, and it is all that new arrays are said to be.
-use Rattle.std.proofs.Common.{◌≡◌, ℕ, ◌<◌, ◌≤◌, List, [], ◌∷◌, Some, None, Option, false, length, replicate, inl, inr, refl, sym, ◌∙◌, ap, subst, arith, nat_lt, if◌then◌else◌}
+use Rattle.std.proofs.Common.{◌≡◌, ℕ, ◌<◌, ◌≤◌, List, [], ◌∷◌, Some, None, Option, length, replicate, inl, inr, refl, sym, ◌∙◌, ap, arith, nat_lt, if◌then◌else◌}
 use Rattle.std.specs.Prelude.{slice_get}
-use Rattle.std.proofs.lemmas.Bool.{cases_lt, cases_Bool, cond-true, cond-false, false≢true, lt-ltb, le-ltb}
+use Rattle.std.proofs.lemmas.Bool.{cases_lt, cond-true, cond-false, false≢true, lt-ltb, le-ltb}
 use Rattle.stair_model.specs.Device.{Chunk, cell_sector}
 use Rattle.stair_model.specs.Geometry.{Geometry, IsWithinLimits, sectors_needed}
 use Rattle.stair_model.specs.Slots.{no_slots}
@@ -9,26 +9,25 @@ use Rattle.stair_model.proofs.CoverageLaws.{covered_none}
 use Rattle.stair_model.proofs.DeviceLaws.{sector_in_range}
 use Rattle.stair_model.proofs.RestLaws.{covered_by_chunks}
 use Rattle.stair_model.proofs.SetLaws.{HasCell-none, slot_count_member}
-use Rattle.stair_rack.specs.Crash.{CrashMayLeave, EachImage}
-use Rattle.stair_rack.specs.History.{Made, empty_slot, slot_state}
+use Rattle.stair_rack.specs.History.{Made, empty_slot}
 use Rattle.stair_rack.specs.Media.{Image, Medium, SlotImage, has_sector}
 use Rattle.stair_rack.specs.Offline.{IsOffline, NoMedium, RackStopped, Unattached}
-use Rattle.stair_rack.specs.Sector.{Cell, Good, Damaged, MayLeave, Sector, TornOverDamage, settled}
-use Rattle.stair_rack.proofs.CrashLemmas.{settled_left}
-use Rattle.stair_rack.proofs.TidyLemmas.{IsTidy-made, history_made, sectors_within}
+use Rattle.stair_rack.specs.Sector.{Cell, Good, Damaged, TornOverDamage}
+use Rattle.stair_rack.proofs.TidyLemmas.{history_made}
 use Rattle.stair_super.specs.Superblock.{Superblock}
 use Rattle.stair_member.specs.Counting.{AllBut}
 use Rattle.stair_member.specs.Current.{ByOutside, IsCurrent, IsFailed, IsLive, IsLost, LostPlace, NotLive, Offline, Worn}
+use Rattle.stair_member.specs.Reserve.{BearsFor, MayStand}
 use Rattle.stair_member.specs.Superblocks.{Counts, CountsFor, IsOnlyIdentity}
 use Rattle.stair_member.proofs.CountingLemmas.{more_from_all_but}
 use Rattle.stair_member.proofs.SuperLemmas.{counts_bears, one_identity, super_held}
 use Rattle.stair_array.specs.Created.{AreNewMedia, BearNoneOutside, IsNewArray, IsNewDevice, Kept, created_sector, first_super}
-use Rattle.stair_array.specs.Represents.{AreSteady, Represents}
+use Rattle.stair_array.specs.Represents.{Represents}
 use Rattle.stair_array.specs.Reassembly.{IsConsistentUnderReassembly}
 use Rattle.stair_array.specs.State.{created_state}
 use Rattle.stair_array.specs.Tolerance.{IsStripeCovered, IsTolerated, IsWithinTolerance}
 use Rattle.stair_array.proofs.AloneLemmas.{IsImageTidy, each_left, steady_made}
-use Rattle.stair_array.proofs.CreatedLemmas.{created_place, first_held, place_needed}
+use Rattle.stair_array.proofs.CreatedLemmas.{created_place, first_held, held_first, place_needed}
 use Rattle.stair_array.proofs.NewArrayLemmas.{borne_is_first, counted_live, device_super, media_of_array, new_consistent, new_represents, none_is_few, not_in_none}
 
 -- A RACK THAT WAS JUST MADE
@@ -152,6 +151,24 @@ module _ (g : Geometry) (limits : IsWithinLimits g) (id : length g.id ≡ 16) wh
         others = λ j below out. counts_here j below;
       }
 
+  -- nor would another array stand by hidden superblocks: each that is borne, for whichever array, is this one's
+  borne_within : (other : Geometry) (j : ℕ) → BearsFor other (example_image g) j → other ≡ g
+  borne_within other j for =
+      elim (cases_lt j g.n) [
+        | inl below ↦
+            let is : for.super ≡ first_super g j =
+            held_first g j for.bears.place (example_image g j) for.super limits id below (example_device g j below) for.bears.place_in
+            for.bears.holds in
+            sym for.bears.identity ∙ ap (λ (s : Superblock). s.array.geometry) is
+        | inr above ↦
+            let none : Good for.bears.holds.bytes ≡ Damaged = sym for.bears.holds.good ∙ none_past g j for.bears.place above in absurd (cc)
+      ]
+
+  example_others : (other : Geometry) → MayStand other (example_image g) → other ≡ g
+  example_others other may =
+      let some = slot_count_member may.slots (omega (arith, may.many)) in
+      borne_within other some.0 (may.each some.0 some.2)
+
   example_current : IsCurrent g (example_image g) (first_super g 0)
   example_current = record {
     counts = counts_first 0 (omega (arith, limits.devices));
@@ -191,6 +208,7 @@ module _ (g : Geometry) (limits : IsWithinLimits g) (id : length g.id ≡ 16) wh
     example_within : IsWithinTolerance offline g (example_image g)
     example_within = record {
       identity = example_identity;
+      others = example_others;
       current = first_super g 0;
       is_current = example_current;
       few = record {

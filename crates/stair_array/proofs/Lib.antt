@@ -19,3 +19,8 @@ pub mod AloneLemmas
 pub mod OutsideLemmas
 pub mod ReturnLemmas
 pub mod CreatesLemmas
+pub mod StillLemmas
+pub mod AgreeLemmas
+pub mod SeenLemmas
+pub mod MixedLemmas
+pub mod SurveyedLemmas

@@ -1,26 +1,25 @@
 -- What a look at one slot tells.
-use Rattle.std.proofs.Common.{◌≡◌, ◌≢◌, ℕ, ◌+◌, ◌<◌, ◌≤◌, below_more, Bool, true, false, List, ◌++◌, ◌⊎◌, inl, inr, refl, sym, ap, ◌∙◌, subst, arith, Option, None, Some, if◌then◌else◌, true≢false}
-use Rattle.std.specs.Prelude.{◌&&◌, ◌==◌, IfSome, IsSome, IsTrue, is_some, not}
+use Rattle.std.proofs.Common.{◌≡◌, ◌≢◌, ℕ, ◌+◌, ◌<◌, ◌≤◌, below_more, Bool, true, false, List, ◌⊎◌, inl, inr, refl, sym, ap, ◌∙◌, subst, arith, Option, None, Some, if◌then◌else◌, true≢false}
+use Rattle.std.specs.Prelude.{◌==◌, IfSome, IsSome, IsTrue, is_some, not}
 use Rattle.std.proofs.lemmas.Bool.{cases_Bool, cases_eq, false≢true, lt-ltb}
 use Rattle.stair_model.specs.Geometry.{Geometry, sectors_needed}
-use Rattle.stair_rack.specs.Answers.{Calls, Told, Untold, IsBesideAttach, IsHistory, IsNoAttach, Ran, any_call, is_good, is_readable, is_ready}
-use Rattle.stair_rack.specs.Count.{Rose, Rose-kept, kept-Rose}
-use Rattle.stair_rack.specs.History.{Happening, SlotCall, Attach, Sectors, Read, Write, Sync, SlotState, slot_state, stopped}
+use Rattle.stair_rack.specs.Answers.{Calls, IsBesideAttach, IsHistory, IsNoAttach, Ran, any_call, is_good, is_readable, is_ready}
+use Rattle.stair_rack.specs.Count.{Rose, kept-Rose}
+use Rattle.stair_rack.specs.History.{Happening, SlotCall, Attach, Sectors, Read, Write, Sync, slot_state, stopped}
 use Rattle.stair_rack.specs.Media.{has_sector}
-use Rattle.stair_rack.specs.Moments.{AtSomeMoment}
 use Rattle.stair_rack.specs.Offline.{ButForOutside, Here, Lost, IsHeld, IsOffline}
 use Rattle.stair_rack.specs.RackCounts.{NoneFalls}
-use Rattle.stair_rack.specs.Sector.{Cell, Good, Damaged, Torn, TornOverDamage, Sector, content}
+use Rattle.stair_rack.specs.Sector.{Cell, Good, Damaged, Sector, content}
 use Rattle.stair_rack.specs.Stretch.{IsNoWrite, NothingWritten, every_slot}
 use Rattle.stair_rack.specs.declared.rack.Got.{Got}
 use Rattle.stair_rack.specs.declared.rack.Got.TheVariants as got
 use Rattle.stair_rack.specs.declared.rack.Reply.TheVariants as reply
-use Rattle.stair_rack.proofs.StepLemmas.{kept, slot_after_call}
-use Rattle.stair_rack.proofs.MomentLemmas.{IsThis, at_end, at_some_mapped, at_some_wider, calls_ran, moment_between, ran_any, ran_join, ran_none, ran_weakened}
+use Rattle.stair_rack.proofs.StepLemmas.{kept}
+use Rattle.stair_rack.proofs.MomentLemmas.{IsThis, at_end, calls_ran, moment_between, ran_any, ran_join, ran_none, ran_weakened}
 use Rattle.stair_rack.proofs.KeptLemmas.{IsKept-now, IsLooking, SectorKeeps-looking, keeps_sector}
-use Rattle.stair_rack.proofs.OfflineLemmas.{WasPulled-sooner, and-false, and-true_left, held_on, offline_from_unready, offline_now, refused}
+use Rattle.stair_rack.proofs.OfflineLemmas.{and-false, and-true_left, held_on, offline_from_unready, offline_now}
 use Rattle.stair_rack.proofs.CallLemmas.{attach_done, attach_found, attach_gone, read_bad, sectors_of_last, sync_gone}
-use Rattle.stair_rack.proofs.ReadLemmas.{read_answered, ready_unpulled, was_read_bad, was_read_good, was_read_gone, was_read_wider}
+use Rattle.stair_rack.proofs.ReadLemmas.{read_answered, ready_unpulled, was_read_bad, was_read_good, was_read_gone}
 use Rattle.stair_rack.proofs.PassCounts.{NoneFalls-same, NoneFalls-then}
 use Rattle.stair_rack.proofs.StretchLemmas.{none_written}
 use Rattle.stair_rack.proofs.TidyLemmas.{history_called, history_on, history_tidy}
@@ -31,7 +30,10 @@ use Rattle.stair_array.specs.Look.{AreJudged, IsJudged, IsLook, IsLookAt, IsFoun
 use Rattle.stair_array.specs.declared.fault.CreateFault.{CreateFault}
 use Rattle.stair_array.specs.declared.look.Found.{Found}
 use Rattle.stair_array.specs.declared.look.Found.TheVariants as found
-use Rattle.stair_array.specs.Looking.{Telling, Finding, WasGone, WasSmall, Holds, HadSectors, IsBare, IsFound, IsLarge, IsLater, IsReading, IsRefused, Passed, cells_at, telling}
+use Rattle.stair_member.proofs.DecisionLemmas.{no_super, spelled_here}
+use Rattle.stair_member.proofs.TellingLemmas.{attach_uses, gone_wider, honest_within, later_called, later_join, later_none, reading_wider, some_wider}
+use Rattle.stair_member.specs.Telling.{IsLater, IsReading, Telling, telling}
+use Rattle.stair_array.specs.Looking.{Finding, WasGone, WasSmall, Holds, HadSectors, IsBare, IsFound, IsLarge, IsRefused, Passed, cells_at}
 use Rattle.stair_array.specs.Represents.{IsLargeEnough}
 
 -- CALLS
@@ -84,89 +86,38 @@ call_no_attach {j = j} {c = c} beside called =
 
 -- LONGER STRETCHES
 
-rose_wider : {a b c d : ℕ} → a ≤ b → Rose b c → b ≤ c → c ≤ d → Rose a d
-rose_wider {a} {b} {c} {d} first rose within second = Rose-kept a c d (kept-Rose a b c first within rose) second
-
-pub later_join : {old mid new : Telling} → IsLater old mid → IsLater mid new → IsLater old new
-later_join first second = record {
-  counts = NoneFalls-then first.counts second.counts;
-  honest = first.honest ∙ second.honest;
-  ran = λ honest. ran_join (first.ran (second.honest ∙ honest)) (second.ran honest);
-}
-
-pub later_none : (now : Telling) → IsLater now now
-later_none now = record { counts = NoneFalls-same now.bads now.gones; honest = refl; ran = λ honest. ran_none now.history }
-
--- of racks that say the same of their honesty
 module _ (old mid new later : Telling) (first : IsLater old mid) (same : mid.honest ≡ new.honest) (within : NoneFalls mid.bads new.bads mid.gones new.gones)
     (second : IsLater new later) where
-  honest_before : IsTrue later.honest → IsTrue mid.honest
-  honest_before honest = same ∙ second.honest ∙ honest
-
-  honest_within : IsTrue later.honest → IsTrue new.honest
-  honest_within honest = second.honest ∙ honest
-
-  some_wider : (P : List Happening → Type 0) → IsTrue later.honest → AtSomeMoment P mid.history new.history → AtSomeMoment P old.history later.history
-  some_wider P honest some =
-      at_some_wider {a = any_call} {b = any_call} {P = P} (first.ran (honest_before honest)) (second.ran honest) some
-
-  bads_wider : Rose mid.bads new.bads → Rose old.bads later.bads
-  bads_wider rose = rose_wider first.counts.bad.not_less rose within.bad.not_less second.counts.bad.not_less
-
-  gones_wider : (j : ℕ) → Rose (mid.gones j) (new.gones j) → Rose (old.gones j) (later.gones j)
-  gones_wider j rose = rose_wider (first.counts.gone j).not_less rose (within.gone j).not_less (second.counts.gone j).not_less
-
-  reading_wider : (j k : ℕ) (cell : Cell) → IsReading j k mid new cell → IsReading j k old later cell
-  reading_wider j k (Good bytes) was = λ honest.
-      was_read_wider {a = any_call} {b = any_call} (first.ran (honest_before honest)) (second.ran honest) (was (honest_within honest))
-  reading_wider j k Damaged was = (
-    bads_wider was.0,
-    λ honest. was_read_wider {a = any_call} {b = any_call} (first.ran (honest_before honest)) (second.ran honest) (was.1 (honest_within honest)),
-  )
-  reading_wider j k Torn was = absurd was
-  reading_wider j k TornOverDamage was = absurd was
-
   large_wider : (g : Geometry) (j : ℕ) → IsLarge g j mid new → IsLarge g j old later
   large_wider g j is below honest =
-      let was = is below (honest_within honest) in
-      (was.0, was.1, some_wider (λ h. (slot_state h j).size ≡ Some was.0) honest was.2)
+      let was = is below (honest_within old mid new later first same within second honest) in
+      (was.0, was.1, some_wider old mid new later first same within second (λ h. (slot_state h j).size ≡ Some was.0) honest was.2)
 
   bare_wider : (j : ℕ) (cell : ℕ → Cell) → IsBare j mid new cell → IsBare j old later cell
-  bare_wider j cell is none honest = some_wider (λ h. ¬ HasSuper (cells_at h j)) honest (is none (honest_within honest))
-
-  -- an offline slot is offline since an earlier moment
-  offline_sooner : (h : List Happening) (j : ℕ) → IsTrue later.honest → IsOffline mid.history h j → IsOffline old.history h j
-  offline_sooner h j honest (IsOffline.NoMedium none) = IsOffline.NoMedium none
-  offline_sooner h j honest (IsOffline.Unattached not_attached pulled) =
-      IsOffline.Unattached not_attached (WasPulled-sooner {allowed = any_call} h j (first.ran (honest_before honest)) pulled)
-  offline_sooner h j honest (IsOffline.RackStopped is) = IsOffline.RackStopped is
+  bare_wider j cell is none honest =
+      some_wider old mid new later first same within second (λ h. ¬ HasSuper (cells_at h j)) honest
+      (is none (honest_within old mid new later first same within second honest))
 
   -- what bears a finding out does so in each longer stretch
   pub found_wider : (g : Geometry) (j : ℕ) (finding : Finding) → IsFound g j mid new finding → IsFound g j old later finding
-  found_wider g j WasGone was = (
-    gones_wider j was.0,
+  found_wider g j WasGone was = gone_wider old mid new later first same within second j was
+  found_wider g j (WasSmall has) was = (
+    was.0,
+    was.1,
     λ honest.
-        at_some_mapped {P = λ h. IsOffline mid.history h j} {Q = λ h. IsOffline old.history h j}
-        (λ h at is. offline_sooner h j honest is) (some_wider (λ h. IsOffline mid.history h j) honest (was.1 (honest_within honest))),
+        some_wider old mid new later first same within second (λ h. (slot_state h j).size ≡ Some has) honest
+        (was.2 (honest_within old mid new later first same within second honest)),
   )
-  found_wider g j (WasSmall has) was =
-      (was.0, was.1, λ honest. some_wider (λ h. (slot_state h j).size ≡ Some has) honest (was.2 (honest_within honest)))
-  found_wider g j (Holds cell) was =
-      (λ k below. reading_wider j k (cell k) (was.0 k below), large_wider g j was.1, bare_wider j cell was.2)
+  found_wider g j (Holds cell) was = (
+    λ k below. reading_wider old mid new later first same within second j k (cell k) (was.0 k below),
+    large_wider g j was.1,
+    bare_wider j cell was.2,
+  )
 
   pub passed_wider : (g : Geometry) (j : ℕ) → Passed g j mid new → Passed g j old later
   passed_wider g j was = record { finding = was.finding; found = found_wider g j was.finding was.found; passes = was.passes }
 
 -- ONE READ
-
-no_super : (cell : Cell) (s : Superblock) → is_good cell ≡ false → ¬ HoldsSuper cell s
-no_super cell s bad holds = true≢false (sym (ap is_good holds.good) ∙ bad)
-
-spells_of : (bytes : List ℕ) (s : Superblock) → HoldsSuper (Good bytes) s → SpellsSuperblock bytes s
-spells_of bytes s holds =
-    let both : Good bytes ≡ Good holds.bytes = holds.good in
-    let same : holds.bytes ≡ bytes = cc in
-    subst (λ x. SpellsSuperblock x s) same holds.spells
 
 super_of : (bytes : List ℕ) (o : Option Superblock) → IfSome o (λ s. SpellsSuperblock bytes s) → is_some o ≡ true
     → (s : Superblock) × HoldsSuper (Good bytes) s
@@ -210,10 +161,10 @@ module _ (honest : Bool) (old new : List Happening) (bads bads' : ℕ) (gones go
     cell = Good bytes;
     reading = λ is. was_read_good (λ cell. cell ≡ Good bytes) (told is) (good is);
     holds = super_of bytes o spells;
-    bare = λ off s holds. none (none_of o off) s (spells_of bytes s holds);
+    bare = λ off s holds. none (none_of o off) s (spelled_here bytes s holds);
     ready = λ is. ready_of_good (told is);
     now = λ is off s holds.
-        none (none_of o off) s (spells_of bytes s (subst (λ cell. HoldsSuper cell s) (good is) holds));
+        none (none_of o off) s (spelled_here bytes s (subst (λ cell. HoldsSuper cell s) (good is) holds));
   }
 
   pub judged_bad : (IsTrue honest → IsHistory old) → (IsTrue honest → Calls old new j (Read k got.Bad)) → Rose bads bads'
@@ -329,24 +280,10 @@ module _ (honest : Bool) (old mid new : List Happening) (bads bads' bads'' : ℕ
 
 -- A SLOT OF THE ARRAY
 
--- a call is a later moment
-pub later_called : (honest : Bool) (old new : List Happening) (bads bads' : ℕ) (gones gones' : ℕ → ℕ) (j : ℕ) (c : SlotCall)
-    → (IsTrue honest → Calls old new j c) → NoneFalls bads bads' gones gones' → IsLater (telling honest old bads gones) (telling honest new bads' gones')
-later_called honest old new bads bads' gones gones' j c told counts =
-    record { counts = counts; honest = refl; ran = λ is. ran_any {allowed = IsThis j c} (calls_ran (told is)) }
-
--- so are reads of a slot
+-- reads of a slot make a later moment
 pub later_read : (honest : Bool) (old new : List Happening) (bads bads' : ℕ) (gones gones' : ℕ → ℕ) (j : ℕ) → (IsTrue honest → Ran (IsReadOf j) old new)
     → NoneFalls bads bads' gones gones' → IsLater (telling honest old bads gones) (telling honest new bads' gones')
 later_read honest old new bads bads' gones gones' j ran counts = record { counts = counts; honest = refl; ran = λ is. ran_any (ran is) }
-
--- an attach that finds the medium is told: the slot is attached
-pub attach_uses : {old new : List Happening} {j : ℕ} → Calls old new j (Attach reply.Done) → (slot_state new j).attached ≡ true
-attach_uses {old} {new} {j} (Told acts runs answered is) =
-    ap (λ (b : SlotState). b.attached) (ap (λ h. slot_state h j) is ∙ slot_after_call (acts ++ old) j (Attach reply.Done))
-attach_uses {old} {new} {j} (Untold acts runs answered is_stopped nothing is) =
-    let gone : reply.Done ≡ reply.Gone = refused (acts ++ old) j (Attach reply.Done) is_stopped answered in
-    absurd (cc)
 
 -- gone at its attach
 pub gone_attach : (g : Geometry) (honest : Bool) (old new : List Happening) (bads bads' : ℕ) (gones gones' : ℕ → ℕ) (j : ℕ)

@@ -174,6 +174,12 @@ module _ (g : Geometry) (image : Image) (limits : IsWithinLimits g) (id : length
       let both : Live ≡ Rebuilding = sym live ∙ rebuilding.marked in
       absurd (cc)
 
+  -- the superblock of a new device, whatever it says, is the first one
+  super_first : (j : ℕ) (slot : SlotImage) (s : Superblock) → j < g.n → IsNewDevice g j slot → IsSuperOf slot.cell s
+      → s ≡ first_super g j
+  super_first j slot s below device (First holds rest) = held_first g j 0 slot s limits id below device (omega arith) holds
+  super_first j slot s below device (Second holds rest) = held_first g j 1 slot s limits id below device (omega arith) holds
+
   -- every epoch that a medium bears is 1
   pub new_orderly : IsOrderly g image
   new_orderly = record {
@@ -187,6 +193,28 @@ module _ (g : Geometry) (image : Image) (limits : IsWithinLimits g) (id : length
           omega arith;
     };
     one_list = λ i j a b bears_a bears_b same. borne_array i a bears_a ∙ sym (borne_array j b bears_b);
+    hidden = λ j s newest bears super.
+        let is : newest ≡ first_super g j =
+        super_first j (image j) newest (bears_below g j ((image j).cell) s bears)
+        (kept_device g j (image j) s (new j (bears_below g j ((image j).cell) s bears)) bears) super in
+        let named : newest.array ≡ first_configuration g = ap (λ (t : Superblock). t.array) is in
+        let last : newest.array.epoch ≡ 1 = ap (λ (array : Configuration). array.epoch) named in
+        let epoch : s.array.epoch ≡ 1 = ap (λ (array : Configuration). array.epoch) (borne_array j s bears) in (
+          record {
+            super = super;
+            slot = ap (λ (t : Superblock). t.slot) is;
+            identity = ap (λ (array : Configuration). array.geometry) named;
+          },
+          omega (arith, last, epoch),
+        );
+    reached = λ i j a b bears_a bears_b earlier.
+        let first : a.array.epoch ≡ 1 = ap (λ (array : Configuration). array.epoch) (borne_array i a bears_a) in
+        let second : b.array.epoch ≡ 1 = ap (λ (array : Configuration). array.epoch) (borne_array j b bears_b) in
+        absurd (omega (arith, first, second, earlier));
+    joined = λ i k j a b bears_a bears_b upto here there.
+        let same : joined_at a j ≡ joined_at b j =
+        ap (λ (array : Configuration). joined_in array j) (borne_array i a bears_a ∙ sym (borne_array k b bears_b)) in
+        omega (arith, same);
   }
 
   -- what the current superblock names is what the first epoch did

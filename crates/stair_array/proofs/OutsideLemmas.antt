@@ -1,21 +1,23 @@
--- What acts that put no medium back leave of an array.
+-- What acts that put no medium back, and calls that change no sector, leave of an array.
 use Rattle.std.proofs.Common.{◌≡◌, ℕ, List, [], ◌∷◌, ◌⊎◌, inl, inr, refl, sym, ap, ◌∙◌, subst, slice_get}
 use Rattle.std.specs.Prelude.{None, Some, ◌==◌, if◌then◌else◌}
 use Rattle.std.proofs.lemmas.Bool.{cases_Bool, cases_eq, cond-true, cond-false, eq-eqb, ne_eqb}
 use Rattle.stair_model.specs.Geometry.{Geometry}
-use Rattle.stair_rack.specs.Answers.{Ran, no_call}
+use Rattle.stair_rack.specs.Answers.{Ran}
 use Rattle.stair_rack.specs.Crash.{CrashMayLeave, SlotMayLeave}
-use Rattle.stair_rack.specs.History.{Happening, Made, Stopped, Acted, Called, SlotAct, Pulled, InsertedBlank, InsertedOld, SectorDamaged, SlotState, after_act, slot_state}
+use Rattle.stair_rack.specs.History.{Happening, Made, Stopped, Acted, Called, SlotAct, Pulled, InsertedBlank, InsertedOld, SectorDamaged, SlotCall, Attach, Sectors, Read, Write, Sync, SlotState, after_act, after_call, slot_state}
 use Rattle.stair_rack.specs.Media.{Image, SlotImage, has_sector}
 use Rattle.stair_rack.specs.Offline.{IsOffline, NoMedium}
 use Rattle.stair_rack.specs.Outside.{IsAct, MayHappen}
 use Rattle.stair_rack.specs.Sector.{Cell, Sector, Damaged, MayLeave, content, damaged, settled}
 use Rattle.stair_rack.specs.Stretch.{NothingReturned, ReturnsNothing}
+use Rattle.stair_rack.specs.declared.rack.Reply.TheVariants as reply
 use Rattle.stair_rack.proofs.CrashLemmas.{content_left, settled_left}
 use Rattle.stair_rack.proofs.KeptLemmas.{with_old_cases, with_sector_cases}
 use Rattle.stair_rack.proofs.MomentLemmas.{at_last}
-use Rattle.stair_rack.proofs.StepLemmas.{kept, keeps_slot, slot_act_cases}
+use Rattle.stair_rack.proofs.StepLemmas.{kept, keeps_slot, slot_act_cases, slot_call_cases}
 use Rattle.stair_rack.proofs.StretchLemmas.{kept_where}
+use Rattle.stair_member.specs.Asked.{LeavesSectors}
 use Rattle.stair_array.specs.Degraded.{IsDegraded, IsDegradedSlot, Taken, Blank, Stays}
 use Rattle.stair_array.specs.Represents.{AreSteady, IsImageOf, Left, Lesser, Represents}
 use Rattle.stair_array.specs.State.{State, without_seats}
@@ -50,13 +52,22 @@ settled_act k b (InsertedOld i) may is =
     ])
 settled_act k b (SectorDamaged l) may is = with_sector_cases (λ s. s.since ≡ []) l k damaged b (λ at. refl) is
 
-pub steady_acts : (g : Geometry) (old new : List Happening) → Ran no_call old new → AreSteady g old → AreSteady g new
+settled_call : (k : ℕ) (b : SlotState) (j : ℕ) (c : SlotCall) → LeavesSectors j c → IsSettled k b → IsSettled k (after_call c b)
 unfolding IsSettled
-steady_acts g old new ran steady j k below place =
-    kept {allowed = no_call} {P = λ h. IsSettled k (slot_state h j)}
-    (keeps_slot {allowed = no_call} {j = j} {R = IsSettled k} (record {
+settled_call k b j (Attach reply.Done) may is = is
+settled_call k b j (Attach reply.Gone) may is = is
+settled_call k b j (Sectors size) may is = is
+settled_call k b j (Read l answer) may is = is
+settled_call k b j (Write l bytes answer) may is = absurd may
+settled_call k b j (Sync answer) may is = absurd may
+
+pub steady_looks : (g : Geometry) (old new : List Happening) → Ran LeavesSectors old new → AreSteady g old → AreSteady g new
+unfolding IsSettled
+steady_looks g old new ran steady j k below place =
+    kept {allowed = LeavesSectors} {P = λ h. IsSettled k (slot_state h j)}
+    (keeps_slot {allowed = LeavesSectors} {j = j} {R = IsSettled k} (record {
       act = settled_act k;
-      call = λ h c may is before. absurd may;
+      call = λ h c may is before. settled_call k (slot_state h j) j c may before;
     })) ran (steady j k below place)
 
 -- IMAGES
@@ -130,6 +141,22 @@ act_before h (Acted i a) act none j image left =
     (λ same. slot_before h i (slot_state h j) a none image) (same_slot (slot_state h j) image) left
 act_before h (Called i c) act none j image left = absurd act
 
+-- a call that changes no sector changes nothing of what a crash may leave
+look_left : (b : SlotState) (j : ℕ) (c : SlotCall) → LeavesSectors j c → (image : SlotImage) → SlotMayLeave (after_call c b) image
+    → SlotMayLeave b image
+look_left b j (Attach reply.Done) may image left = record { size = left.size; each = left.each; removed = left.removed }
+look_left b j (Attach reply.Gone) may image left = record { size = left.size; each = left.each; removed = left.removed }
+look_left b j (Sectors size) may image left = left
+look_left b j (Read k answer) may image left = left
+look_left b j (Write k bytes answer) may image left = absurd may
+look_left b j (Sync answer) may image left = absurd may
+
+look_before : (h : List Happening) (i : ℕ) (c : SlotCall) → LeavesSectors i c → (j : ℕ) (image : SlotImage)
+    → SlotMayLeave (slot_state (Called i c ∷ h) j) image → SlotMayLeave (slot_state h j) image
+look_before h i c may j image left =
+    slot_call_cases (λ b. SlotMayLeave b image → SlotMayLeave (slot_state h j) image) h i j c
+    (λ same. look_left (slot_state h j) i c may image) (λ is. is) left
+
 -- an image that a crash may leave, and from it by taking away and damage this
 pub record ComesFrom (h : List Happening) (image : Image) : Type 0 where
   pub was : Image
@@ -150,20 +177,20 @@ next_come old h e act none before image left =
       degraded = again from.was (λ j. (slots j).was) image from.degraded (λ j. (slots j).degraded);
     }
 
-pub come_from : (old new : List Happening) → Ran no_call old new → NothingReturned old new → AllComeFrom old new
+pub come_from : (old new : List Happening) → Ran LeavesSectors old new → NothingReturned old new → AllComeFrom old new
 unfolding AllComeFrom
 come_from old new ran none =
     at_last {P = AllComeFrom old}
-    (kept_where {P = ReturnsNothing} {allowed = no_call} {R = AllComeFrom old} (record {
+    (kept_where {P = ReturnsNothing} {allowed = LeavesSectors} {R = AllComeFrom old} (record {
       act = λ h e act none before. next_come old h e act none before;
-      call = λ h i c may answered none before. absurd may;
+      call = λ h i c may answered none before image left. before image (λ j. look_before h i c may j (image j) (left j));
     }) ran none (λ image left. record { was = image; left = left; degraded = degraded_same image }))
 
 -- the rack represents the state, marks aside
-pub acts_stand : (s : State) (before old new : List Happening) → Represents s old → Ran no_call old new → NothingReturned old new
+pub looks_stand : (s : State) (before old new : List Happening) → Represents s old → Ran LeavesSectors old new → NothingReturned old new
     → IsTolerated s.geometry before new → Represents (without_seats s) new
 unfolding AllComeFrom
-acts_stand s before old new stands ran none tolerated =
+looks_stand s before old new stands ran none tolerated =
     record {
       encodings = encodings_without_seats s stands.encodings;
       each = λ x is. image_without_seats s stands.encodings x (stands.each x (back x is));
@@ -171,7 +198,7 @@ acts_stand s before old new stands ran none tolerated =
           let from = come x left in orderly_before s.geometry from.was x from.degraded (stands.orderly from.was from.left);
       shrinks = λ more less is also. stands.shrinks more less (back more is) (back less also);
       seats = tt;
-      steady = steady_acts s.geometry old new ran stands.steady;
+      steady = steady_looks s.geometry old new ran stands.steady;
     }
   where
     come : AllComeFrom old new

@@ -10,8 +10,10 @@ use Rattle.stair_rack.specs.Media.{Image, Medium, SlotImage, has_sector, sectors
 use Rattle.stair_rack.specs.Outside.{IsAct, MayHappen}
 use Rattle.stair_rack.specs.Sector.{Cell, Damaged, MayLeave}
 use Rattle.stair_rack.proofs.CrashLemmas.{settled_left}
+use Rattle.stair_rack.proofs.MomentLemmas.{ran_weakened}
 use Rattle.stair_rack.proofs.StepLemmas.{kept, slot_act_cases}
 use Rattle.stair_super.specs.Superblock.{Superblock}
+use Rattle.stair_member.specs.Asked.{LeavesSectors}
 use Rattle.stair_array.specs.Degraded.{AreAllDamaged, AreDamagedCopies, Taken, Blank, Stays}
 use Rattle.stair_array.specs.Reassembly.{Location, InSlot, Outside, IsBorne, IsConsistent, IsConsistentUnderReassembly, IsMediumOf, IsReassembledSlot, OneOf, Unwritten, Empty, IsReassembly}
 use Rattle.stair_array.specs.Represents.{Encodings}
@@ -19,7 +21,7 @@ use Rattle.stair_array.specs.State.{State, without_seats}
 use Rattle.stair_array.proofs.AloneLemmas.{encodings_without_seats, image_without_seats}
 use Rattle.stair_array.proofs.DegradedLemmas.{bears_before, copies_again, copies_damaged}
 use Rattle.stair_array.proofs.FormLemmas.{good_whole}
-use Rattle.stair_array.proofs.OutsideLemmas.{SlotComesFrom, same_slot, slot_before, slot_now, slot_now_left, steady_acts}
+use Rattle.stair_array.proofs.OutsideLemmas.{SlotComesFrom, same_slot, slot_before, slot_now, slot_now_left, steady_looks}
 
 -- WHERE A MEDIUM CAME FROM
 
@@ -332,5 +334,5 @@ acts_consistent s old new consistent ran =
       each = λ image left.
           consistent_without_seats s consistent.encodings image (consistent_acts s consistent.encodings old new ran consistent.each image left);
       seats = tt;
-      steady = steady_acts s.geometry old new ran consistent.steady;
+      steady = steady_looks s.geometry old new (ran_weakened {allowed = no_call} {more = LeavesSectors} (λ j c may. absurd may) ran) consistent.steady;
     }

@@ -23,6 +23,7 @@ module _ {fewer more : ℕ → Type 0} {g : Geometry} {image : Image} (within : 
   pub tolerated_fewer : IsWithinTolerance more g image → IsWithinTolerance fewer g image
   tolerated_fewer tolerated = record {
     identity = tolerated.identity;
+    others = tolerated.others;
     current = tolerated.current;
     is_current = tolerated.is_current;
     few = record {

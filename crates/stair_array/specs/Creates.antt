@@ -10,8 +10,9 @@ use Rattle.stair_rack.specs.RackCounts.{NoneFalls}
 use Rattle.stair_rack.specs.Stretch.{NoneWritten, NothingWritten}
 use Rattle.stair_member.specs.Superblocks.{HasSuper}
 use Rattle.stair_array.specs.Created.{BearNoneOutside, NoneComesBack, created_sector}
-use Rattle.stair_array.specs.Looking.{IsNotCreated, Telling, WasLookedAt, cells_at}
-use Rattle.stair_array.specs.Making.{SuperblocksCameLast}
+use Rattle.stair_member.specs.Telling.{Telling}
+use Rattle.stair_array.specs.Looking.{IsNotCreated, WasLookedAt, cells_at}
+use Rattle.stair_array.specs.Making.{SuperblocksCameLast, WrittenWithin}
 use Rattle.stair_array.specs.Reassembly.{IsConsistentUnderReassembly}
 use Rattle.stair_array.specs.Represents.{AreSteady, IsLargeEnough, Represents}
 use Rattle.stair_array.specs.State.{created_state}
@@ -52,6 +53,8 @@ pub record Creates (g : Geometry) (answer : Result (Unit {0}) CreateFault) (old 
   pub made : IsTrue new.honest → OnOk answer (IsMade g old.history new.history)
   -- no other slot was written
   pub others : IsTrue new.honest → NoneWritten (λ j. g.n ≤ j) old.history new.history
+  -- nor was, of any slot, a sector behind those that the array needs
+  pub within : IsTrue new.honest → WrittenWithin g old.history new.history
   -- a superblock is written only once every device of the array has the rest of it on the disk
   pub order : IsTrue new.honest → SuperblocksCameLast g old.history new.history
   -- it succeeds where an array can be made

@@ -11,3 +11,4 @@ pub mod Looking
 pub mod Look
 pub mod Making
 pub mod Creates
+pub mod Surveyed

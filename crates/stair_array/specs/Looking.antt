@@ -1,29 +1,16 @@
 -- What `create` looks at before it writes anything, and what it refuses.
-use Rattle.std.specs.Prelude.{◌≡◌, ◌<◌, ◌≤◌, ◌⊎◌, ℕ, Bool, false, IsTrue, List, Some}
+use Rattle.std.specs.Prelude.{◌≡◌, ◌<◌, ◌≤◌, ◌⊎◌, ℕ, IsTrue, List, Some}
 use Rattle.stair_model.specs.Geometry.{Geometry, sectors_needed}
-use Rattle.stair_rack.specs.Answers.{Ran, any_call, is_good}
 use Rattle.stair_rack.specs.Count.{Rose}
 use Rattle.stair_rack.specs.History.{Happening, slot_state}
 use Rattle.stair_rack.specs.Moments.{AtSomeMoment}
 use Rattle.stair_rack.specs.Offline.{IsOffline}
-use Rattle.stair_rack.specs.RackCounts.{NoneFalls}
-use Rattle.stair_rack.specs.Reading.{WasRead}
-use Rattle.stair_rack.specs.Sector.{Cell, Good, Damaged, content}
+use Rattle.stair_rack.specs.Sector.{Cell, content}
 use Rattle.stair_rack.specs.Stretch.{NothingWritten}
 use Rattle.stair_member.specs.Superblocks.{HasSuper}
+use Rattle.stair_member.specs.Telling.{Telling, IsFoundGone, IsLater, IsReading}
 use Rattle.stair_array.specs.declared.fault.CreateFault.{CreateFault}
 use Rattle.stair_array.specs.declared.fault.CreateFault.TheVariants.{Gone, SmallDevice, AlreadyArray}
-
--- what a rack tells at a moment; its history only where it is honest
-pub record Telling : Type 0 where
-  pub honest : Bool
-  pub history : List Happening
-  pub bads : ℕ
-  pub gones : ℕ → ℕ
-
-abbrev pub telling : Bool → List Happening → ℕ → (ℕ → ℕ) → Telling
-telling honest history bads gones =
-    record { honest = honest; history = history; bads = bads; gones = gones }
 
 -- What was found of a slot: it was gone at one of the calls; its medium has too few sectors, so many; or its two superblock
 -- places hold these cells, damaged where one read as bad.
@@ -48,14 +35,6 @@ IsRefusedFor g j finding fault = ⊥
 
 -- WHAT BEARS A FINDING OUT, from one moment to another.
 
--- this cell was read, in the slot that is in use; where it read as bad its count rose
-abbrev pub IsReading : ℕ → ℕ → Telling → Telling → Cell → Type 0
-IsReading j k old new (Good bytes) =
-    IsTrue new.honest → WasRead (λ cell. cell ≡ Good bytes) old.history new.history j k
-IsReading j k old new Damaged = Rose old.bads new.bads
-    × (IsTrue new.honest → WasRead (λ cell. is_good cell ≡ false) old.history new.history j k)
-IsReading j k old new cell = ⊥
-
 -- at some moment the medium of the slot had so many sectors
 abbrev pub HadSectors : ℕ → ℕ → List Happening → List Happening → Type 0
 HadSectors j count old new = AtSomeMoment (λ h. (slot_state h j).size ≡ Some count) old new
@@ -75,8 +54,7 @@ IsBare j old new cell = ¬ HasSuper cell → IsTrue new.honest
     → AtSomeMoment (λ h. ¬ HasSuper (cells_at h j)) old.history new.history
 
 abbrev pub IsFound : Geometry → ℕ → Telling → Telling → Finding → Type 0
-IsFound g j old new WasGone = Rose (old.gones j) (new.gones j)
-    × (IsTrue new.honest → AtSomeMoment (λ h. IsOffline old.history h j) old.history new.history)
+IsFound g j old new WasGone = IsFoundGone j old new
 IsFound g j old new (WasSmall has) = (j < g.n) × (has < sectors_needed g)
     × (IsTrue new.honest → HadSectors j has old.history new.history)
 IsFound g j old new (Holds cell) = ((k : ℕ) → k < 2 → IsReading j k old new (cell k))
@@ -108,12 +86,6 @@ pub record IsRefused (g : Geometry) (fault : CreateFault) (old new : Telling) : 
   pub found : IsFound g slot old new finding
   pub refused : IsRefusedFor g slot finding fault
   pub unwritten : IsUnwritten old new
-
--- the same rack at a later moment
-pub record IsLater (old new : Telling) : Type 0 where
-  pub counts : NoneFalls old.bads new.bads old.gones new.gones
-  pub honest : old.honest ≡ new.honest
-  pub ran : IsTrue new.honest → Ran any_call old.history new.history
 
 -- A slot of the array was gone while the devices were written, and is offline.
 abbrev pub IsGoneInWriting : Geometry → CreateFault → Telling → Telling → Telling → Type 0

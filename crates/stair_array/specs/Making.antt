@@ -11,7 +11,7 @@ use Rattle.stair_rack.specs.Sector.{Good, settled}
 use Rattle.stair_rack.specs.Stretch.{EachHappening}
 use Rattle.stair_array.specs.Created.{created_sector}
 use Rattle.stair_array.specs.Look.{IsTaken}
-use Rattle.stair_array.specs.Looking.{Telling}
+use Rattle.stair_member.specs.Telling.{Telling}
 use Rattle.stair_array.specs.declared.fault.CreateFault.{CreateFault}
 use Rattle.stair_array.specs.declared.fault.CreateFault.TheVariants.{Gone, SmallDevice, AlreadyArray}
 
@@ -27,12 +27,16 @@ IsMaking slots part j (Sync answer) = slots j
 abbrev pub IsSlotOf : Geometry → ℕ → Type 0
 IsSlotOf g j = j < g.n
 
--- the superblock places, and what lies behind them
+-- the superblock places, and any other sector
 abbrev pub IsPlace : ℕ → Type 0
 IsPlace k = k < gate_sector
 
-abbrev pub IsBehind : ℕ → Type 0
-IsBehind k = gate_sector ≤ k
+abbrev pub IsNoPlace : ℕ → Type 0
+IsNoPlace k = gate_sector ≤ k
+
+-- what the array needs behind the superblock places
+abbrev pub IsBehind : Geometry → ℕ → Type 0
+IsBehind g k = IsNoPlace k × (k < sectors_needed g)
 
 -- Of these sectors of slot j each got what a new array has there, and it is on the disk but for the outside.
 pub record AreMade (g : Geometry) (part : ℕ → Type 0) (j : ℕ) (old new : List Happening)
@@ -54,6 +58,26 @@ IsStoppedBy g (Gone slot) old new = (slot < g.n) × IsStoppedAt g slot old new
 IsStoppedBy g (SmallDevice slot has needs) old new = ⊥
 IsStoppedBy g (AlreadyArray slot) old new = ⊥
 
+-- WHERE IT WRITES: what lies behind the sectors that the array needs is left alone
+
+-- no write to a sector behind those
+abbrev pub IsWriteWithin : Geometry → SlotCall → Type 0
+IsWriteWithin g (Attach answer) = ⊤
+IsWriteWithin g (Sectors size) = ⊤
+IsWriteWithin g (Read k answer) = ⊤
+IsWriteWithin g (Write k bytes answer) = k < sectors_needed g
+IsWriteWithin g (Sync answer) = ⊤
+
+abbrev pub WritesWithin : Geometry → List Happening → Happening → Type 0
+WritesWithin g h (Made image) = ⊤
+WritesWithin g h Stopped = ⊤
+WritesWithin g h (Acted j act) = ⊤
+WritesWithin g h (Called j call) = IsWriteWithin g call
+
+-- of no slot a sector behind those was written from old to new
+abbrev pub WrittenWithin : Geometry → List Happening → List Happening → Type 0
+WrittenWithin g old new = EachHappening (WritesWithin g) old new
+
 -- THE ORDER: superblocks come last
 
 -- no write to a superblock place
@@ -61,7 +85,7 @@ abbrev pub IsNoPlaceWrite : SlotCall → Type 0
 IsNoPlaceWrite (Attach answer) = ⊤
 IsNoPlaceWrite (Sectors size) = ⊤
 IsNoPlaceWrite (Read k answer) = ⊤
-IsNoPlaceWrite (Write k bytes answer) = IsBehind k
+IsNoPlaceWrite (Write k bytes answer) = IsNoPlace k
 IsNoPlaceWrite (Sync answer) = ⊤
 
 abbrev pub WritesNoPlace : List Happening → Happening → Type 0
@@ -80,7 +104,7 @@ pub record IsLaidOut (g : Geometry) (j : ℕ) (old now : List Happening) : Type 
   pub since : List Happening
   pub is_one : IsMoment old since now
   pub in_use : (slot_state since j).attached ≡ true
-  pub stands : (k : ℕ) → IsBehind k → k < sectors_needed g
+  pub stands : (k : ℕ) → IsNoPlace k → k < sectors_needed g
       → ButForOutside since now j k (λ s. s ≡ settled (Good (created_sector g j k)))
 
 -- No superblock place was written, or none was before all slots of the array were laid out.

@@ -13,6 +13,7 @@ use Rattle.stair_rack.specs.Sector.{Damaged}
 use Rattle.stair_super.specs.Superblock.{Superblock}
 use Rattle.stair_member.specs.Counting.{AtMost}
 use Rattle.stair_member.specs.Current.{IsCurrent, IsFailed, IsLost, Serves}
+use Rattle.stair_member.specs.Reserve.{MayStand}
 use Rattle.stair_member.specs.Superblocks.{IsOnlyIdentity}
 
 -- Some covered pattern has every cell of stripe t that lies on a failed slot or is damaged. What is covered stays so where
@@ -31,10 +32,11 @@ pub record HasJournal (offline : ℕ → Type 0) (g : Geometry) (image : Image)
   pub serves : Serves offline g image current j
   pub whole : (k : ℕ) → gate_sector ≤ k → k < chunks_start g → ¬ IsLost ((image j).cell k)
 
--- This array, and no other one, stands in the image. At most m slots have failed, every stripe is covered, and some slot
--- that serves has a whole journal.
+-- This array, and no other one, stands in the image, nor would another one if of some media a hidden superblock counted. At
+-- most m slots have failed, every stripe is covered, and some slot that serves has a whole journal.
 pub record IsWithinTolerance (offline : ℕ → Type 0) (g : Geometry) (image : Image) : Type 0 where
   pub identity : IsOnlyIdentity g image
+  pub others : (other : Geometry) → MayStand other image → other ≡ g
   pub current : Superblock
   pub is_current : IsCurrent g image current
   pub few : AtMost g.m (IsFailed offline g image current)

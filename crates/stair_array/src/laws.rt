@@ -1,6 +1,6 @@
 //! Laws of what an array is, and of the images that represent it.
 
-ghost use Rattle.std.specs.Prelude.{◌≡◌, ◌+◌, ◌*◌, ◌<◌, ◌⊎◌, ℕ, None, List, [], ◌∷◌, length};
+ghost use Rattle.std.specs.Prelude.{◌≡◌, ◌+◌, ◌*◌, ◌<◌, ◌⊎◌, ℕ, IsTrue, None, List, [], ◌∷◌, Result, length};
 ghost use Rattle.stair_model.specs.Cell.{IsPlaceOf};
 ghost use Rattle.stair_model.specs.CellSet.{CellSet, HasCell};
 ghost use Rattle.stair_model.specs.Coverage.{IsCovered};
@@ -16,15 +16,20 @@ ghost use Rattle.stair_model.specs.Stripe.{
   with_cell,
   zero_stripe,
 };
-ghost use Rattle.stair_rack.specs.Answers.{IsHistory, Ran, no_call};
+ghost use Rattle.stair_rack.specs.Answers.{IsHistory, Ran, any_call, no_call};
 ghost use Rattle.stair_rack.specs.Crash.{CrashMayLeave, EachImage};
 ghost use Rattle.stair_rack.specs.History.{Happening, Made};
 ghost use Rattle.stair_rack.specs.Media.{Image};
 ghost use Rattle.stair_rack.specs.Sector.{Damaged, Torn};
 ghost use Rattle.stair_rack.specs.Stretch.{NothingReturned};
 ghost use Rattle.stair_super.specs.Superblock.{Superblock};
+ghost use Rattle.stair_member.specs.Asked.{LeavesSectors};
 ghost use Rattle.stair_member.specs.Current.{IsFailed, IsLost};
+ghost use Rattle.stair_member.specs.Membership.{Membership};
 ghost use Rattle.stair_member.specs.Superblocks.{IsOnlyIdentity};
+ghost use Rattle.stair_member.specs.Survey.{Surveys};
+ghost use Rattle.stair_member.specs.Telling.{Telling};
+ghost use Rattle.stair_member.specs.declared.fault.SurveyFault.{SurveyFault};
 ghost use Rattle.stair_journal.specs.Body.{IsOrDamaged};
 ghost use Rattle.stair_journal.specs.Gate.{ReadsClosed};
 ghost use Rattle.stair_journal.specs.declared.redo.Redo.{Redo};
@@ -59,11 +64,13 @@ ghost use Rattle.stair_array.specs.Represents.{
   RepresentsAlone,
 };
 ghost use Rattle.stair_array.specs.State.{State, created_state, without_seats};
+ghost use Rattle.stair_array.specs.Surveyed.{FindsArray};
 ghost use Rattle.stair_array.specs.Tolerance.{
   HasJournal,
   IsStripeCovered,
   IsTolerated,
   IsToleratedAlone,
+  ToleratedSince,
 };
 
 /// The stripes that encode blocks. It does nothing.
@@ -201,9 +208,10 @@ pub fn outside_laws()
     // what is tolerated at a moment is tolerated alone
     ensures alone { (g : Geometry) (before h : List Happening) (image : Image) →
         IsTolerated g before h → CrashMayLeave h image → IsToleratedAlone g image }
-    // acts that put no medium back leave a rack within tolerance that represents the state, marks and joined numbers aside
+    // acts that put no medium back, and calls that change no sector, leave a rack within tolerance that represents the
+    // state, marks and joined numbers aside
     ensures still { (s : State) (before old new : List Happening) → IsHistory old →
-        Represents s old → Ran no_call old new → NothingReturned old new →
+        Represents s old → Ran LeavesSectors old new → NothingReturned old new →
         IsTolerated s.geometry before new → Represents (without_seats s) new }
     // a rack over what a crash left of one that is consistent under reassembly is so
     ensures made { (s : State) (h : List Happening) (image : Image) → IsHistory h →
@@ -213,4 +221,15 @@ pub fn outside_laws()
     ensures consistent { (s : State) (old new : List Happening) → IsHistory old →
         IsConsistentUnderReassembly s old → Ran no_call old new →
         IsConsistentUnderReassembly (without_seats s) new }
+{}
+
+/// What a survey finds of an array. It does nothing.
+pub fn survey_laws()
+    // A rack that represents a state, is within tolerance since the session began and gets no medium back: the survey
+    // finds the array of the state.
+    ensures found { (s : State) (before : List Happening) (old new : Telling)
+        (answer : Result Membership SurveyFault) → Surveys answer old new → IsTrue new.honest →
+        Ran any_call before old.history → Represents s old.history →
+        NothingReturned old.history new.history → ToleratedSince s.geometry before new.history →
+        FindsArray s answer old.history }
 {}

@@ -1,5 +1,5 @@
 ghost use Rattle.stair_array.specs.Creates.{Creates};
-ghost use Rattle.stair_array.specs.Looking.{telling};
+ghost use Rattle.stair_member.specs.Telling.{telling};
 
 use crate::fault::CreateFault;
 use crate::look::look_at_all;
@@ -16,8 +16,9 @@ use stair_rack::Rack;
 /// `Gone`, `SmallDevice` or `AlreadyArray`, and then nothing was written.
 ///
 /// Then each device of the array gets a closed gate and zeros behind it, and is synced; and after all of them, each gets the
-/// superblock of epoch 1 in its two places, each of which is synced before the next write. `Gone` comes too where a slot is
-/// gone meanwhile. Then there is no array, and the media aren't blank any more.
+/// superblock of epoch 1 in its two places, each of which is synced before the next write. What lies behind the sectors that
+/// the array needs is left alone. `Gone` comes too where a slot is gone meanwhile. Then there is no array, and the media aren't
+/// blank any more.
 ///
 /// It takes no memory.
 pub fn create<R: Rack>(rack: &mut R, geometry: &Geometry) -> Result<(), CreateFault>

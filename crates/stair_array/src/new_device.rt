@@ -5,7 +5,7 @@ ghost use Rattle.stair_rack.specs.Answers.{Ran};
 ghost use Rattle.stair_rack.specs.Placed.{IsSlot};
 ghost use Rattle.stair_rack.specs.RackCounts.{NoneFalls};
 ghost use Rattle.stair_array.specs.Created.{first_configuration as first};
-ghost use Rattle.stair_array.specs.Looking.{telling};
+ghost use Rattle.stair_member.specs.Telling.{telling};
 ghost use Rattle.stair_array.specs.Making.{
   AreMade,
   IsBehind,
@@ -25,12 +25,14 @@ use stair_super::{Configuration, Label, Mark, Super, write_super};
 // Lays out the devices of the array in rising order, up to the first that is gone.
 pub(crate) fn lay_out_all<R: Rack>(rack: &mut R, geometry: &Geometry) -> Result<(), CreateFault>
     ensures made { IsTrue R.is_honest → OnOk result ((j : ℕ) → j < geometry.now.n →
-        AreMade geometry.now IsBehind j (R.history rack.old) (R.history rack.new)) }
+        AreMade geometry.now (IsBehind geometry.now) j (R.history rack.old)
+        (R.history rack.new)) }
     ensures gone { IfErr result (λ fault. IsStoppedBy geometry.now fault
         (telling R.is_honest (R.history rack.old) (R.bads rack.old) (R.gones rack.old))
         (telling R.is_honest (R.history rack.new) (R.bads rack.new) (R.gones rack.new))) }
-    ensures ran { IsTrue R.is_honest → Ran (IsMaking (IsSlotOf geometry.now) IsBehind)
-        (R.history rack.old) (R.history rack.new) }
+    ensures ran { IsTrue R.is_honest →
+        Ran (IsMaking (IsSlotOf geometry.now) (IsBehind geometry.now)) (R.history rack.old)
+        (R.history rack.new) }
     ensures counts { NoneFalls (R.bads rack.old) (R.bads rack.new) (R.gones rack.old)
         (R.gones rack.new) }
     ensures limits { IsWithinLimits geometry.now }
@@ -47,11 +49,12 @@ pub(crate) fn lay_out_all<R: Rack>(rack: &mut R, geometry: &Geometry) -> Result<
 fn lay_out<R: Rack>(rack: &mut R, geometry: &Geometry, slot: u8) -> Reply
     requires { slot < 32 }
     ensures made { IsTrue R.is_honest → result ≡ Reply.Done →
-        AreMade geometry.now IsBehind slot (R.history rack.old) (R.history rack.new) }
+        AreMade geometry.now (IsBehind geometry.now) slot (R.history rack.old)
+        (R.history rack.new) }
     ensures gone { result ≡ Reply.Gone → IsStoppedAt geometry.now slot
         (telling R.is_honest (R.history rack.old) (R.bads rack.old) (R.gones rack.old))
         (telling R.is_honest (R.history rack.new) (R.bads rack.new) (R.gones rack.new)) }
-    ensures ran { IsTrue R.is_honest → Ran (IsMaking (IsSlot slot) IsBehind)
+    ensures ran { IsTrue R.is_honest → Ran (IsMaking (IsSlot slot) (IsBehind geometry.now))
         (R.history rack.old) (R.history rack.new) }
     ensures counts { NoneFalls (R.bads rack.old) (R.bads rack.new) (R.gones rack.old)
         (R.gones rack.new) }

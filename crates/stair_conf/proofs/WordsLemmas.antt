@@ -8,7 +8,7 @@ use Rattle.std.proofs.lemmas.List.Elements.{All-append, All-cons, All-map, All-n
 use Rattle.stair_conf.specs.declared.job.Method.{Method}
 use Rattle.stair_conf.specs.declared.job.Method.TheVariants.{Standard, Up, Down, Fewest}
 use Rattle.stair_conf.specs.declared.job.Job.{Job}
-use Rattle.stair_conf.specs.declared.job.Job.TheVariants.{OneStripe, Create}
+use Rattle.stair_conf.specs.declared.job.Job.TheVariants.{OneStripe, Create, Show}
 use Rattle.stair_conf.specs.declared.job.StripeCommand.{StripeCommand}
 use Rattle.stair_conf.specs.declared.job.StripeCommand.TheVariants.{Check, Encode, Restore}
 use Rattle.stair_conf.specs.Commands.{HasNoOption, IsPlainWord}
@@ -47,6 +47,7 @@ word_of (OneStripe Check n m r e) = codes "check"
 word_of (OneStripe (Encode method) n m r e) = codes "stripe"
 word_of (OneStripe Restore n m r e) = codes "restore"
 word_of Create = codes "create"
+word_of Show = codes "show"
 
 -- the words of a job begin with the command's
 pub first_word : (words : List (List ℕ)) (job : Job) → Spells words job → get_or words 0 [] ≡ word_of job
@@ -54,6 +55,7 @@ first_word words (OneStripe Check n m r e) spells = ap (λ ws. get_or ws 0 []) s
 first_word words (OneStripe (Encode method) n m r e) spells = ap (λ ws. get_or ws 0 []) spells.spelled
 first_word words (OneStripe Restore n m r e) spells = ap (λ ws. get_or ws 0 []) spells.spelled
 first_word words Create spells = ap (λ ws. get_or ws 0 []) spells
+first_word words Show spells = ap (λ ws. get_or ws 0 []) spells
 
 -- ---- no word of a job begins with a hyphen
 
@@ -87,12 +89,14 @@ job_plain words (OneStripe (Encode method) n m r e) spells =
     (All-cons IsPlainWord (codes "stripe") (method_word method ∷ []) (omega arith) (one_plain (method_word method) (method_plain method))) spells
 job_plain words (OneStripe Restore n m r e) spells = geometry_plain _ words n m r e (one_plain (codes "restore") (omega arith)) spells
 job_plain words Create spells = rw spells (one_plain (codes "create") (omega arith))
+job_plain words Show spells = rw spells (one_plain (codes "show") (omega arith))
 
 command_word : (words : List (List ℕ)) (job : Job) → Spells words job → IsCommandWord (get_or words 0 [])
 command_word words (OneStripe Check n m r e) spells = inl (ap (λ ws. get_or ws 0 []) spells.spelled)
 command_word words (OneStripe (Encode method) n m r e) spells = inr (inl (ap (λ ws. get_or ws 0 []) spells.spelled))
 command_word words (OneStripe Restore n m r e) spells = inr (inr (inl (ap (λ ws. get_or ws 0 []) spells.spelled)))
-command_word words Create spells = inr (inr (inr (ap (λ ws. get_or ws 0 []) spells)))
+command_word words Create spells = inr (inr (inr (inl (ap (λ ws. get_or ws 0 []) spells))))
+command_word words Show spells = inr (inr (inr (inr (ap (λ ws. get_or ws 0 []) spells))))
 
 -- the words of a job are a command line
 pub job_line : (words : List (List ℕ)) (job : Job) → Spells words job → IsCommandLine words
@@ -144,15 +148,20 @@ one_stripe_once words a b n m r e n' m' r' e' one two =
     let first = sym (first_word words (OneStripe a n m r e) one) ∙ first_word words (OneStripe b n' m' r' e') two in
     cc
 
--- no command on one stripe has the word `create`
-no_stripe : (words : List (List ℕ)) (command : StripeCommand) (n m r : ℕ) (e : List ℕ) → SpellsGeometry (command_words command) words n m r e
-    → words ≡ codes "create" ∷ [] → ⊥
-no_stripe words Check n m r e one two = let same = sym one.spelled ∙ two in cc
-no_stripe words (Encode method) n m r e one two = let same = sym one.spelled ∙ two in cc
-no_stripe words Restore n m r e one two = let same = sym one.spelled ∙ two in cc
+-- no command on one stripe is one word
+no_stripe : (words : List (List ℕ)) (command : StripeCommand) (n m r : ℕ) (e : List ℕ) (word : List ℕ)
+    → SpellsGeometry (command_words command) words n m r e → words ≡ word ∷ [] → ⊥
+no_stripe words Check n m r e word one two = let same = sym one.spelled ∙ two in cc
+no_stripe words (Encode method) n m r e word one two = let same = sym one.spelled ∙ two in cc
+no_stripe words Restore n m r e word one two = let same = sym one.spelled ∙ two in cc
 
 pub spells_once : (words : List (List ℕ)) (a b : Job) → Spells words a → Spells words b → a ≡ b
 spells_once words (OneStripe a n m r e) (OneStripe b n' m' r' e') one two = one_stripe_once words a b n m r e n' m' r' e' one two
-spells_once words (OneStripe a n m r e) Create one two = absurd (no_stripe words a n m r e one two)
-spells_once words Create (OneStripe b n m r e) one two = absurd (no_stripe words b n m r e two one)
+spells_once words (OneStripe a n m r e) Create one two = absurd (no_stripe words a n m r e (codes "create") one two)
+spells_once words (OneStripe a n m r e) Show one two = absurd (no_stripe words a n m r e (codes "show") one two)
+spells_once words Create (OneStripe b n m r e) one two = absurd (no_stripe words b n m r e (codes "create") two one)
+spells_once words Show (OneStripe b n m r e) one two = absurd (no_stripe words b n m r e (codes "show") two one)
 spells_once words Create Create one two = refl
+spells_once words Create Show one two = let same = sym one ∙ two in cc
+spells_once words Show Create one two = let same = sym one ∙ two in cc
+spells_once words Show Show one two = refl

@@ -6,7 +6,7 @@ use Rattle.stair_conf.specs.Commands.{HasNoOption}
 use Rattle.stair_conf.specs.declared.job.Method.{Method}
 use Rattle.stair_conf.specs.declared.job.Method.TheVariants.{Standard, Up, Down, Fewest}
 use Rattle.stair_conf.specs.declared.job.Job.{Job}
-use Rattle.stair_conf.specs.declared.job.Job.TheVariants.{OneStripe, Create}
+use Rattle.stair_conf.specs.declared.job.Job.TheVariants.{OneStripe, Create, Show}
 use Rattle.stair_conf.specs.declared.job.StripeCommand.{StripeCommand}
 use Rattle.stair_conf.specs.declared.job.StripeCommand.TheVariants.{Check, Encode, Restore}
 
@@ -51,6 +51,7 @@ command_words Restore = codes "restore" ∷ []
 abbrev pub Spells : List (List ℕ) → Job → Type 0
 Spells words (OneStripe command n m r e) = SpellsGeometry (command_words command) words n m r e
 Spells words Create = words ≡ codes "create" ∷ []
+Spells words Show = words ≡ codes "show" ∷ []
 
 -- the words spell a job
 abbrev pub IsSpelled : List (List ℕ) → Type 0
@@ -59,7 +60,7 @@ IsSpelled words = (job : Job) × Spells words job
 -- the word of a command
 abbrev pub IsCommandWord : List ℕ → Type 0
 IsCommandWord word = (word ≡ codes "check") ⊎ (word ≡ codes "stripe")
-    ⊎ (word ≡ codes "restore") ⊎ (word ≡ codes "create")
+    ⊎ (word ≡ codes "restore") ⊎ (word ≡ codes "create") ⊎ (word ≡ codes "show")
 
 -- a command's word comes first, and no word begins with a hyphen: memory is taken for such words alone
 pub record IsCommandLine (words : List (List ℕ)) : Type 0 where

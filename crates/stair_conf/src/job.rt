@@ -45,4 +45,6 @@ pub enum Job {
     },
     /// `create`: an array, of the geometry that a text says.
     Create,
+    /// `show`: what there is of an array.
+    Show,
 }

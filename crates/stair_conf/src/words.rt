@@ -10,7 +10,7 @@ use crate::{Job, StripeCommand, WordsFault};
 use std::alloc::Global;
 
 /// Reads the words of a command: `check N M R E..`, `stripe METHOD N M R E..` or `restore N M R E..`, with at least one E,
-/// or `create` alone.
+/// or `create` or `show` alone.
 ///
 /// METHOD is `standard`, `up`, `down` or `fewest`. A number is decimal digits with no sign and no leading zero, below 2^64.
 /// All other words are `Usage`, unless memory runs out before that is known. Memory is taken only where a command's word
@@ -35,6 +35,7 @@ pub fn read_words(alloc: Global, words: &[String]) -> Result<Job, WordsFault>
         }
         "restore" => Ok(one_stripe(StripeCommand::Restore, read_geometry(alloc, words)?)),
         "create" => alone(words, Job::Create),
+        "show" => alone(words, Job::Show),
         _ => Err(WordsFault::Usage),
     }
 }

@@ -1,27 +1,33 @@
 -- What follows from a call that means what its words say, whatever they are.
-use Rattle.std.proofs.Common.{◌≡◌, ◌≢◌, ◌∙◌, ◌↔◌, ℕ, ◌≤◌, le_refl, List, [], ◌∷◌, Option, None, Some, IfSome, IsTrue, Ok, refl, sym, subst}
+use Rattle.std.proofs.Common.{◌≡◌, ◌≢◌, ◌∙◌, ◌↔◌, ℕ, ◌≤◌, le_refl, List, [], ◌∷◌, Option, None, Some, IfSome, IsTrue, Ok, Err, refl, sym, ap, subst}
 use Rattle.stair_model.specs.Geometry.{Geometry}
+use Rattle.stair_rack.specs.Answers.{Ran}
+use Rattle.stair_rack.proofs.MomentLemmas.{ran_none}
+use Rattle.stair_member.specs.Asked.{LeavesSectors}
+use Rattle.stair_member.specs.Survey.{Surveys}
 use Rattle.stair_array.specs.Creates.{Creates}
 use Rattle.stair_array.specs.declared.fault.CreateFault.{CreateFault}
 use Rattle.stair_array.specs.declared.fault.CreateFault.TheVariants as fault
+use Rattle.stair_member.proofs.AskedLemmas.{asked_ran}
 use Rattle.stair_conf.specs.Config.{TextReadsAs}
 use Rattle.stair_conf.specs.Words.{IsSpelled, Spells}
 use Rattle.stair_conf.specs.declared.fault.ConfigFault.{ConfigFault}
 use Rattle.stair_conf.specs.declared.fault.ConfigFault.TheVariants as config
 use Rattle.stair_conf.specs.declared.job.Job.{Job}
-use Rattle.stair_conf.specs.declared.job.Job.TheVariants.{OneStripe, Create}
+use Rattle.stair_conf.specs.declared.job.Job.TheVariants.{OneStripe, Create, Show}
 use Rattle.stair_conf.proofs.WordsLemmas.{spells_once}
 use Rattle.stair_engine.specs.Action.{status_of_create}
 use Rattle.stair_engine.specs.Cause.{IfNothingIsPutOut, IfRefusedAtOnce, LimitsComeFirst}
 use Rattle.stair_engine.specs.Does.{Leaves}
 use Rattle.stair_engine.specs.Fault.{status_of_config}
-use Rattle.stair_engine.specs.Laws.{AllIsKept, MemoryComesFirst, RackIsLeft, UsageIsExact, ArrayIsMade}
-use Rattle.stair_engine.specs.Means.{Bears, Counts, Gives, Holds}
+use Rattle.stair_engine.specs.Laws.{AllIsKept, ArrayIsLeft, ArrayIsMade, MemoryComesFirst, RackIsLeft, ShowOnlyLooks, UsageIsExact}
+use Rattle.stair_engine.specs.Means.{Bears, Counts, Holds}
 use Rattle.stair_engine.specs.Create.{MakesArray}
 use Rattle.stair_engine.specs.Outside.{Outside, Views}
-use Rattle.stair_engine.specs.Plan.{Plan, Over, Ask, create_plan, if_spelled, job_plan, plan_of}
+use Rattle.stair_engine.specs.Plan.{Over, Ask, create_plan, if_spelled, job_plan, plan_of}
 use Rattle.stair_engine.specs.Question.{Question, IsReply, Words}
 use Rattle.stair_engine.specs.Rack.{MeansOver, RackView, Works, told_of}
+use Rattle.stair_engine.specs.Stands.{ArrayStands}
 use Rattle.stair_engine.specs.Story.{Deed, Found, Grew, RanOut, Leads, Moves}
 use Rattle.stair_engine.specs.Task.{one_stripe}
 use Rattle.stair_engine.specs.declared.status.Status.{Status}
@@ -30,8 +36,11 @@ use Rattle.stair_engine.proofs.CreateLaws.{CreateWent, Making, Reading, create_w
 use Rattle.stair_engine.proofs.CreateLaws.CreateWent.{Long, Failed, Whole}
 use Rattle.stair_engine.proofs.CreateLaws.Reading.{Unread, Faulty, Says}
 use Rattle.stair_engine.proofs.CreateLaws.Making.{ShortOfMemory, NotMade, Made, MadeUntold}
-use Rattle.stair_engine.proofs.MeaningLaws.{not_put, no_move, same_kept, tested_kept}
-use Rattle.stair_engine.proofs.RackLaws.{left_along, stripe_calls_none, works_still}
+use Rattle.stair_engine.proofs.MeaningLaws.{not_put, same_kept, tested_kept}
+use Rattle.stair_engine.proofs.RackLaws.{behind_over, left_along, over_done, stripe_calls_none, works_still}
+use Rattle.stair_engine.proofs.ShowLaws.{ShowCame, show_leaves, show_status, show_went}
+use Rattle.stair_engine.proofs.ShowLaws.ShowCame.{Refused, Shown, ShownUntold}
+use Rattle.stair_engine.proofs.StandLaws.{looked_stands, still_stands}
 
 -- how a call of these words went, over a rack
 pub data CalledOver {R S K : Type 0} (rack : RackView R) (view : Views S K) (words : List (List ℕ)) (status : Status) (old new : Outside S K) (first last : R) : Type 0 where
@@ -41,39 +50,10 @@ pub data CalledOver {R S K : Type 0} (rack : RackView R) (view : Views S K) (wor
       → CalledOver rack view words status old new first last
 
 module _ {R S K : Type 0} (rack : RackView R) (view : Views S K) where
-  -- what comes behind the first deed
-  behind_over : (deed : Deed) (story : List Deed) (plan from : Plan) (status : Status) (a mid b : Outside S K) (x z y : R)
-      (bears : Bears view (deed ∷ story) a b) (works : Leads (Works rack) (deed ∷ story) x y)
-      → bears.gives.0 ≡ mid.source → bears.holds.0 ≡ mid.sink → bears.counts.0 ≡ mid.counter → works.0 ≡ z
-      → from ≡ plan → Leads Moves story from (Over status) → MeansOver rack view plan (Over status) mid b z y
-  behind_over deed story plan from status a mid b x z y bears works source sink counter at same follows = record {
-    means = record {
-      story = story;
-      follows = subst (λ (p : Plan). Leads Moves story p (Over status)) same follows;
-      bears = record {
-        gives = subst (λ (s : S). Leads (Gives view.source) story s b.source) source bears.gives.2;
-        holds = subst (λ (k : K). Leads (Holds view.sink) story k b.sink) sink bears.holds.2;
-        counts = subst (λ (n : ℕ). Leads Counts story n b.counter) counter bears.counts.2;
-      };
-    };
-    works = subst (λ (w : R). Leads (Works rack) story w y) at works.2;
-  }
-
-  over_done : (from status : Status) (a b : Outside S K) (x y : R) → MeansOver rack view (Over from) (Over status) a b x y
-      → (status ≡ from) × (b ≡ a) × (y ≡ x)
-  over_done from status a b x y over = at over.means.story over.means.follows over.means.bears over.works
-    where
-      at : (story : List Deed) → Leads Moves story (Over from) (Over status) → Bears view story a b → Leads (Works rack) story x y
-          → (status ≡ from) × (b ≡ a) × (y ≡ x)
-      at [] follows bears works =
-          let same : Over status ≡ Over from = follows in
-          (cc, λ i. record { source = bears.gives i; sink = bears.holds i; counter = bears.counts i }, works)
-      at (deed ∷ story) follows bears works = absurd (no_move deed from follows.0 follows.1)
-
   spelled_over : (words : List (List ℕ)) (status : Status) (reply : Option Job) (a b : Outside S K) (x y : R) → IsReply (Words words) reply
       → MeansOver rack view (if_spelled reply) (Over status) a b x y → CalledOver rack view words status a b x y
   spelled_over words status None a b x y not over =
-      let ends = over_done Usage status a b x y over in NotSpelled not ends.0 ends.1 ends.2
+      let ends = over_done rack view Usage status a b x y over in NotSpelled not ends.0 ends.1 ends.2
   spelled_over words status (Some job) a b x y spells over = Spelled job spells over
 
   asked_over : (words : List (List ℕ)) (status : Status) (a b : Outside S K) (x y : R) → MeansOver rack view (Ask (Words words) if_spelled) (Over status) a b x y
@@ -87,8 +67,8 @@ module _ {R S K : Type 0} (rack : RackView R) (view : Views S K) where
           let moved = follows.1 in
           let uncounted : bears.counts.0 ≡ a.counter = subst (λ (q : Question). Counts (Found q) a.counter bears.counts.0) moved.1 bears.counts.1 in
           spelled_over words status moved.0 a b x y moved.2
-          (behind_over (Found asked) story (if_spelled moved.0) follows.0 status a a b x x y bears works bears.gives.1 bears.holds.1 uncounted works.1 moved.3
-          follows.2)
+          (behind_over rack view (Found asked) story (if_spelled moved.0) follows.0 status a a b x x y bears works bears.gives.1 bears.holds.1
+          uncounted works.1 moved.3 follows.2)
       at (_ ∷ story) follows bears works = absurd follows.1
 
   pub called_over : (words : List (List ℕ)) (status : Status) (a b : Outside S K) (x y : R) → MeansOver rack view (plan_of words) (Over status) a b x y
@@ -100,12 +80,12 @@ module _ {R S K : Type 0} (rack : RackView R) (view : Views S K) where
       at [] follows bears works = let same : Over status ≡ plan_of words = follows in absurd cc
       at (Grew ∷ story) follows bears works =
           asked_over words status a b x y
-          (behind_over Grew story (Ask (Words words) if_spelled) follows.0 status a a b x x y bears works bears.gives.1 bears.holds.1 bears.counts.1 works.1
-          follows.1 follows.2)
+          (behind_over rack view Grew story (Ask (Words words) if_spelled) follows.0 status a a b x x y bears works bears.gives.1 bears.holds.1
+          bears.counts.1 works.1 follows.1 follows.2)
       at (RanOut ∷ story) follows bears works =
-          let ends = over_done OutOfMemory status a b x y
-          (behind_over RanOut story (Over OutOfMemory) follows.0 status a a b x x y bears works bears.gives.1 bears.holds.1 bears.counts.1 works.1
-          follows.1 follows.2) in
+          let ends = over_done rack view OutOfMemory status a b x y
+          (behind_over rack view RanOut story (Over OutOfMemory) follows.0 status a a b x x y bears works bears.gives.1 bears.holds.1 bears.counts.1
+          works.1 follows.1 follows.2) in
           NoMemory ends.0 ends.1 ends.2
       at (_ ∷ story) follows bears works = absurd follows.1
 
@@ -222,9 +202,10 @@ module _ {R S K : Type 0} (rack : RackView R) (view : Views S K) where
       job_leaves : (job : Job) → MeansOver rack view (job_plan job) (Over status) a b x y → Leaves view status a b
       job_leaves (OneStripe command n m r e) later = (tested_kept view command (one_stripe n m r e) status a b later.means).leaves
       job_leaves Create later = create_leaves view (Works rack) status a b x y (went_over status a b x y later)
+      job_leaves Show later = show_leaves rack view status a b x y (show_went rack view status a b x y later)
 
   pub rack_is_left : RackIsLeft rack view
-  rack_is_left words status a b x y over other =
+  rack_is_left words status a b x y over other no_show =
       elim (called_over rack view words status a b x y over) as (λ _. (y ≡ x) × IfRefusedAtOnce status (b ≡ a)) [
         | NoMemory out ends still ↦ (still, subst (λ (s : Status). IfRefusedAtOnce s (b ≡ a)) (sym out) ends)
         | NotSpelled not usage ends still ↦ (still, subst (λ (s : Status). IfRefusedAtOnce s (b ≡ a)) (sym usage) ends)
@@ -237,6 +218,7 @@ module _ {R S K : Type 0} (rack : RackView R) (view : Views S K) where
         (tested_kept view command (one_stripe n m r e) status a b later.means).refused,
       )
       job_left Create spells later = absurd (other spells)
+      job_left Show spells later = absurd (no_show spells)
 
   pub memory_comes_first : MemoryComesFirst rack view
   memory_comes_first words a b x y over =
@@ -250,6 +232,7 @@ module _ {R S K : Type 0} (rack : RackView R) (view : Views S K) where
       job_short (OneStripe command n m r e) later =
           left_along rack later.means.story _ (Over OutOfMemory) x y (stripe_calls_none command (one_stripe n m r e)) later.means.follows later.works
       job_short Create later = create_short view (Works rack) OutOfMemory a b x y (went_over OutOfMemory a b x y later) refl
+      job_short Show later = absurd ((show_status rack view OutOfMemory a b x y (show_went rack view OutOfMemory a b x y later)).2 refl)
 
   made_so : (status : Status) (a b : Outside S K) (x y : R) → CreateWent view (Works rack) status a b x y → IsTrue rack.honest → status ≡ Done
       → MakesArray (view.source.left a.source) (rack.history x) (rack.history y)
@@ -291,3 +274,56 @@ module _ {R S K : Type 0} (rack : RackView R) (view : Views S K) where
           subst (LimitsComeFirst command (one_stripe n m r e)) is
           (tested_kept view command (one_stripe n m r e) status a b later.means).does.limits
       job_no_usage Create later is = create_no_usage view (Works rack) status a b x y (went_over status a b x y later) is
+      job_no_usage Show later is = (show_status rack view status a b x y (show_went rack view status a b x y later)).1 is
+
+  -- the calls that were made
+  came_ran : (status : Status) (a b : Outside S K) (x y : R) → ShowCame rack view status a b x y → IsTrue rack.honest
+      → Ran LeavesSectors (rack.history x) (rack.history y)
+  came_ran status a b x y (Refused fault did is sink) honest =
+      let surveys : Surveys (Err fault) (told_of rack x) (told_of rack y) = did in
+      asked_ran 32 (rack.history x) (rack.history y) (surveys.asked honest)
+  came_ran status a b x y (Shown member did held is) honest =
+      let surveys : Surveys (Ok member) (told_of rack x) (told_of rack y) = did in
+      asked_ran 32 (rack.history x) (rack.history y) (surveys.asked honest)
+  came_ran status a b x y (ShownUntold member part did all held is) honest =
+      let surveys : Surveys (Ok member) (told_of rack x) (told_of rack y) = did in
+      asked_ran 32 (rack.history x) (rack.history y) (surveys.asked honest)
+
+  pub show_only_looks : ShowOnlyLooks rack view
+  show_only_looks words status a b x y over spells =
+      elim (called_over rack view words status a b x y over) as (λ _.
+      (status ≢ InputFault) × (b.source ≡ a.source) × (b.counter ≡ a.counter)
+      × (IsTrue rack.honest → Ran LeavesSectors (rack.history x) (rack.history y))) [
+        | NoMemory out ends still ↦ (
+          (λ is. let clash : OutOfMemory ≡ InputFault = sym out ∙ is in cc),
+          ap (λ (o : Outside S K). o.source) ends,
+          ap (λ (o : Outside S K). o.counter) ends,
+          (λ honest. subst (λ (z : R). Ran LeavesSectors (rack.history x) (rack.history z)) (sym still) (ran_none (rack.history x))),
+        )
+        | NotSpelled not usage ends still ↦ absurd (not (Show, spells))
+        | Spelled job read later ↦
+            let went = show_went rack view status a b x y
+            (subst (λ (j : Job). MeansOver rack view (job_plan j) (Over status) a b x y) (spells_once words job Show read spells) later) in
+            ((show_status rack view status a b x y went).0, went.source, went.counter, came_ran status a b x y went.came)
+      ]
+
+  pub array_is_left : ArrayIsLeft rack view
+  array_is_left words status a b x y over other honest =
+      elim (called_over rack view words status a b x y over) as (λ _. ArrayStands (rack.history x) (rack.history y)) [
+        | NoMemory out ends still ↦ at_rest still
+        | NotSpelled not usage ends still ↦ at_rest still
+        | Spelled job spells later ↦ job_stands job spells later
+      ]
+    where
+      at_rest : y ≡ x → ArrayStands (rack.history x) (rack.history y)
+      at_rest still = subst (λ (z : R). ArrayStands (rack.history x) (rack.history z)) (sym still) (still_stands (rack.history x))
+
+      job_stands : (job : Job) → Spells words job → MeansOver rack view (job_plan job) (Over status) a b x y
+          → ArrayStands (rack.history x) (rack.history y)
+      job_stands (OneStripe command n m r e) spells later =
+          at_rest
+          (left_along rack later.means.story _ (Over status) x y (stripe_calls_none command (one_stripe n m r e)) later.means.follows later.works)
+      job_stands Create spells later = absurd (other spells)
+      job_stands Show spells later =
+          let went = show_went rack view status a b x y later in
+          looked_stands (rack.history x) (rack.history y) (came_ran status a b x y went.came honest)

@@ -13,16 +13,17 @@ use Rattle.stair_model.proofs.LimitLaws.{none_broken}
 use Rattle.stair_model.proofs.RestLaws.{subset_covered}
 use Rattle.stair_base.specs.Equations.{equation_of}
 use Rattle.stair_array.specs.Creates.{CanBeMade, Creates}
+use Rattle.stair_array.proofs.SurveyedLemmas.{finds_array}
 use Rattle.stair_conf.specs.Config.{TextReadsAs}
 use Rattle.stair_conf.specs.declared.job.Job.{Job}
-use Rattle.stair_conf.specs.declared.job.Job.TheVariants.{OneStripe, Create}
+use Rattle.stair_conf.specs.declared.job.Job.TheVariants.{OneStripe, Create, Show}
 use Rattle.stair_conf.specs.declared.job.StripeCommand.{StripeCommand}
 use Rattle.stair_conf.specs.declared.job.StripeCommand.TheVariants.{Check, Encode, Restore}
 use Rattle.stair_conf.proofs.ConfigLaws.{one_answer}
 use Rattle.stair_conf.proofs.WordsLemmas.{spells_once}
 use Rattle.stair_engine.specs.Answer.{HasBytes, IsJudged}
 use Rattle.stair_engine.specs.Cause.{HasCause}
-use Rattle.stair_engine.specs.Create.{CanBeDone, HasNoFault, IsDone, IsValidInput}
+use Rattle.stair_engine.specs.Complete.{CanBeDone, HasNoFault, IsDone, IsValidInput}
 use Rattle.stair_engine.specs.Laws.{AllIsComplete}
 use Rattle.stair_engine.specs.Outside.{Outside, Views}
 use Rattle.stair_engine.specs.Plan.{Over, job_plan}
@@ -30,7 +31,7 @@ use Rattle.stair_engine.specs.Rack.{MeansOver, RackView, Works, told_of}
 use Rattle.stair_engine.specs.Restore.{HoldsCells, IsErasedBy}
 use Rattle.stair_engine.specs.Task.{one_stripe}
 use Rattle.stair_engine.specs.declared.status.Status.{Status}
-use Rattle.stair_engine.specs.declared.status.Status.TheVariants.{Done, NotCodeword, NoCodeword, Usage, Limit, Key, NotToml, Input, InputFault, OutputFault, Lost, AlreadyArray, SmallDevice, Gone, OutOfMemory}
+use Rattle.stair_engine.specs.declared.status.Status.TheVariants.{Done, NotCodeword, NoCodeword, Usage, Limit, Key, NotToml, Input, InputFault, OutputFault, NoArray, TwoArrays, TooFew, Lost, AlreadyArray, SmallDevice, Gone, OutOfMemory}
 use Rattle.stair_engine.proofs.CallLaws.{called_over, went_over}
 use Rattle.stair_engine.proofs.CallLaws.CalledOver.{NoMemory, NotSpelled, Spelled}
 use Rattle.stair_engine.proofs.CreateLaws.{CreateWent}
@@ -38,6 +39,8 @@ use Rattle.stair_engine.proofs.CreateLaws.CreateWent.{Long, Failed, Whole}
 use Rattle.stair_engine.proofs.CreateLaws.Reading.{Unread, Faulty, Says}
 use Rattle.stair_engine.proofs.CreateLaws.Making.{ShortOfMemory, NotMade, Made, MadeUntold}
 use Rattle.stair_engine.proofs.MeaningLaws.{tested_kept, told_more}
+use Rattle.stair_engine.proofs.ShowLaws.{ShowCame, show_went}
+use Rattle.stair_engine.proofs.ShowLaws.ShowCame.{Refused, Shown, ShownUntold}
 
 -- ---- bytes make one stripe
 
@@ -129,6 +132,9 @@ stripe_done command g input held held' OutputFault valid cause no_input no_outpu
 stripe_done command g input held held' Usage valid cause no_input no_output = absurd cause
 stripe_done command g input held held' (Key key) valid cause no_input no_output = absurd cause
 stripe_done command g input held held' NotToml valid cause no_input no_output = absurd cause
+stripe_done command g input held held' NoArray valid cause no_input no_output = absurd cause
+stripe_done command g input held held' (TwoArrays first second) valid cause no_input no_output = absurd cause
+stripe_done command g input held held' (TooFew whys) valid cause no_input no_output = absurd cause
 stripe_done command g input held held' (AlreadyArray slot) valid cause no_input no_output = absurd cause
 stripe_done command g input held held' (SmallDevice slot has needs) valid cause no_input no_output = absurd cause
 stripe_done command g input held held' (Gone slot) valid cause no_input no_output = absurd cause
@@ -138,33 +144,47 @@ of_told : (told : Option (List ℕ)) (input : List ℕ) (P : List ℕ → Type 0
 of_told told input P is fact = subst (λ (t : Option (List ℕ)). IfSome t P) is fact
 
 module _ {R S K : Type 0} (rack : RackView R) (view : Views S K) where
-  create_done : (status : Status) (a b : Outside S K) (x y : R) (input : List ℕ) → view.source.left a.source ≡ Some input → HasNoFault view a b
-      → CanBeDone rack Create input x y → CreateWent view (Works rack) status a b x y → IsDone status
-  create_done status a b x y input told none can (Long bytes long gives is sink same) =
-      let taken = of_told (view.source.left a.source) input (λ all. length bytes ≤ length all) told
+  create_done : (status : Status) (a b : Outside S K) (x y : R) → HasNoFault view a b → CanBeDone rack Create (view.source.left a.source) x y
+      → CreateWent view (Works rack) status a b x y → IsDone status
+  create_done status a b x y none can (Long bytes long gives is sink same) =
+      let taken = of_told (view.source.left a.source) can.0 (λ all. length bytes ≤ length all) can.1
       (told_more (view.source.left a.source) (view.source.left b.source) bytes gives.0) in
-      absurd (omega (arith, can.2, long, taken))
-  create_done status a b x y input told none can (Failed bytes gives is sink same) = absurd (none.source gives.4)
-  create_done status a b x y input told none can (Whole text short gives (Unread is sink same)) = inr is
-  create_done status a b x y input told none can (Whole text short gives (Faulty fault reads is sink same)) =
-      let said : TextReadsAs text (Ok can.0) =
-      subst (λ (t : List ℕ). TextReadsAs t (Ok can.0)) (sym (of_told (view.source.left a.source) input (λ all. text ≡ all) told gives.1)) can.1 in
+      absurd (omega (arith, can.2.2, long, taken))
+  create_done status a b x y none can (Failed bytes gives is sink same) = absurd (none.source gives.4)
+  create_done status a b x y none can (Whole text short gives (Unread is sink same)) = inr is
+  create_done status a b x y none can (Whole text short gives (Faulty fault reads is sink same)) =
+      let said : TextReadsAs text (Ok can.2.0) =
+      subst (λ (t : List ℕ). TextReadsAs t (Ok can.2.0))
+      (sym (of_told (view.source.left a.source) can.0 (λ all. text ≡ all) can.1 gives.1)) can.2.1 in
       let clash = one_answer text _ _ reads said in
       cc
-  create_done status a b x y input told none can (Whole text short gives (Says g reads (ShortOfMemory is sink same))) = inr is
-  create_done status a b x y input told none can (Whole text short gives (Says g reads (NotMade refusal did is sink))) =
-      let said : TextReadsAs text (Ok can.0) =
-      subst (λ (t : List ℕ). TextReadsAs t (Ok can.0)) (sym (of_told (view.source.left a.source) input (λ all. text ≡ all) told gives.1)) can.1 in
-      let answers : Ok g ≡ Ok can.0 = one_answer text _ _ reads said in
-      let same : g ≡ can.0 = cc in
+  create_done status a b x y none can (Whole text short gives (Says g reads (ShortOfMemory is sink same))) = inr is
+  create_done status a b x y none can (Whole text short gives (Says g reads (NotMade refusal did is sink))) =
+      let said : TextReadsAs text (Ok can.2.0) =
+      subst (λ (t : List ℕ). TextReadsAs t (Ok can.2.0))
+      (sym (of_told (view.source.left a.source) can.0 (λ all. text ≡ all) can.1 gives.1)) can.2.1 in
+      let answers : Ok g ≡ Ok can.2.0 = one_answer text _ _ reads said in
+      let same : g ≡ can.2.0 = cc in
       let creates : Creates g (Err refusal) (told_of rack x) (told_of rack y) = did in
-      let clash : false ≡ true = creates.complete can.3 (subst (λ (k : Geometry). CanBeMade k (rack.history x) (rack.history y)) (sym same) can.4) in
+      let clash : false ≡ true =
+      creates.complete can.2.3 (subst (λ (k : Geometry). CanBeMade k (rack.history x) (rack.history y)) (sym same) can.2.4) in
       absurd cc
-  create_done status a b x y input told none can (Whole text short gives (Says g reads (Made did held is))) = inl is
-  create_done status a b x y input told none can (Whole text short gives (Says g reads (MadeUntold part did all held is))) = absurd (none.sink held.2)
+  create_done status a b x y none can (Whole text short gives (Says g reads (Made did held is))) = inl is
+  create_done status a b x y none can (Whole text short gives (Says g reads (MadeUntold part did all held is))) = absurd (none.sink held.2)
+
+  show_done : (status : Status) (a b : Outside S K) (x y : R) → HasNoFault view a b → CanBeDone rack Show (view.source.left a.source) x y
+      → ShowCame rack view status a b x y → IsDone status
+  show_done status a b x y none can (Refused fault did is sink) =
+      let since = can.1 in
+      let finds = finds_array since.state since.before (told_of rack x) (told_of rack y) (Err fault) did can.0 since.since since.represents
+      since.returned since.tolerated in
+      let clash : Err fault ≡ Ok finds.member = finds.found in
+      absurd cc
+  show_done status a b x y none can (Shown member did held is) = inl is
+  show_done status a b x y none can (ShownUntold member part did all held is) = absurd (none.sink held.2)
 
   pub all_is_complete : AllIsComplete rack view
-  all_is_complete words job status a b x y spells over input told none can =
+  all_is_complete words job status a b x y spells over none can =
       elim (called_over rack view words status a b x y over) as (λ _. IsDone status) [
         | NoMemory out ends still ↦ inr out
         | NotSpelled not usage ends still ↦ absurd (not (job, spells))
@@ -172,11 +192,13 @@ module _ {R S K : Type 0} (rack : RackView R) (view : Views S K) where
             job_done job can (subst (λ (j : Job). MeansOver rack view (job_plan j) (Over status) a b x y) (spells_once words read job spelled spells) later)
       ]
     where
-      job_done : (job : Job) → CanBeDone rack job input x y → MeansOver rack view (job_plan job) (Over status) a b x y → IsDone status
-      job_done (OneStripe command n m r e) valid later =
+      job_done : (job : Job) → CanBeDone rack job (view.source.left a.source) x y → MeansOver rack view (job_plan job) (Over status) a b x y
+          → IsDone status
+      job_done (OneStripe command n m r e) can later =
           let kept = tested_kept view command (one_stripe n m r e) status a b later.means in
-          stripe_done command (one_stripe n m r e) input (view.sink.held a.sink) (view.sink.held b.sink) status valid
-          (of_told (view.source.left a.source) input
-          (λ bytes. HasCause command (one_stripe n m r e) bytes (view.sink.held a.sink) (view.sink.held b.sink) status) told kept.does.cause)
+          stripe_done command (one_stripe n m r e) can.0 (view.sink.held a.sink) (view.sink.held b.sink) status can.2
+          (of_told (view.source.left a.source) can.0
+          (λ bytes. HasCause command (one_stripe n m r e) bytes (view.sink.held a.sink) (view.sink.held b.sink) status) can.1 kept.does.cause)
           (λ is. none.source (kept.leaves.input_fault is)) (λ is. none.sink (kept.leaves.output_fault is))
-      job_done Create able later = create_done status a b x y input told none able (went_over rack view status a b x y later)
+      job_done Create can later = create_done status a b x y none can (went_over rack view status a b x y later)
+      job_done Show can later = show_done status a b x y none can (show_went rack view status a b x y later).came

@@ -134,6 +134,7 @@ module _ {S : Type 0} (view : SourceView S) where
   CutsShort-later first mid xs a b c fault.Output before cut = absurd cut
   CutsShort-later first mid xs a b c (fault.Text config) before cut = absurd cut
   CutsShort-later first mid xs a b c (fault.Create refusal) before cut = absurd cut
+  CutsShort-later first mid xs a b c (fault.Survey refusal) before cut = absurd cut
   CutsShort-later first mid xs a b c (fault.Length needed took) before cut =
       let ys = cut.1.0 in
       let mid_took : mid.took ≡ first.took + length xs = ap (λ (k : Intake). k.took) before.counted in
@@ -166,6 +167,7 @@ module _ {S T : Type 0} (view : SourceView S) (needed : ℕ) (IsInput : T → Li
   whole_cut a b fault.Output cut = absurd cut
   whole_cut a b (fault.Text config) cut = absurd cut
   whole_cut a b (fault.Create refusal) cut = absurd cut
+  whole_cut a b (fault.Survey refusal) cut = absurd cut
   whole_cut a b (fault.Length wanted took) cut =
       let bytes = cut.1.0 in
       let took_is : took ≡ length bytes = omega (arith, cut.1.1) in
@@ -205,6 +207,7 @@ module _ {S T : Type 0} (view : SourceView S) (needed : ℕ) (IsInput : T → Li
   whole_goes_on bytes a b c fault.Output looked same some long took more = absurd more
   whole_goes_on bytes a b c (fault.Text config) looked same some long took more = absurd more
   whole_goes_on bytes a b c (fault.Create refusal) looked same some long took more = absurd more
+  whole_goes_on bytes a b c (fault.Survey refusal) looked same some long took more = absurd more
   whole_goes_on bytes a b c (fault.Length wanted count) looked same some long took more = record {
     bytes = [];
     is_input = tt;

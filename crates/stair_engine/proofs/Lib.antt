@@ -7,8 +7,11 @@ pub mod MapLaws
 pub mod AnswerLaws
 pub mod RestoreLaws
 pub mod MeaningLaws
+pub mod TextLaws
 mod CreateLaws
 mod RackLaws
+mod ShowLaws
+mod StandLaws
 mod CallLaws
 mod CompleteLaws
 mod StepLaws

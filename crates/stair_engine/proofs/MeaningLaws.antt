@@ -12,7 +12,7 @@ use Rattle.stair_conf.specs.declared.job.Job.{Job}
 use Rattle.stair_conf.specs.declared.job.Job.TheVariants.{OneStripe}
 use Rattle.stair_conf.proofs.WordsLemmas.{spells_once}
 use Rattle.stair_engine.specs.declared.status.Status.{Status}
-use Rattle.stair_engine.specs.declared.status.Status.TheVariants.{Done, NotCodeword, NoCodeword, Usage, Limit, Key, NotToml, Input, InputFault, OutputFault, Lost, AlreadyArray, SmallDevice, Gone, OutOfMemory}
+use Rattle.stair_engine.specs.declared.status.Status.TheVariants.{Done, NotCodeword, NoCodeword, Usage, Limit, Key, NotToml, Input, InputFault, OutputFault, NoArray, TwoArrays, TooFew, Lost, AlreadyArray, SmallDevice, Gone, OutOfMemory}
 use Rattle.stair_conf.specs.declared.job.StripeCommand.{StripeCommand}
 use Rattle.stair_engine.specs.Task.{one_stripe}
 use Rattle.stair_conf.specs.declared.job.StripeCommand.TheVariants.{Check, Encode, Restore}
@@ -566,6 +566,11 @@ status_of_cause command g input held held' input_rose output_rose OutputFault ca
     absurd (sound_output (on_output refl))
 status_of_cause command g input held held' input_rose output_rose (Key key) cause on_input on_output sound_input sound_output memory = absurd cause
 status_of_cause command g input held held' input_rose output_rose NotToml cause on_input on_output sound_input sound_output memory = absurd cause
+status_of_cause command g input held held' input_rose output_rose NoArray cause on_input on_output sound_input sound_output memory = absurd cause
+status_of_cause command g input held held' input_rose output_rose (TwoArrays first second) cause on_input on_output sound_input sound_output memory =
+    absurd cause
+status_of_cause command g input held held' input_rose output_rose (TooFew whys) cause on_input on_output sound_input sound_output memory =
+    absurd cause
 status_of_cause command g input held held' input_rose output_rose (AlreadyArray slot) cause on_input on_output sound_input sound_output memory = absurd cause
 status_of_cause command g input held held' input_rose output_rose (SmallDevice slot has needs) cause on_input on_output sound_input sound_output memory = absurd cause
 status_of_cause command g input held held' input_rose output_rose (Gone slot) cause on_input on_output sound_input sound_output memory = absurd cause

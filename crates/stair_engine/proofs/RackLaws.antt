@@ -2,7 +2,7 @@
 use Rattle.std.proofs.Common.{◌≡◌, ◌∙◌, ℕ, List, [], ◌∷◌, Option, None, Some, refl, sym, subst}
 use Rattle.stair_model.specs.Geometry.{Geometry}
 use Rattle.stair_conf.specs.declared.job.StripeCommand.{StripeCommand}
-use Rattle.stair_engine.specs.Means.{Counts, Gives, Holds, Means}
+use Rattle.stair_engine.specs.Means.{Bears, Counts, Gives, Holds, Means}
 use Rattle.stair_engine.specs.Outside.{Outside, Views}
 use Rattle.stair_engine.specs.Plan.{Plan, Over, Ask, Take, Put, Allocate, Do, answer, stripe_plan, tested_plan, within_limits}
 use Rattle.stair_engine.specs.Question.{Reply}
@@ -12,6 +12,7 @@ use Rattle.stair_engine.specs.declared.status.Status.{Status}
 use Rattle.stair_engine.specs.declared.status.Status.TheVariants.{Done}
 use Rattle.stair_engine.proofs.PlanLaws.{and_then, does, leads_then}
 use Rattle.stair_engine.proofs.CreateLaws.{IsOffDevices}
+use Rattle.stair_engine.proofs.MeaningLaws.{no_move}
 
 -- ---- deeds that make no call
 
@@ -114,3 +115,32 @@ module _ {R S K : Type 0} (rack : RackView R) (view : Views S K) where
 
   pub over_left : (plan rest : Plan) (a b : Outside S K) (x y : R) → MakesNoCall plan → MeansOver rack view plan rest a b x y → y ≡ x
   over_left plan rest a b x y none over = left_along rack over.means.story plan rest x y none over.means.follows over.works
+
+  -- what comes behind the first deed
+  pub behind_over : (deed : Deed) (story : List Deed) (plan from : Plan) (status : Status) (a mid b : Outside S K) (x z y : R)
+      (bears : Bears view (deed ∷ story) a b) (works : Leads (Works rack) (deed ∷ story) x y)
+      → bears.gives.0 ≡ mid.source → bears.holds.0 ≡ mid.sink → bears.counts.0 ≡ mid.counter → works.0 ≡ z
+      → from ≡ plan → Leads Moves story from (Over status) → MeansOver rack view plan (Over status) mid b z y
+  behind_over deed story plan from status a mid b x z y bears works source sink counter at same follows = record {
+    means = record {
+      story = story;
+      follows = subst (λ (p : Plan). Leads Moves story p (Over status)) same follows;
+      bears = record {
+        gives = subst (λ (s : S). Leads (Gives view.source) story s b.source) source bears.gives.2;
+        holds = subst (λ (k : K). Leads (Holds view.sink) story k b.sink) sink bears.holds.2;
+        counts = subst (λ (n : ℕ). Leads Counts story n b.counter) counter bears.counts.2;
+      };
+    };
+    works = subst (λ (w : R). Leads (Works rack) story w y) at works.2;
+  }
+
+  pub over_done : (from status : Status) (a b : Outside S K) (x y : R) → MeansOver rack view (Over from) (Over status) a b x y
+      → (status ≡ from) × (b ≡ a) × (y ≡ x)
+  over_done from status a b x y over = at over.means.story over.means.follows over.means.bears over.works
+    where
+      at : (story : List Deed) → Leads Moves story (Over from) (Over status) → Bears view story a b → Leads (Works rack) story x y
+          → (status ≡ from) × (b ≡ a) × (y ≡ x)
+      at [] follows bears works =
+          let same : Over status ≡ Over from = follows in
+          (cc, λ i. record { source = bears.gives i; sink = bears.holds i; counter = bears.counts i }, works)
+      at (deed ∷ story) follows bears works = absurd (no_move deed from follows.0 follows.1)

@@ -10,7 +10,7 @@ use Rattle.stair_model.specs.Geometry.{Geometry}
 use Rattle.stair_model.specs.Stripe.{Stripe, IsSector, cell}
 use Rattle.stair_model.specs.CellSet.{CellSet, HasCell}
 use Rattle.stair_engine.specs.declared.status.Status.{Status}
-use Rattle.stair_engine.specs.declared.status.Status.TheVariants.{Done, NotCodeword, NoCodeword, Usage, Limit, Key, NotToml, Input, InputFault, OutputFault, Lost, AlreadyArray, SmallDevice, Gone, OutOfMemory}
+use Rattle.stair_engine.specs.declared.status.Status.TheVariants.{Done, NotCodeword, NoCodeword, Usage, Limit, Key, NotToml, Input, InputFault, OutputFault, NoArray, TwoArrays, TooFew, Lost, AlreadyArray, SmallDevice, Gone, OutOfMemory}
 use Rattle.stair_conf.specs.declared.job.StripeCommand.TheVariants.{Restore}
 use Rattle.stair_engine.specs.Answer.{HasBytes, IsAnswer, IsJudged, cell_bytes, map_bytes}
 use Rattle.stair_engine.specs.Laws.{DifferAtErased, cell_of_input}
@@ -129,6 +129,9 @@ judges_same g erased x y InputFault output same judges = absurd judges
 judges_same g erased x y OutputFault output same judges = absurd judges
 judges_same g erased x y (Key key) output same judges = absurd judges
 judges_same g erased x y NotToml output same judges = absurd judges
+judges_same g erased x y NoArray output same judges = absurd judges
+judges_same g erased x y (TwoArrays first second) output same judges = absurd judges
+judges_same g erased x y (TooFew whys) output same judges = absurd judges
 judges_same g erased x y (AlreadyArray slot) output same judges = absurd judges
 judges_same g erased x y (SmallDevice slot has needs) output same judges = absurd judges
 judges_same g erased x y (Gone slot) output same judges = absurd judges
@@ -177,6 +180,9 @@ answer_same g a b differ InputFault output is = absurd is
 answer_same g a b differ OutputFault output is = absurd is
 answer_same g a b differ (Key key) output is = absurd is
 answer_same g a b differ NotToml output is = absurd is
+answer_same g a b differ NoArray output is = absurd is
+answer_same g a b differ (TwoArrays first second) output is = absurd is
+answer_same g a b differ (TooFew whys) output is = absurd is
 answer_same g a b differ (AlreadyArray slot) output is = absurd is
 answer_same g a b differ (SmallDevice slot has needs) output is = absurd is
 answer_same g a b differ (Gone slot) output is = absurd is

@@ -1,11 +1,11 @@
--- The deeds of `create`, one after the other.
-use Rattle.std.proofs.Common.{◌≡◌, ◌≢◌, ℕ, ◌+◌, List, Result, Ok, Err, take, refl, sym, subst, arith, length-take}
+-- The deeds of `create` and of `show`, one after the other.
+use Rattle.std.proofs.Common.{◌≡◌, ◌≢◌, ℕ, ◌+◌, List, [], Result, Ok, Err, take, refl, sym, ap, subst, arith, length-take}
 use Rattle.std.specs.Result.{IsErrAnd}
 use Rattle.stair_model.specs.Geometry.{Geometry}
 use Rattle.stair_conf.specs.Config.{TextReadsAs}
 use Rattle.stair_conf.specs.declared.fault.ConfigFault.{ConfigFault}
 use Rattle.stair_conf.specs.declared.fault.ConfigFault.TheVariants as config
-use Rattle.stair_engine.specs.Action.{Create, Outcome}
+use Rattle.stair_engine.specs.Action.{Create, Outcome, Survey}
 use Rattle.stair_engine.specs.declared.fault.Fault.{Fault}
 use Rattle.stair_engine.specs.declared.fault.Fault.TheVariants as fault
 use Rattle.stair_engine.specs.declared.status.Status.{Status}
@@ -13,10 +13,12 @@ use Rattle.stair_engine.specs.declared.status.Status.TheVariants.{Done, Input, I
 use Rattle.stair_engine.specs.Fault.{status_of, status_of_config, status_of_fault}
 use Rattle.stair_engine.specs.Means.{Holds}
 use Rattle.stair_engine.specs.Outside.{Outside, Views, outside}
-use Rattle.stair_engine.specs.Plan.{Plan, Over, Ask, Put, Allocate, Do, TEXT_LIMIT, create_plan, created_line, making_plan}
+use Rattle.stair_engine.specs.Plan.{Plan, Over, Ask, Put, Allocate, Do, TEXT_LIMIT, create_plan, created_line, making_plan, show_plan, showing_plan}
 use Rattle.stair_engine.specs.Question.{Text}
 use Rattle.stair_engine.specs.Rack.{MeansOver, RackView, Works}
 use Rattle.stair_engine.specs.Story.{Found, Took, TookLast, TakeFailed, HasPut, PutFailed, Grew, RanOut, Did, IsPart, after}
+use Rattle.stair_engine.specs.Show.{show_text}
+use Rattle.stair_engine.specs.Showing.{PutsFound, Shows}
 use Rattle.stair_engine.specs.Taking.{TakesText}
 use Rattle.stair_engine.proofs.RackLaws.{over_one, over_then}
 
@@ -44,6 +46,7 @@ module _ {R S K : Type 0} (rack : RackView R) (view : Views S K) where
   text_refused fault.Output into source source' sink n x takes = absurd takes
   text_refused (fault.Text config) into source source' sink n x takes = absurd takes
   text_refused (fault.Create refusal) into source source' sink n x takes = absurd takes
+  text_refused (fault.Survey refusal) into source source' sink n x takes = absurd takes
 
   -- a text was taken
   pub takes_text : (count : ℕ) (into : List ℕ) (source source' : S) (sink : K) (n : ℕ) (x : R) → TakesText view.source (Ok count) into source source'
@@ -90,3 +93,33 @@ module _ {R S K : Type 0} (rack : RackView R) (view : Views S K) where
       → MeansOver rack view (Put bytes (Over Done)) (Over OutputFault) (outside source sink n) (outside source sink' n) x x
   over_cannot_put bytes part source sink sink' n x is holds =
       over_one rack view (PutFailed part) (Put bytes (Over Done)) (Over OutputFault) _ _ x x (is, refl) refl holds refl refl
+
+  -- an array was found, or none
+  surveys : (found : Outcome Survey) (a : Outside S K) (x y : R) → Works rack (Did Survey found) x y
+      → MeansOver rack view show_plan (after Survey showing_plan found) a a x y
+  surveys found a x y works =
+      over_one rack view (Did Survey found) show_plan (after Survey showing_plan found) a a x y (found, refl, refl) refl refl refl works
+
+  -- what was found is put out
+  puts_found : (found : Outcome Survey) (result : Result Status Fault) (source : S) (sink sink' : K) (n : ℕ) (x : R)
+      → PutsFound view.sink found result sink sink'
+      → MeansOver rack view (after Survey showing_plan found) (Over (status_of result)) (outside source sink n) (outside source sink' n) x x
+  puts_found (Ok member) (Ok status) source sink sink' n x puts =
+      subst (λ (s : Status). MeansOver rack view (showing_plan member) (Over s) (outside source sink n) (outside source sink' n) x x) (sym puts.1)
+      (over_puts (show_text member) source sink sink' n x puts.0)
+  puts_found (Ok member) (Err fault) source sink sink' n x puts =
+      subst (λ (f : Fault). MeansOver rack view (showing_plan member) (Over (status_of_fault f)) (outside source sink n) (outside source sink' n) x x)
+      (sym puts.1) (over_cannot_put (show_text member) puts.0.0 source sink sink' n x puts.0.1 puts.0.2)
+  puts_found (Err refusal) result source sink sink' n x puts = record {
+    means = record {
+      story = [];
+      follows = ap (λ (r : Result Status Fault). Over (status_of r)) puts.0;
+      bears = record { gives = refl; holds = puts.1; counts = refl };
+    };
+    works = refl;
+  }
+
+  pub shows : (result : Result Status Fault) (source : S) (sink sink' : K) (n : ℕ) (x y : R) → Shows rack view.sink result x y sink sink'
+      → MeansOver rack view show_plan (Over (status_of result)) (outside source sink n) (outside source sink' n) x y
+  shows result source sink sink' n x y did =
+      over_then rack view (surveys did.found (outside source sink n) x y did.surveys) (puts_found did.found result source sink sink' n y did.puts)

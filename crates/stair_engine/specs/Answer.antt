@@ -9,7 +9,7 @@ use Rattle.stair_model.specs.Codeword.{IsCodeword}
 use Rattle.stair_model.specs.Equation.{IsFirstBroken}
 use Rattle.stair_base.specs.Equations.{equation_of}
 use Rattle.stair_engine.specs.declared.status.Status.{Status}
-use Rattle.stair_engine.specs.declared.status.Status.TheVariants.{Done, NotCodeword, NoCodeword, Usage, Limit, Key, NotToml, Input, InputFault, OutputFault, Lost, AlreadyArray, SmallDevice, Gone, OutOfMemory}
+use Rattle.stair_engine.specs.declared.status.Status.TheVariants.{Done, NotCodeword, NoCodeword, Usage, Limit, Key, NotToml, Input, InputFault, OutputFault, NoArray, TwoArrays, TooFew, Lost, AlreadyArray, SmallDevice, Gone, OutOfMemory}
 use Rattle.stair_conf.specs.declared.job.StripeCommand.{StripeCommand}
 use Rattle.stair_conf.specs.declared.job.StripeCommand.TheVariants.{Check, Encode, Restore}
 use Rattle.stair_engine.specs.Encode.{HasBlocks, JudgesBlocks}
@@ -87,6 +87,9 @@ IsAnswer command g input (Lost stripe counts n) output =
 IsAnswer command g input Usage output = ⊥
 IsAnswer command g input (Key key) output = ⊥
 IsAnswer command g input NotToml output = ⊥
+IsAnswer command g input NoArray output = ⊥
+IsAnswer command g input (TwoArrays first second) output = ⊥
+IsAnswer command g input (TooFew whys) output = ⊥
 IsAnswer command g input (AlreadyArray slot) output = ⊥
 IsAnswer command g input (SmallDevice slot has needs) output = ⊥
 IsAnswer command g input (Gone slot) output = ⊥

@@ -6,7 +6,7 @@ use Rattle.stair_model.specs.Geometry.{Geometry, IsWithinLimits, IsFirstBrokenLi
 use Rattle.stair_model.specs.Stripe.{Stripe}
 use Rattle.stair_model.specs.Codeword.{IsCodeword}
 use Rattle.stair_engine.specs.declared.status.Status.{Status}
-use Rattle.stair_engine.specs.declared.status.Status.TheVariants.{Done, NotCodeword, NoCodeword, Usage, Limit, Key, NotToml, Input, InputFault, OutputFault, Lost, AlreadyArray, SmallDevice, Gone, OutOfMemory}
+use Rattle.stair_engine.specs.declared.status.Status.TheVariants.{Done, NotCodeword, NoCodeword, Usage, Limit, Key, NotToml, Input, InputFault, OutputFault, NoArray, TwoArrays, TooFew, Lost, AlreadyArray, SmallDevice, Gone, OutOfMemory}
 use Rattle.stair_conf.specs.declared.job.StripeCommand.{StripeCommand}
 use Rattle.stair_conf.specs.declared.job.StripeCommand.TheVariants.{Check, Encode, Restore}
 use Rattle.stair_engine.specs.Answer.{HasBytes, IsAnswer, bytes_needed, codeword_line}
@@ -41,6 +41,9 @@ HasCause command g input old new (Lost stripe counts n) =
 HasCause command g input old new Usage = ⊥
 HasCause command g input old new (Key key) = ⊥
 HasCause command g input old new NotToml = ⊥
+HasCause command g input old new NoArray = ⊥
+HasCause command g input old new (TwoArrays first second) = ⊥
+HasCause command g input old new (TooFew whys) = ⊥
 HasCause command g input old new (AlreadyArray slot) = ⊥
 HasCause command g input old new (SmallDevice slot has needs) = ⊥
 HasCause command g input old new (Gone slot) = ⊥
@@ -64,6 +67,9 @@ LimitsComeFirst command g (Limit k) = IsFirstBrokenLimit g k
 LimitsComeFirst command g Usage = ⊥
 LimitsComeFirst command g (Key key) = ⊥
 LimitsComeFirst command g NotToml = ⊥
+LimitsComeFirst command g NoArray = ⊥
+LimitsComeFirst command g (TwoArrays first second) = ⊥
+LimitsComeFirst command g (TooFew whys) = ⊥
 LimitsComeFirst command g (AlreadyArray slot) = ⊥
 LimitsComeFirst command g (SmallDevice slot has needs) = ⊥
 LimitsComeFirst command g (Gone slot) = ⊥

@@ -4,7 +4,7 @@ use Rattle.stair_conf.specs.declared.fault.ConfigFault.{ConfigFault}
 use Rattle.stair_conf.specs.declared.fault.ConfigFault.TheVariants as config
 use Rattle.stair_engine.specs.declared.fault.Fault.{Fault}
 use Rattle.stair_engine.specs.declared.fault.Fault.TheVariants as fault
-use Rattle.stair_engine.specs.Action.{status_of_create}
+use Rattle.stair_engine.specs.Action.{status_of_create, status_of_survey}
 use Rattle.stair_engine.specs.declared.status.Status.{Status}
 use Rattle.stair_engine.specs.declared.status.Status.TheVariants.{Key, Limit, NotToml, Input, InputFault, OutputFault, OutOfMemory}
 
@@ -23,6 +23,7 @@ status_of_fault fault.Input = InputFault
 status_of_fault fault.Output = OutputFault
 status_of_fault (fault.Text fault) = status_of_config fault
 status_of_fault (fault.Create fault) = status_of_create fault
+status_of_fault (fault.Survey fault) = status_of_survey fault
 
 -- the status of a call that may have ended with a fault
 abbrev pub status_of : Result Status Fault → Status

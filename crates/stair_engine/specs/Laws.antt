@@ -2,21 +2,25 @@
 use Rattle.std.specs.Prelude.{◌≡◌, ◌≢◌, ℕ, ◌+◌, ◌*◌, ◌<◌, ◌↔◌, List, length, drop, take, slice_index, All, IfSome, IsTrue}
 use Rattle.stair_model.specs.Geometry.{Geometry}
 use Rattle.stair_model.specs.Stripe.{SECTOR}
+use Rattle.stair_rack.specs.Answers.{Ran}
 use Rattle.stair_rack.specs.Count.{Rose}
+use Rattle.stair_member.specs.Asked.{LeavesSectors}
 use Rattle.stair_conf.specs.Words.{IsSpelled, Spells}
 use Rattle.stair_conf.specs.declared.job.Job.{Job}
-use Rattle.stair_conf.specs.declared.job.Job.TheVariants.{OneStripe, Create}
+use Rattle.stair_conf.specs.declared.job.Job.TheVariants.{OneStripe, Create, Show}
 use Rattle.stair_conf.specs.declared.job.StripeCommand.{StripeCommand}
 use Rattle.stair_engine.specs.declared.status.Status.{Status}
-use Rattle.stair_engine.specs.declared.status.Status.TheVariants.{Done, Usage, OutOfMemory}
+use Rattle.stair_engine.specs.declared.status.Status.TheVariants.{Done, Usage, InputFault, OutOfMemory}
 use Rattle.stair_engine.specs.Answer.{map_bytes}
 use Rattle.stair_engine.specs.Cause.{Answers, IfRefusedAtOnce}
-use Rattle.stair_engine.specs.Create.{IsComplete, MakesArray}
+use Rattle.stair_engine.specs.Complete.{IsComplete}
+use Rattle.stair_engine.specs.Create.{MakesArray}
 use Rattle.stair_engine.specs.Does.{Does, Leaves}
 use Rattle.stair_engine.specs.Means.{Means}
 use Rattle.stair_engine.specs.Outside.{Outside, Views}
 use Rattle.stair_engine.specs.Plan.{Over, plan_of}
 use Rattle.stair_engine.specs.Rack.{MeansOver, RackView}
+use Rattle.stair_engine.specs.Stands.{ArrayStands}
 use Rattle.stair_engine.specs.Task.{one_stripe}
 
 -- the bytes of cell (i, j) behind the map
@@ -69,12 +73,30 @@ AllIsKept {R} {S} {K} rack view =
     MeansOver rack view (plan_of words) (Over status) old new first last →
     Leaves view status old new
 
--- No other command makes a call on the rack; and what it refuses before the input leaves source, sink and counter.
+-- No command but `create` and `show` makes a call on the rack; and what it refuses before the input leaves source, sink and
+-- counter.
 abbrev pub RackIsLeft : {R S K : Type 0} → RackView R → Views S K → Type 0
 RackIsLeft {R} {S} {K} rack view =
     (words : List (List ℕ)) (status : Status) (old new : Outside S K) (first last : R) →
     MeansOver rack view (plan_of words) (Over status) old new first last →
-    (Spells words Create → ⊥) → (last ≡ first) × IfRefusedAtOnce status (new ≡ old)
+    (Spells words Create → ⊥) → (Spells words Show → ⊥) →
+    (last ≡ first) × IfRefusedAtOnce status (new ≡ old)
+
+-- `show` makes no call on the source and counts no step; on an honest rack it changes no sector
+abbrev pub ShowOnlyLooks : {R S K : Type 0} → RackView R → Views S K → Type 0
+ShowOnlyLooks {R} {S} {K} rack view =
+    (words : List (List ℕ)) (status : Status) (old new : Outside S K) (first last : R) →
+    MeansOver rack view (plan_of words) (Over status) old new first last → Spells words Show →
+    (status ≢ InputFault) × (new.source ≡ old.source) × (new.counter ≡ old.counter)
+    × (IsTrue rack.honest → Ran LeavesSectors (rack.history first) (rack.history last))
+
+-- every command but `create` leaves an array as it was
+abbrev pub ArrayIsLeft : {R S K : Type 0} → RackView R → Views S K → Type 0
+ArrayIsLeft {R} {S} {K} rack view =
+    (words : List (List ℕ)) (status : Status) (old new : Outside S K) (first last : R) →
+    MeansOver rack view (plan_of words) (Over status) old new first last →
+    (Spells words Create → ⊥) → IsTrue rack.honest →
+    ArrayStands (rack.history first) (rack.history last)
 
 -- `create` made an array, of the geometry that the input says, where its rack is honest
 abbrev pub ArrayIsMade : {R S K : Type 0} → RackView R → Views S K → Type 0

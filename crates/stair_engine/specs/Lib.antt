@@ -13,7 +13,11 @@ pub mod Outside
 pub mod Means
 pub mod Rack
 pub mod Create
+pub mod Show
+pub mod Stands
+pub mod Complete
 pub mod Streams
+pub mod Showing
 pub mod Taking
 pub mod Cause
 pub mod Does

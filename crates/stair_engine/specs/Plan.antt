@@ -10,9 +10,11 @@ use Rattle.stair_engine.specs.declared.status.Status.{Status}
 use Rattle.stair_engine.specs.declared.status.Status.TheVariants.{Done, Usage, Limit, Input}
 use Rattle.stair_conf.specs.declared.job.StripeCommand.{StripeCommand}
 use Rattle.stair_engine.specs.Task.{one_stripe}
-use Rattle.stair_engine.specs.Action.{Action, Create, OkOf}
+use Rattle.stair_engine.specs.Action.{Action, Create, OkOf, Survey}
 use Rattle.stair_engine.specs.Answer.{bytes_needed}
 use Rattle.stair_engine.specs.Fault.{status_of_config}
+use Rattle.stair_engine.specs.Show.{show_text}
+use Rattle.stair_member.specs.Membership.{Membership}
 use Rattle.stair_engine.specs.Question.{Question, Reply, Words, Limits, Text, Judgement}
 
 pub data Plan : Type 0 where
@@ -76,10 +78,18 @@ abbrev pub create_plan : Plan
 create_plan = Take (TEXT_LIMIT + 1) (λ more. Over (Input TEXT_LIMIT (TEXT_LIMIT + 1)))
     (λ text. Allocate (Ask (Text text) making_plan))
 
+-- what was found is put out
+abbrev pub showing_plan : Membership → Plan
+showing_plan member = Put (show_text member) (Over Done)
+
+abbrev pub show_plan : Plan
+show_plan = Do Survey showing_plan
+
 -- a row for each command
 abbrev pub job_plan : Job → Plan
 job_plan (job.OneStripe command n m r e) = tested_plan command (one_stripe n m r e)
 job_plan job.Create = create_plan
+job_plan job.Show = show_plan
 
 abbrev pub if_spelled : Option Job → Plan
 if_spelled None = Over Usage

@@ -2,8 +2,9 @@
 use Rattle.std.specs.Prelude.{◌≡◌, ℕ, Bool, List}
 use Rattle.stair_rack.specs.History.{Happening}
 use Rattle.stair_array.specs.Creates.{Creates}
-use Rattle.stair_array.specs.Looking.{Telling, telling}
-use Rattle.stair_engine.specs.Action.{Create}
+use Rattle.stair_member.specs.Survey.{Surveys}
+use Rattle.stair_member.specs.Telling.{Telling, telling}
+use Rattle.stair_engine.specs.Action.{Create, Survey}
 use Rattle.stair_engine.specs.Means.{Means}
 use Rattle.stair_engine.specs.Outside.{Outside, Views}
 use Rattle.stair_engine.specs.Plan.{Plan}
@@ -27,6 +28,7 @@ told_of view rack = telling view.honest (view.history rack) (view.bads rack) (vi
 -- rack as it was, so no call was made on it.
 abbrev pub Works : {R : Type 0} → RackView R → Deed → R → R → Type 0
 Works view (Did (Create g) outcome) old new = Creates g outcome (told_of view old) (told_of view new)
+Works view (Did Survey outcome) old new = Surveys outcome (told_of view old) (told_of view new)
 Works view _ old new = new ≡ old
 
 -- The call went from this plan to that rest, and the rack bears out the same story.

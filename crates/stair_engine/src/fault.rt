@@ -1,8 +1,9 @@
 ghost use Rattle.std.specs.Prelude.{◌≡◌};
-ghost use Rattle.stair_engine.specs.declared.fault.Fault.TheVariants.{Memory, Text, Create};
+ghost use Rattle.stair_engine.specs.declared.fault.Fault.TheVariants.{Memory, Text, Create, Survey};
 
 use stair_array::CreateFault;
 use stair_conf::ConfigFault;
+use stair_member::SurveyFault;
 use std::alloc::AllocError;
 
 /// Why a call ended before the answer was known or put out.
@@ -18,8 +19,10 @@ pub(crate) enum Fault {
     Output,
     /// The geometry text was refused, or there was no memory to read it.
     Text(ConfigFault),
-    /// There is no array.
+    /// No array was made.
     Create(CreateFault),
+    /// No array was found.
+    Survey(SurveyFault),
 }
 
 impl From<AllocError> for Fault {
@@ -43,5 +46,13 @@ impl From<CreateFault> for Fault {
 
     fn from(fault: CreateFault) -> Fault {
         Fault::Create(fault)
+    }
+}
+
+impl From<SurveyFault> for Fault {
+    ghost from_gives = { λ refusal fault. fault ≡ Survey refusal };
+
+    fn from(fault: SurveyFault) -> Fault {
+        Fault::Survey(fault)
     }
 }

@@ -6,11 +6,13 @@ ghost use Rattle.stair_engine.specs.Answer.{IsAnswer};
 ghost use Rattle.stair_engine.specs.Laws.{
   AllIsComplete,
   AllIsKept,
+  ArrayIsLeft,
   ArrayIsMade,
   BytesAreAnswered,
   DifferAtErased,
   MemoryComesFirst,
   RackIsLeft,
+  ShowOnlyLooks,
   UsageIsExact,
   WordsAreDone,
 };
@@ -35,8 +37,14 @@ pub fn plan_laws<R: Rack, S: Source, K: Sink>()
     // a fault comes only where its count rose, no count falls, and what nothing is put out of
     ensures kept { AllIsKept (rack_view R.is_honest R.history R.bads R.gones)
         (views S.left S.ended S.faults K.held K.faults) }
-    // no command but `create` makes a call on the rack, and what the others refuse before the input leaves all
+    // no command but `create` and `show` makes a call on the rack, and what the others refuse before the input leaves all
     ensures left { RackIsLeft (rack_view R.is_honest R.history R.bads R.gones)
+        (views S.left S.ended S.faults K.held K.faults) }
+    // `show` makes no call on the source, and changes no sector of an honest rack
+    ensures looks { ShowOnlyLooks (rack_view R.is_honest R.history R.bads R.gones)
+        (views S.left S.ended S.faults K.held K.faults) }
+    // every command but `create` leaves an array as it was
+    ensures stands { ArrayIsLeft (rack_view R.is_honest R.history R.bads R.gones)
         (views S.left S.ended S.faults K.held K.faults) }
     // where memory was short no call was made on the rack
     ensures memory { MemoryComesFirst (rack_view R.is_honest R.history R.bads R.gones)

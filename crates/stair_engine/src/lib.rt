@@ -11,28 +11,33 @@ mod intake;
 pub mod laws;
 mod map;
 mod restore;
+mod show;
 mod status;
 mod streams;
 mod task;
 #[cfg(test)]
 mod tests;
+mod text;
 
 ghost use Rattle.std.specs.Prelude.{◌≡◌, IsTrue, map, string_bytes};
 ghost use Rattle.stair_conf.specs.Words.{IsCommandLine, Spells};
 ghost use Rattle.stair_conf.specs.declared.job.Job.{Job as Jobs};
 ghost use Rattle.stair_conf.specs.declared.job.Job.TheVariants.{Create};
-ghost use Rattle.stair_engine.specs.Create.{IsComplete, MakesArray};
+ghost use Rattle.stair_engine.specs.Complete.{IsComplete};
+ghost use Rattle.stair_engine.specs.Create.{MakesArray};
 ghost use Rattle.stair_engine.specs.Fault.{status_of};
 ghost use Rattle.stair_engine.specs.Means.{Means};
 ghost use Rattle.stair_engine.specs.Outside.{outside, views};
 ghost use Rattle.stair_engine.specs.Plan.{Over, job_plan, plan_of, stripe_plan};
 ghost use Rattle.stair_engine.specs.Rack.{MeansOver, rack_view};
+ghost use Rattle.stair_engine.specs.Stands.{ArrayStands};
 
 use check::check;
 use create::create;
 use encode::encode;
 use fault::Fault;
 use restore::restore;
+use show::show;
 use stair_base::Geometry;
 use stair_conf::{Job, StripeCommand, WordsFault, read_words};
 use stair_gf::Steps;
@@ -66,6 +71,11 @@ use task::one_stripe;
 /// `Gone`, `SmallDevice` and `AlreadyArray` before any is written, but for a slot that goes meanwhile. After `OutputFault`
 /// there is an array.
 ///
+/// `show` looks for an array on the rack, as [`stair_member::survey`] tells, and puts out its identity, its geometry, its
+/// epoch, its label and whether it is frozen, and for each of its slots the mark, the epoch of its admission, and why it isn't
+/// what the mark says. It takes nothing from the input and changes nothing on a device. `NoArray`, `TwoArrays` and `TooFew`
+/// come before anything is put out.
+///
 /// `OutOfMemory` may come in place of any other answer, once a command's word came first and no word begins with a hyphen.
 /// No device was written then.
 ///
@@ -94,6 +104,10 @@ pub fn stair<R: Rack, S: Source, K: Sink, L: Ledger>(
     ensures created { IsTrue R.is_honest → Spells (map string_bytes words.now) Create →
         result ≡ Status.Done →
         MakesArray (S.left input.old) (R.history rack.old) (R.history rack.new) }
+
+    // On an honest rack every other command leaves an array as it was: at every moment, and at the end.
+    ensures stands { IsTrue R.is_honest → (Spells (map string_bytes words.now) Create → ⊥) →
+        ArrayStands (R.history rack.old) (R.history rack.new) }
 
     // Where it can be done, and neither source nor sink fails, the answer is Done or want of memory.
     ensures complete { (job : Jobs) → Spells (map string_bytes words.now) job →
@@ -138,6 +152,7 @@ fn work<R: Rack, S: Source, K: Sink, L: Ledger>(
             Err(fault) => Status::Limit(fault.limit),
         },
         Job::Create => create(alloc, rack, input, output).unwrap_or_else(Status::from),
+        Job::Show => show(rack, output).unwrap_or_else(Status::from),
     }
 }
 

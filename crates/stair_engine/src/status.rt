@@ -1,9 +1,11 @@
 ghost use Rattle.std.specs.Prelude.{◌≡◌, Some};
 
 use crate::fault::Fault;
+use crate::text::identity_digits;
 use stair_array::CreateFault;
 use stair_base::Broken;
 use stair_conf::{ConfigFault, Key};
+use stair_member::{SurveyFault, Why};
 use std::fmt;
 
 /// What a call came to.
@@ -33,6 +35,13 @@ pub enum Status {
     InputFault,
     /// The sink failed.
     OutputFault,
+    /// No array stands by the superblocks that were read.
+    NoArray,
+    /// Two arrays stand, or more: the identities of the two whose lowest slots are lowest, in that order.
+    TwoArrays([u8; 16], [u8; 16]),
+    /// More than m of the array's slots aren't live. For each of the 32 slots the reason; one that the array hasn't has
+    /// `Here`.
+    TooFew([Why; 32]),
     /// The erased cells of this stripe are not covered. For each of the `n` slots, `counts` has how many of its cells are
     /// erased, and behind them zeros.
     Lost {
@@ -67,6 +76,7 @@ impl From<Fault> for Status {
             Fault::Output => Status::OutputFault,
             Fault::Text(fault) => Status::from(fault),
             Fault::Create(fault) => Status::from(fault),
+            Fault::Survey(fault) => Status::from(fault),
         }
     }
 }
@@ -104,6 +114,20 @@ impl From<CreateFault> for Status {
     }
 }
 
+impl From<SurveyFault> for Status {
+    ghost use Rattle.stair_engine.specs.Action.{status_of_survey};
+
+    ghost from_gives = { λ fault status. status ≡ status_of_survey fault };
+
+    fn from(fault: SurveyFault) -> Status {
+        match fault {
+            SurveyFault::NoArray => Status::NoArray,
+            SurveyFault::TwoArrays(first, second) => Status::TwoArrays(first, second),
+            SurveyFault::TooFew(whys) => Status::TooFew(whys),
+        }
+    }
+}
+
 impl Status {
     ghost use Rattle.stair_engine.specs.Status.{code_of};
 
@@ -119,6 +143,9 @@ impl Status {
             Status::Input { .. } => 4,
             Status::InputFault => 5,
             Status::OutputFault => 6,
+            Status::NoArray => 7,
+            Status::TwoArrays(..) => 8,
+            Status::TooFew(_) => 9,
             Status::Lost { .. } => 10,
             Status::AlreadyArray(_) => 12,
             Status::SmallDevice { .. } => 13,
@@ -145,13 +172,23 @@ impl fmt::Display for Status {
                 write!(f, "not a codeword: global {l} {h} byte {byte}")
             }
             Status::NoCodeword => write!(f, "no codeword holds these cells"),
-            Status::Usage => write!(f, "usage: stair FOLDER check|stripe|restore|create"),
+            Status::Usage => write!(f, "usage: stair FOLDER check|stripe|restore|create|show"),
             Status::Limit(limit) => write!(f, "geometry: limit {limit}"),
             Status::Key(key) => write!(f, "geometry: key {}", key.name()),
             Status::NotToml => write!(f, "geometry: not TOML"),
             Status::Input { needed, took } => { write!(f, "input: needed {needed}, took {took}") }
             Status::InputFault => write!(f, "input failed"),
             Status::OutputFault => write!(f, "output failed"),
+            Status::NoArray => write!(f, "no array"),
+            Status::TwoArrays(first, second) => {
+                let first = Identity { id: *first };
+                let second = Identity { id: *second };
+                write!(f, "two arrays: {first} {second}")
+            }
+            Status::TooFew(whys) => {
+                let listed = ListedReasons { whys: *whys };
+                write!(f, "too few devices: {listed}")
+            }
             Status::Lost { stripe, counts, n } => {
                 let listed = ListedCounts {
                     counts: *counts,
@@ -184,6 +221,52 @@ impl fmt::Display for ListedCounts {
     fn fmt<W: fmt::Write>(&self, f: &mut fmt::Formatter<W>) -> fmt::Result {
         for count in &self.counts[..usize::from(self.n).min(32)] {
             write!(f, " {count}")?;
+        }
+        Ok(())
+    }
+}
+
+/// An identity, in lower-case digits.
+#[derive(Drop)]
+struct Identity {
+    id: [u8; 16],
+}
+
+impl fmt::Display for Identity {
+    ghost use Rattle.hex.specs.Hex.{encode_lower};
+
+    ghost output = { λ identity. Some (encode_lower identity.id) };
+
+    fn fmt<W: fmt::Write>(&self, f: &mut fmt::Formatter<W>) -> fmt::Result {
+        for digit in identity_digits(self.id) {
+            f.write_char(char::from(digit))?;
+        }
+        Ok(())
+    }
+}
+
+/// Each slot that isn't live, and why.
+#[derive(Drop)]
+struct ListedReasons {
+    whys: [Why; 32],
+}
+
+impl fmt::Display for ListedReasons {
+    ghost use Rattle.stair_engine.specs.Status.{reasons_text};
+
+    ghost output = { λ listed. Some (reasons_text listed.whys 32) };
+
+    fn fmt<W: fmt::Write>(&self, f: &mut fmt::Formatter<W>) -> fmt::Result {
+        let mut is_first = true;
+        for slot in 0..32usize {
+            let reason = self.whys[slot];
+            if reason != Why::Here {
+                if !is_first {
+                    write!(f, ", ")?;
+                }
+                is_first = false;
+                write!(f, "{slot} {}", reason.words())?;
+            }
         }
         Ok(())
     }

@@ -5,7 +5,8 @@ ghost use Rattle.std.specs.Prelude.{◌≡◌, ◌<◌};
 use super::*;
 use stair_base::{Broken, SECTOR};
 use stair_conf::Key;
-use stair_memrack::MemRack;
+use stair_member::Why;
+use stair_memrack::{Act, MemRack, What};
 use stair_rack::{MemSink, MemSource};
 use std::alloc::AllocError;
 use std::marker::Brand;
@@ -99,6 +100,20 @@ const LONG_TEXT: Bytes = (b"#", &[b' '; 8]);
 
 const LONG_COMMENT: Bytes = (b"# not a table\n]", &[b' '; 7]);
 
+const SHOW: &str = "show";
+
+// The array of that text.
+const SHOWN: Bytes = (
+    b"array 00000000000000000000000000000a04\ngeometry n 4 m 1 r 2 e 1 stripes 3 blocks 15\nepoch 1\nslot 0 live 1\nslot 1 live 1\nslot 2 live 1\nslot 3 live 1\n",
+    b"",
+);
+
+// Slot 1 is empty.
+const SHOWN_WITHOUT: Bytes = (
+    b"array 00000000000000000000000000000a04\ngeometry n 4 m 1 r 2 e 1 stripes 3 blocks 15\nepoch 1\nslot 0 live 1\nslot 1 live 1 gone\nslot 2 live 1\nslot 3 live 1\n",
+    b"",
+);
+
 const CHECK: &str = "check 4 1 2 1";
 
 const STRIPE: &str = "stripe down 4 1 2 1";
@@ -155,7 +170,7 @@ type Ends = (Option<u64>, usize);
 const WHOLE: Ends = (None, 32 * SECTOR);
 
 // Each row is a command line, its input, the ends, the status, and what is put out where there is room.
-const CALLS: [(&str, Bytes, Ends, Status, Bytes); 32] = [
+const CALLS: [(&str, Bytes, Ends, Status, Bytes); 34] = [
     (CHECK, FOUR, WHOLE, Status::Done, LINE),
     (CHECK, ROW_BROKEN, WHOLE, IN_ROW, NOTHING),
     (CHECK, GLOBAL_BROKEN, WHOLE, IN_GLOBAL, NOTHING),
@@ -196,10 +211,12 @@ const CALLS: [(&str, Bytes, Ends, Status, Bytes); 32] = [
     (CREATE, FOUR_STRIPES, WHOLE, SMALL, NOTHING),
     (CREATE, FIVE_DEVICES, WHOLE, Status::Gone(4), NOTHING),
     ("create 4", TEXT, WHOLE, Status::Usage, NOTHING),
+    (SHOW, TEXT, WHOLE, Status::NoArray, NOTHING),
+    ("show 4", TEXT, WHOLE, Status::Usage, NOTHING),
 ];
 
 // Each row is a status, the exit status of the program, and the line on standard error.
-const LINES: [(Status, u8, &str); 16] = [
+const LINES: [(Status, u8, &str); 18] = [
     (Status::Done, 0, ""),
     (IN_ROW, 1, "not a codeword: row 0 parity 0 byte 0"),
     (IN_GLOBAL, 1, "not a codeword: global 0 0 byte 0"),
@@ -207,7 +224,7 @@ const LINES: [(Status, u8, &str); 16] = [
     (
         Status::Usage,
         2,
-        "usage: stair FOLDER check|stripe|restore|create",
+        "usage: stair FOLDER check|stripe|restore|create|show",
     ),
     (Status::Limit(3), 3, "geometry: limit 3"),
     (Status::Key(Key::Stripes), 3, "geometry: key stripes"),
@@ -215,6 +232,12 @@ const LINES: [(Status, u8, &str); 16] = [
     (SHORT, 4, "input: needed 4096, took 2560"),
     (Status::InputFault, 5, "input failed"),
     (Status::OutputFault, 6, "output failed"),
+    (Status::NoArray, 7, "no array"),
+    (
+        Status::TwoArrays([0x0A; 16], [0xB9; 16]),
+        8,
+        "two arrays: 0a0a0a0a0a0a0a0a0a0a0a0a0a0a0a0a b9b9b9b9b9b9b9b9b9b9b9b9b9b9b9b9",
+    ),
     (LOST, 10, "lost: stripe 0 counts 2 0 1 1"),
     (Status::AlreadyArray(31), 12, "array already: slot 31"),
     (SMALL, 13, "small device: slot 0 has 17 of 19 sectors"),
@@ -310,11 +333,72 @@ fn an_array_is_made_once(rt: HostRuntime) -> Result<(), Fail> {
     Ok(())
 }
 
+// A device is pulled before the call that comes after those of `create`.
+fn pulled(slot: u8) -> Act {
+    Act {
+        at: 128,
+        what: What::Pull { slot },
+    }
+}
+
+// What is shown of a new array, with all of its devices, with one fewer and with two fewer, and where the sink is full. Nothing of
+// the input is taken.
+#[test]
+fn an_array_is_shown(rt: HostRuntime) -> Result<(), Fail> {
+    let rows: [(&[Act], usize, Status, Bytes); 6] = [
+        (&[], 1000, Status::Done, SHOWN),
+        (&[pulled(1)], 1000, Status::Done, SHOWN_WITHOUT),
+        (&[], 0, Status::OutputFault, SHOWN),
+        (&[], 43, Status::OutputFault, SHOWN),
+        (&[pulled(1)], 140, Status::OutputFault, SHOWN_WITHOUT),
+        (
+            &[pulled(1), pulled(2)],
+            1000,
+            too_few(&[Why::Here, Why::Gone, Why::Gone]),
+            NOTHING,
+        ),
+    ];
+    for (script, room, status, shown) in rows {
+        let mut rack = MemRack::new(rt.alloc(), 4, 17, script, 1000)?;
+        run(rt.alloc(), &mut rack, CREATE, TEXT, WHOLE)?;
+        assert_eq!(rt; rack.made(), 128);
+        let came = run(rt.alloc(), &mut rack, SHOW, TEXT, (Some(0), room))?;
+        let mut front = bytes_of(rt.alloc(), shown)?;
+        front.truncate(room);
+        assert_eq!(rt; came.status, status, "{room}");
+        assert!(rt; came.put == front, "{room}");
+    }
+    Ok(())
+}
+
+fn too_few(first: &[Why]) -> Status {
+    let mut whys = [Why::Here; 32];
+    for (slot, why) in whys.iter_mut().zip(first.iter()) {
+        *slot = *why;
+    }
+    Status::TooFew(whys)
+}
+
 #[test]
 fn each_status_has_its_code_and_line(rt: HostRuntime) -> Result<(), Fail> {
     for (status, code, line) in LINES {
         assert_eq!(rt; status.code(), code, "{line}");
         assert_eq!(rt; format!(in rt.alloc(); "{status}")?.as_str(), line);
     }
+    let few = too_few(&[
+        Why::Gone,
+        Why::Here,
+        Why::NoSuper,
+        Why::OtherArray,
+        Why::OtherSlot,
+        Why::MarkedDown,
+        Why::OtherJoined,
+        Why::Rebuilding,
+    ]);
+    assert_eq!(rt; few.code(), 9);
+    assert_eq!(rt;
+        format!(in rt.alloc(); "{few}")?.as_str(),
+        "too few devices: 0 gone, 2 no superblock, 3 other array, 4 other slot, 5 marked down, 6 other joined, 7 rebuilding"
+    );
     Ok(())
 }

@@ -1,9 +1,10 @@
 -- What superblocks say of a medium and of a slot is decided.
-use Rattle.std.proofs.Common.{◌≡◌, ℕ, ◌<◌, inl, inr, refl, sym, ap, subst, ◌∙◌, List, arith}
+use Rattle.std.proofs.Common.{◌≡◌, ℕ, ◌<◌, false, inl, inr, refl, sym, ap, subst, ◌∙◌, List, arith, true≢false}
 use Rattle.std.specs.Prelude.{◌⊎◌}
 use Rattle.std.proofs.lemmas.Bool.{cases_eq, cases_lt}
 use Rattle.stair_model.specs.Geometry.{Geometry}
 use Rattle.stair_model.proofs.FirstLaws.{IsKnown, known_both}
+use Rattle.stair_rack.specs.Answers.{is_good}
 use Rattle.stair_rack.specs.Media.{Image}
 use Rattle.stair_rack.specs.Sector.{Cell, Good, Damaged, Torn, TornOverDamage}
 use Rattle.stair_super.specs.Newer.{IsOlder}
@@ -22,15 +23,20 @@ lost_decided Damaged = inl (ByOutside refl)
 lost_decided Torn = inr (λ lost. elim lost [ ByOutside e ↦ cc | Worn e ↦ cc ])
 lost_decided TornOverDamage = inl (Worn refl)
 
+-- the bytes of a good cell that holds a superblock are its bytes
+pub spelled_here : (bytes : List ℕ) (s : Superblock) → HoldsSuper (Good bytes) s → SpellsSuperblock bytes s
+spelled_here bytes s holds = let same : holds.bytes ≡ bytes = cc in subst (λ (b : List ℕ). SpellsSuperblock b s) same holds.spells
+
+-- a cell that can't be read holds none
+pub no_super : (cell : Cell) (s : Superblock) → is_good cell ≡ false → ¬ HoldsSuper cell s
+no_super cell s bad holds = true≢false (sym (ap is_good holds.good) ∙ bad)
+
 pub holds_decided : (cell : Cell) → ((s : Superblock) × HoldsSuper cell s) ⊎ ((s : Superblock) → ¬ HoldsSuper cell s)
 holds_decided (Good bytes) =
     elim (superblock_or_none bytes) [
       | inl some ↦ inl (some.0, record { bytes = bytes; good = refl; spells = some.1 })
       | inr none ↦ inr (λ s holds. none s (spelled_here bytes s holds))
     ]
-  where
-    spelled_here : (bytes : List ℕ) (s : Superblock) → HoldsSuper (Good bytes) s → SpellsSuperblock bytes s
-    spelled_here bytes s holds = let same : holds.bytes ≡ bytes = cc in subst (λ (b : List ℕ). SpellsSuperblock b s) same holds.spells
 holds_decided Damaged = inr (λ s holds. let e = holds.good in cc)
 holds_decided Torn = inr (λ s holds. let e = holds.good in cc)
 holds_decided TornOverDamage = inr (λ s holds. let e = holds.good in cc)
@@ -53,7 +59,7 @@ either_is cell s t first second =
       | inr not_older ↦ (s, First first (λ other holds older. not_older (subst (λ (u : Superblock). IsOlder s u) (holds_once (cell 1) other t holds second) older)))
     ]
 
-none_held : (cell : ℕ → Cell) → ((s : Superblock) → ¬ HoldsSuper (cell 0) s) → ((s : Superblock) → ¬ HoldsSuper (cell 1) s) → ¬ HasSuper cell
+pub none_held : (cell : ℕ → Cell) → ((s : Superblock) → ¬ HoldsSuper (cell 0) s) → ((s : Superblock) → ¬ HoldsSuper (cell 1) s) → ¬ HasSuper cell
 none_held cell first second has =
     elim (cases_lt has.place 1) [
       | inl below ↦ first has.super (subst (λ (k : ℕ). HoldsSuper (cell k) has.super) (omega arith) has.holds)

@@ -63,14 +63,14 @@ draw {offline} g image current limits few orderly =
 -- ---- the current superblock
 
 -- it is at least as new as what counts in slot j
-abbrev IsAtLeast : Geometry → Image → Superblock → ℕ → Type 0
+abbrev pub IsAtLeast : Geometry → Image → Superblock → ℕ → Type 0
 IsAtLeast g image b j = (s : Superblock) → Counts g image j s → (s.array.epoch < b.array.epoch) ⊎ ((s.array.epoch ≡ b.array.epoch) × (b.slot ≤ j))
 
 -- of what counts in slots below k the newest
-record IsBest (g : Geometry) (image : Image) (k : ℕ) (b : Superblock) : Type 0 where
-  counts : Counts g image b.slot b
-  below : b.slot < k
-  newest : (j : ℕ) → j < k → IsAtLeast g image b j
+pub record IsBest (g : Geometry) (image : Image) (k : ℕ) (b : Superblock) : Type 0 where
+  pub counts : Counts g image b.slot b
+  pub below : b.slot < k
+  pub newest : (j : ℕ) → j < k → IsAtLeast g image b j
 
 one_more : (g : Geometry) (image : Image) (k : ℕ) (b : Superblock) → ((j : ℕ) → j < k → IsAtLeast g image b j) → IsAtLeast g image b k
     → (j : ℕ) → j < suc k → IsAtLeast g image b j
@@ -87,38 +87,38 @@ itself g image k b counts s other =
     let slot : b.slot ≡ k = counts.slot in
     inr (ap (λ (t : Superblock). t.array.epoch) same, omega arith)
 
-at_least_on : (g : Geometry) (image : Image) (j : ℕ) (a b : Superblock) → a.array.epoch < b.array.epoch → IsAtLeast g image a j → IsAtLeast g image b j
+at_least_on : (g : Geometry) (image : Image) (j : ℕ) (a b : Superblock) → a.array.epoch < b.array.epoch → IsAtLeast g image a j
+    → IsAtLeast g image b j
 at_least_on g image j a b less old s counts =
     elim (old s counts) [
       | inl before ↦ inl (omega arith)
       | inr tie ↦ let e = tie.0 in inl (omega arith)
     ]
 
--- slot k counts as well
-best_with : (g : Geometry) (image : Image) (k : ℕ) (b s : Superblock) → IsBest g image k b → Counts g image k s → (c : Superblock) × IsBest g image (suc k) c
-best_with g image k b s best counts =
+-- slot k counts as well, by a superblock of a greater epoch
+pub best_newer : (g : Geometry) (image : Image) (k : ℕ) (b s : Superblock) → IsBest g image k b → Counts g image k s → b.array.epoch < s.array.epoch
+    → IsBest g image (suc k) s
+best_newer g image k b s best counts newer =
     let slot : s.slot ≡ k = counts.slot in
+    record {
+      counts = subst (λ (j : ℕ). Counts g image j s) (sym slot) counts;
+      below = omega arith;
+      newest = one_more g image k s (λ j lt. at_least_on g image j b s newer (best.newest j lt)) (itself g image k s counts);
+    }
+
+-- by one of no greater epoch
+pub best_kept : (g : Geometry) (image : Image) (k : ℕ) (b s : Superblock) → IsBest g image k b → Counts g image k s → s.array.epoch ≤ b.array.epoch
+    → IsBest g image (suc k) b
+best_kept g image k b s best counts not_newer =
     let earlier : b.slot < k = best.below in
-    elim (cases_lt b.array.epoch s.array.epoch) [
-      | inl newer ↦ (
-        s,
-        record {
-          counts = subst (λ (j : ℕ). Counts g image j s) (sym slot) counts;
-          below = omega arith;
-          newest = one_more g image k s (λ j lt. at_least_on g image j b s newer (best.newest j lt)) (itself g image k s counts);
-        },
-      )
-      | inr not_newer ↦ (
-        b,
-        record {
-          counts = best.counts;
-          below = omega arith;
-          newest = one_more g image k b best.newest (beside g image k b s best counts not_newer);
-        },
-      )
-    ]
+    record {
+      counts = best.counts;
+      below = omega arith;
+      newest = one_more g image k b best.newest (beside g image k b s best counts not_newer);
+    }
   where
-    beside : (g : Geometry) (image : Image) (k : ℕ) (b s : Superblock) → IsBest g image k b → Counts g image k s → s.array.epoch ≤ b.array.epoch → IsAtLeast g image b k
+    beside : (g : Geometry) (image : Image) (k : ℕ) (b s : Superblock) → IsBest g image k b → Counts g image k s → s.array.epoch ≤ b.array.epoch
+        → IsAtLeast g image b k
     beside g image k b s best counts le t other =
         let same : t.array.epoch ≡ s.array.epoch = ap (λ (u : Superblock). u.array.epoch) (one_super ((image k).cell) t s other.super counts.super) in
         let earlier : b.slot < k = best.below in
@@ -126,6 +126,46 @@ best_with g image k b s best counts =
           | inl less ↦ inl less
           | inr more ↦ inr (omega arith, omega arith)
         ]
+
+best_with : (g : Geometry) (image : Image) (k : ℕ) (b s : Superblock) → IsBest g image k b → Counts g image k s
+    → (c : Superblock) × IsBest g image (suc k) c
+best_with g image k b s best counts =
+    elim (cases_lt b.array.epoch s.array.epoch) [
+      | inl newer ↦ (s, best_newer g image k b s best counts newer)
+      | inr not_newer ↦ (b, best_kept g image k b s best counts not_newer)
+    ]
+
+-- slot k doesn't count
+pub best_without : (g : Geometry) (image : Image) (k : ℕ) (b : Superblock) → IsBest g image k b → ¬ CountsFor g image k → IsBest g image (suc k) b
+best_without g image k b best none =
+    let earlier : b.slot < k = best.below in
+    record {
+      counts = best.counts;
+      below = omega arith;
+      newest = one_more g image k b best.newest (λ s counts. absurd (none (record { super = s; counts = counts })));
+    }
+
+-- slot k is the first that counts
+pub best_first : (g : Geometry) (image : Image) (k : ℕ) (s : Superblock) → Counts g image k s → ((j : ℕ) → j < k → ¬ CountsFor g image j)
+    → IsBest g image (suc k) s
+best_first g image k s counts before =
+    let slot : s.slot ≡ k = counts.slot in
+    record {
+      counts = subst (λ (j : ℕ). Counts g image j s) (sym slot) counts;
+      below = omega arith;
+      newest =
+          one_more g image k s
+          (λ j lt t other. absurd (before j lt (record { super = t; counts = other })))
+          (itself g image k s counts);
+    }
+
+pub none_more : (g : Geometry) (image : Image) (k : ℕ) → ((j : ℕ) → j < k → ¬ CountsFor g image j) → ¬ CountsFor g image k → (j : ℕ) → j < suc k
+    → ¬ CountsFor g image j
+none_more g image k before none j lt =
+    elim (cases_lt j k) [
+      | inl earlier ↦ before j earlier
+      | inr last ↦ subst (λ (i : ℕ). ¬ CountsFor g image i) (omega arith) none
+    ]
 
 -- of the slots below k none counts, or one of those that count is the newest
 best_below : (g : Geometry) (image : Image) (k : ℕ) → ((b : Superblock) × IsBest g image k b) ⊎ ((j : ℕ) → j < k → ¬ CountsFor g image j)
@@ -143,34 +183,6 @@ best_below g image (suc k) =
             | inr none ↦ inr (none_more g image k before none)
           ]
     ]
-  where
-    best_without : (g : Geometry) (image : Image) (k : ℕ) (b : Superblock) → IsBest g image k b → ¬ CountsFor g image k → IsBest g image (suc k) b
-    best_without g image k b best none =
-        let earlier : b.slot < k = best.below in
-        record {
-          counts = best.counts;
-          below = omega arith;
-          newest = one_more g image k b best.newest (λ s counts. absurd (none (record { super = s; counts = counts })));
-        }
-
-    best_first : (g : Geometry) (image : Image) (k : ℕ) (s : Superblock) → Counts g image k s → ((j : ℕ) → j < k → ¬ CountsFor g image j) → IsBest g image (suc k) s
-    best_first g image k s counts before =
-        let slot : s.slot ≡ k = counts.slot in
-        record {
-          counts = subst (λ (j : ℕ). Counts g image j s) (sym slot) counts;
-          below = omega arith;
-          newest =
-              one_more g image k s
-              (λ j lt t other. absurd (before j lt (record { super = t; counts = other })))
-              (itself g image k s counts);
-        }
-
-    none_more : (g : Geometry) (image : Image) (k : ℕ) → ((j : ℕ) → j < k → ¬ CountsFor g image j) → ¬ CountsFor g image k → (j : ℕ) → j < suc k → ¬ CountsFor g image j
-    none_more g image k before none j lt =
-        elim (cases_lt j k) [
-          | inl earlier ↦ before j earlier
-          | inr last ↦ subst (λ (i : ℕ). ¬ CountsFor g image i) (omega arith) none
-        ]
 
 pub has_current : (g : Geometry) (image : Image) → Identifies g image → (current : Superblock) × IsCurrent g image current
 has_current g image stands =

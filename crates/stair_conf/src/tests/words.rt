@@ -4,7 +4,7 @@ use std::test::Fail;
 
 // Each row is a command line, a blank behind each word but the last, and the numbers N M R E.. that it has, None where it is
 // faulty.
-const LINES: [(&str, Option<&[u64]>); 27] = [
+const LINES: [(&str, Option<&[u64]>); 30] = [
     ("check 4 1 2 1", Some(&[4, 1, 2, 1])),
     ("restore 8 2 4 1 1 2", Some(&[8, 2, 4, 1, 1, 2])),
     (
@@ -38,6 +38,9 @@ const LINES: [(&str, Option<&[u64]>); 27] = [
     ("create", Some(&[])),
     ("create 4", None),
     ("create ", None),
+    ("show", Some(&[])),
+    ("show 0", None),
+    ("Show", None),
 ];
 
 fn words_of(alloc: Global, line: &str) -> Result<Vec<String>, AllocError> {
@@ -60,6 +63,7 @@ fn front_of(job: &Job) -> &'static str {
             StripeCommand::Restore => "restore ",
         },
         Job::Create => "create",
+        Job::Show => "show",
     }
 }
 

@@ -8,9 +8,10 @@ use Rattle.stair_engine.specs.Plan.{Over, Ask, if_spelled, plan_of}
 use Rattle.stair_engine.specs.Question.{Words}
 use Rattle.stair_engine.specs.Rack.{MeansOver, rack_view}
 use Rattle.stair_engine.specs.Story.{Found}
-use Rattle.stair_engine.proofs.CallLaws.{array_is_made}
+use Rattle.stair_engine.proofs.CallLaws.{array_is_left, array_is_made}
 use Rattle.stair_engine.proofs.CompleteLaws.{all_is_complete}
 use Rattle.stair_engine.proofs.RackLaws.{over_one, over_then}
+use Rattle.stair_engine.proofs.StandLaws.{still_stands}
 use Rattle.stair_engine.proofs.StepLaws.{over_grows, over_runs_out}
 use Rattle.stair_engine.proofs.stair.Goals as goal
 
@@ -29,6 +30,7 @@ returns-in-Ok g c =
       means = over;
       memory = λ memory. job_line _ c.in-Ok.job c.in-Ok.ensures.ok;
       created = λ honest spells done. array_is_made rack view words c.work.result old _ c.args.rack.now _ over spells honest done;
+      stands = λ honest other. array_is_left rack view words c.work.result old _ c.args.rack.now _ over other honest;
       complete = λ job spells. all_is_complete rack view words job c.work.result old _ c.args.rack.now _ spells over;
     }
 
@@ -49,3 +51,9 @@ pub returns-in-Err-Memory-clause-means : goal.returns-in-Err-Memory-clause-means
 returns-in-Err-Memory-clause-means g c =
     over_runs_out (rack_view g.R.Rack.is_honest g.R.Rack.history g.R.Rack.bads g.R.Rack.gones)
     (views g.S.Source.left g.S.Source.ended g.S.Source.faults g.K.Sink.held g.K.Sink.faults) _ _ _
+
+pub returns-in-Err-Usage-clause-stands : goal.returns-in-Err-Usage-clause-stands
+returns-in-Err-Usage-clause-stands g c honest other = still_stands _
+
+pub returns-in-Err-Memory-clause-stands : goal.returns-in-Err-Memory-clause-stands
+returns-in-Err-Memory-clause-stands g c honest other = still_stands _

@@ -6,7 +6,7 @@ use Rattle.stair_conf.specs.declared.job.Job.{Job}
 use Rattle.stair_engine.specs.Fault.{status_of, status_of_fault}
 use Rattle.stair_engine.specs.Means.{Means}
 use Rattle.stair_engine.specs.Outside.{outside, views}
-use Rattle.stair_engine.specs.Plan.{Over, create_plan, job_plan, stripe_plan, tested_plan, within_limits}
+use Rattle.stair_engine.specs.Plan.{Over, create_plan, job_plan, show_plan, stripe_plan, tested_plan, within_limits}
 use Rattle.stair_engine.specs.Question.{Limits}
 use Rattle.stair_engine.specs.Rack.{MeansOver, rack_view}
 use Rattle.stair_engine.specs.Task.{one_stripe}
@@ -15,6 +15,7 @@ use Rattle.stair_engine.specs.declared.status.Status.{Status}
 use Rattle.stair_engine.specs.declared.status.Status.TheVariants.{Limit}
 use Rattle.stair_engine.proofs.PlanLaws.{and_then, finds}
 use Rattle.stair_engine.proofs.RackLaws.{over_still, stripe_calls_none}
+use Rattle.stair_engine.proofs.StepLaws.{shows}
 use Rattle.stair_engine.proofs.work.Goals as goal
 
 status_is : (status : Status) (done : Result Status Fault) → MatchResult done (λ answer. status ≡ answer) (λ fault. status ≡ status_of_fault fault)
@@ -52,8 +53,8 @@ returns-in-OneStripe g c =
     (over_still rack view (tested_plan o.command of) (Over (Limit c.in-Err.fault.limit)) old old c.args.rack.now (stripe_calls_none o.command of)
     (finds view (Limits of) (within_limits (stripe_plan o.command of)) (Some _) _ _ _ _ c.in-Err.ensures.broken refl))
 
-pub returns : goal.returns
-returns g c =
+pub returns-in-Create : goal.returns-in-Create
+returns-in-Create g c =
     let view = views g.S.Source.left g.S.Source.ended g.S.Source.faults g.K.Sink.held g.K.Sink.faults in
     let rack = rack_view g.R.Rack.is_honest g.R.Rack.history g.R.Rack.bads g.R.Rack.gones in
     let status = c.unwrap_or_else-in-Create.result in
@@ -63,3 +64,15 @@ returns g c =
     subst (λ (job : Job). MeansOver rack view (job_plan job) (Over status) old new c.args.rack.now c.create.new.rack) (sym c.in-Create.is)
     (subst (λ (s : Status). MeansOver rack view create_plan (Over s) old new c.args.rack.now c.create.new.rack) (sym is)
     (c.create.ensures c.args.steps.now))
+
+pub returns : goal.returns
+returns g c =
+    let view = views g.S.Source.left g.S.Source.ended g.S.Source.faults g.K.Sink.held g.K.Sink.faults in
+    let rack = rack_view g.R.Rack.is_honest g.R.Rack.history g.R.Rack.bads g.R.Rack.gones in
+    let status = c.unwrap_or_else-in-Show.result in
+    let is : status ≡ status_of c.show.result = status_is _ c.show.result c.unwrap_or_else-in-Show.ensures in
+    let old = outside c.args.input.now c.args.output.now c.args.steps.now in
+    let new = outside c.args.input.now c.show.new.output c.args.steps.now in
+    subst (λ (job : Job). MeansOver rack view (job_plan job) (Over status) old new c.args.rack.now c.show.new.rack) (sym c.in-Show.is)
+    (subst (λ (s : Status). MeansOver rack view show_plan (Over s) old new c.args.rack.now c.show.new.rack) (sym is)
+    (shows rack view c.show.result _ _ _ _ _ _ c.show.ensures))

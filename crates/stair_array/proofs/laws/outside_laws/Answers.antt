@@ -1,6 +1,6 @@
 -- The laws are lemmas.
 use Rattle.stair_array.proofs.AloneLemmas.{left_consistent}
-use Rattle.stair_array.proofs.OutsideLemmas.{tolerated_alone, acts_stand}
+use Rattle.stair_array.proofs.OutsideLemmas.{tolerated_alone, looks_stand}
 use Rattle.stair_array.proofs.ReturnLemmas.{acts_consistent}
 use Rattle.stair_array.proofs.laws.outside_laws.Goals as goal
 
@@ -8,7 +8,7 @@ pub returns-clause-alone : goal.returns-clause-alone
 returns-clause-alone c = tolerated_alone
 
 pub returns-clause-still : goal.returns-clause-still
-returns-clause-still c = λ s before old new history stands ran none tolerated. acts_stand s before old new stands ran none tolerated
+returns-clause-still c = λ s before old new history stands ran none tolerated. looks_stand s before old new stands ran none tolerated
 
 pub returns-clause-consistent : goal.returns-clause-consistent
 returns-clause-consistent c = λ s old new history consistent ran. acts_consistent s old new consistent ran

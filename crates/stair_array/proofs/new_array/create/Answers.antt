@@ -3,12 +3,14 @@ use Rattle.std.proofs.Common.{inl, refl, arith}
 use Rattle.std.proofs.lemmas.Result.{err_from_is_err_and, on_ok_weaker}
 use Rattle.stair_rack.proofs.MomentLemmas.{ran_any}
 use Rattle.stair_rack.proofs.StretchLemmas.{each_join}
-use Rattle.stair_array.specs.Looking.{IsLater, IsNotCreated, Telling, telling}
+use Rattle.stair_member.specs.Telling.{IsLater, Telling, telling}
+use Rattle.stair_array.specs.Looking.{IsNotCreated}
 use Rattle.stair_array.specs.Making.{IsBehind, IsPlace, IsStoppedBy, NoneCame}
-use Rattle.stair_array.proofs.CreateLemmas.{all_finished, came_after, given_up, laying_no_place, looks_no_place, looks_spare, making_spares, on_err}
+use Rattle.stair_array.proofs.CreateLemmas.{all_finished, came_after, enrolling_within, given_up, laying_no_place, laying_within, looks_no_place, looks_spare, looks_within, making_spares, on_err}
 use Rattle.stair_array.proofs.CreatesLemmas.{ends_so, is_made, not_created}
 use Rattle.stair_array.proofs.DeviceLemmas.{making_no_attach}
-use Rattle.stair_array.proofs.LookLemmas.{later_join, later_none, taken_on}
+use Rattle.stair_array.proofs.LookLemmas.{taken_on}
+use Rattle.stair_member.proofs.TellingLemmas.{later_join, later_none}
 use Rattle.stair_array.proofs.new_array.create.Goals as goal
 
 -- a slot was refused before anything was written
@@ -22,7 +24,8 @@ returns-in_err-look_at_all g c =
     let p = err_from_is_err_and c.from_residual.result c.from_residual.ensures.1 in
     rw (p.1, p.2)
     (not_created of _ (tell c.args.rack.now) (tell c.look_at_all.new.rack) (inl c.in_err-look_at_all.ensures.refused) later
-    (λ honest. looks_spare of (c.look_at_all.ensures.ran honest)) (λ honest. NoneCame (looks_no_place (c.look_at_all.ensures.ran honest))))
+    (λ honest. looks_spare of (c.look_at_all.ensures.ran honest)) (λ honest. looks_within of (c.look_at_all.ensures.ran honest))
+    (λ honest. NoneCame (looks_no_place (c.look_at_all.ensures.ran honest))))
 
 -- a slot was gone while the devices were laid out
 pub returns-in_err-lay_out_all : goal.returns-in_err-lay_out_all
@@ -43,8 +46,9 @@ returns-in_err-lay_out_all g c =
     (given_up of c.in_err-lay_out_all.field-0.0 old looked looked laid c.in_ok-look_at_all.ensures.passed (later_none looked) second second
     (λ honest j below. c.in_ok-look_at_all.ensures.taken honest j (omega (arith, below, c.lay_out_all.ensures.limits.devices)) below)
     c.in_err-lay_out_all.ensures.gone) (later_join first second)
-    (λ honest. each_join (looks_spare of (c.look_at_all.ensures.ran honest)) (making_spares of IsBehind (c.lay_out_all.ensures.ran honest)))
-    (λ honest. NoneCame (each_join (looks_no_place (c.look_at_all.ensures.ran honest)) (laying_no_place (c.lay_out_all.ensures.ran honest)))))
+    (λ honest. each_join (looks_spare of (c.look_at_all.ensures.ran honest)) (making_spares of (IsBehind of) (c.lay_out_all.ensures.ran honest)))
+    (λ honest. each_join (looks_within of (c.look_at_all.ensures.ran honest)) (laying_within of (c.lay_out_all.ensures.ran honest)))
+    (λ honest. NoneCame (each_join (looks_no_place (c.look_at_all.ensures.ran honest)) (laying_no_place of (c.lay_out_all.ensures.ran honest)))))
 
 pub returns : goal.returns
 returns g c =
@@ -72,7 +76,10 @@ returns g c =
     (record { mid = looked; passed = c.in_ok-look_at_all.ensures.passed; later = written }) (later_join first written)
     (λ honest.
     each_join (looks_spare of (c.look_at_all.ensures.ran honest))
-    (each_join (making_spares of IsBehind (c.lay_out_all.ensures.ran honest)) (making_spares of IsPlace (c.enrol_all.ensures.ran honest))))
+    (each_join (making_spares of (IsBehind of) (c.lay_out_all.ensures.ran honest)) (making_spares of IsPlace (c.enrol_all.ensures.ran honest))))
+    (λ honest.
+    each_join (looks_within of (c.look_at_all.ensures.ran honest))
+    (each_join (laying_within of (c.lay_out_all.ensures.ran honest)) (enrolling_within of (c.enrol_all.ensures.ran honest))))
     (λ honest.
     came_after of old.history looked.history laid.history new.history c.lay_out_all.ensures.limits (c.in_ok-look_at_all.ensures.taken honest)
     (c.in_ok-lay_out_all.ensures.made honest) (c.look_at_all.ensures.ran honest) (c.lay_out_all.ensures.ran honest) (c.enrol_all.ensures.ran honest))

@@ -1,0 +1,11 @@
+-- The lines of the array and of the slots so far were put into the sink.
+use Rattle.std.proofs.Common.{◌++◌}
+use Rattle.stair_engine.specs.Means.{Holds}
+use Rattle.stair_engine.specs.Outside.{sink_view}
+use Rattle.stair_engine.specs.Show.{array_text, slot_lines}
+use Rattle.stair_engine.specs.Story.{HasPut}
+use Rattle.stair_engine.proofs.show.put_member.Given as goal
+
+abbrev pub invariant-loop-slot : goal.invariant-loop-slot
+invariant-loop-slot g l =
+    Holds (sink_view g.K.Sink.held g.K.Sink.faults) (HasPut (array_text l.member ++ slot_lines l.member l.slot)) l.fn.output l.output

@@ -1,0 +1,68 @@
+-- When a command is sure to be done.
+use Rattle.std.specs.Prelude.{◌≡◌, ◌⊎◌, ◌≤◌, ℕ, IsTrue, List, length, drop, take, Option, Some, Ok}
+use Rattle.stair_model.specs.CellSet.{CellSet}
+use Rattle.stair_model.specs.Codeword.{IsCodeword}
+use Rattle.stair_model.specs.Coverage.{IsCovered}
+use Rattle.stair_model.specs.Geometry.{Geometry, IsWithinLimits}
+use Rattle.stair_model.specs.Stripe.{Stripe}
+use Rattle.stair_rack.specs.Count.{Rose}
+use Rattle.stair_array.specs.Creates.{CanBeMade}
+use Rattle.stair_conf.specs.Config.{TextReadsAs}
+use Rattle.stair_conf.specs.declared.job.Job.{Job}
+use Rattle.stair_conf.specs.declared.job.Job.TheVariants as job
+use Rattle.stair_conf.specs.declared.job.StripeCommand.{StripeCommand}
+use Rattle.stair_conf.specs.declared.job.StripeCommand.TheVariants.{Check, Encode, Restore}
+use Rattle.stair_engine.specs.Answer.{HasBytes, bytes_needed, map_bytes}
+use Rattle.stair_engine.specs.Outside.{Outside, Views}
+use Rattle.stair_engine.specs.Plan.{TEXT_LIMIT}
+use Rattle.stair_engine.specs.Rack.{RackView}
+use Rattle.stair_engine.specs.Restore.{HoldsCells, IsErasedBy}
+use Rattle.stair_engine.specs.Stands.{StandsThroughout}
+use Rattle.stair_engine.specs.Task.{one_stripe}
+use Rattle.stair_engine.specs.declared.status.Status.{Status}
+use Rattle.stair_engine.specs.declared.status.Status.TheVariants.{Done, OutOfMemory}
+
+-- what is judged Done: the cells of a codeword, any blocks, and cells of which the erased ones are covered and the others are
+-- those of some codeword
+abbrev pub Fits : StripeCommand → Geometry → List ℕ → Type 0
+Fits Check g input = (stripe : Stripe) × HasBytes g stripe input × IsCodeword g stripe
+Fits (Encode method) g input = Unit {0}
+Fits Restore g input =
+    (erased : CellSet) × (stripe : Stripe) × (codeword : Stripe)
+    × IsErasedBy g (take (map_bytes g) input) erased
+    × HasBytes g stripe (drop (map_bytes g) input) × IsCovered g erased
+    × HoldsCells g erased stripe codeword
+
+-- an input of the length that the command needs, which is judged Done
+pub record IsValidInput (command : StripeCommand) (g : Geometry) (input : List ℕ) : Type 0 where
+  pub limits : IsWithinLimits g
+  pub whole : length input ≡ bytes_needed command g
+  pub fits : Fits command g input
+
+-- the source tells an input, and it is so
+abbrev pub TellsInput : Option (List ℕ) → (List ℕ → Type 0) → Type 0
+TellsInput told IsSo = (input : List ℕ) × (told ≡ Some input) × IsSo input
+
+-- what is told and the rack are such that the job can be done
+abbrev pub CanBeDone : {R : Type 0} → RackView R → Job → Option (List ℕ) → R → R → Type 0
+CanBeDone rack (job.OneStripe command n m r e) told first last =
+    TellsInput told (IsValidInput command (one_stripe n m r e))
+CanBeDone rack job.Create told first last = TellsInput told (λ input.
+    (g : Geometry) × TextReadsAs input (Ok g) × (length input ≤ TEXT_LIMIT) × IsTrue rack.honest
+    × CanBeMade g (rack.history first) (rack.history last))
+CanBeDone rack job.Show told first last =
+    IsTrue rack.honest × StandsThroughout (rack.history first) (rack.history last)
+
+-- no fault of the source or of the sink was counted
+pub record HasNoFault {S K : Type 0} (view : Views S K) (old new : Outside S K) : Type 0 where
+  pub source : ¬ Rose (view.source.faults old.source) (view.source.faults new.source)
+  pub sink : ¬ Rose (view.sink.faults old.sink) (view.sink.faults new.sink)
+
+abbrev pub IsDone : Status → Type 0
+IsDone status = (status ≡ Done) ⊎ (status ≡ OutOfMemory)
+
+-- The job is done, if there was memory, where it can be and neither source nor sink failed.
+abbrev pub IsComplete : {R S K : Type 0} → RackView R → Views S K → Job → Status → Outside S K →
+    Outside S K → R → R → Type 0
+IsComplete rack view job status old new first last = HasNoFault view old new
+    → CanBeDone rack job (view.source.left old.source) first last → IsDone status

@@ -1,0 +1,30 @@
+-- What stands of an array over a call that changes nothing of it.
+use Rattle.std.specs.Prelude.{List}
+use Rattle.stair_rack.specs.Answers.{Ran, any_call}
+use Rattle.stair_rack.specs.History.{Happening}
+use Rattle.stair_rack.specs.Moments.{IsMoment}
+use Rattle.stair_rack.specs.Stretch.{NothingReturned}
+use Rattle.stair_array.specs.Represents.{Represents}
+use Rattle.stair_array.specs.State.{State, without_seats}
+use Rattle.stair_array.specs.Tolerance.{IsTolerated, ToleratedSince}
+
+-- Where the rack represented a state, no medium came back, and what has failed is within tolerance, it represents the state,
+-- marks and joined numbers aside.
+abbrev pub StandsAt : List Happening → List Happening → Type 0
+StandsAt old moment = (s : State) (before : List Happening) → Represents s old
+    → NothingReturned old moment → IsTolerated s.geometry before moment
+    → Represents (without_seats s) moment
+
+-- the array stands at the end, and at every moment
+pub record ArrayStands (old new : List Happening) : Type 0 where
+  pub runs : StandsAt old new
+  pub moments : (moment : List Happening) → IsMoment old moment new → StandsAt old moment
+
+-- The rack represents a state, is within tolerance since the session began, and gets no medium back.
+pub record StandsThroughout (old new : List Happening) : Type 0 where
+  pub state : State
+  pub before : List Happening
+  pub since : Ran any_call before old
+  pub represents : Represents state old
+  pub returned : NothingReturned old new
+  pub tolerated : ToleratedSince state.geometry before new

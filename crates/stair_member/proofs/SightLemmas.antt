@@ -1,0 +1,475 @@
+-- What a look at the slots tells.
+use Rattle.std.proofs.Common.{◌≡◌, ◌≢◌, ℕ, suc, ◌+◌, ◌-◌, ◌*◌, ◌<◌, ◌≤◌, ◌↔◌, below_more, Bool, true, false, List, [], inl, inr, refl, sym, subst, ◌∙◌, arith, Option, None, Some, length, length-set, set, get_or-set_other, get_or-set_same}
+use Rattle.std.specs.Prelude.{◌⊎◌, ◌==◌, IsTrue, slice_index, if◌then◌else◌}
+use Rattle.std.proofs.lemmas.Bool.{cases_Bool, cases_eq, cases_lt, false≢true}
+use Rattle.stair_model.specs.Slots.{Slots, HasSlot, IsSlotSet, has_slot}
+use Rattle.stair_model.proofs.SetLaws.{same_test}
+use Rattle.stair_rack.specs.Answers.{Calls, IsHistory, Ran, any_call, is_ready}
+use Rattle.stair_rack.specs.Count.{Rose, kept-Rose}
+use Rattle.stair_rack.specs.History.{Happening, Attach, Read, slot_state}
+use Rattle.stair_rack.specs.Media.{Image}
+use Rattle.stair_rack.specs.Offline.{IsHeld, IsOffline}
+use Rattle.stair_rack.specs.RackCounts.{NoneFalls}
+use Rattle.stair_rack.specs.Sector.{Cell, Good, Damaged, content}
+use Rattle.stair_rack.specs.declared.rack.Got.{Got}
+use Rattle.stair_rack.specs.declared.rack.Got.TheVariants as got
+use Rattle.stair_rack.specs.declared.rack.Reply.TheVariants as reply
+use Rattle.stair_rack.proofs.CallLemmas.{attach_done, attach_gone}
+use Rattle.stair_rack.proofs.MomentLemmas.{IsThis, at_end, calls_ran, ran_any, ran_join}
+use Rattle.stair_rack.proofs.OfflineLemmas.{held_on, offline_from_unready, offline_now, pulls_on}
+use Rattle.stair_rack.proofs.ReadLemmas.{was_read_bad, was_read_gone, was_read_good}
+use Rattle.stair_super.specs.Newer.{IsOlder, is_older, newer_super}
+use Rattle.stair_super.specs.Spelling.{SpellsSuperblock}
+use Rattle.stair_super.proofs.Order.{older_is}
+use Rattle.stair_super.specs.Superblock.{Superblock}
+use Rattle.stair_member.specs.Asked.{AsksBelow, AsksSlot}
+use Rattle.stair_member.specs.Findings.{Findings, IsPlaceFound}
+use Rattle.stair_member.specs.Shows.{AreSights, HoldsThis, IsNewest, IsSeen, IsSight, block_in, newest_at}
+use Rattle.stair_member.specs.Superblocks.{HasSuper, IsSuperOf, First, Second}
+use Rattle.stair_member.specs.Survey.{IsNextPlace, IsPlaceOf, InFirst, InSecond, RisesAtMost}
+use Rattle.stair_member.specs.Telling.{IsFoundGone, IsLater, IsReading, Telling, telling}
+use Rattle.stair_member.specs.declared.look.Seen.{Seen}
+use Rattle.stair_member.specs.declared.look.Seen.TheVariants as seen
+use Rattle.stair_member.specs.declared.surveying.Sights.{Sights}
+use Rattle.stair_member.proofs.DecisionLemmas.{no_super, none_held, spelled_here}
+use Rattle.stair_member.proofs.SuperLemmas.{holds_once, one_super, super_held}
+use Rattle.stair_member.proofs.TellingLemmas.{gone_wider, later_called, later_join, later_none, reading_wider}
+
+-- ONE READ
+
+module _ (honest : Bool) (old new : List Happening) (bads bads' : ℕ) (gones gones' : ℕ → ℕ) (j k : ℕ) where
+  pub seen_block : (bytes : List ℕ) (s : Superblock) → (IsTrue honest → Calls old new j (Read k got.Good))
+      → (IsTrue honest → content ((slot_state new j).sector k) ≡ Good bytes) → SpellsSuperblock bytes s
+      → IsSeen j k (telling honest old bads gones) (telling honest new bads' gones') (seen.Block s)
+  seen_block bytes s told good spells = record {
+    cell = Good bytes;
+    found = IsPlaceFound.Read (λ is. was_read_good (λ cell. cell ≡ Good bytes) (told is) (good is));
+    holds = record { bytes = bytes; good = refl; spells = spells };
+    gone = λ is. absurd (cc);
+  }
+
+  pub seen_nothing : (bytes : List ℕ) → (IsTrue honest → Calls old new j (Read k got.Good))
+      → (IsTrue honest → content ((slot_state new j).sector k) ≡ Good bytes) → ((s : Superblock) → ¬ SpellsSuperblock bytes s)
+      → IsSeen j k (telling honest old bads gones) (telling honest new bads' gones') seen.Nothing
+  seen_nothing bytes told good none = record {
+    cell = Good bytes;
+    found = IsPlaceFound.Read (λ is. was_read_good (λ cell. cell ≡ Good bytes) (told is) (good is));
+    holds = λ s holds. none s (spelled_here bytes s holds);
+    gone = λ is. absurd (cc);
+  }
+
+  pub seen_bad : (IsTrue honest → IsHistory old) → (IsTrue honest → Calls old new j (Read k got.Bad)) → Rose bads bads'
+      → IsSeen j k (telling honest old bads gones) (telling honest new bads' gones') seen.Nothing
+  seen_bad began told rose = record {
+    cell = Damaged;
+    found = IsPlaceFound.Read (rose, λ is. was_read_bad (began is) (told is));
+    holds = λ s. no_super Damaged s refl;
+    gone = λ is. absurd (cc);
+  }
+
+  pub seen_gone : (IsTrue honest → Calls old new j (Read k got.Gone)) → Rose (gones j) (gones' j)
+      → IsSeen j k (telling honest old bads gones) (telling honest new bads' gones') seen.Gone
+  seen_gone told rose = record {
+    cell = Damaged;
+    found = IsPlaceFound.Unread refl refl;
+    holds = λ s. no_super Damaged s refl;
+    gone = λ is. record { gone = rose; unready = λ is. was_read_gone (told is) };
+  }
+
+-- BOTH PLACES
+
+-- the cell of each place, by its number
+abbrev pub both : Cell → Cell → ℕ → Cell
+both first second k = if k == 0 then first else second
+
+place_cases : (k : ℕ) → k < 2 → (k ≡ 0) ⊎ (k ≡ 1)
+place_cases k below = elim (cases_eq k 0) [ inl is ↦ inl is | inr other ↦ inr (omega arith) ]
+
+older_irreflexive : (s : Superblock) → ¬ IsOlder s s
+older_irreflexive s (inl less) = omega (arith, less)
+older_irreflexive s (inr both) = omega (arith, both.1)
+
+-- a place that doesn't hold the medium's superblock
+module _ (cell : ℕ → Cell) where
+  pub newest_second : (s t : Superblock) → HoldsThis (cell 0) (Some s) → HoldsThis (cell 1) (Some t) → IsOlder s t → IsSuperOf cell t
+  newest_second s t first second older =
+      Second second (λ other holds. subst (λ (u : Superblock). IsOlder u t) (holds_once (cell 0) s other first holds) older)
+
+  pub newest_first : (s t : Superblock) → HoldsThis (cell 0) (Some s) → HoldsThis (cell 1) (Some t) → ¬ IsOlder s t → IsSuperOf cell s
+  newest_first s t first second not_older =
+      First first (λ other holds older. not_older (subst (λ (u : Superblock). IsOlder s u) (holds_once (cell 1) other t holds second) older))
+
+  pub newest_only_first : (s : Superblock) → HoldsThis (cell 0) (Some s) → HoldsThis (cell 1) None → IsSuperOf cell s
+  newest_only_first s first none = First first (λ other holds older. none other holds)
+
+  pub newest_only_second : (t : Superblock) → HoldsThis (cell 0) None → HoldsThis (cell 1) (Some t) → IsSuperOf cell t
+  newest_only_second t none second = Second second (λ other holds. absurd (none other holds))
+
+  pub newest_of : (o p : Option Superblock) → HoldsThis (cell 0) o → HoldsThis (cell 1) p → IsNewest cell (newer_super o p)
+  newest_of None None first second = none_held cell first second
+  newest_of None (Some t) first second = newest_only_second t first second
+  newest_of (Some s) None first second = newest_only_first s first second
+  newest_of (Some s) (Some t) first second =
+      elim (cases_Bool (is_older s t)) [
+        | inl is ↦
+            subst (λ (b : Bool). IsNewest cell (if b then Some t else Some s)) (sym is) (newest_second s t first second ((older_is s t).0 is))
+        | inr is ↦
+            subst (λ (b : Bool). IsNewest cell (if b then Some t else Some s)) (sym is)
+            (newest_first s t first second (λ older. false≢true (sym is ∙ (older_is s t).1 older)))
+      ]
+
+  next_in : (next : ℕ) (s : Superblock) → next < 2 → IsSuperOf cell s → ((t : Superblock) → t ≡ s → IsPlaceOf cell t (1 - next))
+      → IsNextPlace cell next
+  next_in next s below is other = record { below = below; other = λ t of. other t (one_super cell t s of is) }
+
+  pub next_first : (s t : Superblock) → HoldsThis (cell 0) (Some s) → HoldsThis (cell 1) (Some t) → IsOlder s t → IsNextPlace cell 0
+  next_first s t first second older =
+      next_in 0 t (omega arith) (newest_second s t first second older)
+      (λ u same.
+      subst (λ (v : Superblock). IsPlaceOf cell v 1) (sym same)
+      (InSecond second
+      (λ holds. older_irreflexive t (subst (λ (v : Superblock). IsOlder v t) (holds_once (cell 0) s t first holds) older))))
+
+  pub next_second : (s t : Superblock) → HoldsThis (cell 0) (Some s) → HoldsThis (cell 1) (Some t) → ¬ IsOlder s t → IsNextPlace cell 1
+  next_second s t first second not_older =
+      next_in 1 s (omega arith) (newest_first s t first second not_older)
+      (λ u same. subst (λ (v : Superblock). IsPlaceOf cell v 0) (sym same) (InFirst first))
+
+  pub next_only_first : (s : Superblock) → HoldsThis (cell 0) (Some s) → HoldsThis (cell 1) None → IsNextPlace cell 1
+  next_only_first s first none =
+      next_in 1 s (omega arith) (newest_only_first s first none)
+      (λ u same. subst (λ (v : Superblock). IsPlaceOf cell v 0) (sym same) (InFirst first))
+
+  pub next_none : (o : Option Superblock) → HoldsThis (cell 0) None → HoldsThis (cell 1) o → IsNextPlace cell 0
+  next_none None first second = record { below = omega arith; other = λ t of. absurd (none_held cell first second (super_held cell t of)) }
+  next_none (Some t) first second =
+      next_in 0 t (omega arith) (newest_only_second t first second)
+      (λ u same. subst (λ (v : Superblock). IsPlaceOf cell v 1) (sym same) (InSecond second (λ holds. first t holds)))
+
+-- ONE SLOT
+
+-- a medium of which nothing could be read has no superblock
+damaged_bare : ¬ HasSuper (λ k. Damaged)
+damaged_bare has = no_super Damaged has.super refl has.holds
+
+pub sight_gone : (honest : Bool) (old new : List Happening) (bads bads' : ℕ) (gones gones' : ℕ → ℕ) (j : ℕ)
+    → (IsTrue honest → Calls old new j (Attach reply.Gone)) → Rose (gones j) (gones' j)
+    → IsSight j (telling honest old bads gones) (telling honest new bads' gones') None 0 true
+sight_gone honest old new bads bads' gones gones' j told rose = record {
+  cell = λ k. Damaged;
+  places = λ k below. IsPlaceFound.Unread refl refl;
+  newest = damaged_bare;
+  next = record { below = omega arith; other = λ s of. absurd (damaged_bare (super_held (λ k. Damaged) s of)) };
+  gone = λ is. (
+    rose,
+    λ on.
+        at_end {a = IsThis j (Attach reply.Gone)} {P = λ h. IsOffline old h j} (calls_ran (told on))
+        (elim (attach_gone old new j (told on)) [ inl none ↦ IsOffline.NoMedium none | inr stop ↦ IsOffline.RackStopped stop ]),
+  );
+  held = λ on not_lost. absurd (not_lost refl);
+}
+
+-- a read of this place, where it is told
+abbrev pub WasAsked : Bool → List Happening → List Happening → ℕ → ℕ → Type 0
+WasAsked honest old new j k = (answer : Got) × (IsTrue honest → Calls old new j (Read k answer))
+
+asked_later : (honest : Bool) (old new : List Happening) (bads bads' : ℕ) (gones gones' : ℕ → ℕ) (j k : ℕ) → WasAsked honest old new j k
+    → NoneFalls bads bads' gones gones' → IsLater (telling honest old bads gones) (telling honest new bads' gones')
+asked_later honest old new bads bads' gones gones' j k asked counts =
+    later_called honest old new bads bads' gones gones' j (Read k asked.0) asked.1 counts
+
+-- A slot that an attach found is gone to a call after it: it is offline.
+gone_after : (old att new : Telling) (j : ℕ) → IsLater old att → IsLater att new → Rose (att.gones j) (new.gones j)
+    → (IsTrue new.honest → Calls old.history att.history j (Attach reply.Done)) → (IsTrue new.honest → is_ready new.history j ≡ false)
+    → IsFoundGone j old new
+gone_after old att new j first second rose attached unready = (
+  kept-Rose (old.gones j) (att.gones j) (new.gones j) (first.counts.gone j).not_less (second.counts.gone j).not_less rose,
+  λ is.
+      at_end {a = any_call} {P = λ h. IsOffline old.history h j} (ran_join (first.ran (second.honest ∙ is)) (second.ran is))
+      (offline_now
+      (offline_from_unready
+      (held_on {allowed = any_call} j (second.ran is) (attach_done old.history att.history j old.history (omega arith) (attached is))) (unready is))),
+)
+
+place_found_mapped : (gone gone' : Type 0) (j k : ℕ) (mid new old later : Telling) (cell : Cell) → (gone → gone')
+    → (IsReading j k mid new cell → IsReading j k old later cell) → IsPlaceFound gone j k mid new cell → IsPlaceFound gone' j k old later cell
+place_found_mapped gone gone' j k mid new old later cell on wider (IsPlaceFound.Read reading) = IsPlaceFound.Read (wider reading)
+place_found_mapped gone gone' j k mid new old later cell on wider (IsPlaceFound.Unread is lost) = IsPlaceFound.Unread (on is) lost
+
+-- The slot was attached, and both places were looked at.
+module _ (honest : Bool) (old att mid new : List Happening) (bads bads₁ bads₂ bads₃ : ℕ) (gones gones₁ gones₂ gones₃ : ℕ → ℕ) (j : ℕ)
+    (attached : IsTrue honest → Calls old att j (Attach reply.Done)) (counts₁ : NoneFalls bads bads₁ gones gones₁)
+    (asked₂ : WasAsked honest att mid j 0)
+    (counts₂ : NoneFalls bads₁ bads₂ gones₁ gones₂) (asked₃ : WasAsked honest mid new j 1) (counts₃ : NoneFalls bads₂ bads₃ gones₂ gones₃) where
+  at_attach : IsLater (telling honest old bads gones) (telling honest att bads₁ gones₁)
+  at_attach = later_called honest old att bads bads₁ gones gones₁ j (Attach reply.Done) attached counts₁
+
+  at_first : IsLater (telling honest att bads₁ gones₁) (telling honest mid bads₂ gones₂)
+  at_first = asked_later honest att mid bads₁ bads₂ gones₁ gones₂ j 0 asked₂ counts₂
+
+  at_second : IsLater (telling honest mid bads₂ gones₂) (telling honest new bads₃ gones₃)
+  at_second = asked_later honest mid new bads₂ bads₃ gones₂ gones₃ j 1 asked₃ counts₃
+
+  pub asks_slot : IsTrue honest → AsksSlot j old new
+  asks_slot is = AsksSlot.There att mid asked₂.0 asked₃.0 (attached is) (asked₂.1 is) (asked₃.1 is)
+
+  held_now : IsTrue honest → (before : List Happening) → Ran any_call before old → IsHeld before new j
+  held_now is before ran =
+      held_on {allowed = any_call} j (ran_join (at_first.ran is) (at_second.ran is))
+      (attach_done old att j before (pulls_on {allowed = any_call} j ran) (attached is))
+
+  module _ (a b : Seen) (first : IsSeen j 0 (telling honest att bads₁ gones₁) (telling honest mid bads₂ gones₂) a)
+      (second : IsSeen j 1 (telling honest mid bads₂ gones₂) (telling honest new bads₃ gones₃) b) where
+    first_gone : a ≡ seen.Gone → IsFoundGone j (telling honest old bads gones) (telling honest new bads₃ gones₃)
+    first_gone is =
+        gone_wider (telling honest old bads gones) (telling honest old bads gones) (telling honest mid bads₂ gones₂) (telling honest new bads₃ gones₃)
+        (later_none (telling honest old bads gones)) refl (later_join at_attach at_first).counts at_second j
+        (gone_after (telling honest old bads gones) (telling honest att bads₁ gones₁) (telling honest mid bads₂ gones₂) j at_attach at_first
+        (first.gone is).gone attached (first.gone is).unready)
+
+    second_gone : b ≡ seen.Gone → IsFoundGone j (telling honest old bads gones) (telling honest new bads₃ gones₃)
+    second_gone is =
+        gone_after (telling honest old bads gones) (telling honest att bads₁ gones₁) (telling honest new bads₃ gones₃) j at_attach
+        (later_join at_first at_second)
+        (kept-Rose (gones₁ j) (gones₂ j) (gones₃ j) (counts₂.gone j).not_less (counts₃.gone j).not_less (second.gone is).gone) attached
+        (second.gone is).unready
+
+    places : (lost : Bool) → (IsTrue lost ↔ ((a ≡ seen.Gone) ⊎ (b ≡ seen.Gone))) → (k : ℕ) → k < 2
+        → IsPlaceFound (IsTrue lost) j k (telling honest old bads gones) (telling honest new bads₃ gones₃) (both first.cell second.cell k)
+    places lost either k below =
+        elim (place_cases k below) [
+          | inl is ↦
+              subst (λ l. IsPlaceFound (IsTrue lost) j l (telling honest old bads gones) (telling honest new bads₃ gones₃)
+              (both first.cell second.cell l)) (sym is)
+              (place_found_mapped (a ≡ seen.Gone) (IsTrue lost) j 0 (telling honest att bads₁ gones₁) (telling honest mid bads₂ gones₂)
+              (telling honest old bads gones) (telling honest new bads₃ gones₃) first.cell (λ gone. either.1 (inl gone))
+              (reading_wider (telling honest old bads gones) (telling honest att bads₁ gones₁) (telling honest mid bads₂ gones₂)
+              (telling honest new bads₃ gones₃) at_attach refl counts₂ at_second j 0 first.cell) first.found)
+          | inr is ↦
+              subst (λ l. IsPlaceFound (IsTrue lost) j l (telling honest old bads gones) (telling honest new bads₃ gones₃)
+              (both first.cell second.cell l)) (sym is)
+              (place_found_mapped (b ≡ seen.Gone) (IsTrue lost) j 1 (telling honest mid bads₂ gones₂) (telling honest new bads₃ gones₃)
+              (telling honest old bads gones) (telling honest new bads₃ gones₃) second.cell (λ gone. either.1 (inr gone))
+              (reading_wider (telling honest old bads gones) (telling honest mid bads₂ gones₂) (telling honest new bads₃ gones₃)
+              (telling honest new bads₃ gones₃) (later_join at_attach at_first) refl counts₃ (later_none (telling honest new bads₃ gones₃)) j 1
+              second.cell)
+              second.found)
+        ]
+
+    pub sight_read : (block : Option Superblock) (next : ℕ) (lost : Bool)
+        → ((cell : ℕ → Cell) → HoldsThis (cell 0) (block_in a) → HoldsThis (cell 1) (block_in b) → IsNewest cell block)
+        → ((cell : ℕ → Cell) → HoldsThis (cell 0) (block_in a) → HoldsThis (cell 1) (block_in b) → IsNextPlace cell next)
+        → (IsTrue lost ↔ ((a ≡ seen.Gone) ⊎ (b ≡ seen.Gone)))
+        → IsSight j (telling honest old bads gones) (telling honest new bads₃ gones₃) block next lost
+    sight_read block next lost newest place either = record {
+      cell = both first.cell second.cell;
+      places = places lost either;
+      newest = newest (both first.cell second.cell) first.holds second.holds;
+      next = place (both first.cell second.cell) first.holds second.holds;
+      gone = λ is. elim (either.0 is) [ inl gone ↦ first_gone gone | inr gone ↦ second_gone gone ];
+      held = λ is not_lost before ran. held_now is before ran;
+    }
+
+-- ALL SLOTS
+
+-- the calls on a slot are calls
+pub asks_ran : {old new : List Happening} {j : ℕ} → AsksSlot j old new → Ran any_call old new
+asks_ran {old} {new} {j} (AsksSlot.NotThere called) = ran_any {allowed = IsThis j (Attach reply.Gone)} (calls_ran called)
+asks_ran {old} {new} {j} (AsksSlot.There attached between first second a b c) =
+    ran_join (ran_any {allowed = IsThis j (Attach reply.Done)} (calls_ran a))
+    (ran_join (ran_any {allowed = IsThis j (Read 0 first)} (calls_ran b)) (ran_any {allowed = IsThis j (Read 1 second)} (calls_ran c)))
+
+-- what bears a sight out does so in each longer stretch
+sight_wider : (old mid new later : Telling) → IsLater old mid → mid.honest ≡ new.honest → NoneFalls mid.bads new.bads mid.gones new.gones
+    → IsLater new later
+    → (j : ℕ) (block : Option Superblock) (next : ℕ) (lost : Bool) → IsSight j mid new block next lost → IsSight j old later block next lost
+sight_wider old mid new later first same within second j block next lost sight = record {
+  cell = sight.cell;
+  places = λ k below.
+      place_found_mapped (IsTrue lost) (IsTrue lost) j k mid new old later (sight.cell k) (λ is. is)
+      (reading_wider old mid new later first same within second j k (sight.cell k)) (sight.places k below);
+  newest = sight.newest;
+  next = sight.next;
+  gone = λ is. gone_wider old mid new later first same within second j (sight.gone is);
+  held = λ is not_lost before ran.
+      held_on {allowed = any_call} j (second.ran is)
+      (sight.held (second.honest ∙ is) not_lost before (ran_join ran (first.ran (same ∙ second.honest ∙ is))));
+}
+
+-- The slots below i were looked at, and this is kept of them.
+pub record AreSightsBelow (i : ℕ) (newest : List (Option Superblock)) (next : List ℕ) (gone : Slots) (old now : Telling)
+    (count count' : Option ℕ) : Type 0 where
+  pub each : (j : ℕ) → j < i → IsSight j old now (newest_at newest j) (slice_index next j) (has_slot gone j)
+  pub formed : IsSlotSet gone
+  pub rest : (j : ℕ) → i ≤ j → ¬ HasSlot gone j
+  pub later : IsLater old now
+  pub asked : IsTrue now.honest → AsksBelow i old.history now.history
+  pub began : 0 < i → IsTrue now.honest → IsHistory old.history
+  pub reads : RisesAtMost (2 * i) count count'
+  pub size : length newest ≡ 32
+  pub size' : length next ≡ 32
+
+rises_none : (o : Option ℕ) → RisesAtMost 0 o o
+rises_none None = refl
+rises_none (Some n) = (n, refl, omega arith)
+
+rises_more : (a b c : ℕ) (o m n : Option ℕ) → a + b ≡ c → RisesAtMost a o m → RisesAtMost b m n → RisesAtMost c o n
+rises_more a b c None m n sum first second = rises_from m first second
+  where
+    rises_from : (m : Option ℕ) → m ≡ None → RisesAtMost b m n → n ≡ None
+    rises_from None is second = second
+    rises_from (Some x) is second = absurd (cc)
+rises_more a b c (Some x) None n sum first second = absurd (let e = first.1 in cc)
+rises_more a b c (Some x) (Some y) n sum first second =
+    let same : y ≡ first.0 = let e = first.1 in cc in
+    (second.0, second.1, omega (arith, first.2, second.2, same, sum))
+
+pub sights_none : (newest : List (Option Superblock)) (next : List ℕ) (gone : Slots) (now : Telling) (count : Option ℕ) → IsSlotSet gone
+    → ((j : ℕ) → ¬ HasSlot gone j) → length newest ≡ 32 → length next ≡ 32 → AreSightsBelow 0 newest next gone now now count count
+sights_none newest next gone now count formed none size size' = record {
+  each = λ j below. absurd (omega arith);
+  formed = formed;
+  rest = λ j least. none j;
+  later = later_none now;
+  asked = λ is. refl;
+  began = λ below is. absurd (omega arith);
+  reads = rises_none count;
+  size = size;
+  size' = size';
+}
+
+-- the slot was gone and was added to those that were, or it wasn't
+pub added_lost : (i : ℕ) (gone gone' : Slots) (lost : Bool) → lost ≡ true → ((j : ℕ) → HasSlot gone' j ↔ (HasSlot gone j ⊎ (j ≡ i)))
+    → (j : ℕ) → HasSlot gone' j ↔ (HasSlot gone j ⊎ ((j ≡ i) × IsTrue lost))
+added_lost i gone gone' lost is added j = (
+  λ has. elim ((added j).0 has) [ inl had ↦ inl had | inr same ↦ inr (same, is) ],
+  λ either. (added j).1 (elim either [ inl had ↦ inl had | inr same ↦ inr same.0 ]),
+)
+
+pub added_none : (i : ℕ) (gone : Slots) (lost : Bool) → lost ≡ false → (j : ℕ) → HasSlot gone j ↔ (HasSlot gone j ⊎ ((j ≡ i) × IsTrue lost))
+added_none i gone lost is j =
+    (λ has. inl has, λ either. elim either [ inl had ↦ had | inr same ↦ absurd (false≢true (sym is ∙ same.1)) ])
+
+-- the next slot is looked at
+module _ (i : ℕ) (newest : List (Option Superblock)) (next : List ℕ) (gone gone' : Slots) (old now new : Telling) (count count' count'' : Option ℕ)
+    (before : AreSightsBelow i newest next gone old now count count') (block : Option Superblock) (place : ℕ) (lost : Bool)
+    (sight : IsSight i now new block place lost) (later : IsLater now new) (began : IsTrue new.honest → IsHistory now.history)
+    (asked : IsTrue new.honest → AsksSlot i now.history new.history) (reads : RisesAtMost 2 count' count'') (formed : IsSlotSet gone')
+    (added : (j : ℕ) → HasSlot gone' j ↔ (HasSlot gone j ⊎ ((j ≡ i) × IsTrue lost))) (below : i < 32) where
+  few : i < length newest
+  few = omega (arith, before.size)
+
+  few' : i < length next
+  few' = omega (arith, before.size')
+
+  lost_here : has_slot gone' i ≡ lost
+  lost_here = same_test (has_slot gone' i) lost (into, λ is. (added i).1 (inr (refl, is)))
+    where
+      into : HasSlot gone' i → IsTrue lost
+      into has = elim ((added i).0 has) [ inl had ↦ absurd (before.rest i (omega arith) had) | inr is ↦ is.1 ]
+
+  lost_before : (j : ℕ) → j < i → has_slot gone' j ≡ has_slot gone j
+  lost_before j below = same_test (has_slot gone' j) (has_slot gone j) (into, λ had. (added j).1 (inl had))
+    where
+      into : HasSlot gone' j → HasSlot gone j
+      into has = elim ((added j).0 has) [ inl had ↦ had | inr is ↦ absurd (omega (arith, is.0)) ]
+
+  sights_here : IsSight i old new (newest_at (set newest i block) i) (slice_index (set next i place) i) (has_slot gone' i)
+  sights_here =
+      subst (λ (o : Option Superblock). IsSight i old new o (slice_index (set next i place) i) (has_slot gone' i))
+      (sym (get_or-set_same newest i block None few))
+      (subst (λ (k : ℕ). IsSight i old new block k (has_slot gone' i)) (sym (get_or-set_same next i place 0 few'))
+      (subst (λ (b : Bool). IsSight i old new block place b) (sym lost_here)
+      (sight_wider old now new new before.later later.honest later.counts (later_none new) i block place lost sight)))
+
+  sights_before : (j : ℕ) → j < i → IsSight j old new (newest_at (set newest i block) j) (slice_index (set next i place) j) (has_slot gone' j)
+  sights_before j below =
+      let other : j ≢ i = omega arith in
+      subst (λ (o : Option Superblock). IsSight j old new o (slice_index (set next i place) j) (has_slot gone' j))
+      (sym (get_or-set_other newest i j block None other))
+      (subst (λ (k : ℕ). IsSight j old new (newest_at newest j) k (has_slot gone' j)) (sym (get_or-set_other next i j place 0 other))
+      (subst (λ (b : Bool). IsSight j old new (newest_at newest j) (slice_index next j) b) (sym (lost_before j below))
+      (sight_wider old old now new (later_none old) before.later.honest before.later.counts later j (newest_at newest j) (slice_index next j)
+      (has_slot gone j)
+      (before.each j below))))
+
+  rest_after : (j : ℕ) → i + 1 ≤ j → ¬ HasSlot gone' j
+  rest_after j least has =
+      elim ((added j).0 has) [ inl had ↦ before.rest j (omega arith) had | inr is ↦ absurd (omega (arith, is.0)) ]
+
+  began_first : IsTrue new.honest → IsHistory old.history
+  began_first is =
+      elim (cases_lt 0 i) [
+        | inl some ↦ before.began some (later.honest ∙ is)
+        | inr none ↦
+            let zero_slots : i ≡ 0 = omega arith in
+            let same : now.history ≡ old.history =
+            subst (λ (k : ℕ). AsksBelow k old.history now.history) zero_slots (before.asked (later.honest ∙ is)) in
+            subst (λ h. IsHistory h) same (began is)
+      ]
+
+  pub sights_more : AreSightsBelow (i + 1) (set newest i block) (set next i place) gone' old new count count''
+  sights_more = record {
+    each =
+        below_more (λ j. IsSight j old new (newest_at (set newest i block) j) (slice_index (set next i place) j) (has_slot gone' j)) i
+        sights_before sights_here;
+    formed = formed;
+    rest = rest_after;
+    later = later_join before.later later;
+    asked = λ is. let next_is : suc i ≡ i + 1 = omega arith in subst (λ (k : ℕ). AsksBelow k old.history new.history) next_is (suc_asked is);
+    began = λ below. began_first;
+    reads = rises_more (2 * i) 2 (2 * (i + 1)) count count' count'' (omega arith) before.reads reads;
+    size = length-set newest i block ∙ before.size;
+    size' = length-set next i place ∙ before.size';
+  }
+    where
+      suc_asked : IsTrue new.honest → AsksBelow (suc i) old.history new.history
+      suc_asked is = (now.history, before.asked (later.honest ∙ is), asked is)
+
+-- what is found for each slot below 32 is found by one function
+chosen : (P : ℕ → (ℕ → Cell) → Type 0) → ((j : ℕ) → j < 32 → (cell : ℕ → Cell) × P j cell)
+    → (cells : ℕ → ℕ → Cell) × ((j : ℕ) → j < 32 → P j (cells j))
+chosen P each = (λ j. (pick j (cases_lt j 32)).0, λ j below. (pick j (cases_lt j 32)).1 below)
+  where
+    pick : (j : ℕ) → (j < 32) ⊎ (32 ≤ j) → (cell : ℕ → Cell) × (j < 32 → P j cell)
+    pick j (inl below) = ((each j below).0, λ _. (each j below).1)
+    pick j (inr past) = (λ k. Damaged, λ below. absurd (omega arith))
+
+image_of : (ℕ → ℕ → Cell) → Image
+image_of cells j = record { size = None; cell = cells j; removed = [] }
+
+-- a sight, but for its cells
+record IsSightOf (j : ℕ) (old new : Telling) (block : Option Superblock) (place : ℕ) (lost : Bool) (cells : ℕ → Cell) : Type 0 where
+  places : (k : ℕ) → k < 2 → IsPlaceFound (IsTrue lost) j k old new (cells k)
+  newest : IsNewest cells block
+  next : IsNextPlace cells place
+  gone : IsTrue lost → IsFoundGone j old new
+  held : IsTrue new.honest → ¬ IsTrue lost → (before : List Happening) → Ran any_call before old.history → IsHeld before new.history j
+
+sight_of_cells : (j : ℕ) (old new : Telling) (block : Option Superblock) (place : ℕ) (lost : Bool) → IsSight j old new block place lost
+    → (cells : ℕ → Cell) × IsSightOf j old new block place lost cells
+sight_of_cells j old new block place lost s =
+    (s.cell, record { places = s.places; newest = s.newest; next = s.next; gone = s.gone; held = s.held })
+
+pub sights_all : (sights : Sights) (old now : Telling) (count count' : Option ℕ)
+    → AreSightsBelow 32 sights.newest sights.next sights.gone old now count count'
+    → AreSights sights old now
+unfolding image_of
+sights_all sights old now count count' all =
+    let some =
+    chosen (λ j cells. IsSightOf j old now (newest_at sights.newest j) (slice_index sights.next j) (has_slot sights.gone j) cells)
+    (λ j below. sight_of_cells j old now (newest_at sights.newest j) (slice_index sights.next j) (has_slot sights.gone j) (all.each j below)) in
+    let f : Findings = record { image = image_of some.0; gone = sights.gone } in
+    record {
+      findings = f;
+      found = record {
+        formed = all.formed;
+        each = λ j below. record { places = (some.1 j below).places; gone = (some.1 j below).gone; held = (some.1 j below).held };
+      };
+      tells = record {
+        gone = refl;
+        shows = record { each = λ j below. (some.1 j below).newest };
+        next = λ j below. (some.1 j below).next;
+        size = all.size';
+      };
+    }

@@ -1,0 +1,11 @@
+-- The newer one of what both places hold.
+use Rattle.stair_member.proofs.SightLemmas.{newest_of}
+use Rattle.stair_member.proofs.look.sight_of.Goals as goal
+
+pub returns-clause-newest : goal.returns-clause-newest
+returns-clause-newest c =
+    rw (c.newer_of.ensures.value, c.block_of-one.ensures, c.block_of-other.ensures) (λ cell first second. newest_of cell _ _ first second)
+
+pub returns-clause-next : goal.returns-clause-next
+returns-clause-next c =
+    rw (← c.block_of-one.ensures, ← c.block_of-other.ensures) (λ cell first second. c.next_place.ensures cell first second)

@@ -1,0 +1,125 @@
+// What is looked at in a slot.
+ghost use Rattle.std.specs.Prelude.{◌≡◌, ◌<◌, ◌⊎◌, ◌↔◌, ℕ, IsTrue};
+ghost use Rattle.stair_rack.specs.Answers.{Calls, IsHistory};
+ghost use Rattle.stair_rack.specs.History.{Read};
+ghost use Rattle.stair_rack.specs.RackCounts.{NoneFalls};
+ghost use Rattle.stair_rack.specs.Sector.{Cell};
+ghost use Rattle.stair_rack.specs.declared.rack.Got.{Got as Answer};
+ghost use Rattle.stair_member.specs.Asked.{AsksSlot};
+ghost use Rattle.stair_member.specs.Shows.{HoldsThis, IsNewest, IsSeen, IsSight, block_in};
+ghost use Rattle.stair_member.specs.Survey.{IsNextPlace, RisesAtMost};
+ghost use Rattle.stair_member.specs.Telling.{telling};
+
+use stair_rack::{Got, Rack, Reply};
+use stair_super::{Super, is_older, newer_of, read_super};
+
+// What was found of a slot.
+#[derive(Clone, Copy, Drop)]
+pub(crate) struct Sight {
+    /// The superblock of its medium.
+    pub(crate) newest: Option<Super>,
+    /// The place that doesn't hold it.
+    pub(crate) next: u32,
+    /// The slot was gone to a call.
+    pub(crate) gone: bool,
+}
+
+// What a superblock place was found to hold.
+#[derive(Clone, Copy, Drop)]
+enum Seen {
+    Block(Super),
+    Nothing,
+    Gone,
+}
+
+/// Attaches the slot, and reads its two superblock places once each where it is there.
+pub(crate) fn look_at<R: Rack>(rack: &mut R, slot: u8) -> Sight
+    requires { slot < 32 }
+    ensures began { IsTrue R.is_honest → IsHistory (R.history rack.old) }
+    ensures asked { IsTrue R.is_honest →
+        AsksSlot slot (R.history rack.old) (R.history rack.new) }
+    ensures told { IsSight slot
+        (telling R.is_honest (R.history rack.old) (R.bads rack.old) (R.gones rack.old))
+        (telling R.is_honest (R.history rack.new) (R.bads rack.new) (R.gones rack.new))
+        result.newest result.next result.gone }
+    ensures counts { NoneFalls (R.bads rack.old) (R.bads rack.new) (R.gones rack.old)
+        (R.gones rack.new) }
+    ensures reads { RisesAtMost 2 (R.reads rack.old) (R.reads rack.new) }
+{
+    if rack.attach(slot) == Reply::Gone {
+        return Sight {
+            newest: None,
+            next: 0,
+            gone: true,
+        };
+    }
+    let first = read_place(rack, slot, 0);
+    let second = read_place(rack, slot, 1);
+    sight_of(first, second)
+}
+
+fn read_place<R: Rack>(rack: &mut R, slot: u8, place: u32) -> Seen
+    requires { slot < 32 }
+    ensures asked { (answer : Answer) × (IsTrue R.is_honest →
+        Calls (R.history rack.old) (R.history rack.new) slot (Read place answer)) }
+    ensures told { IsSeen slot place
+        (telling R.is_honest (R.history rack.old) (R.bads rack.old) (R.gones rack.old))
+        (telling R.is_honest (R.history rack.new) (R.bads rack.new) (R.gones rack.new))
+        result }
+    ensures counts { NoneFalls (R.bads rack.old) (R.bads rack.new) (R.gones rack.old)
+        (R.gones rack.new) }
+    ensures reads { RisesAtMost 1 (R.reads rack.old) (R.reads rack.new) }
+{
+    let mut bytes = [0; 512];
+    match rack.read(slot, place, &mut bytes) {
+        Got::Good => match read_super(&bytes) {
+            Some(block) => Seen::Block(block),
+            None => Seen::Nothing,
+        },
+        Got::Bad => Seen::Nothing,
+        Got::Gone => Seen::Gone,
+    }
+}
+
+fn sight_of(first: Seen, second: Seen) -> Sight
+    ensures newest { (cell : ℕ → Cell) → HoldsThis (cell 0) (block_in first) →
+        HoldsThis (cell 1) (block_in second) → IsNewest cell result.newest }
+    ensures next { (cell : ℕ → Cell) → HoldsThis (cell 0) (block_in first) →
+        HoldsThis (cell 1) (block_in second) → IsNextPlace cell result.next }
+    ensures gone { IsTrue result.gone ↔ ((first ≡ Seen.Gone) ⊎ (second ≡ Seen.Gone)) }
+{
+    let one = block_of(first);
+    let other = block_of(second);
+    Sight {
+        newest: newer_of(one, other),
+        next: next_place(one, other),
+        gone: is_gone(first) || is_gone(second),
+    }
+}
+
+fn is_gone(seen: Seen) -> bool
+    ensures { IsTrue result ↔ (seen ≡ Seen.Gone) }
+{
+    matches!(seen, Seen::Gone)
+}
+
+fn block_of(seen: Seen) -> Option<Super>
+    ensures { result ≡ block_in seen }
+{
+    match seen {
+        Seen::Block(block) => Some(block),
+        Seen::Nothing | Seen::Gone => None,
+    }
+}
+
+// The place that doesn't hold the newer one of these; the second where both are equal.
+fn next_place(first: Option<Super>, second: Option<Super>) -> u32
+    ensures { (cell : ℕ → Cell) → HoldsThis (cell 0) first → HoldsThis (cell 1) second →
+        IsNextPlace cell result }
+{
+    match (first, second) {
+        (Some(first), Some(second)) => { if is_older(&first, &second) { 0 } else { 1 } }
+        (Some(_), None) => 1,
+        (None, _) => 0,
+    }
+}
