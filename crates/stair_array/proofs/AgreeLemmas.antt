@@ -7,10 +7,9 @@ use Rattle.stair_rack.specs.Media.{Image}
 use Rattle.stair_rack.specs.Sector.{Cell}
 use Rattle.stair_super.specs.Superblock.{Superblock, joined_at, joined_in, mark_at, mark_in}
 use Rattle.stair_super.specs.declared.configuration.Configuration.{Configuration}
-use Rattle.stair_super.specs.declared.mark.Mark.{Mark}
 use Rattle.stair_super.specs.declared.mark.Mark.TheVariants as mark
 use Rattle.stair_member.specs.Current.{IsCurrent, IsLive}
-use Rattle.stair_member.specs.Reasons.{IsReason}
+use Rattle.stair_member.specs.Reasons.{IsReason, rank}
 use Rattle.stair_member.specs.Reserve.{Bears, IsOrderly}
 use Rattle.stair_member.specs.Superblocks.{Counts, CountsFor, First, HoldsSuper, Identifies, IsSuperOf, Second}
 use Rattle.stair_member.specs.declared.why.Why.{Why}
@@ -18,6 +17,8 @@ use Rattle.stair_member.specs.declared.why.Why.TheVariants.{Here, Gone, NoSuper,
 use Rattle.stair_member.proofs.CountingLemmas.{more_mapped}
 use Rattle.stair_member.proofs.DecisionLemmas.{counts_decided, super_decided}
 use Rattle.stair_member.proofs.SuperLemmas.{counts_limits, one_super, slot_below, super_cells, super_formed, super_held}
+use Rattle.stair_member.proofs.ReasonLemmas.{live_unless}
+use Rattle.stair_array.proofs.CreatedLemmas.{bears_below}
 
 -- AGREEING IMAGES
 
@@ -30,13 +31,24 @@ agree_back bound a b agree j k j_in k_in = sym (agree j k j_in k_in)
 
 -- so what concerns an array of these slots is the same
 module _ (g : Geometry) (bound : ℕ) (small : g.n ≤ bound) where
-  counts_agree : (a b : Image) (j : ℕ) (s : Superblock) → AgreeBelow bound a b → Counts g a j s → Counts g b j s
+  pub counts_agree : (a b : Image) (j : ℕ) (s : Superblock) → AgreeBelow bound a b → Counts g a j s → Counts g b j s
   counts_agree a b j s agree counts =
       let below : j < g.n = slot_below g a j s counts in
       record {
         super = super_cells ((a j).cell) ((b j).cell) s (agree j 0 (omega arith) (omega arith)) (agree j 1 (omega arith) (omega arith)) counts.super;
         slot = counts.slot;
         identity = counts.identity;
+      }
+
+  pub bears_agree : (a b : Image) (j : ℕ) (s : Superblock) → AgreeBelow bound a b → Bears g j ((a j).cell) s → Bears g j ((b j).cell) s
+  bears_agree a b j s agree bears =
+      let below : j < g.n = bears_below g j ((a j).cell) s bears in
+      record {
+        place = bears.place;
+        place_in = bears.place_in;
+        holds = subst (λ (cell : Cell). HoldsSuper cell s) (agree j bears.place (omega arith) bears.place_in) bears.holds;
+        slot = bears.slot;
+        identity = bears.identity;
       }
 
   pub current_agree : (a b : Image) (current : Superblock) → AgreeBelow bound a b → IsCurrent g a current → IsCurrent g b current
@@ -132,17 +144,33 @@ own_mark g image j s counts =
 
 -- REASONS
 
-only_live : (marked : Mark) → marked ≢ mark.Down → marked ≢ mark.Rebuilding → marked ≡ mark.Live
-only_live mark.Live not_down not_rebuilt = refl
-only_live mark.Rebuilding not_down not_rebuilt = absurd (not_rebuilt refl)
-only_live mark.Down not_down not_rebuilt = absurd (not_down refl)
-
 module _ (gone : ℕ → Type 0) (g : Geometry) (image : Image) (current : Superblock) (j : ℕ) where
+  -- a slot counts where none of the reasons is one for which it doesn't
+  pub here_counts : (why : Why) → rank OtherSlot < rank why → IsReason gone g image current j why → CountsFor g image j
+  here_counts why late reason =
+      elim (counts_decided g image j) [ inl counts ↦ counts | inr none ↦ absurd (none_counts none) ]
+    where
+      none_counts : ¬ CountsFor g image j → ⊥
+      none_counts none =
+          elim (super_decided ((image j).cell)) [
+            | inl some ↦
+                elim (cases_eq some.0.slot j) [
+                  | inl slot ↦
+                      reason.first OtherArray (omega (arith, late)) (
+                        some.0,
+                        some.1,
+                        λ same. none (record { super = some.0; counts = record { super = some.1; slot = slot; identity = same } }),
+                      )
+                  | inr other ↦ reason.first OtherSlot late (some.0, some.1, other)
+                ]
+            | inr not ↦ reason.first NoSuper (omega (arith, late)) not
+          ]
+
   -- a slot that is here is live
   pub here_live : j < g.n → IsReason gone g image current j Here → IsLive g image current j
   here_live below reason = record {
     below = below;
-    marked = only_live (mark_at current j) (reason.first MarkedDown (omega arith)) (reason.first Rebuilding (omega arith));
+    marked = live_unless (mark_at current j) (reason.first MarkedDown (omega arith)) (reason.first Rebuilding (omega arith));
     super = here.super;
     counts = here.counts;
     joined =
@@ -152,24 +180,8 @@ module _ (gone : ℕ → Type 0) (g : Geometry) (image : Image) (current : Super
         ];
   }
     where
-      none_counts : ¬ CountsFor g image j → ⊥
-      none_counts none =
-          elim (super_decided ((image j).cell)) [
-            | inl some ↦
-                elim (cases_eq some.0.slot j) [
-                  | inl slot ↦
-                      reason.first OtherArray (omega arith) (
-                        some.0,
-                        some.1,
-                        λ same. none (record { super = some.0; counts = record { super = some.1; slot = slot; identity = same } }),
-                      )
-                  | inr other ↦ reason.first OtherSlot (omega arith) (some.0, some.1, other)
-                ]
-            | inr not ↦ reason.first NoSuper (omega arith) not
-          ]
-
       here : CountsFor g image j
-      here = elim (counts_decided g image j) [ inl counts ↦ counts | inr none ↦ absurd (none_counts none) ]
+      here = here_counts Here (omega arith) reason
 
   -- and the other way round, unless it was gone
   pub live_here : (why : Why) → ¬ gone j → IsLive g image current j → IsReason gone g image current j why → why ≡ Here

@@ -24,3 +24,5 @@ pub mod AgreeLemmas
 pub mod SeenLemmas
 pub mod MixedLemmas
 pub mod SurveyedLemmas
+pub mod CoverLemmas
+pub mod BegunLemmas

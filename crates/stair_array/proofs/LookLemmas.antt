@@ -1,7 +1,7 @@
 -- What a look at one slot tells.
-use Rattle.std.proofs.Common.{◌≡◌, ◌≢◌, ℕ, ◌+◌, ◌<◌, ◌≤◌, below_more, Bool, true, false, List, ◌⊎◌, inl, inr, refl, sym, ap, ◌∙◌, subst, arith, Option, None, Some, if◌then◌else◌, true≢false}
-use Rattle.std.specs.Prelude.{◌==◌, IfSome, IsSome, IsTrue, is_some, not}
-use Rattle.std.proofs.lemmas.Bool.{cases_Bool, cases_eq, false≢true, lt-ltb}
+use Rattle.std.proofs.Common.{◌≡◌, ◌≢◌, ℕ, ◌+◌, ◌<◌, ◌≤◌, below_more, Bool, true, false, List, inl, inr, refl, sym, ap, ◌∙◌, subst, arith, Option, None, Some, if◌then◌else◌, true≢false}
+use Rattle.std.specs.Prelude.{IfSome, IsSome, IsTrue, is_some, not}
+use Rattle.std.proofs.lemmas.Bool.{cases_Bool, false≢true, lt-ltb}
 use Rattle.stair_model.specs.Geometry.{Geometry, sectors_needed}
 use Rattle.stair_rack.specs.Answers.{Calls, IsBesideAttach, IsHistory, IsNoAttach, Ran, any_call, is_good, is_readable, is_ready}
 use Rattle.stair_rack.specs.Count.{Rose, kept-Rose}
@@ -31,6 +31,7 @@ use Rattle.stair_array.specs.declared.fault.CreateFault.{CreateFault}
 use Rattle.stair_array.specs.declared.look.Found.{Found}
 use Rattle.stair_array.specs.declared.look.Found.TheVariants as found
 use Rattle.stair_member.proofs.DecisionLemmas.{no_super, spelled_here}
+use Rattle.stair_member.proofs.SightLemmas.{both, place_cases}
 use Rattle.stair_member.proofs.TellingLemmas.{attach_uses, gone_wider, honest_within, later_called, later_join, later_none, reading_wider, some_wider}
 use Rattle.stair_member.specs.Telling.{IsLater, IsReading, Telling, telling}
 use Rattle.stair_array.specs.Looking.{Finding, WasGone, WasSmall, Holds, HadSectors, IsBare, IsFound, IsLarge, IsRefused, Passed, cells_at}
@@ -183,13 +184,6 @@ module _ (honest : Bool) (old new : List Happening) (bads bads' : ℕ) (gones go
   gone_to_read told rose = record { gone = rose; unready = λ is. was_read_gone (told is) }
 
 -- BOTH PLACES
-
--- the cell of each place, by its number
-abbrev pub both : Cell → Cell → ℕ → Cell
-both first second k = if k == 0 then first else second
-
-place_cases : (k : ℕ) → k < 2 → (k ≡ 0) ⊎ (k ≡ 1)
-place_cases k below = elim (cases_eq k 0) [ inl is ↦ inl is | inr other ↦ inr (omega arith) ]
 
 module _ (honest : Bool) (old mid new : List Happening) (bads bads' bads'' : ℕ) (gones gones' gones'' : ℕ → ℕ) (j : ℕ) (x y : Bool)
     (a : IsJudged j 0 (telling honest old bads gones) (telling honest mid bads' gones') x)

@@ -20,7 +20,7 @@ use Rattle.stair_array.specs.Degraded.{IsDegraded, IsDegradedSlot, Stays}
 use Rattle.stair_array.specs.Tolerance.{HasJournal, IsStripeCovered, IsToleratedAlone}
 use Rattle.stair_array.proofs.AgreeLemmas.{borne_upto, current_upto, live_moved}
 use Rattle.stair_array.proofs.DegradedLemmas.{bears_before, degraded_copies, orderly_copies}
-use Rattle.stair_array.proofs.SeenLemmas.{IsLookedAt, all_serve, bears_read, ending, ending_borne, ending_first, found_is, is_ending, limits, live_by_first, serving_first}
+use Rattle.stair_array.proofs.SeenLemmas.{IsLookedAt, all_serve, bears_read, ending, ending_borne, ending_first, found_is, is_ending, limits, live_by_first, serving_first, whole_places}
 
 -- THE IMAGE
 
@@ -262,18 +262,11 @@ serves_or_failed offline g image current j below known =
                   | inr second ↦
                       elim known [
                         | inl out ↦ inr (Offline below out)
-                        | inr online ↦ inl (record { live = live; places = places first second; online = online })
+                        | inr online ↦ inl (record { live = live; places = whole_places image j first second; online = online })
                       ]
                 ]
           ]
     ]
-  where
-    places : ¬ IsLost ((image j).cell 0) → ¬ IsLost ((image j).cell 1) → (k : ℕ) → k < 2 → ¬ IsLost ((image j).cell k)
-    places first second k place =
-        elim (cases_lt k 1) [
-          | inl below ↦ subst (λ (i : ℕ). ¬ IsLost ((image j).cell i)) (omega arith) first
-          | inr above ↦ subst (λ (i : ℕ). ¬ IsLost ((image j).cell i)) (omega (arith, place)) second
-        ]
 
 -- so each slot that is live in what was read was live at first
 pub read_live : {g : Geometry} {offline : ℕ → Type 0} {first read last : Image} (looks : IsLookedAt g offline first read last)

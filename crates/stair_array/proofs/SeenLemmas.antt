@@ -41,6 +41,14 @@ pub record IsLookedAt (g : Geometry) (offline : ℕ → Type 0) (first read last
 abbrev pub IsWhole : Image → ℕ → Type 0
 IsWhole image j = (k : ℕ) → k < 2 → ¬ IsLost ((image j).cell k)
 
+-- where neither of the two is
+pub whole_places : (image : Image) (j : ℕ) → ¬ IsLost ((image j).cell 0) → ¬ IsLost ((image j).cell 1) → IsWhole image j
+whole_places image j first second k place =
+    elim (cases_lt k 1) [
+      | inl below ↦ subst (λ (i : ℕ). ¬ IsLost ((image j).cell i)) (omega arith) first
+      | inr above ↦ subst (λ (i : ℕ). ¬ IsLost ((image j).cell i)) (omega (arith, place)) second
+    ]
+
 module _ {g : Geometry} {offline : ℕ → Type 0} {first read last : Image} (looks : IsLookedAt g offline first read last) where
   -- the current superblock of the last image
   abbrev pub ending : Superblock
@@ -60,23 +68,23 @@ module _ {g : Geometry} {offline : ℕ → Type 0} {first read last : Image} (lo
 
   -- WHAT A PLACE HOLDS
 
-  holds_read : (j k : ℕ) (s : Superblock) → j < g.n → k < 2 → HoldsSuper ((last j).cell k) s → HoldsSuper ((read j).cell k) s
+  pub holds_read : (j k : ℕ) (s : Superblock) → j < g.n → k < 2 → HoldsSuper ((last j).cell k) s → HoldsSuper ((read j).cell k) s
   holds_read j k s below place holds = record {
     bytes = holds.bytes;
     good = looks.kept j k holds.bytes (omega (arith, limits.devices)) place holds.good;
     spells = holds.spells;
   }
 
-  holds_first : (j k : ℕ) (s : Superblock) → HoldsSuper ((read j).cell k) s → HoldsSuper ((first j).cell k) s
+  pub holds_first : (j k : ℕ) (s : Superblock) → HoldsSuper ((read j).cell k) s → HoldsSuper ((first j).cell k) s
   holds_first j k s holds = holds_before (looks.copies j k) holds
 
   whole_cell : (j k : ℕ) → IsWhole last j → k < 2 → (last j).cell k ≡ (first j).cell k
   whole_cell j k whole place = same_kept (last_copies j k) (whole k place)
 
-  first_whole : (j : ℕ) → IsWhole last j → IsWhole first j
+  pub first_whole : (j : ℕ) → IsWhole last j → IsWhole first j
   first_whole j whole k place lost = whole k place (subst IsLost (sym (whole_cell j k whole place)) lost)
 
-  holds_last : (j k : ℕ) (s : Superblock) → IsWhole last j → k < 2 → HoldsSuper ((first j).cell k) s → HoldsSuper ((last j).cell k) s
+  pub holds_last : (j k : ℕ) (s : Superblock) → IsWhole last j → k < 2 → HoldsSuper ((first j).cell k) s → HoldsSuper ((last j).cell k) s
   holds_last j k s whole place holds = subst (λ (cell : Cell). HoldsSuper cell s) (sym (whole_cell j k whole place)) holds
 
   -- a superblock that counts in a slot none of whose places is lost at the end counted at first, and counts in what was read
@@ -135,23 +143,24 @@ module _ {g : Geometry} {offline : ℕ → Type 0} {first read last : Image} (lo
   pub last_alone : IsToleratedAlone g last
   last_alone = tolerated_fewer {fewer = λ j. (last j).size ≡ None} {more = offline} looks.empty looks.after
 
+  -- what is current in what was read was borne at first
+  pub found_first : (found : Superblock) → IsCurrent g read found → Bears g found.slot ((first found.slot).cell) found
+  found_first found is_found = bears_before (looks.copies found.slot) (counts_bears g read found.slot found is_found.counts)
+
   -- of the current superblocks at first and of what was read
   module _ (current found : Superblock) (is_current : IsCurrent g first current) (is_found : IsCurrent g read found) where
-    found_first : Bears g found.slot ((first found.slot).cell) found
-    found_first = bears_before (looks.copies found.slot) (counts_bears g read found.slot found is_found.counts)
-
     ending_upto : ending.array.epoch ≤ found.array.epoch
     ending_upto =
         borne_upto g read found ending.slot ending (orderly_copies g first read looks.copies looks.orderly) is_found
         (bears_read ending.slot ending ending_borne)
 
     found_upto : found.array.epoch ≤ current.array.epoch
-    found_upto = borne_upto g first current found.slot found looks.orderly is_current found_first
+    found_upto = borne_upto g first current found.slot found looks.orderly is_current (found_first found is_found)
 
     none_between : ending.array.epoch < found.array.epoch → ¬ (found.array.epoch < current.array.epoch)
     none_between more less =
         let reached : AllBut g.n g.m (HasReached g first found.array.epoch) =
-        looks.orderly.reached found.slot current.slot found current found_first
+        looks.orderly.reached found.slot current.slot found current (found_first found is_found)
         (counts_bears g first current.slot current is_current.counts) less in
         let at =
         common {n = g.n} {m = g.m} {P = Serves offline g last ending} {Q = HasReached g first found.array.epoch}
@@ -175,10 +184,10 @@ module _ {g : Geometry} {offline : ℕ → Type 0} {first read last : Image} (lo
                 | inl less ↦ absurd (none_between more less)
                 | inr not_less ↦
                     inr
-                    (looks.orderly.one_list found.slot current.slot found current found_first
+                    (looks.orderly.one_list found.slot current.slot found current (found_first found is_found)
                     (counts_bears g first current.slot current is_current.counts) (omega arith))
               ]
-          | inr not_more ↦ inl (looks.orderly.one_list found.slot ending.slot found ending found_first ending_first (omega arith))
+          | inr not_more ↦ inl (looks.orderly.one_list found.slot ending.slot found ending (found_first found is_found) ending_first (omega arith))
         ]
 
     -- SLOTS THAT SERVE

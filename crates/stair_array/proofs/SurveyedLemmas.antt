@@ -31,12 +31,16 @@ use Rattle.stair_member.proofs.SuperLemmas.{super_held}
 use Rattle.stair_array.specs.Represents.{Left, Lesser, Represents}
 use Rattle.stair_array.specs.State.{State}
 use Rattle.stair_array.specs.Surveyed.{FindsArray}
-use Rattle.stair_array.specs.Tolerance.{IsWithinTolerance, ToleratedSince}
+use Rattle.stair_array.specs.Tolerance.{IsTolerated, IsWithinTolerance, ToleratedSince}
 use Rattle.stair_array.proofs.AgreeLemmas.{AgreeBelow, agree_back, current_agree, here_live, identifies_agree, identifies_limits, live_agree, live_here}
 use Rattle.stair_array.proofs.FormLemmas.{good_whole}
 use Rattle.stair_array.proofs.MixedLemmas.{read_live}
 use Rattle.stair_array.proofs.SeenLemmas.{IsLookedAt, ending, limits, read_only, read_stands, serving_read}
 use Rattle.stair_array.proofs.StillLemmas.{degraded_now, gone_lost, offline_decided, read_cell, read_copies, read_image, read_kept, steady_cells}
+
+-- what was read, and the cells of it that are known
+pub agree : (f : Findings) → AgreeBelow 32 f.image (read_image f)
+agree f j k j_in k_in = sym (read_cell f j k j_in k_in)
 
 module _ (s : State) (before : List Happening) (old new : Telling) (f : Findings) (found : AreFound f old new) (honest : IsTrue new.honest)
     (is : IsHistory old.history) (ran : Ran LeavesSectors old.history new.history) (began : Ran any_call before old.history)
@@ -57,15 +61,17 @@ module _ (s : State) (before : List Happening) (old new : Telling) (f : Findings
   at_first : IsWithinTolerance (λ j. IsOffline before old.history j) g first
   at_first = tolerated old.history (moment_between began ran) first (CrashMayLeave-now old.history)
 
+  pub tolerated_last : IsTolerated g before new.history
+  tolerated_last =
+      let all = ran_join began (ran_any {allowed = LeavesSectors} ran) in tolerated new.history (moment_last all.more all.is)
+
   at_last : IsWithinTolerance offline g last
-  at_last =
-      let all = ran_join began (ran_any {allowed = LeavesSectors} ran) in
-      tolerated new.history (moment_last all.more all.is) last (CrashMayLeave-now new.history)
+  at_last = tolerated_last last (CrashMayLeave-now new.history)
 
   goes_on : ¬ IsTrue (stopped new.history)
   goes_on stops = at_last.journal.serves.online (RackStopped stops)
 
-  looks : IsLookedAt g offline first (read_image f) last
+  pub looks : IsLookedAt g offline first (read_image f) last
   looks = record {
     orderly = stands.orderly first (CrashMayLeave-now old.history);
     others = at_first.others;
@@ -79,22 +85,18 @@ module _ (s : State) (before : List Happening) (old new : Telling) (f : Findings
     known = λ j. offline_decided before new.history j;
   }
 
-  small : g.n ≤ 32
+  pub small : g.n ≤ 32
   small = (limits looks).devices.1
-
-  -- what was read, and the cells of it that are known
-  agree : AgreeBelow 32 f.image (read_image f)
-  agree j k j_in k_in = sym (read_cell f j k j_in k_in)
 
   -- WHICH ARRAY IS FOUND
 
   found_stands : Identifies g f.image
-  found_stands = identifies_agree g 32 small (read_image f) f.image (agree_back 32 f.image (read_image f) agree) (read_stands looks)
+  found_stands = identifies_agree g 32 small (read_image f) f.image (agree_back 32 f.image (read_image f) (agree f)) (read_stands looks)
 
   found_only : (other : Geometry) → Identifies other f.image → other ≡ g
   found_only other identified =
       read_only looks other
-      (identifies_agree other 32 (identifies_limits other f.image identified).devices.1 f.image (read_image f) agree identified)
+      (identifies_agree other 32 (identifies_limits other f.image identified).devices.1 f.image (read_image f) (agree f) identified)
 
   not_two : (one two : Geometry) → AreFirstTwo f.image one two → ⊥
   not_two one two are =
@@ -107,14 +109,14 @@ module _ (s : State) (before : List Happening) (old new : Telling) (f : Findings
   -- WHAT IS SAID OF ITS SLOTS
 
   module _ (m : Membership) (surveyed : IsSurveyed f m) where
-    identity : m.array.geometry ≡ g
+    pub identity : m.array.geometry ≡ g
     identity = found_only m.array.geometry surveyed.identity.stands
 
     current_found : IsCurrent g f.image surveyed.current
     current_found = subst (λ (x : Geometry). IsCurrent x f.image surveyed.current) identity surveyed.is_current
 
-    current_read : IsCurrent g (read_image f) surveyed.current
-    current_read = current_agree g 32 small f.image (read_image f) surveyed.current agree current_found
+    pub current_read : IsCurrent g (read_image f) surveyed.current
+    current_read = current_agree g 32 small f.image (read_image f) surveyed.current (agree f) current_found
 
     reasons : (j : ℕ) → j < g.n → IsReason (HasSlot f.gone) g f.image surveyed.current j (why_of m j)
     reasons =
@@ -133,7 +135,7 @@ module _ (s : State) (before : List Happening) (old new : Telling) (f : Findings
     serving_here : (j : ℕ) → Serves offline g last (ending looks) j → why_of m j ≡ Here
     serving_here j serves =
         live_here (HasSlot f.gone) g f.image surveyed.current j (why_of m j) (not_gone j serves)
-        (live_agree g 32 small (read_image f) f.image surveyed.current j (agree_back 32 f.image (read_image f) agree)
+        (live_agree g 32 small (read_image f) f.image surveyed.current j (agree_back 32 f.image (read_image f) (agree f))
         (serving_read looks at_first.current surveyed.current at_first.is_current current_read j serves))
         (reasons j serves.live.below)
 
@@ -165,7 +167,7 @@ module _ (s : State) (before : List Happening) (old new : Telling) (f : Findings
         (subst (λ why. IsReason (HasSlot f.gone) g f.image surveyed.current j why) here (reasons j below)) in
         live_agree g g.n (omega arith) first image current j (agree_back g.n image first same)
         (read_live looks current surveyed.current (current_agree g g.n (omega arith) image first current same is_current) current_read j
-        (live_agree g 32 small f.image (read_image f) surveyed.current j agree live))
+        (live_agree g 32 small f.image (read_image f) surveyed.current j (agree f) live))
 
   pub finds : (answer : Result Membership SurveyFault) → IsAnswer f answer → FindsArray s answer old.history
   finds (Ok m) answered = record {

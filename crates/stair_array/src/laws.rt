@@ -1,6 +1,6 @@
 //! Laws of what an array is, and of the images that represent it.
 
-ghost use Rattle.std.specs.Prelude.{◌≡◌, ◌+◌, ◌*◌, ◌<◌, ◌⊎◌, ℕ, IsTrue, None, List, [], ◌∷◌, Result, length};
+ghost use Rattle.std.specs.Prelude.{◌≡◌, ◌+◌, ◌*◌, ◌<◌, ◌⊎◌, ℕ, IsTrue, None, List, [], ◌∷◌, Result, Ok, length};
 ghost use Rattle.stair_model.specs.Cell.{IsPlaceOf};
 ghost use Rattle.stair_model.specs.CellSet.{CellSet, HasCell};
 ghost use Rattle.stair_model.specs.Coverage.{IsCovered};
@@ -25,7 +25,8 @@ ghost use Rattle.stair_rack.specs.Stretch.{NothingReturned};
 ghost use Rattle.stair_super.specs.Superblock.{Superblock};
 ghost use Rattle.stair_member.specs.Asked.{LeavesSectors};
 ghost use Rattle.stair_member.specs.Current.{IsFailed, IsLost};
-ghost use Rattle.stair_member.specs.Membership.{Membership};
+ghost use Rattle.stair_member.specs.Fencing.{IsBegun};
+ghost use Rattle.stair_member.specs.Membership.{IsMembership, Membership};
 ghost use Rattle.stair_member.specs.Superblocks.{IsOnlyIdentity};
 ghost use Rattle.stair_member.specs.Survey.{Surveys};
 ghost use Rattle.stair_member.specs.Telling.{Telling};
@@ -64,7 +65,7 @@ ghost use Rattle.stair_array.specs.Represents.{
   RepresentsAlone,
 };
 ghost use Rattle.stair_array.specs.State.{State, created_state, without_seats};
-ghost use Rattle.stair_array.specs.Surveyed.{FindsArray};
+ghost use Rattle.stair_array.specs.Surveyed.{CoversAll, FindsArray};
 ghost use Rattle.stair_array.specs.Tolerance.{
   HasJournal,
   IsStripeCovered,
@@ -232,4 +233,16 @@ pub fn survey_laws()
         Ran any_call before old.history → Represents s old.history →
         NothingReturned old.history new.history → ToleratedSince s.geometry before new.history →
         FindsArray s answer old.history }
+    // its answer then covers each superblock that a slot bears in whatever a crash at its end may leave
+    ensures covers { (s : State) (before : List Happening) (old new : Telling)
+        (answer : Result Membership SurveyFault) (m : Membership) → Surveys answer old new →
+        IsTrue new.honest → Ran any_call before old.history → Represents s old.history →
+        NothingReturned old.history new.history → ToleratedSince s.geometry before new.history →
+        answer ≡ Ok m → CoversAll s.geometry m new.history }
+    // and a call that establishes an epoch may begin with it
+    ensures begun { (s : State) (before : List Happening) (old new : Telling)
+        (answer : Result Membership SurveyFault) (m : Membership) → Surveys answer old new →
+        IsTrue new.honest → Ran any_call before old.history → Represents s old.history →
+        NothingReturned old.history new.history → ToleratedSince s.geometry before new.history →
+        IsMembership m → answer ≡ Ok m → IsBegun None m new.history }
 {}

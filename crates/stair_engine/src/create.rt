@@ -1,7 +1,12 @@
-ghost use Rattle.std.specs.Prelude.{◌≡◌, ℕ, IfOk, IfErr, length, string_bytes};
+ghost use Rattle.std.specs.Prelude.{◌≡◌, ◌+◌, ℕ, IfOk, IfErr, length, string_bytes};
 ghost use Rattle.stair_engine.specs.Fault.{status_of};
 ghost use Rattle.stair_engine.specs.Outside.{outside, source_view, views};
-ghost use Rattle.stair_engine.specs.Plan.{Over, create_plan, created_line as line_of_created};
+ghost use Rattle.stair_engine.specs.Plan.{
+  Over,
+  TEXT_LIMIT as LIMIT,
+  create_plan,
+  created_line as line_of_created,
+};
 ghost use Rattle.stair_engine.specs.Rack.{MeansOver, rack_view};
 ghost use Rattle.stair_engine.specs.Taking.{TakesText};
 
@@ -40,7 +45,7 @@ pub(crate) fn create<R: Rack, S: Source, K: Sink>(
 
 /// Takes a text up to the end of the input, and tells how many bytes it has.
 fn take_text<S: Source>(input: &mut S, into: &mut [u8]) -> Result<usize, Fault>
-    requires { length into.old ≡ 4097 }
+    requires { length into.old ≡ LIMIT + 1 }
     ensures { TakesText (source_view S.left S.ended S.faults) result into.new
         input.old input.new }
 {

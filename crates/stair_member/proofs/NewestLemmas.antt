@@ -15,9 +15,9 @@ use Rattle.stair_member.proofs.SuperLemmas.{holds_once, counts_bears}
 use Rattle.stair_member.proofs.StandingLemmas.{others}
 
 -- a superblock that isn't older than another one
-record IsNoOlder (a b : Superblock) : Type 0 where
-  draws : b.draw ≤ a.draw
-  epochs : a.draw ≡ b.draw → b.array.epoch ≤ a.array.epoch
+pub record IsNoOlder (a b : Superblock) : Type 0 where
+  pub draws : b.draw ≤ a.draw
+  pub epochs : a.draw ≡ b.draw → b.array.epoch ≤ a.array.epoch
 
 not_older : (a b : Superblock) → ¬ IsOlder a b → IsNoOlder a b
 not_older a b not = record {
@@ -33,7 +33,7 @@ same_is : (a b : Superblock) → a ≡ b → IsNoOlder a b
 same_is a b same = subst (λ (t : Superblock). IsNoOlder a t) same (record { draws = omega arith; epochs = λ e. omega arith })
 
 -- a medium's superblock is no older than what either place holds
-super_no_older : (cell : ℕ → Cell) (s t : Superblock) (place : ℕ) → place < 2 → IsSuperOf cell s → HoldsSuper (cell place) t → IsNoOlder s t
+pub super_no_older : (cell : ℕ → Cell) (s t : Superblock) (place : ℕ) → place < 2 → IsSuperOf cell s → HoldsSuper (cell place) t → IsNoOlder s t
 super_no_older cell s t place within super holds =
     elim (cases_lt place 1) [
       | inl first ↦ at_first cell s t super (subst (λ (k : ℕ). HoldsSuper (cell k) t) (omega arith) holds)
@@ -85,7 +85,7 @@ newest {offline} g image current draw epoch limits is few last =
       | inr tie ↦ let same : s.array.epoch ≡ current.array.epoch = tie.0 in omega arith
     ]
 
-places_whole : (cell : ℕ → Cell) → ¬ IsLost (cell 0) → ¬ IsLost (cell 1) → (k : ℕ) → k < 2 → ¬ IsLost (cell k)
+pub places_whole : (cell : ℕ → Cell) → ¬ IsLost (cell 0) → ¬ IsLost (cell 1) → (k : ℕ) → k < 2 → ¬ IsLost (cell k)
 places_whole cell first second k lt =
     elim (cases_lt k 1) [
       | inl below ↦ subst (λ (i : ℕ). ¬ IsLost (cell i)) (omega arith) first

@@ -29,6 +29,11 @@ rank_most OtherJoined = omega arith
 rank_most Rebuilding = omega arith
 rank_most Here = omega arith
 
+pub live_unless : (m : Mark) → m ≢ mark.Down → m ≢ mark.Rebuilding → m ≡ mark.Live
+live_unless mark.Live up done = refl
+live_unless mark.Rebuilding up done = absurd (done refl)
+live_unless mark.Down up done = absurd (up refl)
+
 module _ (gone : ℕ → Type 0) (g : Geometry) (image : Image) (current : Superblock) (j : ℕ) where
   -- no reason before this one applies
   none_before : (why : Why) → (0 < rank why → ¬ gone j) → (1 < rank why → HasSuper ((image j).cell))
@@ -106,11 +111,6 @@ module _ (gone : ℕ → Type 0) (g : Geometry) (image : Image) (current : Super
       reason_counting OtherSlot slot is = absurd is
 
   -- the mark that goes with a reason
-  live_unless : (m : Mark) → m ≢ mark.Down → m ≢ mark.Rebuilding → m ≡ mark.Live
-  live_unless mark.Live up done = refl
-  live_unless mark.Rebuilding up done = absurd (done refl)
-  live_unless mark.Down up done = absurd (up refl)
-
   pub marked_for : (why : Why) → IsReason gone g image current j why → IsMarkedFor why (mark_at current j)
   marked_for Here is = live_unless (mark_at current j) (is.first MarkedDown (omega arith)) (is.first Rebuilding (omega arith))
   marked_for Rebuilding is = is.applies

@@ -82,7 +82,7 @@ module _ (honest : Bool) (old new : List Happening) (bads bads' : ℕ) (gones go
 abbrev pub both : Cell → Cell → ℕ → Cell
 both first second k = if k == 0 then first else second
 
-place_cases : (k : ℕ) → k < 2 → (k ≡ 0) ⊎ (k ≡ 1)
+pub place_cases : (k : ℕ) → k < 2 → (k ≡ 0) ⊎ (k ≡ 1)
 place_cases k below = elim (cases_eq k 0) [ inl is ↦ inl is | inr other ↦ inr (omega arith) ]
 
 older_irreflexive : (s : Superblock) → ¬ IsOlder s s

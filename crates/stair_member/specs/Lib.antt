@@ -12,3 +12,11 @@ pub mod Membership
 pub mod StoredMember
 pub mod Survey
 pub mod Shows
+pub mod Aims
+pub mod Editions
+pub mod Epochs
+pub mod Fencing
+pub mod Establishing
+pub mod Changes
+pub mod Handings
+pub mod Rounds

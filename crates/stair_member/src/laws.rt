@@ -1,13 +1,23 @@
-//! Laws of the superblocks of media, of the slots that are live or have failed, and of the order of superblocks.
+//! Laws of the superblocks of media, of slots that are live or have failed, of the order of superblocks, and of epochs.
 
-ghost use Rattle.std.specs.Prelude.{◌≡◌, ◌*◌, ◌<◌, ◌≤◌, ◌↔◌, ◌⊎◌, ℕ, Bool, IsTrue};
+ghost use Rattle.std.specs.Prelude.{◌≡◌, ◌*◌, ◌<◌, ◌≤◌, ◌↔◌, ◌⊎◌, ℕ, Bool, IsTrue, List, Option};
 ghost use Rattle.stair_model.specs.Geometry.{Geometry, IsWithinLimits};
 ghost use Rattle.stair_model.specs.Slots.{Slots, HasSlot};
+ghost use Rattle.stair_rack.specs.Answers.{Ran};
+ghost use Rattle.stair_rack.specs.Crash.{CrashMayLeave};
+ghost use Rattle.stair_rack.specs.History.{Happening, stopped};
 ghost use Rattle.stair_rack.specs.Media.{Image};
+ghost use Rattle.stair_rack.specs.Moments.{IsMoment};
 ghost use Rattle.stair_rack.specs.Sector.{Cell};
+ghost use Rattle.stair_rack.specs.Stretch.{NothingReturned};
 ghost use Rattle.stair_super.specs.Superblock.{Superblock};
+ghost use Rattle.stair_member.specs.declared.aim.Aim.{Aim};
 ghost use Rattle.stair_member.specs.Counting.{MoreThan, AtMost, AllBut};
 ghost use Rattle.stair_member.specs.Current.{IsCurrent, IsFailed, IsLive, IsLost, Serves};
+ghost use Rattle.stair_member.specs.Editions.{Edition};
+ghost use Rattle.stair_member.specs.Epochs.{HasDraw, IsIssuing};
+ghost use Rattle.stair_member.specs.Fencing.{HasStood, IsBegun, IsCopy, IsFencing, IsNamedBy, MayBear, MayJoin};
+ghost use Rattle.stair_member.specs.Membership.{Membership};
 ghost use Rattle.stair_member.specs.Reserve.{
   Bears,
   HasGreatestDraw,
@@ -74,4 +84,38 @@ pub fn counting_laws()
     ensures common { (n m : ℕ) (a b : ℕ → Bool) → n ≤ 32 → 2 * m < n →
         AllBut n m (λ j. IsTrue (a j)) → AllBut n m (λ j. IsTrue (b j)) →
         (j : ℕ) × (j < n) × IsTrue (a j) × IsTrue (b j) }
+{}
+
+/// What a crash may leave while an epoch is established. It does nothing.
+pub fn epoch_laws()
+    // a superblock of the array was there when the call began, or is one of the editions that were written since
+    ensures borne { (joining : Option ℕ) (m : Membership) (slots : Slots)
+        (editions : List Edition) (old h : List Happening) (image : Image) (j : ℕ)
+        (s : Superblock) → IsBegun joining m old → Ran (IsIssuing slots editions) old h →
+        NothingReturned old h → CrashMayLeave h image →
+        Bears m.array.geometry j ((image j).cell) s →
+        MayBear m.array.geometry old j s ⊎ IsCopy slots editions j s }
+    // where all slots but m have a new draw with an epoch on their disks, none earlier than it is current
+    ensures no_earlier { (aim : Aim) (gone : Slots) (m last : Membership)
+        (old h new : List Happening) (image : Image) (offline : Slots) (current : Superblock)
+        (draw epoch : ℕ) (fencing : IsFencing aim gone m last old new) → IsMoment old h new →
+        CrashMayLeave h image → IsCurrent m.array.geometry image current →
+        AtMost m.array.geometry.m (IsFailed (HasSlot offline) m.array.geometry image current) →
+        m.drawn < draw → AllBut m.array.geometry.n m.array.geometry.m
+        (HasDraw fencing.issued.editions draw epoch old h) → epoch ≤ current.array.epoch }
+    // once an epoch stands it is current, and the slots that are live are here
+    ensures stands { (aim : Aim) (gone : Slots) (m last : Membership) (old new : List Happening)
+        (image : Image) (offline : Slots) (current : Superblock) →
+        HasStood aim gone m last old new → CrashMayLeave new image →
+        IsCurrent m.array.geometry image current →
+        AtMost m.array.geometry.m (IsFailed (HasSlot offline) m.array.geometry image current) →
+        IsNamedBy last image current }
+    // and at each moment the superblocks are in order
+    ensures orderly { (aim : Aim) (gone : Slots) (m last : Membership)
+        (old h new : List Happening) (image : Image) → IsFencing aim gone m last old new →
+        IsMoment old h new → CrashMayLeave h image → IsOrderly m.array.geometry image }
+    // so that after an epoch that stands the next call begins likewise, unless the rack is stopped
+    ensures again { (aim : Aim) (gone : Slots) (next : Option ℕ) (m last : Membership)
+        (old new : List Happening) → HasStood aim gone m last old new → MayJoin next last new →
+        ¬ IsTrue (stopped new) → IsBegun next last new }
 {}

@@ -1,17 +1,25 @@
 //! What the superblocks of a rack's media say of an array, and what a session knows of it.
 #![tactic(auto)]
 
+mod aim;
+mod begin;
+mod changes;
+mod epoch;
+mod establish;
 mod fault;
+mod hand;
 mod judge;
 pub mod laws;
 mod look;
 mod member;
+mod round;
 mod surveying;
 #[cfg(test)]
 mod tests;
 mod why;
 
-pub use fault::SurveyFault;
+pub use epoch::{admit, fence, promote, stamp};
+pub use fault::{AdmitFault, FenceFault, SurveyFault};
 pub use member::Member;
 pub use surveying::survey;
 pub use why::Why;

@@ -13,10 +13,10 @@ use std::marker::Model;
 /// the reason `Here` and are Down.
 #[derive(Clone, Copy, Debug, PartialEq, Eq)]
 pub struct Member {
-    array: Configuration,
-    drawn: u64,
-    whys: [Why; 32],
-    places: [u32; 32],
+    pub(crate) array: Configuration,
+    pub(crate) drawn: u64,
+    pub(crate) whys: [Why; 32],
+    pub(crate) places: [u32; 32],
 }
 
 impl Model for Member {

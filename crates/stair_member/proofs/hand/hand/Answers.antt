@@ -1,0 +1,60 @@
+-- Once, or in both places.
+use Rattle.std.proofs.Common.{◌≡◌, ◌-◌, ◌<◌, ◌≤◌, ℕ, Bool, false, ◌∙◌, sym, ap, subst, arith}
+use Rattle.stair_rack.proofs.PassCounts.{Done-compared, Gone-compared}
+use Rattle.stair_rack.specs.declared.rack.Reply.TheVariants as reply
+use Rattle.stair_member.specs.Changes.{turned}
+use Rattle.stair_member.specs.Handings.{Handed, PlacesHanded}
+use Rattle.stair_member.specs.Membership.{Membership, place_of}
+use Rattle.stair_member.proofs.HandLemmas.{handed_neither, handed_twice, place_turned, places_neither, places_once, places_twice}
+use Rattle.stair_member.proofs.hand.hand.Goals as goal
+
+pub returns-then-not-both-clause-told : goal.returns-then-not-both-clause-told
+returns-then-not-both-clause-told g c honest =
+    subst (λ (b : Bool). Handed c.args.member.now c.args.slot b c.put-reply.result
+    (g.R.Rack.history c.args.rack.now) (g.R.Rack.history c.put-reply.new.rack)) (sym c.if-not-both.true) (c.put-reply.ensures.told honest)
+
+pub returns-then-not-both-clause-places : goal.returns-then-not-both-clause-places
+returns-then-not-both-clause-places g c =
+    let most : c.args.member.now.array.geometry.n ≤ 32 = c.put-reply.ensures.was.array.limits.devices.1 in
+    let below : c.args.slot < c.args.member.now.array.geometry.n = c.requires.below in
+    subst (λ (b : Bool). PlacesHanded c.args.member.now c.put-reply.new.member c.args.slot b c.put-reply.result) (sym c.if-not-both.true)
+    (places_once c.args.member.now c.put-reply.new.member c.args.slot c.put-reply.result (omega arith) c.put-reply.ensures.was.sizes.places
+    c.put-reply.ensures.done c.put-reply.ensures.unturned)
+
+pub returns-then-eq-clause-told : goal.returns-then-eq-clause-told
+returns-then-eq-clause-told g c honest =
+    let gone = Gone-compared c.put-reply.result (sym c.eq.ensures ∙ c.if-eq.true) in
+    subst (λ (b : Bool). Handed c.args.member.now c.args.slot b reply.Gone (g.R.Rack.history c.args.rack.now)
+    (g.R.Rack.history c.put-reply.new.rack)) (sym c.if-not-both.false)
+    (handed_neither c.args.member.now c.args.slot _ _ (rw gone at (c.put-reply.ensures.told honest)))
+
+pub returns-then-eq-clause-places : goal.returns-then-eq-clause-places
+returns-then-eq-clause-places g c =
+    let gone = Gone-compared c.put-reply.result (sym c.eq.ensures ∙ c.if-eq.true) in
+    subst (λ (b : Bool). PlacesHanded c.args.member.now c.put-reply.new.member c.args.slot b reply.Gone) (sym c.if-not-both.false)
+    (places_neither c.args.member.now c.put-reply.new.member c.args.slot (c.put-reply.ensures.unturned gone))
+
+pub returns-clause-told : goal.returns-clause-told
+returns-clause-told g c honest =
+    let most : c.args.member.now.array.geometry.n ≤ 32 = c.put-reply.ensures.was.array.limits.devices.1 in
+    let below : c.args.slot < c.args.member.now.array.geometry.n = c.requires.below in
+    let done = Done-compared c.put-reply.result (sym c.eq.ensures ∙ c.if-eq.false) in
+    let is = c.put-reply.ensures.done done in
+    let zero = c.requires.first c.if-not-both.false in
+    let one : place_of (turned c.args.member.now c.args.slot) c.args.slot ≡ 1 =
+    place_turned c.args.member.now c.args.slot (omega arith) c.put-reply.ensures.was.sizes.places ∙ ap (λ (x : ℕ). 1 - x) zero in
+    subst (λ (b : Bool). Handed c.args.member.now c.args.slot b c.put.result (g.R.Rack.history c.args.rack.now)
+    (g.R.Rack.history c.put.new.rack)) (sym c.if-not-both.false)
+    (handed_twice c.args.member.now c.args.slot c.put.result _ _ _ zero one (rw done at (c.put-reply.ensures.told honest))
+    (subst (λ (m : Membership). Handed m c.args.slot false c.put.result
+    (g.R.Rack.history c.put-reply.new.rack) (g.R.Rack.history c.put.new.rack)) is (c.put.ensures.told honest)))
+
+pub returns-clause-places : goal.returns-clause-places
+returns-clause-places g c =
+    let most : c.args.member.now.array.geometry.n ≤ 32 = c.put-reply.ensures.was.array.limits.devices.1 in
+    let below : c.args.slot < c.args.member.now.array.geometry.n = c.requires.below in
+    let done = Done-compared c.put-reply.result (sym c.eq.ensures ∙ c.if-eq.false) in
+    subst (λ (b : Bool). PlacesHanded c.args.member.now c.put.new.member c.args.slot b c.put.result) (sym c.if-not-both.false)
+    (places_twice c.args.member.now c.put-reply.new.member c.put.new.member c.args.slot c.put.result (omega arith)
+    c.put-reply.ensures.was.sizes.places
+    c.put.ensures.was.sizes.places (c.requires.first c.if-not-both.false) (c.put-reply.ensures.done done) c.put.ensures.done c.put.ensures.unturned)

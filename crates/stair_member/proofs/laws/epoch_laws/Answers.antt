@@ -1,0 +1,22 @@
+use Rattle.stair_member.proofs.AgainLemmas.{again}
+use Rattle.stair_model.specs.Slots.{HasSlot}
+use Rattle.stair_member.proofs.EditionLemmas.{borne}
+use Rattle.stair_member.proofs.FencingLemmas.{no_earlier}
+use Rattle.stair_member.proofs.OrderLemmas.{orderly}
+use Rattle.stair_member.proofs.StoodLemmas.{stands}
+use Rattle.stair_member.proofs.laws.epoch_laws.Goals as goal
+
+pub returns-clause-borne : goal.returns-clause-borne
+returns-clause-borne c = borne
+
+pub returns-clause-no_earlier : goal.returns-clause-no_earlier
+returns-clause-no_earlier c aim gone m last old h new image offline = no_earlier {offline = HasSlot offline} aim gone m last old h new image
+
+pub returns-clause-stands : goal.returns-clause-stands
+returns-clause-stands c aim gone m last old new image offline = stands {offline = HasSlot offline} aim gone m last old new image
+
+pub returns-clause-orderly : goal.returns-clause-orderly
+returns-clause-orderly c = orderly
+
+pub returns-clause-again : goal.returns-clause-again
+returns-clause-again c = again

@@ -1,0 +1,146 @@
+// What an epoch that begins names, by its parts.
+ghost use Rattle.std.specs.Prelude.{◌≡◌, ◌≢◌, ◌<◌, ◌≤◌, ◌⊎◌, ℕ, Some, length, slice_index, slice_index_or};
+ghost use Rattle.stair_super.specs.Label.{IsLabel};
+ghost use Rattle.stair_super.specs.declared.mark.Mark.TheVariants as mark;
+ghost use Rattle.stair_member.specs.Changes.{Names, joined_then, place_then};
+ghost use Rattle.stair_member.specs.Aims.{aimed, frozen_then, label_then, mark_for};
+ghost use Rattle.stair_member.specs.declared.aim.Aim.TheVariants as admit;
+ghost use Rattle.stair_member.specs.declared.why.Why.TheVariants as why;
+
+use crate::aim::Aim;
+use crate::why::Why;
+use stair_super::{Configuration, Label, Mark};
+
+// The reason of each slot.
+pub(crate) fn aimed_whys(whys: &[Why; 32], aim: &Aim) -> [Why; 32]
+    requires { (j : ℕ) → (aim.now ≡ admit.Admit j) ⊎ (aim.now ≡ admit.Promote j) → j < 32 }
+    ensures each { (j : ℕ) → j < 32 → slice_index_or result j why.Here
+        ≡ aimed aim.now j (slice_index_or whys.now j why.Here) }
+    ensures size { length result ≡ 32 }
+{
+    let mut aimed = *whys;
+    match aim {
+        Aim::Admit(slot) => aimed[usize::from(*slot)] = Why::Rebuilding,
+        Aim::Promote(slot) => aimed[usize::from(*slot)] = Why::Here,
+        Aim::Fence | Aim::Stamp(_, _) => {}
+    }
+    aimed
+}
+
+fn mark_of(why: Why) -> Mark
+    ensures { result ≡ mark_for why }
+{
+    match why {
+        Why::Here => Mark::Live,
+        Why::Rebuilding => Mark::Rebuilding,
+        Why::Gone
+        | Why::NoSuper
+        | Why::OtherArray
+        | Why::OtherSlot
+        | Why::MarkedDown
+        | Why::OtherJoined => Mark::Down,
+    }
+}
+
+// The mark of each slot of so many.
+pub(crate) fn marks_of(whys: &[Why; 32], n: u8) -> [Mark; 32]
+    requires { n ≤ 32 }
+    ensures each { (j : ℕ) → j < n → slice_index_or result j mark.Down
+        ≡ mark_for (slice_index_or whys.now j why.Here) }
+    ensures absent { (j : ℕ) → n ≤ j → slice_index_or result j mark.Down ≡ mark.Down }
+    ensures size { length result ≡ 32 }
+{
+    let mut marks = [Mark::Down; 32];
+    for slot in 0..n {
+        marks[usize::from(slot)] = mark_of(whys[usize::from(slot)]);
+    }
+    marks
+}
+
+// The joined number of a slot that had this one.
+fn joined_of(mark: Mark, joined: u64, slot: u8, aim: &Aim, epoch: u64) -> u64
+    ensures { result ≡ joined_then aim.now epoch slot mark joined }
+{
+    if mark == Mark::Down {
+        return 0;
+    }
+    match aim {
+        Aim::Admit(admitted) => { if slot == *admitted { epoch } else { joined } }
+        Aim::Fence | Aim::Promote(_) | Aim::Stamp(_, _) => joined,
+    }
+}
+
+// The joined number of each slot.
+pub(crate) fn joins_of(marks: &[Mark; 32], joins: &[u64; 32], aim: &Aim, epoch: u64) -> [u64; 32]
+    ensures each { (j : ℕ) → j < 32 → slice_index result j
+        ≡ joined_then aim.now epoch j (slice_index_or marks.now j mark.Down) (slice_index joins.now j) }
+    ensures size { length result ≡ 32 }
+{
+    let mut joined = [0; 32];
+    for slot in 0..32u8 {
+        let at = usize::from(slot);
+        joined[at] = joined_of(marks[at], joins[at], slot, aim, epoch);
+    }
+    joined
+}
+
+// The next place of each slot: an admitted one has its first superblock in place 0.
+pub(crate) fn places_of(places: &[u32; 32], aim: &Aim) -> [u32; 32]
+    requires { (j : ℕ) → aim.now ≡ admit.Admit j → j < 32 }
+    ensures each { (j : ℕ) → j < 32 → slice_index result j
+        ≡ place_then aim.now j (slice_index places.now j) }
+    ensures size { length result ≡ 32 }
+{
+    let mut next = *places;
+    if let Aim::Admit(slot) = aim {
+        next[usize::from(*slot)] = 0;
+    }
+    next
+}
+
+// Whether the array is frozen then.
+pub(crate) fn frozen_of(array: &Configuration, aim: &Aim) -> bool
+    ensures { result ≡ frozen_then aim.now array.now }
+{
+    match aim {
+        Aim::Stamp(frozen, _) => *frozen,
+        Aim::Fence | Aim::Admit(_) | Aim::Promote(_) => array.frozen,
+    }
+}
+
+// Its label then.
+pub(crate) fn label_of(array: &Configuration, aim: &Aim) -> Label
+    ensures value { result ≡ label_then aim.now array.now }
+    ensures rules { IsLabel result }
+{
+    let label = match aim {
+        Aim::Stamp(_, label) => *label,
+        Aim::Fence | Aim::Admit(_) | Aim::Promote(_) => array.label,
+    };
+    // a label keeps its rules
+    let _text = label.bytes();
+    label
+}
+
+// What the epoch names.
+pub(crate) fn begun_array(
+    array: &Configuration,
+    whys: &[Why; 32],
+    aim: &Aim,
+    epoch: u64,
+) -> Configuration
+    requires { array.now.geometry.n ≤ 32 }
+    ensures names { Names aim.now array.now whys.now epoch result }
+    ensures label { IsLabel result.label }
+{
+    let marks = marks_of(whys, array.geometry.n());
+    let joins = joins_of(&marks, &array.joins, aim, epoch);
+    Configuration {
+        geometry: array.geometry,
+        epoch,
+        marks,
+        joins,
+        frozen: frozen_of(array, aim),
+        label: label_of(array, aim),
+    }
+}

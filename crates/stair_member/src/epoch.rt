@@ -1,0 +1,129 @@
+ghost use Rattle.std.specs.Prelude.{◌≡◌, ◌≢◌, ◌<◌, ℕ, Some};
+ghost use Rattle.stair_model.specs.Slots.{HasSlot};
+ghost use Rattle.stair_super.specs.Superblock.{mark_in};
+ghost use Rattle.stair_super.specs.declared.mark.Mark.TheVariants as mark;
+ghost use Rattle.stair_member.specs.Changes.{MayBegin};
+ghost use Rattle.stair_member.specs.Aims.{admitted};
+ghost use Rattle.stair_member.specs.Establishing.{Fences, Joins, Stamps};
+ghost use Rattle.stair_member.specs.Membership.{IsMembership, why_of};
+ghost use Rattle.stair_member.specs.Telling.{telling};
+ghost use Rattle.stair_member.specs.declared.aim.Aim.TheVariants.{Admit, Promote};
+ghost use Rattle.stair_member.specs.declared.why.Why.TheVariants as why;
+
+use crate::aim::Aim;
+use crate::establish::establish;
+use crate::fault::{AdmitFault, FenceFault};
+use crate::member::Member;
+use stair_base::Slots;
+use stair_rack::Rack;
+use stair_super::Label;
+
+/// Establishes an epoch without these slots, each below n, and without those that aren't here. The slots that became Down
+/// are answered.
+///
+/// It goes in rounds. Each live slot, in rising order, is given a superblock with the next draw and what the epoch named so
+/// far. Then the new epoch, whose number is that draw, begins in `member`, and each slot that is here is given a superblock
+/// of it. A superblock is written to the slot's next place and synced before the next one is written. A slot that is gone is
+/// left out, and the next round begins at once. Nothing else is written, and no memory is taken.
+///
+/// `TooFew` comes where more than m slots aren't live when a round begins, and `EpochsSpent` where no draw is left. Then
+/// `member` is what the last round left: the slots that were gone are left out, and an epoch that had begun is the one that
+/// it names, though not every slot may have it.
+pub fn fence<R: Rack>(
+    rack: &mut R,
+    member: &mut Member,
+    leaving: Slots,
+) -> Result<Slots, FenceFault>
+    requires { (j : ℕ) → HasSlot leaving j → j < member.old.array.geometry.n }
+    ensures told { Fences leaving member.old member.new result
+        (telling R.is_honest (R.history rack.old) (R.bads rack.old) (R.gones rack.old))
+        (telling R.is_honest (R.history rack.new) (R.bads rack.new) (R.gones rack.new)) }
+    ensures rules { IsMembership member.new }
+    ensures reads { R.reads rack.new ≡ R.reads rack.old }
+{
+    let before = *member;
+    member.leave_out_all(leaving);
+    match establish(rack, member, Aim::Fence) {
+        Err(fault) => Err(fault),
+        Ok(_) => Ok(member.fallen_since(&before)),
+    }
+}
+
+/// Establishes an epoch, as [`fence`] does, from which on the array is frozen or not and has this label. The slots that
+/// became Down are answered. It is refused as a fence is.
+pub fn stamp<R: Rack>(
+    rack: &mut R,
+    member: &mut Member,
+    frozen: bool,
+    label: Label,
+) -> Result<Slots, FenceFault>
+    ensures told { Stamps frozen label member.old member.new result
+        (telling R.is_honest (R.history rack.old) (R.bads rack.old) (R.gones rack.old))
+        (telling R.is_honest (R.history rack.new) (R.bads rack.new) (R.gones rack.new)) }
+    ensures rules { IsMembership member.new }
+    ensures reads { R.reads rack.new ≡ R.reads rack.old }
+{
+    let before = *member;
+    match establish(rack, member, Aim::Stamp(frozen, label)) {
+        Err(fault) => Err(fault),
+        Ok(_) => Ok(member.fallen_since(&before)),
+    }
+}
+
+/// Admits the device in a slot that is Down: establishes an epoch, as [`fence`] does, in which the slot is Rebuilding and
+/// its joined number is the epoch. The slots that became Down are answered.
+///
+/// The slot's superblock is written to both its places, each synced before the next. Where the slot was gone meanwhile
+/// `Gone` comes, and an epoch without it stands. Otherwise it is refused as a fence is.
+pub fn admit<R: Rack>(rack: &mut R, member: &mut Member, slot: u8) -> Result<Slots, AdmitFault>
+    requires below { slot < member.old.array.geometry.n }
+    requires down { mark_in member.old.array slot ≡ mark.Down }
+    ensures told { Joins (Admit slot) slot member.old member.new result
+        (telling R.is_honest (R.history rack.old) (R.bads rack.old) (R.gones rack.old))
+        (telling R.is_honest (R.history rack.new) (R.bads rack.new) (R.gones rack.new)) }
+    ensures rules { IsMembership member.new }
+    ensures reads { R.reads rack.new ≡ R.reads rack.old }
+{
+    // the member keeps its rules
+    let _epoch = member.epoch();
+    join(rack, member, slot, Aim::Admit(slot))
+}
+
+/// Establishes an epoch, as [`fence`] does, in which this slot, which was Rebuilding, is Live. The slots that became Down are
+/// answered. It is refused as an admission is.
+pub fn promote<R: Rack>(rack: &mut R, member: &mut Member, slot: u8) -> Result<Slots, AdmitFault>
+    requires below { slot < member.old.array.geometry.n }
+    requires rebuilding { why_of member.old slot ≡ why.Rebuilding }
+    ensures told { Joins (Promote slot) slot member.old member.new result
+        (telling R.is_honest (R.history rack.old) (R.bads rack.old) (R.gones rack.old))
+        (telling R.is_honest (R.history rack.new) (R.bads rack.new) (R.gones rack.new)) }
+    ensures rules { IsMembership member.new }
+    ensures reads { R.reads rack.new ≡ R.reads rack.old }
+{
+    join(rack, member, slot, Aim::Promote(slot))
+}
+
+// Establishes an epoch for this slot.
+fn join<R: Rack>(rack: &mut R, member: &mut Member, slot: u8, aim: Aim) -> Result<Slots, AdmitFault>
+    requires below { slot < member.old.array.geometry.n }
+    requires may { MayBegin aim member.old }
+    requires down { (j : ℕ) → admitted aim ≡ Some j → why_of member.old j ≢ why.Here }
+    ensures told { Joins aim slot member.old member.new result
+        (telling R.is_honest (R.history rack.old) (R.bads rack.old) (R.gones rack.old))
+        (telling R.is_honest (R.history rack.new) (R.bads rack.new) (R.gones rack.new)) }
+    ensures rules { IsMembership member.new }
+    ensures reads { R.reads rack.new ≡ R.reads rack.old }
+{
+    let before = *member;
+    // the member keeps its rules
+    let _epoch = member.epoch();
+    match establish(rack, member, aim) {
+        Err(fault) => Err(AdmitFault::from(fault)),
+        Ok(gone) => {
+            if gone.has(slot) {
+                return Err(AdmitFault::Gone(slot));
+            }
+            Ok(member.fallen_since(&before))
+        }
+    }
+}
