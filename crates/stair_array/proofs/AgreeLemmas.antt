@@ -18,7 +18,7 @@ use Rattle.stair_member.proofs.CountingLemmas.{more_mapped}
 use Rattle.stair_member.proofs.DecisionLemmas.{counts_decided, super_decided}
 use Rattle.stair_member.proofs.SuperLemmas.{counts_limits, one_super, slot_below, super_cells, super_formed, super_held}
 use Rattle.stair_member.proofs.ReasonLemmas.{live_unless}
-use Rattle.stair_array.proofs.CreatedLemmas.{bears_below}
+use Rattle.stair_member.proofs.EditionLemmas.{bears_below}
 
 -- AGREEING IMAGES
 

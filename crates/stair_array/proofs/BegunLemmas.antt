@@ -25,7 +25,7 @@ use Rattle.stair_member.specs.Reasons.{rank}
 use Rattle.stair_member.specs.Reserve.{Bears, HasReached, HasReserved, IsOrderly}
 use Rattle.stair_member.specs.Superblocks.{Counts, CountsFor, HoldsSuper}
 use Rattle.stair_member.specs.Survey.{InFirst, InSecond, IsAnswer, IsPlaceOf, IsSurveyed, Surveys}
-use Rattle.stair_member.specs.Telling.{Telling}
+use Rattle.stair_rack.specs.Telling.{Telling}
 use Rattle.stair_member.specs.declared.fault.SurveyFault.{SurveyFault}
 use Rattle.stair_member.specs.declared.why.Why.{Why}
 use Rattle.stair_member.specs.declared.why.Why.TheVariants.{Here, OtherSlot, Rebuilding}

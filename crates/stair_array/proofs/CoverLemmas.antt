@@ -20,7 +20,7 @@ use Rattle.stair_member.specs.Membership.{Membership}
 use Rattle.stair_member.specs.Reserve.{Bears, IsOrderly}
 use Rattle.stair_member.specs.Superblocks.{Counts, First, HoldsSuper, IsSuperOf, Second}
 use Rattle.stair_member.specs.Survey.{IsAnswer, IsSurveyed, Surveys}
-use Rattle.stair_member.specs.Telling.{Telling}
+use Rattle.stair_rack.specs.Telling.{Telling}
 use Rattle.stair_member.specs.declared.fault.SurveyFault.{SurveyFault}
 use Rattle.stair_member.proofs.AskedLemmas.{asked_ran}
 use Rattle.stair_member.proofs.SuperLemmas.{counts_bears, holds_once}

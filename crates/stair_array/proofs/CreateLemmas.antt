@@ -1,6 +1,6 @@
 -- What `create` makes, and why it doesn't.
 use Rattle.std.proofs.Common.{◌≡◌, ℕ, ◌<◌, ◌≤◌, true, List, [], ◌∷◌, ◌++◌, ◌⊎◌, inl, inr, refl, sym, ap, ◌∙◌, subst, arith, Option, None, Some, Result, Ok, Err, true≢false}
-use Rattle.std.specs.Prelude.{IfErr, IsOk, IsSome, IsTrue, OnOk, ⊤}
+use Rattle.std.specs.Prelude.{IfErr, IsOk, IsTrue, OnOk, ⊤}
 use Rattle.std.proofs.lemmas.Bool.{cases_lt, le-ltb}
 use Rattle.std.proofs.lemmas.List.{append_cancel_right}
 use Rattle.stair_model.specs.Geometry.{Geometry, IsWithinLimits, sectors_needed}
@@ -27,13 +27,13 @@ use Rattle.stair_member.specs.Superblocks.{HasSuper, HoldsSuper}
 use Rattle.stair_array.specs.Created.{IsNewArray, IsNewDevice, IsNewSlot, NoneComesBack, created_sector}
 use Rattle.stair_array.specs.Created as created
 use Rattle.stair_array.specs.Look.{IsLook, IsTaken}
-use Rattle.stair_member.specs.Telling.{IsLater, IsReading, Telling}
+use Rattle.stair_rack.specs.Telling.{IsLater, IsReading, Telling}
 use Rattle.stair_array.specs.Looking.{Finding, WasGone, WasSmall, Holds, AllPassed, HadSectors, IsFound, IsGoneInWriting, IsNotCreated, IsRefusedFor, IsUnwritten, cells_at}
 use Rattle.stair_array.specs.Making.{AreMade, IsBehind, IsLaidOut, IsMaking, IsNoPlaceWrite, IsPlace, IsSlotOf, IsStoppedBy, IsWriteWithin, NoPlaceWritten, SuperblocksCameLast, CameAfter, WritesNoPlace, WritesWithin, WrittenWithin}
 use Rattle.stair_array.specs.Represents.{AreSteady, IsLargeEnough}
 use Rattle.stair_array.specs.declared.fault.CreateFault.{CreateFault}
 use Rattle.stair_array.specs.declared.fault.CreateFault.TheVariants.{Gone, SmallDevice, AlreadyArray}
-use Rattle.stair_array.proofs.DeviceLemmas.{made_on, made_sooner, making_no_attach}
+use Rattle.stair_array.proofs.DeviceLemmas.{large_some, made_on, made_sooner, making_no_attach}
 use Rattle.stair_array.proofs.PulledLemmas.{IsSameOrOther, ReturnsOnly, SameMedium, OtherMedium, BearsNot, any_cell, bears_none, lost_bears_not, returns_any, returns_none, same_or_other}
 
 -- WHY THERE IS NO ARRAY
@@ -256,15 +256,8 @@ module _ (g : Geometry) (j : ℕ) (old new : List Happening) (f : IsFinished g j
     where
       sized : HasSize (slot_state f.slot.taken j).pulls (slot_state f.slot.taken j).size (slot_state new j)
       sized =
-          size_on {allowed = IsNoAttach j} (slot_state f.slot.taken j).pulls (slot_state f.slot.taken j).size j (has_medium f.slot.large) f.slot.since
-          (Same refl refl)
-        where
-          some_of : (size : Option ℕ) → has_sector size 0 ≡ true → IsSome size
-          some_of None has = absurd (true≢false (sym has))
-          some_of (Some n) has = refl
-
-          has_medium : IsLargeEnough g (slot_state f.slot.taken j).size → IsSome (slot_state f.slot.taken j).size
-          has_medium large = some_of (slot_state f.slot.taken j).size (large 0 (omega arith))
+          size_on {allowed = IsNoAttach j} (slot_state f.slot.taken j).pulls (slot_state f.slot.taken j).size j
+          (large_some g (slot_state f.slot.taken j).size f.slot.large) f.slot.since (Same refl refl)
 
       size_is : HasSize (slot_state f.slot.taken j).pulls (slot_state f.slot.taken j).size (slot_state new j)
           → (slot_state new j).size ≡ (slot_state f.slot.taken j).size

@@ -24,6 +24,7 @@ use Rattle.stair_member.specs.Superblocks.{HoldsSuper}
 use Rattle.stair_member.proofs.SuperLemmas.{holds_once}
 use Rattle.stair_journal.specs.Gate.{closed_gate, open_gate}
 use Rattle.stair_journal.specs.declared.redo.Redo.{Redo}
+use Rattle.stair_member.proofs.EditionLemmas.{bears_below}
 use Rattle.stair_array.specs.Blocks.{AreEncodingsOf, zero_block, zero_blocks}
 use Rattle.stair_array.specs.Created.{IsNewDevice, IsNewSlot, Kept, Other, created_sector, first_configuration, first_super}
 use Rattle.stair_array.specs.State.{first_seats}
@@ -175,13 +176,6 @@ closed_not_open g redo same =
     omega arith
 
 -- WHAT A NEW SLOT BEARS
-
--- the slot that a superblock of the array is for is one of the array's
-pub bears_below : (g : Geometry) (j : ℕ) (cell : ℕ → Cell) (s : Superblock) → Bears g j cell s → j < g.n
-bears_below g j cell s bears =
-    let n : s.array.geometry.n ≡ g.n = ap (λ (x : Geometry). x.n) bears.identity in
-    let within : s.slot < s.array.geometry.n = bears.holds.spells.block.rules.slot_in in
-    omega (arith, bears.slot, within, n)
 
 -- these bytes are the first superblock's
 pub first_held : (g : Geometry) (j : ℕ) (cell : Cell) → IsWithinLimits g → length g.id ≡ 16 → j < g.n

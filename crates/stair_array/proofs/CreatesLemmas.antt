@@ -5,7 +5,7 @@ use Rattle.stair_model.specs.Geometry.{Geometry, IsWithinLimits}
 use Rattle.stair_rack.specs.History.{Happening}
 use Rattle.stair_rack.specs.Stretch.{NoneWritten}
 use Rattle.stair_array.specs.Creates.{Creates, IsMade}
-use Rattle.stair_member.specs.Telling.{IsLater, Telling}
+use Rattle.stair_rack.specs.Telling.{IsLater, Telling}
 use Rattle.stair_array.specs.Looking.{IsNotCreated, WasLookedAt}
 use Rattle.stair_array.specs.Making.{SuperblocksCameLast, WrittenWithin}
 use Rattle.stair_array.specs.declared.fault.CreateFault.{CreateFault}

@@ -1,5 +1,5 @@
 -- What is written to the devices of a new array.
-use Rattle.std.proofs.Common.{◌≡◌, ◌≢◌, ℕ, suc, ◌+◌, ◌-◌, ◌<◌, ◌≤◌, below_more, true, false, List, [], ◌∷◌, ◌++◌, replicate, set, ◌⊎◌, inl, inr, refl, sym, ap, ◌∙◌, subst, arith, Option, None, Some, if◌then◌else◌, append_assoc}
+use Rattle.std.proofs.Common.{◌≡◌, ◌≢◌, ℕ, suc, ◌+◌, ◌-◌, ◌<◌, ◌≤◌, below_more, false, List, [], ◌∷◌, ◌++◌, replicate, set, ◌⊎◌, inl, inr, refl, sym, ap, ◌∙◌, subst, arith, Option, None, Some, if◌then◌else◌, append_assoc}
 use Rattle.std.specs.Prelude.{◌&&◌, ◌==◌, ◌↔◌, IsSome, IsTrue, nat_lt}
 use Rattle.std.proofs.lemmas.Bool.{and_right, cases_eq, cases_lt, cond-true, cond-false, eq-eqb, false≢true, le-ltb, lt-ltb, ne_eqb}
 use Rattle.std.proofs.lemmas.List.{length-replicate, replicate-append-replicate}
@@ -9,7 +9,6 @@ use Rattle.stair_model.specs.Geometry.{Geometry, sectors_needed}
 use Rattle.stair_rack.specs.Answers.{Calls, IsBesideAttach, IsNoAttach, Ran, any_call}
 use Rattle.stair_rack.specs.Count.{Rose, kept-Rose}
 use Rattle.stair_rack.specs.History.{Happening, SlotCall, Attach, Sectors, Read, Write, Sync, slot_state}
-use Rattle.stair_rack.specs.Media.{has_sector}
 use Rattle.stair_rack.specs.Offline.{ButForOutside, IsHeld, IsOfflineUntilAttached}
 use Rattle.stair_rack.specs.Passes.{Landed}
 use Rattle.stair_rack.specs.Placed.{IsGoneSlot, IsSlot, IsSyncOf, IsWriteOf, Placed, Writes, one_write}
@@ -21,15 +20,17 @@ use Rattle.stair_rack.proofs.MomentLemmas.{at_some_wider, ran_any, ran_join, ran
 use Rattle.stair_rack.proofs.KeptLemmas.{IsKept-onward, IsKept-since}
 use Rattle.stair_rack.proofs.OfflineLemmas.{held_on, offline_now, pulls_on}
 use Rattle.stair_rack.proofs.PassCounts.{NoneFalls-same, NoneFalls-then}
-use Rattle.stair_rack.proofs.PlacedLemmas.{Placed-from, Reach, SyncStep-call, WriteStep-call, Writing, Writing-same, phase_ran, reach_on, writing_more, writing_none}
+use Rattle.stair_rack.proofs.PlacedLemmas.{Placed-from, Reach, SyncStep-call, WriteStep-call, Writing-same, phase_ran, reach_on, writing_more, writing_none}
+use Rattle.stair_rack.specs.Writing.{Writing}
 use Rattle.stair_rack.proofs.StandingLemmas.{Spares, standing_on}
 use Rattle.stair_super.specs.Spelling.{spelled}
 use Rattle.stair_super.specs.declared.configuration.Configuration.{Configuration}
 use Rattle.stair_super.specs.declared.mark.Mark.{Mark}
 use Rattle.stair_array.specs.Created.{created_sector, first_configuration, first_joins, first_marks, first_super}
 use Rattle.stair_array.specs.Look.{IsTaken}
-use Rattle.stair_member.specs.Telling.{Telling}
+use Rattle.stair_rack.specs.Telling.{Telling}
 use Rattle.stair_array.specs.Making.{AreMade, IsBehind, IsMaking, IsPlace, IsSlotOf, IsStoppedAt, IsStoppedBy}
+use Rattle.stair_array.specs.Represents.{IsLargeEnough}
 use Rattle.stair_array.specs.declared.fault.CreateFault.TheVariants.{Gone}
 use Rattle.stair_array.proofs.CreatedLemmas.{created_place}
 use Rattle.stair_array.proofs.LookLemmas.{taken_on}
@@ -76,18 +77,16 @@ making_phase what to gone part within p = ran_join (making_writes what to part w
 
 -- SLOTS THAT WERE TAKEN
 
-some_of_sector : (g : Geometry) (j : ℕ) (before now : List Happening) → (t : IsTaken g j before now) → IsSome (slot_state t.taken j).size
-some_of_sector g j before now t = some_of (slot_state t.taken j).size (t.large 0 (omega arith))
-  where
-    some_of : (size : Option ℕ) → has_sector size 0 ≡ true → IsSome size
-    some_of None has = absurd (false≢true has)
-    some_of (Some n) has = refl
+-- where a medium is large enough there is one
+pub large_some : (g : Geometry) (size : Option ℕ) → IsLargeEnough g size → IsSome size
+large_some g None large = absurd (false≢true (large 0 (omega arith)))
+large_some g (Some n) large = refl
 
--- it is held
+-- the slot is held
 pub taken_held : {g : Geometry} {j : ℕ} {before now : List Happening} → IsTaken g j before now → IsHeld before now j
 taken_held {g} {j} {before} {now} t =
     held_on {allowed = IsNoAttach j} j t.since
-    (IsHeld.InUse t.in_use (some_of_sector g j before now t) (pulls_on {allowed = any_call} j t.before))
+    (IsHeld.InUse t.in_use (large_some g (slot_state t.taken j).size t.large) (pulls_on {allowed = any_call} j t.before))
 
 -- and has each sector that the array needs, as long as it is attached
 pub taken_reach : {g : Geometry} {j : ℕ} {before now : List Happening} (k : ℕ) → k < sectors_needed g → IsTaken g j before now → Reach k (slot_state now j)

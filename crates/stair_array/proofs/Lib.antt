@@ -26,3 +26,9 @@ pub mod MixedLemmas
 pub mod SurveyedLemmas
 pub mod CoverLemmas
 pub mod BegunLemmas
+pub mod StageLemmas
+pub mod RedoPhaseLemmas
+pub mod RedoRunLemmas
+pub mod RedoFormLemmas
+pub mod RedoFoundLemmas
+pub mod RecoveryLemmas

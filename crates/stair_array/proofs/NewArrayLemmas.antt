@@ -32,7 +32,8 @@ use Rattle.stair_array.specs.Reassembly.{Empty, HasDrawAbove, InSlot, IsBorne, I
 use Rattle.stair_array.specs.Represents.{AreSteady, Encodings, HaveSeats, ImageRepresents, IsImageOf, IsLargeEnough, Left, Lesser, Represents, Shrinks}
 use Rattle.stair_array.specs.State.{created_state, first_seats}
 use Rattle.stair_array.specs.Tolerance.{IsTolerated, IsWithinTolerance}
-use Rattle.stair_array.proofs.CreatedLemmas.{bears_below, borne_first, closed_not_open, created_behind, created_gate, created_place, first_held, held_first, joined_first, kept_device, mark_first, place_needed, seats_first, zero}
+use Rattle.stair_member.proofs.EditionLemmas.{bears_below}
+use Rattle.stair_array.proofs.CreatedLemmas.{borne_first, closed_not_open, created_behind, created_gate, created_place, first_held, held_first, joined_first, kept_device, mark_first, place_needed, seats_first, zero}
 
 -- NO SLOTS
 

@@ -19,7 +19,7 @@ use Rattle.stair_array.specs.Degraded.{AreDamagedCopies, IsDegraded}
 use Rattle.stair_array.specs.Represents.{Shrinks}
 use Rattle.stair_array.specs.Tolerance.{IsToleratedAlone, IsWithinTolerance}
 use Rattle.stair_array.proofs.AgreeLemmas.{borne_upto, current_upto, has_newest, live_moved, own_joined, own_mark, super_by_holds}
-use Rattle.stair_array.proofs.CreatedLemmas.{bears_below}
+use Rattle.stair_member.proofs.EditionLemmas.{bears_below}
 use Rattle.stair_array.proofs.DegradedLemmas.{bears_before, degraded_copies, holds_before, orderly_copies}
 use Rattle.stair_array.proofs.FormLemmas.{same_kept}
 use Rattle.stair_array.proofs.ToleranceLemmas.{tolerated_fewer}

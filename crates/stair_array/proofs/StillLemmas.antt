@@ -26,7 +26,7 @@ use Rattle.stair_rack.proofs.TidyLemmas.{history_on, history_tidy}
 use Rattle.stair_super.proofs.Decided.{known_lt}
 use Rattle.stair_member.specs.Asked.{LeavesSectors}
 use Rattle.stair_member.specs.Findings.{AreFound, Findings, IsPlaceFound}
-use Rattle.stair_member.specs.Telling.{IsReading, Telling}
+use Rattle.stair_rack.specs.Telling.{IsReading, Telling}
 use Rattle.stair_array.specs.Degraded.{AreAllDamaged, AreDamagedCopies, Blank, IsDegraded, IsDegradedSlot, Stays, Taken}
 use Rattle.stair_array.specs.Represents.{AreSteady}
 use Rattle.stair_array.proofs.DegradedLemmas.{copies_damaged, degraded_copies, degraded_same, slot_again}

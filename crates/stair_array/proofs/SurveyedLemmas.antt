@@ -20,7 +20,7 @@ use Rattle.stair_member.specs.Membership.{IsMissing, Membership, why_of}
 use Rattle.stair_member.specs.Reasons.{IsReason}
 use Rattle.stair_member.specs.Superblocks.{CountsFor, Identifies}
 use Rattle.stair_member.specs.Survey.{AreFirstTwo, IsAnswer, IsSurveyed, Surveys}
-use Rattle.stair_member.specs.Telling.{Telling}
+use Rattle.stair_rack.specs.Telling.{Telling}
 use Rattle.stair_member.specs.declared.fault.SurveyFault.{SurveyFault}
 use Rattle.stair_member.specs.declared.fault.SurveyFault.TheVariants.{NoArray, TwoArrays, TooFew}
 use Rattle.stair_member.specs.declared.why.Why.TheVariants.{Here}

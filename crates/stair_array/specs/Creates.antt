@@ -10,7 +10,7 @@ use Rattle.stair_rack.specs.RackCounts.{NoneFalls}
 use Rattle.stair_rack.specs.Stretch.{NoneWritten, NothingWritten}
 use Rattle.stair_member.specs.Superblocks.{HasSuper}
 use Rattle.stair_array.specs.Created.{BearNoneOutside, NoneComesBack, created_sector}
-use Rattle.stair_member.specs.Telling.{Telling}
+use Rattle.stair_rack.specs.Telling.{Telling}
 use Rattle.stair_array.specs.Looking.{IsNotCreated, WasLookedAt, cells_at}
 use Rattle.stair_array.specs.Making.{SuperblocksCameLast, WrittenWithin}
 use Rattle.stair_array.specs.Reassembly.{IsConsistentUnderReassembly}

@@ -12,3 +12,5 @@ pub mod Look
 pub mod Making
 pub mod Creates
 pub mod Surveyed
+pub mod Redoing
+pub mod Recovering

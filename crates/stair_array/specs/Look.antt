@@ -8,7 +8,7 @@ use Rattle.stair_rack.specs.Sector.{Cell, content}
 use Rattle.stair_rack.specs.Stretch.{IsNoWrite}
 use Rattle.stair_super.specs.Superblock.{Superblock}
 use Rattle.stair_member.specs.Superblocks.{HasSuper, HoldsSuper}
-use Rattle.stair_member.specs.Telling.{IsReading, Telling}
+use Rattle.stair_rack.specs.Telling.{IsReading, Telling}
 use Rattle.stair_array.specs.Looking.{Finding, WasGone, WasSmall, Holds, IsBare, IsFound, IsRefusedFor}
 use Rattle.stair_array.specs.Represents.{IsLargeEnough}
 use Rattle.stair_array.specs.declared.fault.CreateFault.{CreateFault}

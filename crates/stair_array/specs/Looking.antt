@@ -8,7 +8,7 @@ use Rattle.stair_rack.specs.Offline.{IsOffline}
 use Rattle.stair_rack.specs.Sector.{Cell, content}
 use Rattle.stair_rack.specs.Stretch.{NothingWritten}
 use Rattle.stair_member.specs.Superblocks.{HasSuper}
-use Rattle.stair_member.specs.Telling.{Telling, IsFoundGone, IsLater, IsReading}
+use Rattle.stair_rack.specs.Telling.{Telling, IsFoundGone, IsLater, IsReading}
 use Rattle.stair_array.specs.declared.fault.CreateFault.{CreateFault}
 use Rattle.stair_array.specs.declared.fault.CreateFault.TheVariants.{Gone, SmallDevice, AlreadyArray}
 

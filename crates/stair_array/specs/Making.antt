@@ -11,7 +11,7 @@ use Rattle.stair_rack.specs.Sector.{Good, settled}
 use Rattle.stair_rack.specs.Stretch.{EachHappening}
 use Rattle.stair_array.specs.Created.{created_sector}
 use Rattle.stair_array.specs.Look.{IsTaken}
-use Rattle.stair_member.specs.Telling.{Telling}
+use Rattle.stair_rack.specs.Telling.{Telling}
 use Rattle.stair_array.specs.declared.fault.CreateFault.{CreateFault}
 use Rattle.stair_array.specs.declared.fault.CreateFault.TheVariants.{Gone, SmallDevice, AlreadyArray}
 

@@ -1,12 +1,12 @@
 //! Laws of what an array is, and of the images that represent it.
 
-ghost use Rattle.std.specs.Prelude.{◌≡◌, ◌+◌, ◌*◌, ◌<◌, ◌⊎◌, ℕ, IsTrue, None, List, [], ◌∷◌, Result, Ok, length};
+ghost use Rattle.std.specs.Prelude.{◌≡◌, ◌+◌, ◌*◌, ◌<◌, ◌≤◌, ◌⊎◌, ℕ, true, IsSome, IsTrue, None, Some, List, [], ◌∷◌, Result, Ok, length};
 ghost use Rattle.stair_model.specs.Cell.{IsPlaceOf};
 ghost use Rattle.stair_model.specs.CellSet.{CellSet, HasCell};
 ghost use Rattle.stair_model.specs.Coverage.{IsCovered};
 ghost use Rattle.stair_model.specs.Device.{cell_sector, gate_sector};
 ghost use Rattle.stair_model.specs.Encoding.{IsEncodedFrom};
-ghost use Rattle.stair_model.specs.Geometry.{Geometry, IsWithinLimits, block_count, data_cells};
+ghost use Rattle.stair_model.specs.Geometry.{Geometry, IsWithinLimits, block_count, data_cells, sectors_needed};
 ghost use Rattle.stair_model.specs.Slots.{Slots, HasSlot};
 ghost use Rattle.stair_model.specs.Stripe.{
   SECTOR,
@@ -16,10 +16,13 @@ ghost use Rattle.stair_model.specs.Stripe.{
   with_cell,
   zero_stripe,
 };
-ghost use Rattle.stair_rack.specs.Answers.{IsHistory, Ran, any_call, no_call};
-ghost use Rattle.stair_rack.specs.Crash.{CrashMayLeave, EachImage};
-ghost use Rattle.stair_rack.specs.History.{Happening, Made};
+ghost use Rattle.stair_rack.specs.Answers.{IsHistory, Ran, any_call, is_ready, no_call};
+ghost use Rattle.stair_rack.specs.Crash.{CrashMayLeave, EachImage, image_now};
+ghost use Rattle.stair_rack.specs.History.{Happening, Made, slot_state, stopped};
 ghost use Rattle.stair_rack.specs.Media.{Image};
+ghost use Rattle.stair_rack.specs.Moments.{AtEveryMoment};
+ghost use Rattle.stair_rack.specs.Offline.{WasPulled};
+ghost use Rattle.stair_rack.specs.Placed.{IsSlot, Placed, Writes};
 ghost use Rattle.stair_rack.specs.Sector.{Damaged, Torn};
 ghost use Rattle.stair_rack.specs.Stretch.{NothingReturned};
 ghost use Rattle.stair_super.specs.Superblock.{Superblock};
@@ -29,10 +32,11 @@ ghost use Rattle.stair_member.specs.Fencing.{IsBegun};
 ghost use Rattle.stair_member.specs.Membership.{IsMembership, Membership};
 ghost use Rattle.stair_member.specs.Superblocks.{IsOnlyIdentity};
 ghost use Rattle.stair_member.specs.Survey.{Surveys};
-ghost use Rattle.stair_member.specs.Telling.{Telling};
+ghost use Rattle.stair_rack.specs.Telling.{Telling};
 ghost use Rattle.stair_member.specs.declared.fault.SurveyFault.{SurveyFault};
 ghost use Rattle.stair_journal.specs.Body.{IsOrDamaged};
-ghost use Rattle.stair_journal.specs.Gate.{ReadsClosed};
+ghost use Rattle.stair_journal.specs.Gate.{ReadsClosed, closed_gate, open_gate};
+ghost use Rattle.stair_journal.specs.Journalling.{gate_writes};
 ghost use Rattle.stair_journal.specs.declared.redo.Redo.{Redo};
 ghost use Rattle.stair_array.specs.Blocks.{
   AreEncodingsOf,
@@ -47,8 +51,10 @@ ghost use Rattle.stair_array.specs.Created.{AreNewMedia, BearNoneOutside, IsNewA
 ghost use Rattle.stair_array.specs.Degraded.{IsDegraded};
 ghost use Rattle.stair_array.specs.Forms.{
   AreStill,
+  Encodes,
   HasForm,
   HasGate,
+  HaveOneRedo,
   IsCommitted,
   IsIdle,
   IsInRedo,
@@ -57,10 +63,43 @@ ghost use Rattle.stair_array.specs.Forms.{
   RepresentsBy,
 };
 ghost use Rattle.stair_array.specs.Reassembly.{IsConsistentUnderReassembly};
+ghost use Rattle.stair_array.specs.Recovering.{
+  IsClosedSector,
+  IsKnownBad,
+  IsKnownClosed,
+  IsKnownOpen,
+  IsOpenSector,
+  IsUnreadable,
+};
+ghost use Rattle.stair_array.specs.Redoing.{
+  AreHeld,
+  AtRest,
+  AttachesNone,
+  Done,
+  InPlace,
+  IsApart,
+  IsIn,
+  IsInSome,
+  IsLeftIn,
+  IsPhase,
+  IsRedoing,
+  Placing,
+  Reaches,
+  Redoing,
+  RunsTo,
+  Stage,
+  Uncommitted,
+  WritesNone,
+  new_in,
+  next,
+  old_in,
+  writes_in,
+};
 ghost use Rattle.stair_array.specs.Represents.{
   AreSteady,
   Encodings,
   ImageRepresents,
+  IsLargeEnough,
   Represents,
   RepresentsAlone,
 };
@@ -245,4 +284,177 @@ pub fn survey_laws()
         IsTrue new.honest → Ran any_call before old.history → Represents s old.history →
         NothingReturned old.history new.history → ToleratedSince s.geometry before new.history →
         IsMembership m → answer ≡ Ok m → IsBegun None m new.history }
+{}
+
+/// The stages of a redo over the devices of an array. It does nothing.
+pub fn stage_laws()
+    // a stage's phase writes no superblock place, and nothing behind what the array needs
+    ensures within { (a : Redoing) (stage : Stage) (j k : ℕ) (bytes : List ℕ) → IsRedoing a →
+        writes_in a stage j k ≡ Some bytes →
+        (gate_sector ≤ k) × (k < sectors_needed a.geometry) }
+    // the phase of a stage keeps it at every moment, and leads to the next one, unless the rack is stopped; slots stay held
+    ensures phase { (a : Redoing) (stage : Stage) (live : Slots)
+        (start old new : List Happening) → IsRedoing a →
+        AreHeld a.geometry (HasSlot live) start old → IsIn a stage (HasSlot live) start old →
+        IsPhase (writes_in a stage) (HasSlot live) start old new →
+        AtEveryMoment (IsIn a stage (HasSlot live) start) old new ×
+        Reaches a (next stage) (HasSlot live) start new ×
+        AreHeld a.geometry (HasSlot live) start new }
+    // it is reached outright where each live slot answered the whole phase, or lost its medium
+    ensures answered { (a : Redoing) (stage : Stage) (live to gone : Slots)
+        (start old new : List Happening) → IsRedoing a → Ran any_call start old →
+        IsIn a stage (HasSlot live) start old →
+        Placed (writes_in a stage) (HasSlot to) (HasSlot gone) old new →
+        ((j : ℕ) → HasSlot live j →
+        (HasSlot to j × ¬ HasSlot gone j) ⊎ WasPulled start new j) →
+        IsIn a (next stage) (HasSlot live) start new }
+    // calls that write to no live slot from the gate on keep it
+    ensures unwritten { (a : Redoing) (stage : Stage) (live : Slots)
+        (start old new : List Happening) →
+        IsIn a stage (HasSlot live) start old → Ran (WritesNone (HasSlot live)) old new →
+        AtEveryMoment (IsIn a stage (HasSlot live) start) old new }
+    // and so does any call on a rack that is stopped
+    ensures stopped { (a : Redoing) (stage : Stage) (live : Slots)
+        (start old new : List Happening) →
+        IsIn a stage (HasSlot live) start old → IsTrue (stopped old) → Ran any_call old new →
+        AtEveryMoment (IsIn a stage (HasSlot live) start) old new }
+    // slots that are attached to media that are large enough, and that they had at the start, are held
+    ensures holds { (g : Geometry) (live : Slots) (start h : List Happening) →
+        Ran any_call start h →
+        ((j : ℕ) → HasSlot live j → ((slot_state h j).attached ≡ true)
+        × (¬ WasPulled start h j) × IsLargeEnough g (slot_state h j).size) →
+        AreHeld g (HasSlot live) start h }
+    // and stay so while none of them is attached
+    ensures held { (g : Geometry) (live : Slots) (start old new : List Happening) →
+        AreHeld g (HasSlot live) start old → Ran (AttachesNone (HasSlot live)) old new →
+        AreHeld g (HasSlot live) start new }
+    // calls that are apart do neither, and no phase attaches a slot
+    ensures apart { (live : Slots) (old new : List Happening) →
+        Ran (IsApart (HasSlot live)) old new →
+        Ran (WritesNone (HasSlot live)) old new × Ran (AttachesNone (HasSlot live)) old new }
+    ensures attaches { (what : Writes) (live to gone : Slots) (old new : List Happening) →
+        Placed what (HasSlot to) (HasSlot gone) old new →
+        Ran (AttachesNone (HasSlot live)) old new }
+    // what reads find of one that is ready is that of the stage, as its medium wasn't pulled
+    ensures read { (a : Redoing) (stage : Stage) (live : Slots) (start h : List Happening)
+        (j : ℕ) → AreHeld a.geometry (HasSlot live) start h →
+        IsIn a stage (HasSlot live) start h → HasSlot live j → is_ready h j ≡ true →
+        (¬ WasPulled start h j) × IsLeftIn a stage (IsSlot j) (image_now h) }
+    // A redo that was in a stage, at rest or where a crash cut it off, is in one of them at every moment, as far as it goes,
+    // and ends in the one to which it came, unless the rack is stopped.
+    ensures whole { (a : Redoing) (from stage : Stage) (live : Slots)
+        (start old new : List Happening) →
+        IsRedoing a → AreHeld a.geometry (HasSlot live) start old →
+        IsIn a from (HasSlot live) start old →
+        RunsTo a from (HasSlot live) start old stage new →
+        AtEveryMoment (IsInSome a (HasSlot live) start) old new ×
+        Reaches a stage (HasSlot live) start new × AreHeld a.geometry (HasSlot live) start new }
+    // what a crash may leave of a stage is in it, on any of the live slots that weren't pulled
+    ensures left { (a : Redoing) (stage : Stage) (live now : Slots) (start h : List Happening)
+        (image : Image) →
+        IsIn a stage (HasSlot live) start h → CrashMayLeave h image →
+        ((j : ℕ) → HasSlot now j → HasSlot live j × ¬ WasPulled start h j) →
+        IsLeftIn a stage (HasSlot now) image }
+    // in each stage what a crash may leave stands for its stripes, over any of the live slots that weren't pulled; while
+    // cells are being placed one of these must have a gate that isn't lost
+    ensures stands { (a : Redoing) (stage : Stage) (live now : Slots) (start h : List Happening)
+        (image : Image) →
+        IsRedoing a → IsIn a stage (HasSlot live) start h → CrashMayLeave h image →
+        ((j : ℕ) → HasSlot now j → HasSlot live j × ¬ WasPulled start h j) →
+        ((stage ≡ Placing) → HasGate (HasSlot now) image) →
+        RepresentsBy a.geometry (old_in a stage) (new_in a stage) (HasSlot now) image }
+    // the stripes at rest after one redo are those before the next one
+    ensures again { (a b : Redoing) (live : Slots) (start h : List Happening) →
+        b.geometry ≡ a.geometry → b.old ≡ a.new → IsIn a Done (HasSlot live) start h →
+        IsIn b AtRest (HasSlot live) start h }
+    // slots with media are in a stage where each image that a crash may leave is in it
+    ensures starts { (a : Redoing) (stage : Stage) (live : Slots) (h : List Happening) →
+        ((j : ℕ) → HasSlot live j → IsSome (slot_state h j).size) →
+        EachImage (IsLeftIn a stage (HasSlot live)) h →
+        IsIn a stage (HasSlot live) h h }
+    // a rack made over media that are left in a stage is in it
+    ensures made { (a : Redoing) (stage : Stage) (live : Slots) (image : Image) →
+        ((j : ℕ) → HasSlot live j → IsSome (image j).size) →
+        IsLeftIn a stage (HasSlot live) image →
+        IsIn a stage (HasSlot live) (Made image ∷ []) (Made image ∷ []) }
+    // and one made over what a crash left is in the stage that it was in, on any of the live slots that weren't pulled
+    ensures crashed { (a : Redoing) (stage : Stage) (live now : Slots)
+        (start h : List Happening) (image : Image) →
+        IsIn a stage (HasSlot live) start h → CrashMayLeave h image →
+        ((j : ℕ) → HasSlot now j → HasSlot live j × ¬ WasPulled start h j) →
+        IsIn a stage (HasSlot now) (Made image ∷ []) (Made image ∷ []) }
+{}
+
+/// How a recovery goes on from what a crash left. It does nothing.
+pub fn recovery_laws()
+    // Stripes that are in place, with every gate closed, are at rest.
+    ensures at_rest { (a : Redoing) (live : Slots) (image : Image) →
+        Encodes a.geometry a.old (HasSlot live) image →
+        ((j : ℕ) → HasSlot live j → ReadsClosed a.geometry ((image j).cell gate_sector)) →
+        IsLeftIn a AtRest (HasSlot live) image }
+    // Uncommitted, with one gate open and none with another redo, it is a redo, in its stage of that name.
+    ensures uncommitted { (a : Redoing) (live : Slots) (image : Image) (j : ℕ) →
+        IsWithinLimits a.geometry → HaveOneRedo a.geometry (HasSlot live) image →
+        IsUncommitted a.geometry a.old a.new (HasSlot live) image → HasSlot live j →
+        IsOpen a.geometry image j a.redo →
+        IsRedoing a × IsLeftIn a Uncommitted (HasSlot live) image }
+    // So is idle with an open gate, whose redo changes nothing;
+    ensures idle { (a : Redoing) (live : Slots) (image : Image) (j : ℕ) →
+        IsWithinLimits a.geometry → a.new ≡ a.old →
+        HaveOneRedo a.geometry (HasSlot live) image →
+        IsIdle a.geometry a.old (HasSlot live) image → HasSlot live j →
+        IsOpen a.geometry image j a.redo →
+        IsRedoing a × IsLeftIn a Uncommitted (HasSlot live) image }
+    // and committed is the stage in which cells are placed.
+    ensures committed { (a : Redoing) (live : Slots) (image : Image) →
+        IsWithinLimits a.geometry → a.new ≡ a.old →
+        (form : IsCommitted a.geometry a.new (HasSlot live) image) → form.redo ≡ a.redo →
+        IsRedoing a × IsLeftIn a Placing (HasSlot live) image }
+    // What is so of a gate while its slot is in use is known of it,
+    ensures found { (g : Geometry) (redo : Redo) (live : Slots) (start h : List Happening)
+        (j : ℕ) → AreHeld g (HasSlot live) start h → HasSlot live j → is_ready h j ≡ true →
+        let gate = (slot_state h j).sector gate_sector in
+        (IsOpenSector g redo gate → IsKnownOpen g redo start h j)
+        × (IsClosedSector g gate → IsKnownClosed g start h j)
+        × (IsUnreadable gate → IsKnownBad start h j) }
+    // and stays known while it isn't written.
+    ensures known { (g : Geometry) (redo : Redo) (live : Slots) (start old new : List Happening)
+        (j : ℕ) → HasSlot live j → Ran (WritesNone (HasSlot live)) old new →
+        (IsKnownOpen g redo start old j → IsKnownOpen g redo start new j)
+        × (IsKnownClosed g start old j → IsKnownClosed g start new j)
+        × (IsKnownBad start old j → IsKnownBad start new j) }
+    // At rest, closing gates keeps the stage, whatever the slots.
+    ensures closing { (a : Redoing) (stage : Stage) (live to gone : Slots)
+        (start old new : List Happening) → (stage ≡ AtRest) ⊎ (stage ≡ Done) →
+        IsIn a stage (HasSlot live) start old →
+        Placed (gate_writes closed_gate) (HasSlot to) (HasSlot gone) old new →
+        AtEveryMoment (IsIn a stage (HasSlot live) start) old new }
+    // Uncommitted, opening the gates that aren't known open leads on, unless the rack is stopped.
+    ensures opening { (a : Redoing) (live to gone : Slots) (start old new : List Happening) →
+        IsRedoing a → AreHeld a.geometry (HasSlot live) start old →
+        IsIn a Uncommitted (HasSlot live) start old →
+        Placed (gate_writes (open_gate a.geometry a.redo)) (HasSlot to) (HasSlot gone) old new →
+        ((j : ℕ) → HasSlot live j →
+        HasSlot to j ⊎ IsKnownOpen a.geometry a.redo start old j) →
+        AtEveryMoment (IsIn a Uncommitted (HasSlot live) start) old new ×
+        Reaches a Placing (HasSlot live) start new }
+    // While cells are placed, opening gates again keeps the stage, where those of live slots in use are known bad. Over an
+    // open gate a cut write would leave one that is neither open nor lost.
+    ensures reopening { (a : Redoing) (live to gone : Slots) (start old new : List Happening) →
+        IsRedoing a → AreHeld a.geometry (HasSlot live) start old →
+        IsIn a Placing (HasSlot live) start old →
+        Placed (gate_writes (open_gate a.geometry a.redo)) (HasSlot to) (HasSlot gone) old new →
+        ((j : ℕ) → HasSlot live j → HasSlot to j → is_ready old j ≡ true →
+        IsKnownBad start old j) →
+        AtEveryMoment (IsIn a Placing (HasSlot live) start) old new }
+    // Where every live gate is known closed, a redo that wasn't committed wasn't begun,
+    ensures unopened { (a : Redoing) (live : Slots) (start h : List Happening) →
+        IsIn a Uncommitted (HasSlot live) start h →
+        ((j : ℕ) → HasSlot live j → IsKnownClosed a.geometry start h j) →
+        IsIn a AtRest (HasSlot live) start h }
+    // and one whose cells are in place is done.
+    ensures closed { (a : Redoing) (live : Slots) (start h : List Happening) →
+        IsIn a InPlace (HasSlot live) start h →
+        ((j : ℕ) → HasSlot live j → IsKnownClosed a.geometry start h j) →
+        IsIn a Done (HasSlot live) start h }
 {}

@@ -13,7 +13,7 @@ ghost use Rattle.stair_array.specs.Look.{
   IsTaken,
   WasGoneToRead,
 };
-ghost use Rattle.stair_member.specs.Telling.{telling};
+ghost use Rattle.stair_rack.specs.Telling.{telling};
 ghost use Rattle.stair_array.specs.Looking.{AllPassed, IsRefused, Passed};
 
 use crate::fault::CreateFault;

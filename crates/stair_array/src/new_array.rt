@@ -1,5 +1,5 @@
 ghost use Rattle.stair_array.specs.Creates.{Creates};
-ghost use Rattle.stair_member.specs.Telling.{telling};
+ghost use Rattle.stair_rack.specs.Telling.{telling};
 
 use crate::fault::CreateFault;
 use crate::look::look_at_all;

@@ -5,7 +5,7 @@ ghost use Rattle.stair_rack.specs.Answers.{Ran};
 ghost use Rattle.stair_rack.specs.Placed.{IsSlot};
 ghost use Rattle.stair_rack.specs.RackCounts.{NoneFalls};
 ghost use Rattle.stair_array.specs.Created.{first_configuration as first};
-ghost use Rattle.stair_member.specs.Telling.{telling};
+ghost use Rattle.stair_rack.specs.Telling.{telling};
 ghost use Rattle.stair_array.specs.Making.{
   AreMade,
   IsBehind,

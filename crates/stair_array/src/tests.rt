@@ -1,9 +1,14 @@
-ghost use Rattle.std.specs.Prelude.{◌<◌};
+ghost use Rattle.std.specs.Prelude.{◌≡◌, ◌<◌, ℕ, IfOk};
+ghost use Rattle.stair_model.specs.CellSet.{HasCell, IsCellSet};
+ghost use Rattle.stair_model.specs.Stripe.{IsStripeOf};
+ghost use Rattle.stair_journal.specs.Redo.{IsRedo};
 
 use crate::{CreateFault, create};
-use stair_base::Geometry;
+use stair_base::{CellSet, Geometry, Slots, Stripe};
+use stair_journal::{Redo, close_gates, open_gates, read_gates, write_body};
 use stair_memrack::{Act, MemRack, What};
 use stair_rack::{Got, Rack, Reply};
+use stair_stripes::place;
 use std::alloc::{AllocError, Global};
 use std::test::Fail;
 
@@ -39,6 +44,10 @@ fn gate() -> [u8; 512] {
     let mut bytes = [0; 512];
     bytes[..8].copy_from_slice(b"STAIRGT1");
     bytes
+}
+
+fn act(at: u32, what: What) -> Act {
+    Act { at, what }
 }
 
 // What is read of a sector; zeros where it isn't good.
@@ -180,6 +189,179 @@ fn a_slot_that_is_gone_in_the_writing(rt: HostRuntime) -> Result<(), Fail> {
             Err(CreateFault::Gone(2)),
             "{at}"
         );
+    }
+    Ok(())
+}
+
+// The cells of stripe 1 of four devices with two rows, by number 4·row + slot, before a redo of those that differ and after
+// it. Each is filled with one byte.
+const OLD: [u8; 8] = [1, 2, 3, 4, 5, 6, 7, 8];
+
+const NEW: [u8; 8] = [101, 2, 3, 104, 5, 6, 107, 108];
+
+fn stripe_of(alloc: Global, geometry: &Geometry, bytes: &[u8; 8]) -> Result<Stripe, AllocError>
+    ensures { IfOk result (IsStripeOf geometry.now) }
+{
+    let mut stripe = Stripe::new(alloc, geometry)?;
+    for row in 0..geometry.r() {
+        for slot in 0..geometry.n() {
+            let number = usize::from(4 * (row % 2) + slot % 4);
+            stripe.put(row, slot, &[bytes[number]; 512]);
+        }
+    }
+    Ok(stripe)
+}
+
+// The redo of stripe 1 with the cells in which these differ, and with cell 0.
+fn redo_of(from: &[u8; 8], to: &[u8; 8]) -> Redo
+    ensures stripe { result.stripe ≡ 1 }
+    ensures inside { (i j : ℕ) → HasCell result.cells i j → (i < 2) × (j < 4) }
+    ensures formed { IsCellSet result.cells }
+    ensures some { HasCell result.cells 0 0 }
+{
+    let mut cells = CellSet::empty();
+    cells.add(0, 0);
+    for number in 0..8u8 {
+        if from[usize::from(number)] != to[usize::from(number)] {
+            cells.add(number / 4, number % 4);
+        }
+    }
+    Redo { stripe: 1, cells }
+}
+
+// The four phases of a redo. A slot that was gone in one has no part in the next.
+fn redo(rack: &mut MemRack, geometry: &Geometry, live: Slots, redo: &Redo, stripe: &Stripe)
+    requires redo { IsRedo geometry.now redo.now }
+    requires stripe { IsStripeOf geometry.now stripe.now }
+{
+    let live = live.difference(&write_body(rack, geometry, live, redo, stripe));
+    let live = live.difference(&open_gates(rack, live, geometry, redo));
+    let live = live.difference(&place(rack, geometry, live, redo, stripe));
+    close_gates(rack, live);
+}
+
+// What stands in the cells of stripe 1, 0 for one that can't be read.
+fn cells_found(rack: &mut MemRack) -> [u8; 8] {
+    let mut found = [0; 8];
+    for number in 0..8u8 {
+        let (_, bytes) = read(rack, number % 4, 13 + u32::from(number / 4));
+        found[usize::from(number)] = bytes[511];
+    }
+    found
+}
+
+// Whether the slot's body has each cell in which both differ.
+fn has_body(rack: &mut MemRack, slot: u8) -> bool
+    requires { slot < 32 }
+{
+    for number in 0..8u8 {
+        let at = usize::from(number);
+        let body = read(rack, slot, 3 + u32::from(number)).1;
+        if OLD[at] != NEW[at] && body != [NEW[at]; 512] {
+            return false;
+        }
+    }
+    true
+}
+
+const MIXED: [u32; 16] = [1, 9, 0, 1, 1, 0, 1, 9, 1, 1, 0, 9, 0, 1, 9, 1];
+
+// A slot that is pulled, 9 for none, and what a crash leaves of the sectors that are pending: what they held, what was
+// written, torn ones, and some of each.
+const CUTS: [(u8, [u32; 16]); 8] = [
+    (9, [0; 16]),
+    (9, [1; 16]),
+    (9, [9; 16]),
+    (9, MIXED),
+    (1, [0; 16]),
+    (1, [1; 16]),
+    (1, [9; 16]),
+    (1, MIXED),
+];
+
+// A rack that is stopped before this call, and what a crash leaves of it. The old stripe is placed by calls 4 to 23. The
+// redo's body is written by calls 24 to 43, its gates are opened by those up to 51, its cells are placed by those up to 59,
+// and its gates are closed. A slot may be pulled in the first phase.
+fn cut_off(
+    alloc: Global,
+    geometry: &Geometry,
+    stop: u32,
+    pulled: u8,
+    picks: &[u32; 16],
+) -> Result<MemRack, AllocError>
+    requires rows { geometry.now.r ≡ 2 }
+    requires devices { geometry.now.n ≡ 4 }
+    requires stripes { geometry.now.stripes ≡ 3 }
+{
+    let pull = What::Pull { slot: pulled };
+    let script = [act(30, pull), act(stop, What::Stop)];
+    let mut rack = MemRack::new(alloc, 4, 17, &script, 99)?;
+    let all = attached(&mut rack);
+    let old = stripe_of(alloc, geometry, &OLD)?;
+    place(&mut rack, geometry, all, &redo_of(&[0; 8], &OLD), &old);
+    close_gates(&mut rack, all);
+    let new = stripe_of(alloc, geometry, &NEW)?;
+    redo(&mut rack, geometry, all, &redo_of(&OLD, &NEW), &new);
+    rack.after_crash(alloc, picks, &[], 99)
+}
+
+// Attaches slots 0 to 3, and gives those that are there.
+fn attached(rack: &mut MemRack) -> Slots {
+    let mut there = Slots::empty();
+    for slot in 0..4 {
+        if rack.attach(slot) == Reply::Done {
+            there.add(slot);
+        }
+    }
+    there
+}
+
+// What the array holds by what is found: a cell on a slot that isn't live as it was, and where a gate is open each cell of
+// the redo from the body.
+fn held(found: &[u8; 8], live: Slots, open: bool) -> [u8; 8] {
+    let mut held = *found;
+    for number in 0..8u8 {
+        let at = usize::from(number);
+        if open && OLD[at] != NEW[at] {
+            held[at] = NEW[at];
+        } else if !live.has(number % 4) {
+            held[at] = OLD[at];
+        }
+    }
+    held
+}
+
+// Whether the body is whole on each of these slots.
+fn have_body(rack: &mut MemRack, live: Slots) -> bool {
+    for slot in 0..4 {
+        if live.has(slot) && !has_body(rack, slot) {
+            return false;
+        }
+    }
+    true
+}
+
+#[test]
+fn a_redo_that_is_cut_leaves_the_old_cells_or_the_new_ones(rt: HostRuntime) -> Result<(), Fail> {
+    let geometry = Geometry::new(4, 1, 2, &[1], 3, ID)?;
+    for stop in 24..=68u32 {
+        for (pulled, picks) in CUTS {
+            let mut rack = cut_off(rt.alloc(), &geometry, stop, pulled, &picks)?;
+            let live = attached(&mut rack);
+            let gates = read_gates(&mut rack, &geometry, live);
+            let open = gates.redo.is_some();
+            assert!(rt; !open || gates.redo == Some(redo_of(&OLD, &NEW)), "{stop}");
+            assert!(rt; !open || have_body(&mut rack, live), "{stop}");
+            let found = cells_found(&mut rack);
+            let held = held(&found, live, open);
+            assert!(rt; held == OLD || held == NEW, "{stop} {found:?}");
+            // cells that are neither are being placed, and every gate is open
+            let whole = pulled < 4 || found == OLD || found == NEW;
+            assert!(rt; whole || gates.opened == live, "{stop} {found:?}");
+            // they are the old ones before a gate is written, and the new ones once all gates are open
+            assert!(rt; pulled < 4 || stop > 44 || held == OLD, "{stop} {found:?}");
+            assert!(rt; pulled < 4 || stop < 52 || held == NEW, "{stop} {found:?}");
+        }
     }
     Ok(())
 }

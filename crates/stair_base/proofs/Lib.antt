@@ -3,3 +3,4 @@ pub mod GlobalCounts
 pub mod RowScan
 pub mod CoverageScan
 pub mod RestRows
+pub mod SlotLemmas

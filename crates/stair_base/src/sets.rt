@@ -53,6 +53,39 @@ impl Slots {
         self.marks[usize::from(slot)]
     }
 
+    /// The slots that are in this set or in the other one.
+    pub fn union(&self, other: &Slots) -> Slots
+        ensures members { (j : ℕ) →
+            HasSlot result j ↔ (HasSlot self.now j ⊎ HasSlot other.now j) }
+        ensures well_formed { IsSlotSet result }
+    {
+        let _ = &self.marks;
+        let _ = &other.marks;
+        let mut both = Slots::empty();
+        for slot in 0..32 {
+            if self.has(slot) || other.has(slot) {
+                both.add(slot);
+            }
+        }
+        both
+    }
+
+    /// The slots of this set that aren't in the other one.
+    pub fn difference(&self, other: &Slots) -> Slots
+        ensures members { (j : ℕ) →
+            HasSlot result j ↔ (HasSlot self.now j × ¬ HasSlot other.now j) }
+        ensures well_formed { IsSlotSet result }
+    {
+        let _ = &self.marks;
+        let mut rest = Slots::empty();
+        for slot in 0..32 {
+            if self.has(slot) && !other.has(slot) {
+                rest.add(slot);
+            }
+        }
+        rest
+    }
+
     /// How many slots are in the set, at most 32.
     pub fn count(&self) -> u8
         ensures value { result ≡ slot_count self.now }

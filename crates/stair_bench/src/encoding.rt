@@ -1,9 +1,11 @@
-ghost use Rattle.std.specs.Prelude.{◌≡◌, ◌<◌, IfOk};
+ghost use Rattle.std.specs.Prelude.{◌≡◌, ◌<◌, ℕ, IfOk};
+ghost use Rattle.stair_model.specs.Cell.{Data, cell_at};
+ghost use Rattle.stair_model.specs.Geometry.{IsWithinLimits};
 ghost use Rattle.stair_model.specs.Stripe.{IsStripeOf};
 
 use crate::check::{check_of_blocks, check_of_stripe};
 use crate::varied::varied;
-use stair_base::{Geometry, Kind, SECTOR, Stripe, StripeCode};
+use stair_base::{Geometry, Kind, Place, SECTOR, Stripe, StripeCode};
 use stair_codec::{By, Codec};
 use stair_gf::Steps;
 use std::alloc::{AllocError, Global};
@@ -48,12 +50,22 @@ pub(crate) fn check_of_updating<L: Ledger>(
     let mut codec = Codec::new(alloc, geometry, By::Fewest)?;
     let mut steps = Steps::<L>::new(blank);
     codec.encode(&mut stripe, &mut steps);
-    let middle = geometry.place_of(geometry.blocks() / 2);
+    let middle = middle_block(geometry);
     let bytes = varied(1023);
     for _round in 0..rounds {
         codec.update(&mut stripe, middle.row, middle.slot, &bytes, &mut steps);
     }
     Ok(check_of_stripe(geometry, &stripe))
+}
+
+/// Where the middle block of the array lies.
+pub(crate) fn middle_block(geometry: &Geometry) -> Place
+    ensures row_in { result.row < geometry.now.r }
+    ensures slot_in { result.slot < geometry.now.n }
+    ensures data { (d : ℕ) × (cell_at geometry.now result.row result.slot ≡ Data d) }
+    ensures limits { IsWithinLimits geometry.now }
+{
+    geometry.place_of(geometry.blocks() / 2)
 }
 
 /// Copies all data cells of a stripe, so many times, and gives a check of the copies.

@@ -67,6 +67,8 @@ pub(crate) enum Kernel {
     ReadSectors,
     /// A new array on image files.
     CreateArray,
+    /// The middle block of a stripe on image files, set to other bytes by a redo.
+    Redo(Layout),
 }
 
 impl Kernel {
@@ -106,10 +108,11 @@ impl Kernel {
     ];
 
     /// Those over image files.
-    const OVER_FILES: [Kernel; 3] = [
+    const OVER_FILES: [Kernel; 4] = [
         Kernel::WriteSectors,
         Kernel::ReadSectors,
         Kernel::CreateArray,
+        Kernel::Redo(Layout::EightDevices),
     ];
 
     /// What it does, and the numbers that it does it for.
@@ -127,6 +130,7 @@ impl Kernel {
             Kernel::WriteSectors => ("write", "sectors"),
             Kernel::ReadSectors => ("read", "sectors"),
             Kernel::CreateArray => ("create", "array"),
+            Kernel::Redo(layout) => ("redo", layout.name()),
         }
     }
 

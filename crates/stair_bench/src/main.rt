@@ -3,10 +3,12 @@
 
 mod arrays;
 mod check;
+mod counting;
 mod encoding;
 mod fault;
 mod kernel;
 mod layout;
+mod redo;
 mod restoring;
 mod rounds;
 mod sectors;
@@ -14,7 +16,7 @@ mod varied;
 
 use fault::Fault;
 use kernel::Kernel;
-use rounds::check_of_rounds;
+use rounds::{Made, make_rounds};
 use std::process::ExitCode;
 use std::{env, io};
 
@@ -45,21 +47,24 @@ fn read_request(rt: &HostRuntime) -> Result<Request, Fault> {
     }
 }
 
-/// Runs the rounds of a kernel, and prints its name and the check of what it made.
-fn print_check(rt: &HostRuntime, kernel: Kernel, rounds: u32) -> Result<(), Fault> {
-    let check = check_of_rounds(rt, rt.alloc(), kernel, rounds)?;
-    println!(rt; "{kernel} {check:016x}").map_err(|_| Fault::Output)
+/// Runs the rounds of a kernel, and prints its name, the check of what it made, and the calls of a redo.
+fn print_made(rt: &HostRuntime, kernel: Kernel, rounds: u32) -> Result<(), Fault> {
+    match make_rounds(rt, rt.alloc(), kernel, rounds)? {
+        Made::Check(check) => println!(rt; "{kernel} {check:016x}"),
+        Made::Redone(check, calls) => println!(rt; "{kernel} {check:016x} {calls}"),
+    }
+    .map_err(|_| Fault::Output)
 }
 
 fn run(rt: &HostRuntime) -> Result<(), Fault> {
     match read_request(rt)? {
         Request::OneRoundOfEach => {
             for kernel in Kernel::IN_MEMORY {
-                print_check(rt, kernel, 1)?;
+                print_made(rt, kernel, 1)?;
             }
             Ok(())
         }
-        Request::Rounds { kernel, rounds } => print_check(rt, kernel, rounds),
+        Request::Rounds { kernel, rounds } => print_made(rt, kernel, rounds),
     }
 }
 

@@ -3,9 +3,11 @@ ghost use Rattle.std.specs.List.{range_with_len};
 
 use crate::arrays::check_of_creating;
 use crate::check::{check_of, check_of_blocks};
+use crate::counting::Calls;
 use crate::encoding::{check_of_copying_cells, check_of_encoding, check_of_updating};
 use crate::fault::Fault;
 use crate::kernel::{Code, Kernel};
+use crate::redo::check_of_redoing;
 use crate::restoring::check_of_restoring;
 use crate::sectors::{check_of_reading, check_of_sealing, check_of_writing};
 use crate::varied::varied;
@@ -17,15 +19,23 @@ use std::fs::Files;
 use std::marker::Brand;
 use std::sync::ledger::{Blank, Ledger};
 
-/// Runs so many rounds of the kernel, and gives a check of what it made.
-pub(crate) fn check_of_rounds<F: Files + Drop>(
+/// What rounds of a kernel made.
+pub(crate) enum Made {
+    /// Something with this check.
+    Check(u64),
+    /// A stripe with this check, by so many calls.
+    Redone(u64, Calls),
+}
+
+/// Runs so many rounds of the kernel.
+pub(crate) fn make_rounds<F: Files + Drop>(
     rt: F,
     alloc: Global,
     kernel: Kernel,
     rounds: u32,
-) -> Result<u64, Fault> {
+) -> Result<Made, Fault> {
     let steps = Blank::new(1);
-    Ok(match kernel {
+    let check = match kernel {
         Kernel::MultiplyAdd => check_of_adding(rounds),
         Kernel::Solve(row) => check_of_solving::<Brand>(alloc, row.code(), rounds, steps)?,
         Kernel::CopySymbols(row) => check_of_copying(alloc, row.code(), rounds)?,
@@ -47,7 +57,13 @@ pub(crate) fn check_of_rounds<F: Files + Drop>(
         Kernel::WriteSectors => check_of_writing(rt, alloc, rounds)?,
         Kernel::ReadSectors => check_of_reading(rt, alloc, rounds)?,
         Kernel::CreateArray => check_of_creating(rt, alloc, rounds)?,
-    })
+        Kernel::Redo(layout) => {
+            let geometry = layout.geometry();
+            let (check, calls) = check_of_redoing::<F, Brand>(rt, alloc, &geometry, rounds, steps)?;
+            return Ok(Made::Redone(check, calls));
+        }
+    };
+    Ok(Made::Check(check))
 }
 
 /// Adds multiples of a symbol to another, by each byte in turn, so many times, and one more that makes all of them together

@@ -3,7 +3,7 @@ use Rattle.std.specs.Prelude.{◌≡◌, ℕ, Bool, List}
 use Rattle.stair_rack.specs.History.{Happening}
 use Rattle.stair_array.specs.Creates.{Creates}
 use Rattle.stair_member.specs.Survey.{Surveys}
-use Rattle.stair_member.specs.Telling.{Telling, telling}
+use Rattle.stair_rack.specs.Telling.{Telling, telling}
 use Rattle.stair_engine.specs.Action.{Create, Survey}
 use Rattle.stair_engine.specs.Means.{Means}
 use Rattle.stair_engine.specs.Outside.{Outside, Views}

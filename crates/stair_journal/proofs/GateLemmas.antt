@@ -56,7 +56,7 @@ stripe_bytes : (g : Geometry) (redo : Redo) → take 4 (drop 12 (open_gate g red
 unfolding open_gate
 stripe_bytes g redo = refl
 
-bitmap_bytes : (g : Geometry) (redo : Redo) → take 128 (drop 16 (open_gate g redo)) ≡ bitmap g redo.cells
+pub bitmap_bytes : (g : Geometry) (redo : Redo) → take 128 (drop 16 (open_gate g redo)) ≡ bitmap g redo.cells
 unfolding open_gate
 bitmap_bytes g redo = take_at (bitmap g redo.cells) (replicate 368 0) 128 (length-bitmap g redo.cells)
 
@@ -66,7 +66,7 @@ stripe_fits g redo limits of =
     let few : g.stripes ≤ 65536 = limits.size.1 in
     omega arith
 
-stripe_is : (g : Geometry) (redo : Redo) → IsWithinLimits g → IsRedo g redo → from_be_bytes w32 (take 4 (drop 12 (open_gate g redo))) ≡ redo.stripe
+pub stripe_is : (g : Geometry) (redo : Redo) → IsWithinLimits g → IsRedo g redo → from_be_bytes w32 (take 4 (drop 12 (open_gate g redo))) ≡ redo.stripe
 stripe_is g redo limits of = ap (from_be_bytes w32) (stripe_bytes g redo) ∙ from_be_bytes-to_be_bytes_4 redo.stripe (stripe_fits g redo limits of)
 
 -- the same bitmap says the same of each cell number
@@ -82,11 +82,11 @@ same_number g a b same c below =
     (bits_once (λ p. has_number g a (8 * q + p)) (λ p. has_number g b (8 * q + p)) bytes (c % 8) (omega arith))
 
 -- a cell of the stripe by its number
-number_is : (g : Geometry) (cells : CellSet) (i j : ℕ) → j < g.n → has_number g cells (i * g.n + j) ≡ has_cell cells i j
+pub number_is : (g : Geometry) (cells : CellSet) (i j : ℕ) → j < g.n → has_number g cells (i * g.n + j) ≡ has_cell cells i j
 number_is g cells i j below =
     ap (λ (k : ℕ). has_cell cells k ((i * g.n + j) % g.n)) (div-mul-add i g.n j below) ∙ ap (has_cell cells i) (mod-mul-add i g.n j below)
 
-number_small : (g : Geometry) (i j : ℕ) → IsWithinLimits g → i < g.r → j < g.n → i * g.n + j < 1024
+pub number_small : (g : Geometry) (i j : ℕ) → IsWithinLimits g → i < g.r → j < g.n → i * g.n + j < 1024
 number_small g i j limits row slot =
     let rows : g.r ≤ 32 = limits.rows.1 in
     let devices : g.n ≤ 32 = limits.devices.1 in

@@ -2,3 +2,11 @@
 pub mod BitLemmas
 pub mod GateLemmas
 pub mod KnownGate
+pub mod WritesLemmas
+pub mod RedoLemmas
+pub mod LiveCounts
+pub mod TurnLemmas
+pub mod GatesLemmas
+pub mod AskLemmas
+pub mod BodyLemmas
+pub mod ReadGateLemmas

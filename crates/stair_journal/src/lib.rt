@@ -1,13 +1,20 @@
-//! The journal's area of a device: the gate, and what a redo is of.
+//! The journal of an array: a gate on each device, and behind it the body of a redo.
 //!
-//! No call takes memory.
+//! A redo changes cells of one stripe. Its body is written to every live device, then the gates are opened, the cells are
+//! placed, and the gates are closed. No call takes memory.
 #![tactic(auto)]
 
-pub use gate::closed_gate;
-pub use redo::Redo;
-
+mod body;
 mod gate;
+mod gates;
 pub mod laws;
+mod phases;
 mod redo;
 #[cfg(test)]
 mod tests;
+
+pub use body::{Body, read_body};
+pub use gate::closed_gate;
+pub use gates::{Gates, read_gates};
+pub use phases::{close_gates, open_gates, write_body};
+pub use redo::Redo;

@@ -27,6 +27,7 @@ use Rattle.stair_member.specs.declared.aim.Aim.{Aim}
 use Rattle.stair_member.specs.declared.aim.Aim.TheVariants as aims
 use Rattle.stair_member.specs.declared.why.Why.{Why}
 use Rattle.stair_member.specs.declared.why.Why.TheVariants as why
+use Rattle.stair_member.proofs.AttemptLemmas.{gone_down}
 use Rattle.stair_member.proofs.CountingLemmas.{all_but_mapped, has_or_not}
 use Rattle.stair_member.proofs.EditionLemmas.{IsOf, Entry, Issue, SameMedium, NothingThere, Same, Bare, held_of, none_held_there, slot_is}
 use Rattle.stair_member.proofs.FencingLemmas.{IsWhole, comes, from, known}
@@ -40,10 +41,6 @@ use Rattle.stair_member.proofs.SuperLemmas.{counts_bears, super_formed}
 
 abbrev IsUp : Why → Type 0
 IsUp w = (w ≡ why.Here) ⊎ (w ≡ why.Rebuilding)
-
-gone_not_up : (w : Why) → w ≡ why.Gone → ¬ IsUp w
-gone_not_up w is (inl here) = absurd (cc)
-gone_not_up w is (inr here) = absurd (cc)
 
 -- what is to be here was so, or is admitted or promoted
 was_up : (aim : Aim) (j : ℕ) (w : Why) → IsUp (aimed aim j w) → IsUp w ⊎ ((admitted aim ≡ Some j) ⊎ (aim ≡ aims.Promote j))
@@ -73,7 +70,7 @@ module _ (aim : Aim) (gone : Slots) (next : Option ℕ) (m last : Membership) (o
   stayed j here =
       let below : j < m.array.geometry.n = subst (λ (g : Geometry). j < g.n) st.established.stands.geometry here.below in
       elim (has_or_not gone j) [
-        | inl has ↦ absurd (gone_not_up (why_of last j) (st.dropped j has) here.why)
+        | inl has ↦ absurd (gone_down (why_of last j) (st.dropped j has) here.why)
         | inr not_gone ↦
             elim (was_up aim j (why_of m j) (subst IsUp (st.established.whys j below not_gone) here.why)) [
               | inl was ↦ inl (record { below = below; why = was })

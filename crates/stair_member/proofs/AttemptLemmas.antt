@@ -13,7 +13,7 @@ use Rattle.stair_member.specs.Aims.{admitted, aimed, frozen_then, label_then, ma
 use Rattle.stair_member.specs.Counting.{AtMost}
 use Rattle.stair_member.specs.Membership.{Membership, IsMissing, why_of}
 use Rattle.stair_member.specs.Rounds.{BeganOut, BrokeOff, DrewOut, Round, WentOn}
-use Rattle.stair_member.specs.Telling.{Telling}
+use Rattle.stair_rack.specs.Telling.{Telling}
 use Rattle.stair_member.specs.declared.aim.Aim.{Aim}
 use Rattle.stair_member.specs.declared.aim.Aim.TheVariants as aims
 use Rattle.stair_member.specs.declared.why.Why.{Why}

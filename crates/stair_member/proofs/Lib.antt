@@ -4,7 +4,6 @@ pub mod SuperLemmas
 pub mod DecisionLemmas
 pub mod StandingLemmas
 pub mod NewestLemmas
-pub mod TellingLemmas
 pub mod JudgeLemmas
 pub mod SightLemmas
 pub mod ReasonLemmas
@@ -24,4 +23,8 @@ pub mod StoodLemmas
 pub mod OrderLemmas
 pub mod AgainLemmas
 pub mod AttemptLemmas
+pub mod LeavingLemmas
+pub mod TakingLemmas
 pub mod EstablishLemmas
+pub mod EndingLemmas
+pub mod RenewingLemmas

@@ -9,15 +9,16 @@ use Rattle.stair_rack.specs.Count.{Rose, kept-Rose}
 use Rattle.stair_rack.specs.History.{Happening, Attach, Read, slot_state}
 use Rattle.stair_rack.specs.Media.{Image}
 use Rattle.stair_rack.specs.Offline.{IsHeld, IsOffline}
-use Rattle.stair_rack.specs.RackCounts.{NoneFalls}
+use Rattle.stair_rack.specs.RackCounts.{NoneFalls, RisesAtMost}
 use Rattle.stair_rack.specs.Sector.{Cell, Good, Damaged, content}
 use Rattle.stair_rack.specs.declared.rack.Got.{Got}
 use Rattle.stair_rack.specs.declared.rack.Got.TheVariants as got
 use Rattle.stair_rack.specs.declared.rack.Reply.TheVariants as reply
 use Rattle.stair_rack.proofs.CallLemmas.{attach_done, attach_gone}
+use Rattle.stair_rack.proofs.PassCounts.{rises_more, rises_none}
 use Rattle.stair_rack.proofs.MomentLemmas.{IsThis, at_end, calls_ran, ran_any, ran_join}
 use Rattle.stair_rack.proofs.OfflineLemmas.{held_on, offline_from_unready, offline_now, pulls_on}
-use Rattle.stair_rack.proofs.ReadLemmas.{was_read_bad, was_read_gone, was_read_good}
+use Rattle.stair_rack.proofs.ReadLemmas.{was_read_gone}
 use Rattle.stair_super.specs.Newer.{IsOlder, is_older, newer_super}
 use Rattle.stair_super.specs.Spelling.{SpellsSuperblock}
 use Rattle.stair_super.proofs.Order.{older_is}
@@ -26,14 +27,14 @@ use Rattle.stair_member.specs.Asked.{AsksBelow, AsksSlot}
 use Rattle.stair_member.specs.Findings.{Findings, IsPlaceFound}
 use Rattle.stair_member.specs.Shows.{AreSights, HoldsThis, IsNewest, IsSeen, IsSight, block_in, newest_at}
 use Rattle.stair_member.specs.Superblocks.{HasSuper, IsSuperOf, First, Second}
-use Rattle.stair_member.specs.Survey.{IsNextPlace, IsPlaceOf, InFirst, InSecond, RisesAtMost}
-use Rattle.stair_member.specs.Telling.{IsFoundGone, IsLater, IsReading, Telling, telling}
+use Rattle.stair_member.specs.Survey.{IsNextPlace, IsPlaceOf, InFirst, InSecond}
+use Rattle.stair_rack.specs.Telling.{IsFoundGone, IsLater, IsReading, Telling, telling}
 use Rattle.stair_member.specs.declared.look.Seen.{Seen}
 use Rattle.stair_member.specs.declared.look.Seen.TheVariants as seen
 use Rattle.stair_member.specs.declared.surveying.Sights.{Sights}
 use Rattle.stair_member.proofs.DecisionLemmas.{no_super, none_held, spelled_here}
 use Rattle.stair_member.proofs.SuperLemmas.{holds_once, one_super, super_held}
-use Rattle.stair_member.proofs.TellingLemmas.{gone_wider, later_called, later_join, later_none, reading_wider}
+use Rattle.stair_rack.proofs.TellingLemmas.{gone_wider, later_called, later_join, later_none, reading_bad, reading_good, reading_wider}
 
 -- ONE READ
 
@@ -43,7 +44,7 @@ module _ (honest : Bool) (old new : List Happening) (bads bads' : ℕ) (gones go
       → IsSeen j k (telling honest old bads gones) (telling honest new bads' gones') (seen.Block s)
   seen_block bytes s told good spells = record {
     cell = Good bytes;
-    found = IsPlaceFound.Read (λ is. was_read_good (λ cell. cell ≡ Good bytes) (told is) (good is));
+    found = IsPlaceFound.Read (reading_good honest old new bads bads' gones gones' j k bytes told good);
     holds = record { bytes = bytes; good = refl; spells = spells };
     gone = λ is. absurd (cc);
   }
@@ -53,7 +54,7 @@ module _ (honest : Bool) (old new : List Happening) (bads bads' : ℕ) (gones go
       → IsSeen j k (telling honest old bads gones) (telling honest new bads' gones') seen.Nothing
   seen_nothing bytes told good none = record {
     cell = Good bytes;
-    found = IsPlaceFound.Read (λ is. was_read_good (λ cell. cell ≡ Good bytes) (told is) (good is));
+    found = IsPlaceFound.Read (reading_good honest old new bads bads' gones gones' j k bytes told good);
     holds = λ s holds. none s (spelled_here bytes s holds);
     gone = λ is. absurd (cc);
   }
@@ -62,7 +63,7 @@ module _ (honest : Bool) (old new : List Happening) (bads bads' : ℕ) (gones go
       → IsSeen j k (telling honest old bads gones) (telling honest new bads' gones') seen.Nothing
   seen_bad began told rose = record {
     cell = Damaged;
-    found = IsPlaceFound.Read (rose, λ is. was_read_bad (began is) (told is));
+    found = IsPlaceFound.Read (reading_bad honest old new bads bads' gones gones' j k began told rose);
     holds = λ s. no_super Damaged s refl;
     gone = λ is. absurd (cc);
   }
@@ -308,21 +309,6 @@ pub record AreSightsBelow (i : ℕ) (newest : List (Option Superblock)) (next : 
   pub reads : RisesAtMost (2 * i) count count'
   pub size : length newest ≡ 32
   pub size' : length next ≡ 32
-
-rises_none : (o : Option ℕ) → RisesAtMost 0 o o
-rises_none None = refl
-rises_none (Some n) = (n, refl, omega arith)
-
-rises_more : (a b c : ℕ) (o m n : Option ℕ) → a + b ≡ c → RisesAtMost a o m → RisesAtMost b m n → RisesAtMost c o n
-rises_more a b c None m n sum first second = rises_from m first second
-  where
-    rises_from : (m : Option ℕ) → m ≡ None → RisesAtMost b m n → n ≡ None
-    rises_from None is second = second
-    rises_from (Some x) is second = absurd (cc)
-rises_more a b c (Some x) None n sum first second = absurd (let e = first.1 in cc)
-rises_more a b c (Some x) (Some y) n sum first second =
-    let same : y ≡ first.0 = let e = first.1 in cc in
-    (second.0, second.1, omega (arith, first.2, second.2, same, sum))
 
 pub sights_none : (newest : List (Option Superblock)) (next : List ℕ) (gone : Slots) (now : Telling) (count : Option ℕ) → IsSlotSet gone
     → ((j : ℕ) → ¬ HasSlot gone j) → length newest ≡ 32 → length next ≡ 32 → AreSightsBelow 0 newest next gone now now count count

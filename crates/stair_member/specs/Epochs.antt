@@ -15,7 +15,7 @@ use Rattle.stair_member.specs.Aims.{IsAimed, admitted, mark_for}
 use Rattle.stair_member.specs.Counting.{AllBut, AtMost, MoreThan}
 use Rattle.stair_member.specs.Editions.{Edition, copy_of, edition_of}
 use Rattle.stair_member.specs.Membership.{Membership, IsHere, IsMissing, place_of, why_of}
-use Rattle.stair_member.specs.Telling.{Telling}
+use Rattle.stair_rack.specs.Telling.{Telling}
 use Rattle.stair_member.specs.declared.aim.Aim.{Aim}
 use Rattle.stair_member.specs.declared.fault.AdmitFault.{AdmitFault}
 use Rattle.stair_member.specs.declared.fault.AdmitFault.TheVariants as admit

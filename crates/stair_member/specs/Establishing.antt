@@ -8,7 +8,7 @@ use Rattle.stair_member.specs.Aims.{IsAimed, admitted, aimed}
 use Rattle.stair_member.specs.Editions.{edition_of}
 use Rattle.stair_member.specs.Epochs.{IsRefusedBy, Issued, Stands, StandsOnDisk, WereGone}
 use Rattle.stair_member.specs.Membership.{Membership, IsHere, why_of}
-use Rattle.stair_member.specs.Telling.{Telling}
+use Rattle.stair_rack.specs.Telling.{Telling}
 use Rattle.stair_member.specs.declared.aim.Aim.{Aim}
 use Rattle.stair_member.specs.declared.aim.Aim.TheVariants.{Fence, Stamp}
 use Rattle.stair_member.specs.declared.fault.AdmitFault.{AdmitFault}

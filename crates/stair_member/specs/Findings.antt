@@ -6,7 +6,7 @@ use Rattle.stair_rack.specs.History.{Happening}
 use Rattle.stair_rack.specs.Media.{Image}
 use Rattle.stair_rack.specs.Offline.{IsHeld}
 use Rattle.stair_rack.specs.Sector.{Cell, Damaged}
-use Rattle.stair_member.specs.Telling.{Telling, IsFoundGone, IsReading}
+use Rattle.stair_rack.specs.Telling.{Telling, IsFoundGone, IsReading}
 
 -- What was read is itself an image: the cells of each slot's superblock places, damaged where nothing could be read. Which
 -- array stands, its current superblock and its live slots are those of this image.

@@ -4,7 +4,6 @@ pub mod Superblocks
 pub mod Seats
 pub mod Current
 pub mod Reserve
-pub mod Telling
 pub mod Asked
 pub mod Findings
 pub mod Reasons

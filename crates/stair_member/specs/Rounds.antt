@@ -10,7 +10,7 @@ use Rattle.stair_member.specs.Aims.{admitted}
 use Rattle.stair_member.specs.Establishing.{Establishes}
 use Rattle.stair_member.specs.Handings.{PlacesBelow, Spread}
 use Rattle.stair_member.specs.Membership.{Membership, IsHere, IsMembership, IsMissing}
-use Rattle.stair_member.specs.Telling.{Telling}
+use Rattle.stair_rack.specs.Telling.{Telling}
 use Rattle.stair_member.specs.declared.aim.Aim.{Aim}
 use Rattle.stair_member.specs.declared.aim.Aim.TheVariants.{Fence, Admit, Promote, Stamp}
 use Rattle.stair_member.specs.declared.fault.FenceFault.{FenceFault}

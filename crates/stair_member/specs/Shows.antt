@@ -13,7 +13,7 @@ use Rattle.stair_member.specs.Current.{IsCurrent}
 use Rattle.stair_member.specs.Findings.{Findings, AreFound, IsPlaceFound}
 use Rattle.stair_member.specs.Superblocks.{HoldsSuper, HasSuper, IsSuperOf, Counts, CountsFor, Identifies}
 use Rattle.stair_member.specs.Survey.{IsNextPlace, IsLowestOf}
-use Rattle.stair_member.specs.Telling.{Telling, IsFoundGone}
+use Rattle.stair_rack.specs.Telling.{Telling, IsFoundGone}
 use Rattle.stair_member.specs.declared.look.Seen.{Seen}
 use Rattle.stair_member.specs.declared.look.Seen.TheVariants as seen
 use Rattle.stair_member.specs.declared.surveying.Sights.{Sights}

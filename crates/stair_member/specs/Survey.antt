@@ -1,5 +1,5 @@
 -- What a survey answers for what it found.
-use Rattle.std.specs.Prelude.{◌≡◌, ◌⊎◌, ℕ, ◌+◌, ◌-◌, ◌<◌, ◌≤◌, IsTrue, Option, None, Some, Result, Ok, Err}
+use Rattle.std.specs.Prelude.{◌≡◌, ◌⊎◌, ℕ, ◌-◌, ◌<◌, ◌≤◌, IsTrue, Result, Ok, Err}
 use Rattle.stair_model.specs.Geometry.{Geometry}
 use Rattle.stair_model.specs.Slots.{HasSlot}
 use Rattle.stair_rack.specs.Answers.{IsHistory}
@@ -14,7 +14,7 @@ use Rattle.stair_member.specs.Findings.{Findings, AreFound}
 use Rattle.stair_member.specs.Membership.{Membership, IsMissing, place_of, why_of}
 use Rattle.stair_member.specs.Reasons.{IsReason}
 use Rattle.stair_member.specs.Superblocks.{HoldsSuper, IsSuperOf, Counts, CountsFor, Identifies, IsOnlyIdentity}
-use Rattle.stair_member.specs.Telling.{Telling}
+use Rattle.stair_rack.specs.Telling.{Telling}
 use Rattle.stair_member.specs.declared.fault.SurveyFault.{SurveyFault}
 use Rattle.stair_member.specs.declared.fault.SurveyFault.TheVariants.{NoArray, TwoArrays, TooFew}
 use Rattle.stair_member.specs.declared.why.Why.TheVariants.{Here}
@@ -85,8 +85,3 @@ pub record Surveys (answer : Result Membership SurveyFault) (old new : Telling) 
   -- on an honest rack: the calls that were made
   pub began : IsTrue new.honest → IsHistory old.history
   pub asked : IsTrue new.honest → AsksBelow 32 old.history new.history
-
--- a number, where it is told, rises by at most so much
-abbrev pub RisesAtMost : ℕ → Option ℕ → Option ℕ → Type 0
-RisesAtMost most None new = new ≡ None
-RisesAtMost most (Some count) new = (later : ℕ) × (new ≡ Some later) × (later ≤ count + most)

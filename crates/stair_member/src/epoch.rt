@@ -6,7 +6,7 @@ ghost use Rattle.stair_member.specs.Changes.{MayBegin};
 ghost use Rattle.stair_member.specs.Aims.{admitted};
 ghost use Rattle.stair_member.specs.Establishing.{Fences, Joins, Stamps};
 ghost use Rattle.stair_member.specs.Membership.{IsMembership, why_of};
-ghost use Rattle.stair_member.specs.Telling.{telling};
+ghost use Rattle.stair_rack.specs.Telling.{telling};
 ghost use Rattle.stair_member.specs.declared.aim.Aim.TheVariants.{Admit, Promote};
 ghost use Rattle.stair_member.specs.declared.why.Why.TheVariants as why;
 
@@ -75,6 +75,9 @@ pub fn stamp<R: Rack>(
 ///
 /// The slot's superblock is written to both its places, each synced before the next. Where the slot was gone meanwhile
 /// `Gone` comes, and an epoch without it stands. Otherwise it is refused as a fence is.
+///
+/// The laws of epochs ask that neither place of the slot holds a superblock of a greater draw than the member has seen,
+/// since such a one would hide those of the new epoch. After a call that established an epoch `MayJoin` says so.
 pub fn admit<R: Rack>(rack: &mut R, member: &mut Member, slot: u8) -> Result<Slots, AdmitFault>
     requires below { slot < member.old.array.geometry.n }
     requires down { mark_in member.old.array slot ≡ mark.Down }

@@ -4,7 +4,7 @@ ghost use Rattle.stair_member.specs.Changes.{MayBegin};
 ghost use Rattle.stair_member.specs.Aims.{admitted};
 ghost use Rattle.stair_member.specs.Membership.{IsMembership, why_of};
 ghost use Rattle.stair_member.specs.Rounds.{HasEstablished, left_after};
-ghost use Rattle.stair_member.specs.Telling.{telling};
+ghost use Rattle.stair_rack.specs.Telling.{telling};
 ghost use Rattle.stair_member.specs.declared.why.Why.TheVariants as why;
 
 use crate::aim::Aim;

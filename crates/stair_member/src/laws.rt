@@ -17,7 +17,8 @@ ghost use Rattle.stair_member.specs.Current.{IsCurrent, IsFailed, IsLive, IsLost
 ghost use Rattle.stair_member.specs.Editions.{Edition};
 ghost use Rattle.stair_member.specs.Epochs.{HasDraw, IsIssuing};
 ghost use Rattle.stair_member.specs.Fencing.{HasStood, IsBegun, IsCopy, IsFencing, IsNamedBy, MayBear, MayJoin};
-ghost use Rattle.stair_member.specs.Membership.{Membership};
+ghost use Rattle.stair_member.specs.Establishing.{Leaves};
+ghost use Rattle.stair_member.specs.Membership.{IsMembership, Membership};
 ghost use Rattle.stair_member.specs.Reserve.{
   Bears,
   HasGreatestDraw,
@@ -118,4 +119,8 @@ pub fn epoch_laws()
     ensures again { (aim : Aim) (gone : Slots) (next : Option ℕ) (m last : Membership)
         (old new : List Happening) → HasStood aim gone m last old new → MayJoin next last new →
         ¬ IsTrue (stopped new) → IsBegun next last new }
+    // and a call begins likewise with the member of which some slots leave
+    ensures left { (joining : Option ℕ) (leaving : Slots) (m start : Membership)
+        (h : List Happening) → Leaves leaving m start → IsMembership start →
+        IsBegun joining m h → IsBegun joining start h }
 {}

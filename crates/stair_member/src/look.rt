@@ -2,13 +2,13 @@
 ghost use Rattle.std.specs.Prelude.{◌≡◌, ◌<◌, ◌⊎◌, ◌↔◌, ℕ, IsTrue};
 ghost use Rattle.stair_rack.specs.Answers.{Calls, IsHistory};
 ghost use Rattle.stair_rack.specs.History.{Read};
-ghost use Rattle.stair_rack.specs.RackCounts.{NoneFalls};
+ghost use Rattle.stair_rack.specs.RackCounts.{NoneFalls, RisesAtMost};
 ghost use Rattle.stair_rack.specs.Sector.{Cell};
 ghost use Rattle.stair_rack.specs.declared.rack.Got.{Got as Answer};
 ghost use Rattle.stair_member.specs.Asked.{AsksSlot};
 ghost use Rattle.stair_member.specs.Shows.{HoldsThis, IsNewest, IsSeen, IsSight, block_in};
-ghost use Rattle.stair_member.specs.Survey.{IsNextPlace, RisesAtMost};
-ghost use Rattle.stair_member.specs.Telling.{telling};
+ghost use Rattle.stair_member.specs.Survey.{IsNextPlace};
+ghost use Rattle.stair_rack.specs.Telling.{telling};
 
 use stair_rack::{Got, Rack, Reply};
 use stair_super::{Super, is_older, newer_of, read_super};

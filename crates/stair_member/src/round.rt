@@ -5,7 +5,7 @@ ghost use Rattle.stair_member.specs.Changes.{MayBegin};
 ghost use Rattle.stair_member.specs.Aims.{admitted};
 ghost use Rattle.stair_member.specs.Membership.{IsMembership, place_of};
 ghost use Rattle.stair_member.specs.Rounds.{BeganOut, Draws, IsRound};
-ghost use Rattle.stair_member.specs.Telling.{telling};
+ghost use Rattle.stair_rack.specs.Telling.{telling};
 
 use crate::aim::Aim;
 use crate::fault::FenceFault;

@@ -1,12 +1,12 @@
 ghost use Rattle.std.specs.Prelude.{◌≡◌, IfOk, IsTrue};
 ghost use Rattle.stair_rack.specs.Answers.{IsHistory};
-ghost use Rattle.stair_rack.specs.RackCounts.{NoneFalls};
+ghost use Rattle.stair_rack.specs.RackCounts.{NoneFalls, RisesAtMost};
 ghost use Rattle.stair_member.specs.Asked.{AsksBelow};
 ghost use Rattle.stair_member.specs.Findings.{Findings};
 ghost use Rattle.stair_member.specs.Membership.{IsMembership};
 ghost use Rattle.stair_member.specs.Shows.{AreSights, Tells};
-ghost use Rattle.stair_member.specs.Survey.{IsAnswer, RisesAtMost, Surveys};
-ghost use Rattle.stair_member.specs.Telling.{telling};
+ghost use Rattle.stair_member.specs.Survey.{IsAnswer, Surveys};
+ghost use Rattle.stair_rack.specs.Telling.{telling};
 
 use crate::fault::SurveyFault;
 use crate::judge::{Found, current_of, first_standing, greatest_draw, missing, reasons_of};

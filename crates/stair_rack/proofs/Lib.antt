@@ -10,8 +10,13 @@ pub mod CallLemmas
 pub mod PassLemmas
 pub mod PassCounts
 pub mod PlacedLemmas
+pub mod PhaseLemmas
+pub mod PhaseCounts
 pub mod StretchLemmas
 pub mod StandingLemmas
 pub mod ReadLemmas
 pub mod MediumLemmas
 pub mod InTurnLemmas
+pub mod TellingLemmas
+pub mod GoneLemmas
+pub mod ReadRuns

@@ -1,15 +1,14 @@
 -- How far a pass over the slots of a set has come: its calls, the slots that were gone, and the counts.
-use Rattle.std.proofs.Common.{◌≡◌, ℕ, ◌<◌, ◌+◌, Bool, true, false, List, ◌⊎◌, inl, inr, refl, sym, ◌∙◌, subst, arith, Option, add-one}
+use Rattle.std.proofs.Common.{◌≡◌, ℕ, ◌<◌, ◌≤◌, ◌+◌, Bool, true, false, List, ◌⊎◌, inl, inr, refl, sym, ◌∙◌, subst, arith, Option, None, Some, add-one}
 use Rattle.std.specs.Prelude.{IsTrue, ◌↔◌, not}
 use Rattle.std.proofs.Common.{rules}
-use Rattle.std.proofs.lemmas.Bool.{cases_lt, false≢true, false_from_ne_true}
-use Rattle.std.proofs.lemmas.List.{get_or_past}
+use Rattle.std.proofs.lemmas.Bool.{false_from_ne_true}
 use denote.Enum.Bare.{sameb, same_true, same_false}
 use Rattle.stair_rack.specs.contracts.rack.Reply.{the_type}
 use Rattle.stair_model.specs.Slots.{Slots, has_slot, HasSlot, IsSlotSet}
 use Rattle.stair_model.proofs.SetLaws.{same_test}
 use Rattle.stair_rack.specs.Count.{Rose, Rose-kept, kept-Rose}
-use Rattle.stair_rack.specs.RackCounts.{IsLaterCount, NoneFalls}
+use Rattle.stair_rack.specs.RackCounts.{IsLaterCount, NoneFalls, RisesAtMost}
 use Rattle.stair_rack.specs.History.{Happening, SlotCall}
 use Rattle.stair_rack.specs.Answers.{Calls, reply_if}
 use Rattle.stair_rack.specs.Passes.{Turns}
@@ -33,14 +32,6 @@ pub NoneFalls-then : {bads bads' bads'' : ℕ} {gones gones' gones'' : ℕ → �
     → NoneFalls bads' bads'' gones' gones'' → NoneFalls bads bads'' gones gones''
 NoneFalls-then first second =
     record { bad = IsLaterCount-then first.bad second.bad; gone = λ j. IsLaterCount-then (first.gone j) (second.gone j) }
-
--- a slot of a set is below 32
-pub HasSlot-below : (set : Slots) → IsSlotSet set → (j : ℕ) → HasSlot set j → j < 32
-HasSlot-below set of j has =
-    elim (cases_lt j 32) [
-      | inl below ↦ below
-      | inr above ↦ absurd (false≢true (sym (get_or_past set.marks j false (omega (arith, of))) ∙ has))
-    ]
 
 -- an answer that compares equal to Gone, and one that doesn't
 pub Gone-compared : (answer : Reply) → sameb the_type answer reply.Gone ≡ true → answer ≡ reply.Gone
@@ -152,3 +143,24 @@ pass_skipped call to gone n honest old new to_set so_far off = record {
   counts = so_far.counts;
   reads = so_far.reads;
 }
+
+-- a number that rises by at most so much
+pub rises_none : (o : Option ℕ) → RisesAtMost 0 o o
+rises_none None = refl
+rises_none (Some n) = (n, refl, omega arith)
+
+pub rises_more : (a b c : ℕ) (o m n : Option ℕ) → a + b ≡ c → RisesAtMost a o m → RisesAtMost b m n → RisesAtMost c o n
+rises_more a b c None m n sum first second = rises_from m first second
+  where
+    rises_from : (m : Option ℕ) → m ≡ None → RisesAtMost b m n → n ≡ None
+    rises_from None is second = second
+    rises_from (Some x) is second = absurd (cc)
+rises_more a b c (Some x) None n sum first second = absurd (let e = first.1 in cc)
+rises_more a b c (Some x) (Some y) n sum first second =
+    let same : y ≡ first.0 = let e = first.1 in cc in
+    (second.0, second.1, omega (arith, first.2, second.2, same, sum))
+
+-- a number that rises by at most so much rises by at most as much or more
+pub rises_within : (a b : ℕ) (o n : Option ℕ) → a ≤ b → RisesAtMost a o n → RisesAtMost b o n
+rises_within a b None n le rises = rises
+rises_within a b (Some x) n le rises = (rises.0, rises.1, omega (arith, rises.2))

@@ -12,6 +12,7 @@ use Rattle.stair_rack.specs.Moments.{AtEveryMoment}
 use Rattle.stair_rack.specs.Offline.{IsKept, Lost, ButForOutside, IsHeld, IsOfflineUntilAttached}
 use Rattle.stair_rack.specs.Passes.{IsOn, Landed, Wrote, Settled}
 use Rattle.stair_rack.specs.Placed.{Writes, one_write, IsSlot, IsGoneSlot, IsWriteOf, IsSyncOf, IsOver, MayLeaveIn, AsBefore, ByOutside, Cut, MayBeUnder, Before, Placed}
+use Rattle.stair_rack.specs.Writing.{Writing}
 use Rattle.stair_rack.specs.Answers.{any_call, IsBesideAttach}
 use Rattle.stair_rack.proofs.MomentLemmas.{ran_any}
 use Rattle.stair_rack.specs.declared.rack.Reply.{Reply}
@@ -185,23 +186,11 @@ reach_on {allowed} j k beside ran start =
       call = λ h c may is reach. reach_call k (slot_state h j) c (beside c may) reach;
     })) ran start
 
-beside_writes : (what : Writes) (to : ℕ → Type 0) (j : ℕ) (c : SlotCall) → IsWriteOf what to j c → IsBesideAttach c
+pub beside_writes : (what : Writes) (to : ℕ → Type 0) (j : ℕ) (c : SlotCall) → IsWriteOf what to j c → IsBesideAttach c
 beside_writes what to j c is = subst IsBesideAttach (sym is.is) tt
 
 beside_syncs : (to : ℕ → Type 0) (j : ℕ) (c : SlotCall) → IsSyncOf to j c → IsBesideAttach c
 beside_syncs to j c is = subst IsBesideAttach (sym is.is) tt
-
--- Of a phase's writes those of `so_far`, by slot and sector, were made.
-pub record Writing (what : Writes) (to gone : ℕ → Type 0) (so_far : ℕ → ℕ → Type 0) (old now : List Happening) : Type 0 where
-  pub ran : Ran (IsWriteOf what to) old now
-  pub known : (j : ℕ) → gone j ⊎ (¬ gone j)
-  pub answered : (j : ℕ) → gone j → to j
-  pub landed : (j k : ℕ) (bytes : List ℕ) → so_far j k → (¬ gone j) → what j k ≡ Some bytes → Landed old now j k bytes
-  pub done : (j k : ℕ) (bytes : List ℕ) → so_far j k → (¬ gone j) → what j k ≡ Some bytes
-      → ButForOutside old now j k (λ s. content s ≡ Good bytes)
-  pub shut : (before : List Happening) (j : ℕ) → gone j → IsHeld before old j
-      → ((slot_state old j).attached ≡ true → (k : ℕ) (bytes : List ℕ) → what j k ≡ Some bytes → IsTrue (has_sector (slot_state old j).size k))
-      → IsOfflineUntilAttached before now j
 
 -- none of them yet
 pub writing_none : (what : Writes) (to : ℕ → Type 0) (old : List Happening) → Writing what to (λ j. ⊥) (λ j k. ⊥) old old

@@ -16,7 +16,9 @@ pub mod Offline
 pub mod RackCounts
 pub mod Passes
 pub mod Placed
+pub mod Writing
 pub mod Stretch
 pub mod Reading
 pub mod EachMedium
 pub mod PlacedInTurn
+pub mod Telling

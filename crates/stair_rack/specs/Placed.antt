@@ -1,12 +1,13 @@
 -- A phase: some sectors are written on some slots, and then these slots are synced.
-use Rattle.std.specs.Prelude.{◌≡◌, ◌⊎◌, ℕ, true, ◌&&◌, ◌==◌, if◌then◌else◌, IsTrue, List, Option, Some, None, IsSome}
+use Rattle.std.specs.Prelude.{◌≡◌, ◌⊎◌, ◌↔◌, ℕ, true, ◌&&◌, ◌==◌, if◌then◌else◌, IsTrue, List, Option, Some, None, IsSome}
+use Rattle.stair_model.specs.Slots.{Slots, HasSlot}
 use Rattle.stair_rack.specs.Sector.{Cell, Good, Damaged, Sector, settled, content, synced, torn, MayLeave, Leaves}
 use Rattle.stair_rack.specs.Media.{has_sector}
 use Rattle.stair_rack.specs.History.{Happening, SlotCall, Write, Sync, slot_state}
 use Rattle.stair_rack.specs.Answers.{Ran}
 use Rattle.stair_rack.specs.Moments.{AtEveryMoment}
 use Rattle.stair_rack.specs.Offline.{IsHeld, IsOfflineUntilAttached, ButForOutside}
-use Rattle.stair_rack.specs.Passes.{Landed}
+use Rattle.stair_rack.specs.Passes.{Landed, Settled}
 use Rattle.stair_rack.specs.declared.rack.Reply.{Reply}
 use Rattle.stair_rack.specs.declared.rack.Reply.TheVariants as reply
 
@@ -98,3 +99,12 @@ pub record Placed (what : Writes) (to gone : ℕ → Type 0) (old new : List Hap
       → ((slot_state old j).attached ≡ true → (k : ℕ) (bytes : List ℕ) → what j k ≡ Some bytes
       → IsTrue (has_sector (slot_state old j).size k))
       → IsOfflineUntilAttached before new j
+
+-- The end of a phase some of whose slots were gone to their writes: the others of `to` were synced, and `all` are those
+-- and the ones that were gone to the sync.
+pub record EndsPhase (to gone all : Slots) (old new : List Happening) : Type 0 where
+  pub rest : Slots
+  pub rest_are : (j : ℕ) → HasSlot rest j ↔ (HasSlot to j × ¬ HasSlot gone j)
+  pub last : Slots
+  pub settled : Settled rest last old new
+  pub all_are : (j : ℕ) → HasSlot all j ↔ (HasSlot gone j ⊎ HasSlot last j)

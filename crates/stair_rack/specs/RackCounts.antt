@@ -1,5 +1,5 @@
 -- The counts of a rack: of bad sectors, of gone slots, and of reads.
-use Rattle.std.specs.Prelude.{◌≡◌, ◌⊎◌, ℕ, ◌+◌, ◌^◌, ◌<◌, ◌≤◌, Option, option_map}
+use Rattle.std.specs.Prelude.{◌≡◌, ◌⊎◌, ℕ, ◌+◌, ◌^◌, ◌<◌, ◌≤◌, Option, None, Some, option_map}
 use Rattle.stair_rack.specs.declared.rack.Got.{Got}
 use Rattle.stair_rack.specs.declared.rack.Got.TheVariants as got
 
@@ -19,3 +19,8 @@ abbrev pub CountsRead : Got → Option ℕ → Option ℕ → Type 0
 CountsRead got.Good old new = new ≡ option_map (λ n. n + 1) old
 CountsRead got.Bad old new = new ≡ option_map (λ n. n + 1) old
 CountsRead got.Gone old new = (new ≡ old) ⊎ (new ≡ option_map (λ n. n + 1) old)
+
+-- a number, where it is told, rises by at most so much
+abbrev pub RisesAtMost : ℕ → Option ℕ → Option ℕ → Type 0
+RisesAtMost most None new = new ≡ None
+RisesAtMost most (Some count) new = (later : ℕ) × (new ≡ Some later) × (later ≤ count + most)

@@ -1,5 +1,5 @@
 -- the slots below this one passed
-use Rattle.stair_member.specs.Telling.{telling}
+use Rattle.stair_rack.specs.Telling.{telling}
 use Rattle.stair_array.proofs.LookLemmas.{LookedSoFar}
 use Rattle.stair_array.proofs.look.look_at_all.Given as goal
 

@@ -3,14 +3,14 @@ use Rattle.std.proofs.Common.{inl, refl, arith}
 use Rattle.std.proofs.lemmas.Result.{err_from_is_err_and, on_ok_weaker}
 use Rattle.stair_rack.proofs.MomentLemmas.{ran_any}
 use Rattle.stair_rack.proofs.StretchLemmas.{each_join}
-use Rattle.stair_member.specs.Telling.{IsLater, Telling, telling}
+use Rattle.stair_rack.specs.Telling.{IsLater, Telling, telling}
 use Rattle.stair_array.specs.Looking.{IsNotCreated}
 use Rattle.stair_array.specs.Making.{IsBehind, IsPlace, IsStoppedBy, NoneCame}
 use Rattle.stair_array.proofs.CreateLemmas.{all_finished, came_after, enrolling_within, given_up, laying_no_place, laying_within, looks_no_place, looks_spare, looks_within, making_spares, on_err}
 use Rattle.stair_array.proofs.CreatesLemmas.{ends_so, is_made, not_created}
 use Rattle.stair_array.proofs.DeviceLemmas.{making_no_attach}
 use Rattle.stair_array.proofs.LookLemmas.{taken_on}
-use Rattle.stair_member.proofs.TellingLemmas.{later_join, later_none}
+use Rattle.stair_rack.proofs.TellingLemmas.{later_join, later_none}
 use Rattle.stair_array.proofs.new_array.create.Goals as goal
 
 -- a slot was refused before anything was written

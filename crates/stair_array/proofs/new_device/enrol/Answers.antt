@@ -7,7 +7,7 @@ use Rattle.stair_super.specs.Spelling.{spelled}
 use Rattle.stair_super.specs.Superblock.{IsWellFormed, superblock_of}
 use Rattle.stair_super.specs.declared.configuration.Configuration.{Configuration}
 use Rattle.stair_array.specs.Created.{first_super}
-use Rattle.stair_member.specs.Telling.{telling}
+use Rattle.stair_rack.specs.Telling.{telling}
 use Rattle.stair_array.proofs.CreatedLemmas.{first_formed}
 use Rattle.stair_array.proofs.DeviceLemmas.{place_gone, place_ran, places_made}
 use Rattle.stair_array.proofs.new_device.enrol.Goals as goal

@@ -4,7 +4,7 @@ use Rattle.stair_model.specs.Geometry.{Geometry}
 use Rattle.stair_rack.specs.declared.rack.Reply.TheVariants as reply
 use Rattle.stair_rack.proofs.PassCounts.{Done-compared, Gone-compared, NoneFalls-then}
 use Rattle.stair_super.specs.declared.configuration.Configuration.{Configuration}
-use Rattle.stair_member.specs.Telling.{telling}
+use Rattle.stair_rack.specs.Telling.{telling}
 use Rattle.stair_array.specs.Making.{AreMade, IsPlace, IsStoppedAt}
 use Rattle.stair_array.proofs.DeviceLemmas.{made_more, made_none, made_ran, made_stopped}
 use Rattle.stair_array.proofs.new_device.enrol_all.Goals as goal

@@ -1,6 +1,6 @@
 -- the slots below this one have their superblocks
 use Rattle.std.proofs.Common.{◌≡◌, ◌<◌, length}
-use Rattle.stair_member.specs.Telling.{telling}
+use Rattle.stair_rack.specs.Telling.{telling}
 use Rattle.stair_array.specs.Making.{IsPlace}
 use Rattle.stair_array.proofs.DeviceLemmas.{MadeSoFar}
 use Rattle.stair_array.proofs.new_device.enrol_all.Given as goal

@@ -1,5 +1,5 @@
 -- the sectors from the gate up to this one were written
-use Rattle.stair_member.specs.Telling.{telling}
+use Rattle.stair_rack.specs.Telling.{telling}
 use Rattle.stair_array.proofs.DeviceLemmas.{LaidSoFar}
 use Rattle.stair_array.proofs.new_device.lay_out.Given as goal
 

@@ -2,7 +2,7 @@
 use Rattle.std.proofs.Common.{◌≡◌, refl, sym, ◌∙◌, arith}
 use Rattle.stair_rack.specs.declared.rack.Reply.TheVariants as reply
 use Rattle.stair_rack.proofs.PassCounts.{Done-compared, Gone-compared, NoneFalls-then}
-use Rattle.stair_member.specs.Telling.{telling}
+use Rattle.stair_rack.specs.Telling.{telling}
 use Rattle.stair_array.specs.Making.{IsBehind}
 use Rattle.stair_array.proofs.DeviceLemmas.{made_more, made_none, made_ran, made_stopped}
 use Rattle.stair_array.proofs.new_device.lay_out_all.Goals as goal

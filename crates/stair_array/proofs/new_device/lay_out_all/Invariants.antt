@@ -1,5 +1,5 @@
 -- the slots below this one were laid out
-use Rattle.stair_member.specs.Telling.{telling}
+use Rattle.stair_rack.specs.Telling.{telling}
 use Rattle.stair_array.specs.Making.{IsBehind}
 use Rattle.stair_array.proofs.DeviceLemmas.{MadeSoFar}
 use Rattle.stair_array.proofs.new_device.lay_out_all.Given as goal

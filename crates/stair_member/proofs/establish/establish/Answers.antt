@@ -1,8 +1,10 @@
 -- The next round.
 use Rattle.std.proofs.Common.{◌∙◌, ◌≤◌, Some, refl, arith}
-use Rattle.stair_member.specs.Telling.{telling}
+use Rattle.stair_rack.specs.Telling.{telling}
 use Rattle.stair_member.proofs.AttemptLemmas.{moved}
-use Rattle.stair_member.proofs.EstablishLemmas.{attempt_ends, attempt_first, attempt_more, attempt_refused, fewer_left}
+use Rattle.stair_member.proofs.EstablishLemmas.{attempt_first}
+use Rattle.stair_member.proofs.EndingLemmas.{attempt_ends, attempt_refused}
+use Rattle.stair_member.proofs.RenewingLemmas.{attempt_more, fewer_left}
 use Rattle.stair_member.proofs.establish.establish.Goals as goal
 
 pub loop-fault-init : goal.loop-fault-init

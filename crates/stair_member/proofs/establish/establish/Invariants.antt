@@ -1,7 +1,7 @@
 -- how far it has come, and the slots that may still be gone
 use Rattle.std.proofs.Common.{◌≡◌, ◌-◌}
 use Rattle.stair_model.specs.Slots.{slot_count}
-use Rattle.stair_member.specs.Telling.{telling}
+use Rattle.stair_rack.specs.Telling.{telling}
 use Rattle.stair_member.proofs.EstablishLemmas.{Attempt}
 use Rattle.stair_member.proofs.establish.establish.Given as goal
 

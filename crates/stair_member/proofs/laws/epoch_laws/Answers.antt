@@ -2,6 +2,7 @@ use Rattle.stair_member.proofs.AgainLemmas.{again}
 use Rattle.stair_model.specs.Slots.{HasSlot}
 use Rattle.stair_member.proofs.EditionLemmas.{borne}
 use Rattle.stair_member.proofs.FencingLemmas.{no_earlier}
+use Rattle.stair_member.proofs.LeavingLemmas.{left}
 use Rattle.stair_member.proofs.OrderLemmas.{orderly}
 use Rattle.stair_member.proofs.StoodLemmas.{stands}
 use Rattle.stair_member.proofs.laws.epoch_laws.Goals as goal
@@ -20,3 +21,6 @@ returns-clause-orderly c = orderly
 
 pub returns-clause-again : goal.returns-clause-again
 returns-clause-again c = again
+
+pub returns-clause-left : goal.returns-clause-left
+returns-clause-left c joining leaving m start h leaves rules begun = left joining leaving m start leaves h rules begun

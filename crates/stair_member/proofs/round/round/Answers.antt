@@ -1,7 +1,7 @@
 -- A slot was gone to the draws, or the epoch began.
 use Rattle.std.proofs.Common.{refl}
 use Rattle.stair_member.specs.Rounds.{BrokeOff, WentOn}
-use Rattle.stair_member.specs.Telling.{telling}
+use Rattle.stair_rack.specs.Telling.{telling}
 use Rattle.stair_member.proofs.round.round.Goals as goal
 
 pub returns-in-Some-clause-told : goal.returns-in-Some-clause-told

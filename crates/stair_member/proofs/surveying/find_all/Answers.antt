@@ -1,7 +1,7 @@
 -- Each turn looks at the next slot.
 use Rattle.std.proofs.Common.{◌≡◌, ℕ, refl, subst, arith}
 use Rattle.stair_member.specs.Asked.{AsksBelow}
-use Rattle.stair_member.specs.Telling.{IsLater, telling}
+use Rattle.stair_rack.specs.Telling.{IsLater, telling}
 use Rattle.stair_member.proofs.SightLemmas.{added_lost, added_none, asks_ran, sights_all, sights_more}
 use Rattle.stair_member.proofs.surveying.find_all.Goals as goal
 use Rattle.stair_member.proofs.surveying.find_all.Goals.{then-sight, else-sight}

@@ -1,5 +1,5 @@
 -- the slots below this one were looked at
-use Rattle.stair_member.specs.Telling.{telling}
+use Rattle.stair_rack.specs.Telling.{telling}
 use Rattle.stair_member.proofs.SightLemmas.{AreSightsBelow}
 use Rattle.stair_member.proofs.surveying.find_all.Given as goal
 

@@ -1,4 +1,4 @@
-use Rattle.stair_rack.proofs.PassCounts.{HasSlot-below}
+use Rattle.stair_base.proofs.SlotLemmas.{HasSlot-below}
 use Rattle.stair_rack.proofs.PassLemmas.{Settled-from_turns}
 use Rattle.stair_rack.proofs.sync.sync_all.Goals as goal
 

@@ -1,4 +1,4 @@
-use Rattle.stair_rack.proofs.PassCounts.{HasSlot-below}
+use Rattle.stair_base.proofs.SlotLemmas.{HasSlot-below}
 use Rattle.stair_rack.proofs.PassLemmas.{Wrote-from_turns}
 use Rattle.stair_rack.proofs.write.write_all.Goals as goal
 

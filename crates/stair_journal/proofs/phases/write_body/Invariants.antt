@@ -1,0 +1,15 @@
+-- the body was written to the live slots below this one
+use Rattle.stair_rack.proofs.PhaseCounts.{PhaseSoFar}
+use Rattle.stair_journal.specs.Journalling.{body_writes}
+use Rattle.stair_journal.proofs.phases.write_body.Given as goal
+
+abbrev pub invariant-loop-slot : goal.invariant-loop-slot
+invariant-loop-slot g l =
+    PhaseSoFar (body_writes l.fn.geometry l.fn.redo l.fn.stripe) l.fn.live l.gone l.slot g.R.Rack.is_honest
+    (record {
+      history = g.R.Rack.history l.initial.rack;
+      bads = g.R.Rack.bads l.initial.rack;
+      gones = g.R.Rack.gones l.initial.rack;
+      reads = g.R.Rack.reads l.initial.rack;
+    })
+    (record { history = g.R.Rack.history l.rack; bads = g.R.Rack.bads l.rack; gones = g.R.Rack.gones l.rack; reads = g.R.Rack.reads l.rack })

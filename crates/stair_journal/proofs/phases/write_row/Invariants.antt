@@ -1,0 +1,18 @@
+-- the row's cells in the chunks before this one were written
+use Rattle.stair_rack.specs.declared.rack.Reply.TheVariants as reply
+use Rattle.stair_rack.proofs.PhaseCounts.{WritesSlot}
+use Rattle.stair_journal.specs.Journalling.{body_writes}
+use Rattle.stair_journal.proofs.WritesLemmas.{IsInRowTo}
+use Rattle.stair_journal.proofs.phases.write_row.Given as goal
+
+abbrev pub invariant-loop-chunk : goal.invariant-loop-chunk
+invariant-loop-chunk g l =
+    WritesSlot (body_writes l.fn.geometry l.fn.redo l.fn.stripe) l.fn.slot reply.Done (IsInRowTo l.fn.geometry l.fn.slot l.fn.row l.chunk)
+    g.R.Rack.is_honest
+    (record {
+      history = g.R.Rack.history l.initial.rack;
+      bads = g.R.Rack.bads l.initial.rack;
+      gones = g.R.Rack.gones l.initial.rack;
+      reads = g.R.Rack.reads l.initial.rack;
+    })
+    (record { history = g.R.Rack.history l.rack; bads = g.R.Rack.bads l.rack; gones = g.R.Rack.gones l.rack; reads = g.R.Rack.reads l.rack })

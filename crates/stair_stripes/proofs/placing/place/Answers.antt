@@ -1,0 +1,48 @@
+-- Each turn places the cells on the next slot, and notes whether it was gone.
+use Rattle.std.proofs.Common.{◌≡◌, refl, sym, ◌∙◌, arith}
+use Rattle.std.proofs.lemmas.Bool.{false_from_ne_true, false≢true}
+use Rattle.stair_rack.proofs.PassCounts.{Done-compared, Gone-compared}
+use Rattle.stair_rack.proofs.PhaseCounts.{phase_done, phase_gone, phase_placed, phase_skipped}
+use Rattle.stair_stripes.proofs.PlacingLemmas.{cell_writes_on}
+use Rattle.stair_stripes.proofs.placing.place.Goals as goal
+use Rattle.stair_stripes.proofs.placing.place.Goals.{then-has+then-eq, else-has, else-has-via-then-has+else-eq, else-has-via-else-has}
+
+pub loop-slot-preserved : goal.loop-slot-preserved
+loop-slot-preserved g c =
+    elim c.if-has.branch [
+      | then-has+then-eq w ↦
+          let gone = Gone-compared w.place_chunk.result (sym w.eq.ensures ∙ w.if-eq.true) in
+          let on = (c.has.ensures.member).0 w.if-has.true in
+          rw (w.gone-is, w.rack-is)
+          (phase_gone _ _ _ _ _ _ _ _ c.has.ensures.well_formed c.loop-slot.invariant _ w.add.ensures.well_formed w.add.ensures.members on
+          (record {
+            told = λ honest. rw gone at (w.place_chunk.ensures.told honest);
+            gone = λ is. w.place_chunk.ensures.gone gone;
+            counts = w.place_chunk.ensures.counts;
+            reads = w.place_chunk.ensures.reads;
+          }) (λ k bytes is. refl))
+      | else-has w ↦
+          elim w.else-has.branch [
+            | else-has-via-then-has+else-eq v ↦
+                let done = Done-compared v.place_chunk.result (sym v.eq.ensures ∙ v.if-eq.false) in
+                let on = (c.has.ensures.member).0 v.if-has.true in
+                rw (w.gone-is, w.rack-is, v.rack-is)
+                (phase_done _ _ _ _ _ _ _ _ c.has.ensures.well_formed c.loop-slot.invariant on
+                (record {
+                  told = λ honest. rw done at (v.place_chunk.ensures.told honest);
+                  gone = λ is. v.place_chunk.ensures.gone (done ∙ is);
+                  counts = v.place_chunk.ensures.counts;
+                  reads = v.place_chunk.ensures.reads;
+                }) (λ k bytes is. refl))
+            | else-has-via-else-has v ↦
+                let off = false_from_ne_true _ (λ has. false≢true (sym v.if-has.false ∙ (c.has.ensures.member).1 has)) in
+                rw (w.gone-is, w.rack-is, v.rack-is) (phase_skipped _ _ _ _ _ _ _ c.has.ensures.well_formed c.loop-slot.invariant off)
+          ]
+    ]
+
+pub returns-clause-told : goal.returns-clause-told
+returns-clause-told g c honest =
+    let all : c.loop-slot.slot ≡ c.args.geometry.now.n = omega (arith, c.n-slot-end.ensures.value) in
+    phase_placed c.loop-slot.invariant
+    (λ j k bytes on is. rw all (cell_writes_on c.args.geometry.now c.args.redo.now c.args.stripe.now j k bytes c.requires.redo is)) honest
+    (c.sync_rest.ensures.told honest)

@@ -1,0 +1,17 @@
+-- the chunk's cells in the rows before this one were written
+use Rattle.stair_rack.specs.declared.rack.Reply.TheVariants as reply
+use Rattle.stair_rack.proofs.PhaseCounts.{WritesSlot}
+use Rattle.stair_stripes.specs.Placing.{cell_writes}
+use Rattle.stair_stripes.proofs.PlacingLemmas.{IsInChunkTo}
+use Rattle.stair_stripes.proofs.placing.place_chunk.Given as goal
+
+abbrev pub invariant-loop-row : goal.invariant-loop-row
+invariant-loop-row g l =
+    WritesSlot (cell_writes l.fn.geometry l.fn.redo l.fn.stripe) l.fn.slot reply.Done (IsInChunkTo l.fn.geometry l.fn.redo l.fn.slot l.row) g.R.Rack.is_honest
+    (record {
+      history = g.R.Rack.history l.initial.rack;
+      bads = g.R.Rack.bads l.initial.rack;
+      gones = g.R.Rack.gones l.initial.rack;
+      reads = g.R.Rack.reads l.initial.rack;
+    })
+    (record { history = g.R.Rack.history l.rack; bads = g.R.Rack.bads l.rack; gones = g.R.Rack.gones l.rack; reads = g.R.Rack.reads l.rack })
