@@ -4,6 +4,7 @@ pub mod Gate
 pub mod Marks
 pub mod Body
 pub mod Journalling
+pub mod Phases
 pub mod Gates
 pub mod Bodies
 pub mod Reads

@@ -1,13 +1,14 @@
 // What is written to the journal: the body of a redo, and gates.
-ghost use Rattle.std.specs.Prelude.{◌≡◌, ◌<◌, ℕ, IsTrue};
-ghost use Rattle.stair_model.specs.Slots.{HasSlot, IsSlotSet};
+ghost use Rattle.std.specs.Prelude.{◌≡◌, ◌<◌, IsTrue};
 ghost use Rattle.stair_model.specs.Stripe.{IsStripeOf};
 ghost use Rattle.stair_rack.specs.Count.{Rose};
-ghost use Rattle.stair_rack.specs.Placed.{IsGoneSlot, IsSlot, Placed};
+ghost use Rattle.stair_rack.specs.Placed.{IsGoneSlot, IsSlot};
 ghost use Rattle.stair_rack.specs.RackCounts.{NoneFalls};
+ghost use Rattle.stair_rack.specs.Telling.{telling};
 ghost use Rattle.stair_rack.specs.Writing.{IsOnSlot, Writing};
 ghost use Rattle.stair_journal.specs.Gate.{closed_gate as closed, open_gate as opened};
 ghost use Rattle.stair_journal.specs.Journalling.{IsInRow, body_writes, gate_writes};
+ghost use Rattle.stair_journal.specs.Phases.{DoesPhase};
 ghost use Rattle.stair_journal.specs.Redo.{IsRedo};
 
 use crate::gate::{GATE_SECTOR, closed_gate, open_gate};
@@ -28,15 +29,10 @@ pub fn write_body<R: Rack>(
 ) -> Slots
     requires redo { IsRedo geometry.now redo.now }
     requires stripe { IsStripeOf geometry.now stripe.now }
-    ensures told { IsTrue R.is_honest →
-        Placed (body_writes geometry.now redo.now stripe.now) (HasSlot live) (HasSlot result)
-        (R.history rack.old) (R.history rack.new) }
-    ensures gone { (j : ℕ) → HasSlot result j →
-        HasSlot live j × Rose (R.gones rack.old j) (R.gones rack.new j) }
-    ensures counts { NoneFalls (R.bads rack.old) (R.bads rack.new) (R.gones rack.old)
-        (R.gones rack.new) }
+    ensures told { DoesPhase (body_writes geometry.now redo.now stripe.now) live result
+        (telling R.is_honest (R.history rack.old) (R.bads rack.old) (R.gones rack.old))
+        (telling R.is_honest (R.history rack.new) (R.bads rack.new) (R.gones rack.new)) }
     ensures reads { R.reads rack.new ≡ R.reads rack.old }
-    ensures well_formed { IsSlotSet result }
 {
     let mut gone = Slots::empty();
     for slot in 0..32u8 {
@@ -116,15 +112,10 @@ fn write_row<R: Rack>(
 /// On a slot that isn't answered the gate is safe from a crash. On one that is, it may be left as it was, open or torn.
 pub fn open_gates<R: Rack>(rack: &mut R, live: Slots, geometry: &Geometry, redo: &Redo) -> Slots
     requires { IsRedo geometry.now redo.now }
-    ensures told { IsTrue R.is_honest →
-        Placed (gate_writes (opened geometry.now redo.now)) (HasSlot live) (HasSlot result)
-        (R.history rack.old) (R.history rack.new) }
-    ensures gone { (j : ℕ) → HasSlot result j →
-        HasSlot live j × Rose (R.gones rack.old j) (R.gones rack.new j) }
-    ensures counts { NoneFalls (R.bads rack.old) (R.bads rack.new) (R.gones rack.old)
-        (R.gones rack.new) }
+    ensures told { DoesPhase (gate_writes (opened geometry.now redo.now)) live result
+        (telling R.is_honest (R.history rack.old) (R.bads rack.old) (R.gones rack.old))
+        (telling R.is_honest (R.history rack.new) (R.bads rack.new) (R.gones rack.new)) }
     ensures reads { R.reads rack.new ≡ R.reads rack.old }
-    ensures well_formed { IsSlotSet result }
 {
     write_gates(rack, live, &open_gate(geometry, redo))
 }
@@ -133,29 +124,19 @@ pub fn open_gates<R: Rack>(rack: &mut R, live: Slots, geometry: &Geometry, redo:
 ///
 /// On a slot that isn't answered the gate is safe from a crash. On one that is, it may be left as it was, closed or torn.
 pub fn close_gates<R: Rack>(rack: &mut R, live: Slots) -> Slots
-    ensures told { IsTrue R.is_honest →
-        Placed (gate_writes closed) (HasSlot live) (HasSlot result)
-        (R.history rack.old) (R.history rack.new) }
-    ensures gone { (j : ℕ) → HasSlot result j →
-        HasSlot live j × Rose (R.gones rack.old j) (R.gones rack.new j) }
-    ensures counts { NoneFalls (R.bads rack.old) (R.bads rack.new) (R.gones rack.old)
-        (R.gones rack.new) }
+    ensures told { DoesPhase (gate_writes closed) live result
+        (telling R.is_honest (R.history rack.old) (R.bads rack.old) (R.gones rack.old))
+        (telling R.is_honest (R.history rack.new) (R.bads rack.new) (R.gones rack.new)) }
     ensures reads { R.reads rack.new ≡ R.reads rack.old }
-    ensures well_formed { IsSlotSet result }
 {
     write_gates(rack, live, &closed_gate())
 }
 
 fn write_gates<R: Rack>(rack: &mut R, live: Slots, gate: &[u8; 512]) -> Slots
-    ensures told { IsTrue R.is_honest →
-        Placed (gate_writes gate.now) (HasSlot live) (HasSlot result)
-        (R.history rack.old) (R.history rack.new) }
-    ensures gone { (j : ℕ) → HasSlot result j →
-        HasSlot live j × Rose (R.gones rack.old j) (R.gones rack.new j) }
-    ensures counts { NoneFalls (R.bads rack.old) (R.bads rack.new) (R.gones rack.old)
-        (R.gones rack.new) }
+    ensures told { DoesPhase (gate_writes gate.now) live result
+        (telling R.is_honest (R.history rack.old) (R.bads rack.old) (R.gones rack.old))
+        (telling R.is_honest (R.history rack.new) (R.bads rack.new) (R.gones rack.new)) }
     ensures reads { R.reads rack.new ≡ R.reads rack.old }
-    ensures well_formed { IsSlotSet result }
 {
     let unwritten = write_all(rack, live, GATE_SECTOR, gate);
     sync_rest(rack, live, unwritten)

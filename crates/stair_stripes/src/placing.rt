@@ -1,11 +1,12 @@
 // Placing the cells of a redo.
-ghost use Rattle.std.specs.Prelude.{◌≡◌, ◌<◌, ℕ, IsTrue};
-ghost use Rattle.stair_model.specs.Slots.{HasSlot, IsSlotSet};
+ghost use Rattle.std.specs.Prelude.{◌≡◌, ◌<◌, IsTrue};
 ghost use Rattle.stair_model.specs.Stripe.{IsStripeOf};
 ghost use Rattle.stair_rack.specs.Count.{Rose};
-ghost use Rattle.stair_rack.specs.Placed.{IsGoneSlot, IsSlot, Placed};
+ghost use Rattle.stair_rack.specs.Placed.{IsGoneSlot, IsSlot};
 ghost use Rattle.stair_rack.specs.RackCounts.{NoneFalls};
+ghost use Rattle.stair_rack.specs.Telling.{telling};
 ghost use Rattle.stair_rack.specs.Writing.{IsOnSlot, Writing};
+ghost use Rattle.stair_journal.specs.Phases.{DoesPhase};
 ghost use Rattle.stair_journal.specs.Redo.{IsRedo};
 ghost use Rattle.stair_stripes.specs.Placing.{cell_writes};
 
@@ -26,15 +27,10 @@ pub fn place<R: Rack>(
 ) -> Slots
     requires redo { IsRedo geometry.now redo.now }
     requires stripe { IsStripeOf geometry.now stripe.now }
-    ensures told { IsTrue R.is_honest →
-        Placed (cell_writes geometry.now redo.now stripe.now) (HasSlot to) (HasSlot result)
-        (R.history rack.old) (R.history rack.new) }
-    ensures gone { (j : ℕ) → HasSlot result j →
-        HasSlot to j × Rose (R.gones rack.old j) (R.gones rack.new j) }
-    ensures counts { NoneFalls (R.bads rack.old) (R.bads rack.new) (R.gones rack.old)
-        (R.gones rack.new) }
+    ensures told { DoesPhase (cell_writes geometry.now redo.now stripe.now) to result
+        (telling R.is_honest (R.history rack.old) (R.bads rack.old) (R.gones rack.old))
+        (telling R.is_honest (R.history rack.new) (R.bads rack.new) (R.gones rack.new)) }
     ensures reads { R.reads rack.new ≡ R.reads rack.old }
-    ensures well_formed { IsSlotSet result }
 {
     let mut gone = Slots::empty();
     for slot in 0..geometry.n() {

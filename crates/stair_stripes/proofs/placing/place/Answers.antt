@@ -2,7 +2,8 @@
 use Rattle.std.proofs.Common.{◌≡◌, refl, sym, ◌∙◌, arith}
 use Rattle.std.proofs.lemmas.Bool.{false_from_ne_true, false≢true}
 use Rattle.stair_rack.proofs.PassCounts.{Done-compared, Gone-compared}
-use Rattle.stair_rack.proofs.PhaseCounts.{phase_done, phase_gone, phase_placed, phase_skipped}
+use Rattle.stair_rack.proofs.PhaseCounts.{phase_done, phase_gone, phase_skipped}
+use Rattle.stair_journal.proofs.DoesLemmas.{does_slots}
 use Rattle.stair_stripes.proofs.PlacingLemmas.{cell_writes_on}
 use Rattle.stair_stripes.proofs.placing.place.Goals as goal
 use Rattle.stair_stripes.proofs.placing.place.Goals.{then-has+then-eq, else-has, else-has-via-then-has+else-eq, else-has-via-else-has}
@@ -41,8 +42,8 @@ loop-slot-preserved g c =
     ]
 
 pub returns-clause-told : goal.returns-clause-told
-returns-clause-told g c honest =
+returns-clause-told g c =
     let all : c.loop-slot.slot ≡ c.args.geometry.now.n = omega (arith, c.n-slot-end.ensures.value) in
-    phase_placed c.loop-slot.invariant
-    (λ j k bytes on is. rw all (cell_writes_on c.args.geometry.now c.args.redo.now c.args.stripe.now j k bytes c.requires.redo is)) honest
-    (c.sync_rest.ensures.told honest)
+    does_slots _ _ _ _ _ _ _ _ _ _ _ c.loop-slot.invariant
+    (λ j k bytes on is. rw all (cell_writes_on c.args.geometry.now c.args.redo.now c.args.stripe.now j k bytes c.requires.redo is))
+    c.sync_rest.ensures.gone c.sync_rest.ensures.counts c.sync_rest.ensures.well_formed c.sync_rest.ensures.told

@@ -1,0 +1,17 @@
+-- What a phase of a redo does on any rack.
+use Rattle.std.specs.Prelude.{ℕ, IsTrue}
+use Rattle.stair_model.specs.Slots.{Slots, HasSlot, IsSlotSet}
+use Rattle.stair_rack.specs.Count.{Rose}
+use Rattle.stair_rack.specs.Placed.{Placed, Writes}
+use Rattle.stair_rack.specs.RackCounts.{NoneFalls}
+use Rattle.stair_rack.specs.Telling.{Telling}
+
+-- These writes were made on the slots of `to`, which were then synced, but for those of `gone`: each of these was gone, and
+-- its count rose.
+pub record DoesPhase (what : Writes) (to gone : Slots) (old new : Telling) : Type 0 where
+  pub placed : IsTrue new.honest
+      → Placed what (HasSlot to) (HasSlot gone) old.history new.history
+  pub among : (j : ℕ) → HasSlot gone j → HasSlot to j
+  pub rose : (j : ℕ) → HasSlot gone j → Rose (old.gones j) (new.gones j)
+  pub formed : IsSlotSet gone
+  pub counts : NoneFalls old.bads new.bads old.gones new.gones
