@@ -2,14 +2,19 @@
 //
 // `add` adds a multiple of 512 bytes to others by a table of 256 products. `encode N M R E..` does as many of these as
 // upstairs encoding takes steps for this geometry, each solved symbol of 512 bytes from as many known ones as it has, which
-// all stand in one array; it copies nothing else. `isal` is `add` by ISA-L's SSE kernel, where that is there.
+// all stand in one array; it copies nothing else. `isal` is `add` by ISA-L's kernel, where that is there: the one with AVX2 where
+// this is compiled for it, else the one with SSE.
 #include <stdint.h>
 #include <stdio.h>
 #include <stdlib.h>
 #include <string.h>
 #ifdef ISAL
 #include <isa-l.h>
-void gf_vect_mad_sse(int, int, int, unsigned char *, unsigned char *, unsigned char *);
+#ifdef __AVX2__
+#define MAD gf_vect_mad_avx2
+#else
+#define MAD gf_vect_mad_sse
+#endif
 #endif
 
 enum { SYMBOL = 512 };
@@ -64,7 +69,7 @@ int main(int argc, char **argv) {
   } else if (!strcmp(argv[1], "isal")) {
     unsigned char tables[254][32];
     for (int by = 0; by < 254; by++) gf_vect_mul_init(2 + by, tables[by]);
-    for (long i = 0; i < rounds; i++) gf_vect_mad_sse(SYMBOL, 1, 0, tables[i % 254], symbols[1], symbols[0]);
+    for (long i = 0; i < rounds; i++) MAD(SYMBOL, 1, 0, tables[i % 254], symbols[1], symbols[0]);
 #endif
   } else {
     return 2;

@@ -2,7 +2,7 @@ use crate::check::check_of_blocks;
 use crate::fault::Fault;
 use stair_array::create;
 use stair_base::{Geometry, SECTOR};
-use stair_filerack::FileRack;
+use stair_filerack::{Access, FileRack, Lock};
 use stair_rack::{Got, Rack};
 use std::alloc::Global;
 use std::fs::Files;
@@ -16,8 +16,11 @@ pub(crate) fn check_of_creating<F: Files + Drop>(
     rt: F,
     alloc: Global,
     rounds: u32,
-) -> Result<u64, Fault> {
-    let mut rack = FileRack::at(rt, alloc, ".")?;
+) -> Result<u64, Fault>
+where
+    F::File: Lock,
+{
+    let mut rack = FileRack::at(rt, alloc, ".", Access::Writing)?;
     if rounds == 0 {
         return Ok(0);
     }

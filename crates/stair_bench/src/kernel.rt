@@ -40,6 +40,33 @@ impl Row {
     }
 }
 
+/// How many devices get the same sector.
+#[derive(Clone, Copy)]
+pub(crate) enum Devices {
+    Eight,
+    ThirtyTwo,
+}
+
+impl Devices {
+    fn name(self) -> &'static str {
+        match self {
+            Devices::Eight => "8",
+            Devices::ThirtyTwo => "32",
+        }
+    }
+
+    /// The number of them.
+    pub(crate) fn count(self) -> u8
+        ensures some { 0 < result }
+        ensures within { result ≤ 32 }
+    {
+        match self {
+            Devices::Eight => 8,
+            Devices::ThirtyTwo => 32,
+        }
+    }
+}
+
 /// What is run and timed.
 #[derive(Clone, Copy)]
 pub(crate) enum Kernel {
@@ -65,6 +92,8 @@ pub(crate) enum Kernel {
     WriteSectors,
     /// The same sectors, read.
     ReadSectors,
+    /// A sector, written to each device of an array.
+    WriteAll(Devices),
     /// A new array on image files.
     CreateArray,
     /// The middle block of a stripe on image files, set to other bytes by a redo.
@@ -108,9 +137,11 @@ impl Kernel {
     ];
 
     /// Those over image files.
-    const OVER_FILES: [Kernel; 4] = [
+    const OVER_FILES: [Kernel; 6] = [
         Kernel::WriteSectors,
         Kernel::ReadSectors,
+        Kernel::WriteAll(Devices::Eight),
+        Kernel::WriteAll(Devices::ThirtyTwo),
         Kernel::CreateArray,
         Kernel::Redo(Layout::EightDevices),
     ];
@@ -129,6 +160,7 @@ impl Kernel {
             Kernel::SealSectors => ("seal", "sectors"),
             Kernel::WriteSectors => ("write", "sectors"),
             Kernel::ReadSectors => ("read", "sectors"),
+            Kernel::WriteAll(devices) => ("write-all", devices.name()),
             Kernel::CreateArray => ("create", "array"),
             Kernel::Redo(layout) => ("redo", layout.name()),
         }

@@ -9,13 +9,14 @@ use crate::check::check_of_stripe;
 use crate::counting::{Calls, Counting};
 use crate::encoding::{middle_block, varied_stripe};
 use crate::fault::Fault;
+use crate::sectors::attach_first;
 use crate::varied::varied;
 use stair_base::{CellSet, Geometry, Slots, Stripe, StripeCode};
 use stair_codec::{By, Codec};
-use stair_filerack::FileRack;
+use stair_filerack::{Access, FileRack, Lock};
 use stair_gf::Steps;
 use stair_journal::{Redo, close_gates, open_gates, write_body};
-use stair_rack::{Rack, Reply};
+use stair_rack::Rack;
 use stair_stripes::{gather, place};
 use std::alloc::Global;
 use std::fs::Files;
@@ -30,6 +31,8 @@ pub(crate) fn check_of_redoing<F: Files + Drop, L: Ledger>(
     rounds: u32,
     blank: Blank,
 ) -> Result<(u64, Calls), Fault>
+where
+    F::File: Lock,
     requires name { blank.name ≡ L.name }
     requires parts { blank.parts ≡ L.parts }
     requires some { 0 < L.parts }
@@ -38,7 +41,8 @@ pub(crate) fn check_of_redoing<F: Files + Drop, L: Ledger>(
     let mut codec = Codec::new(alloc, geometry, By::Fewest)?;
     let mut steps = Steps::<L>::new(blank);
     codec.encode(&mut stripe, &mut steps);
-    let (mut rack, live) = attached(FileRack::at(rt, alloc, ".")?, geometry)?;
+    let mut rack = FileRack::at(rt, alloc, ".", Access::Writing)?;
+    let live = attach_first(&mut rack, geometry.n())?;
     redo_once(&mut rack, geometry, live, all_cells(geometry), &stripe)?;
     let middle = middle_block(geometry);
     codec.update(
@@ -56,22 +60,6 @@ pub(crate) fn check_of_redoing<F: Files + Drop, L: Ledger>(
     let calls = rack.calls();
     let check = check_of_gathering(&mut rack, alloc, geometry, live)?;
     Ok((check, calls))
-}
-
-/// The rack with the array's slots attached, and these slots.
-fn attached<F: Files + Drop>(
-    rack: FileRack<F>,
-    geometry: &Geometry,
-) -> Result<(FileRack<F>, Slots), Fault> {
-    let mut rack = rack;
-    let mut live = Slots::empty();
-    for slot in 0..geometry.n() {
-        if rack.attach(slot) == Reply::Gone {
-            return Err(Fault::Image);
-        }
-        live.add(slot);
-    }
-    Ok((rack, live))
 }
 
 /// Every cell of a stripe, for a redo of stripe 0.

@@ -9,9 +9,10 @@ use crate::fault::Fault;
 use crate::kernel::{Code, Kernel};
 use crate::redo::check_of_redoing;
 use crate::restoring::check_of_restoring;
-use crate::sectors::{check_of_reading, check_of_sealing, check_of_writing};
+use crate::sectors::{check_of_reading, check_of_sealing, check_of_writing, check_of_writing_all};
 use crate::varied::varied;
 use stair_base::SECTOR;
+use stair_filerack::Lock;
 use stair_gf::{Steps, mul_add};
 use stair_mds::{Mds, Symbols};
 use std::alloc::{AllocError, Global};
@@ -33,7 +34,10 @@ pub(crate) fn make_rounds<F: Files + Drop>(
     alloc: Global,
     kernel: Kernel,
     rounds: u32,
-) -> Result<Made, Fault> {
+) -> Result<Made, Fault>
+where
+    F::File: Lock,
+{
     let steps = Blank::new(1);
     let check = match kernel {
         Kernel::MultiplyAdd => check_of_adding(rounds),
@@ -56,6 +60,7 @@ pub(crate) fn make_rounds<F: Files + Drop>(
         Kernel::SealSectors => check_of_sealing(alloc, rounds)?,
         Kernel::WriteSectors => check_of_writing(rt, alloc, rounds)?,
         Kernel::ReadSectors => check_of_reading(rt, alloc, rounds)?,
+        Kernel::WriteAll(devices) => check_of_writing_all(rt, alloc, devices.count(), rounds)?,
         Kernel::CreateArray => check_of_creating(rt, alloc, rounds)?,
         Kernel::Redo(layout) => {
             let geometry = layout.geometry();

@@ -1,10 +1,12 @@
+ghost use Rattle.std.specs.Prelude.{◌<◌, ◌≤◌};
+
 use crate::check::check_of_blocks;
 use crate::fault::Fault;
 use crate::varied::varied;
-use stair_base::SECTOR;
-use stair_filerack::FileRack;
+use stair_base::{SECTOR, Slots};
+use stair_filerack::{Access, FileRack, Lock};
 use stair_image::{SECTOR_BYTES, seal};
-use stair_rack::{Got, Rack, Reply};
+use stair_rack::{Got, Rack, Reply, sync_all, write_all};
 use std::alloc::{AllocError, Global};
 use std::fs::Files;
 
@@ -31,7 +33,10 @@ pub(crate) fn check_of_writing<F: Files + Drop>(
     rt: F,
     alloc: Global,
     rounds: u32,
-) -> Result<u64, Fault> {
+) -> Result<u64, Fault>
+where
+    F::File: Lock,
+{
     let sectors = varied_sectors(alloc)?;
     let mut rack = attached(rt, alloc)?;
     for _round in 0..rounds {
@@ -54,7 +59,10 @@ pub(crate) fn check_of_reading<F: Files + Drop>(
     rt: F,
     alloc: Global,
     rounds: u32,
-) -> Result<u64, Fault> {
+) -> Result<u64, Fault>
+where
+    F::File: Lock,
+{
     let mut sectors = vec![in alloc; [0; SECTOR]; usize::from(SECTORS)]?;
     let mut rack = attached(rt, alloc)?;
     for _round in 0..rounds {
@@ -69,13 +77,64 @@ pub(crate) fn check_of_reading<F: Files + Drop>(
     Ok(check_of_blocks(&sectors))
 }
 
-/// A rack over the current folder, whose slot 0 is attached.
-fn attached<F: Files + Drop>(rt: F, alloc: Global) -> Result<FileRack<F>, Fault> {
-    let mut rack = FileRack::at(rt, alloc, ".")?;
-    match rack.attach(0) {
-        Reply::Done => Ok(rack),
-        Reply::Gone => Err(Fault::Image),
+/// Writes one sector to the image files of so many slots in the current folder, so many times, each time under the next
+/// number, syncs them, and gives a check of what the last slot has.
+pub(crate) fn check_of_writing_all<F: Files + Drop>(
+    rt: F,
+    alloc: Global,
+    devices: u8,
+    rounds: u32,
+) -> Result<u64, Fault>
+where
+    F::File: Lock,
+    requires some { 0 < devices }
+    requires within { devices ≤ 32 }
+{
+    let mut rack = FileRack::at(rt, alloc, ".", Access::Writing)?;
+    let live = attach_first(&mut rack, devices)?;
+    let mut sector = varied(0);
+    let mut number = 0;
+    for _round in 0..rounds {
+        number = if number < u32::from(SECTORS) - 1 {
+            number + 1
+        } else {
+            0
+        };
+        if write_all(&mut rack, live, number, &sector).count() > 0 {
+            return Err(Fault::Image);
+        }
     }
+    if rounds > 0
+        && (sync_all(&mut rack, live).count() > 0
+            || rack.read(devices - 1, number, &mut sector) != Got::Good)
+    {
+        return Err(Fault::Image);
+    }
+    Ok(check_of_blocks(&[sector]))
+}
+
+/// Attaches so many slots, and gives them.
+pub(crate) fn attach_first<R: Rack>(rack: &mut R, devices: u8) -> Result<Slots, Fault>
+    requires { devices ≤ 32 }
+{
+    let mut live = Slots::empty();
+    for slot in 0..devices {
+        if rack.attach(slot) == Reply::Gone {
+            return Err(Fault::Image);
+        }
+        live.add(slot);
+    }
+    Ok(live)
+}
+
+/// A rack over the current folder, whose slot 0 is attached.
+fn attached<F: Files + Drop>(rt: F, alloc: Global) -> Result<FileRack<F>, Fault>
+where
+    F::File: Lock,
+{
+    let mut rack = FileRack::at(rt, alloc, ".", Access::Writing)?;
+    let _ = attach_first(&mut rack, 1)?;
+    Ok(rack)
 }
 
 /// The sectors that are written, in order.

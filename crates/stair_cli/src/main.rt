@@ -3,8 +3,11 @@
 
 ghost use Rattle.std.specs.Prelude.{◌≡◌, ◌<◌};
 
+mod devices;
+
+use crate::devices::{InUse, access_of, lock_folder, tell_reason, tell_reasons};
 use stair_engine::{Status, stair};
-use stair_filerack::FileRack;
+use stair_filerack::{Access, FileRack};
 use stair_gf::Steps;
 use stair_rack::{FromRead, FromWrite};
 use std::fs::File;
@@ -12,6 +15,9 @@ use std::marker::Brand;
 use std::process::ExitCode;
 use std::sync::ledger::{Blank, Ledger};
 use std::{env, fs, io};
+
+// The exit status where another program has the folder: that of a device that is gone.
+const IN_USE: u8 = 15;
 
 /// Takes the numbers of those standard streams that are closed, so that no image is opened on one of them and written to as
 /// output. Reads and writes of a directory fail, so a closed stream stays one that fails.
@@ -24,6 +30,27 @@ fn hold_streams(rt: &HostRuntime) -> io::Result<[File; 3]> {
 struct Words {
     folder: String,
     command: Vec<String>,
+}
+
+/// Why no call was made.
+#[derive(Clone, Copy, Debug, Drop)]
+enum Refusal {
+    /// As this status says.
+    Status(Status),
+    /// Another program has the folder, which was told.
+    InUse,
+}
+
+impl From<Status> for Refusal {
+    fn from(status: Status) -> Refusal {
+        Refusal::Status(status)
+    }
+}
+
+impl From<InUse> for Refusal {
+    fn from(_: InUse) -> Refusal {
+        Refusal::InUse
+    }
 }
 
 /// The folder and the words after it. Words that are no text are a faulty command line, and so is an empty folder: then there
@@ -46,40 +73,74 @@ fn read_words(rt: &HostRuntime) -> Result<Words, Status> {
     }
 }
 
-/// Does what the words say, with a counter on this ledger.
-fn run<L: Ledger>(rt: &HostRuntime, blank: Blank) -> Result<Status, Status>
+/// Does what the words say, with a counter on this ledger. A command that writes has the folder for itself, and is begun only
+/// where no device of the folder is refused for a reason of the caller's: what is gone in a call is down from then on.
+fn run<L: Ledger>(rt: &HostRuntime, blank: Blank) -> Result<Status, Refusal>
     requires name { blank.name ≡ L.name }
     requires parts { blank.parts ≡ L.parts }
     requires some { 0 < L.parts }
 {
-    let words = read_words(rt)?;
-    let Ok(mut rack) = FileRack::at(rt, rt.alloc(), words.folder.as_str()) else {
-        return Err(Status::OutOfMemory);
+    let Words { folder, command } = read_words(rt)?;
+    let access = access_of(rt.alloc(), &command);
+    let _lock = match access {
+        Access::Writing => lock_folder(rt, folder.as_str())?,
+        Access::Reading => None,
     };
+    let Ok(mut rack) = FileRack::at(rt, rt.alloc(), folder.as_str(), access) else {
+        return Ok(Status::OutOfMemory);
+    };
+    if access == Access::Writing
+        && let Err(refused) = rack.probe()
+    {
+        tell_reason(rt, &refused);
+        return Ok(Status::Gone(refused.slot));
+    }
+    Ok(call::<L>(rt, &mut rack, &command, blank))
+}
+
+/// Makes the call, and tells of the devices that were gone why.
+fn call<L: Ledger>(
+    rt: &HostRuntime,
+    rack: &mut FileRack<&HostRuntime>,
+    command: &[String],
+    blank: Blank,
+) -> Status
+    requires name { blank.name ≡ L.name }
+    requires parts { blank.parts ≡ L.parts }
+    requires some { 0 < L.parts }
+{
     let mut input = FromRead::new(rt.stdin());
     let mut output = FromWrite::new(rt.stdout());
     let mut steps = Steps::<L>::new(blank);
-    let command = &words.command;
-    Ok(stair(
+    let status = stair(
         rt.alloc(),
         command,
-        &mut rack,
+        rack,
         &mut input,
         &mut output,
         &mut steps,
-    ))
+    );
+    tell_reasons(rt, rack);
+    status
 }
 
-fn main(rt: HostRuntime) -> ExitCode {
-    // They are held until the end. Where the directory can't be opened nothing is done, as where the input failed.
-    let streams = hold_streams(&rt);
-    let status = match &streams {
-        Ok(_) => run::<Brand>(&rt, Blank::new(1)).unwrap_or_else(|refused| refused),
-        Err(_) => Status::InputFault,
-    };
+/// Tells the status, and gives its code.
+fn end(rt: &HostRuntime, status: Status) -> ExitCode {
     if status != Status::Done {
         // Where standard error can't be written, the exit status still tells.
         let _ = eprintln!(rt; "{status}");
     }
     ExitCode::from(status.code())
+}
+
+fn main(rt: HostRuntime) -> ExitCode {
+    // They are held until the end. Where the directory can't be opened nothing is done, as where the input failed.
+    let streams = hold_streams(&rt);
+    if streams.is_err() {
+        return end(&rt, Status::InputFault);
+    }
+    match run::<Brand>(&rt, Blank::new(1)) {
+        Ok(status) | Err(Refusal::Status(status)) => end(&rt, status),
+        Err(Refusal::InUse) => ExitCode::from(IN_USE),
+    }
 }

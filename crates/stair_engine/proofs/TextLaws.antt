@@ -56,17 +56,6 @@ module _ {K T E : Type 0} (view : SinkView K) where
       subst (λ (bytes : List ℕ). PutsAll view r bytes a c) (sym (append_assoc before piece behind) ∙ whole)
       (puts_then r before (piece ++ behind) a b c first (puts_first r piece behind b c is then))
 
-  -- a piece of two, as a name and a number
-  pub puts_two_then : (r : Result T E) (xs xs' ys : List ℕ) (a b c : K) → Holds view (HasPut (xs ++ xs')) a b → PutsAll view r ys b c
-      → PutsAll view r (xs ++ (xs' ++ ys)) a c
-  puts_two_then r xs xs' ys a b c first then =
-      subst (λ (bytes : List ℕ). PutsAll view r bytes a c) (append_assoc xs xs' ys) (puts_then r (xs ++ xs') ys a b c first then)
-
-  pub puts_two_first : (r : Result T E) (xs xs' ys : List ℕ) (a b : K) → IsErr r → PutsPart view (xs ++ xs') a b
-      → PutsAll view r (xs ++ (xs' ++ ys)) a b
-  puts_two_first r xs xs' ys a b is puts =
-      subst (λ (bytes : List ℕ). PutsAll view r bytes a b) (append_assoc xs xs' ys) (puts_first r (xs ++ xs') ys a b is puts)
-
 -- one more piece
 pub puts_more : {K : Type 0} (view : SinkView K) (before piece : List ℕ) (a b c : K) → Holds view (HasPut before) a b → Holds view (HasPut piece) b c
     → Holds view (HasPut (before ++ piece)) a c

@@ -9,6 +9,7 @@ mod encode;
 mod fault;
 mod intake;
 pub mod laws;
+mod line;
 mod map;
 mod restore;
 mod show;

@@ -1,27 +1,28 @@
-ghost use Rattle.std.specs.Prelude.{◌≡◌, ◌<◌, ◌++◌, codes, IfErr};
-ghost use Rattle.std.specs.Fmt.{decimal};
+ghost use Rattle.std.specs.Prelude.{◌≡◌, ◌+◌, ◌<◌, ◌≤◌, ◌++◌, length, IfErr};
 ghost use Rattle.stair_engine.specs.Outside.{sink_view};
 ghost use Rattle.stair_engine.specs.Rack.{rack_view};
 ghost use Rattle.stair_engine.specs.Show.{
-  array_line,
+  array_line as line_of_array,
   array_text,
-  epoch_line,
-  frozen_line,
-  geometry_line,
-  label_line,
+  epoch_line as line_of_epoch,
+  frozen_line as line_of_frozen,
+  geometry_line as line_of_geometry,
+  label_line as line_of_label,
   reason_text,
   seat_text,
   show_text,
-  slot_line,
+  slot_line as line_of_slot,
   spaced,
 };
 ghost use Rattle.stair_engine.specs.Showing.{Shows};
 ghost use Rattle.stair_engine.specs.Streams.{PutsAll};
+ghost use Rattle.stair_engine.specs.declared.line.TheConstants.{LINE_LIMIT};
 
 use crate::fault::Fault;
+use crate::line::Line;
 use crate::status::Status;
 use crate::streams::put_all;
-use crate::text::{identity_digits, put_number};
+use crate::text::identity_digits;
 use stair_base::Geometry;
 use stair_member::{Member, Why, survey};
 use stair_rack::{Rack, Sink};
@@ -44,7 +45,7 @@ fn put_member<K: Sink>(output: &mut K, member: &Member) -> Result<(), Fault>
 {
     put_array(output, member)?;
     for slot in 0..member.geometry().n() {
-        put_slot(output, member, slot)?;
+        put_all(output, slot_line(member, slot).bytes())?;
     }
     Ok(())
 }
@@ -55,131 +56,122 @@ fn put_array<K: Sink>(output: &mut K, member: &Member) -> Result<(), Fault>
         output.old output.new }
     ensures failed { IfErr result (λ fault. fault ≡ Fault.Output) }
 {
-    put_identity(output, &member.geometry())?;
-    put_geometry(output, &member.geometry())?;
-    put_epoch(output, member.epoch())?;
-    put_label(output, &member.label())?;
-    put_frozen(output, member.frozen())
+    let geometry = member.geometry();
+    put_all(output, array_line(&geometry).bytes())?;
+    put_all(output, geometry_line(&geometry).bytes())?;
+    put_all(output, epoch_line(member.epoch()).bytes())?;
+    put_all(output, label_line(&member.label()).bytes())?;
+    put_all(output, frozen_line(member.frozen()).bytes())
 }
 
-fn put_identity<K: Sink>(output: &mut K, geometry: &Geometry) -> Result<(), Fault>
-    ensures puts { PutsAll (sink_view K.held K.faults) result (array_line geometry.now)
-        output.old output.new }
-    ensures failed { IfErr result (λ fault. fault ≡ Fault.Output) }
+fn array_line(geometry: &Geometry) -> Line
+    ensures { result ≡ line_of_array geometry.now }
 {
-    put_all(output, b"array ")?;
-    put_all(output, &identity_digits(geometry.id()))?;
-    put_all(output, b"\n")
+    let mut line = Line::new();
+    line.push(b"array ");
+    line.push(&identity_digits(geometry.id()));
+    line.push(b"\n");
+    line
 }
 
-fn put_geometry<K: Sink>(output: &mut K, geometry: &Geometry) -> Result<(), Fault>
-    ensures puts { PutsAll (sink_view K.held K.faults) result (geometry_line geometry.now)
-        output.old output.new }
-    ensures failed { IfErr result (λ fault. fault ≡ Fault.Output) }
+fn geometry_line(geometry: &Geometry) -> Line
+    ensures { result ≡ line_of_geometry geometry.now }
 {
-    put_named(output, b"geometry n ", u64::from(geometry.n()))?;
-    put_named(output, b" m ", u64::from(geometry.m()))?;
-    put_named(output, b" r ", u64::from(geometry.r()))?;
-    put_coverage(output, geometry)?;
-    put_named(output, b" stripes ", u64::from(geometry.stripes()))?;
-    put_named(output, b" blocks ", geometry.blocks())?;
-    put_all(output, b"\n")
+    let mut line = Line::new();
+    line.push_named(b"geometry n ", u64::from(geometry.n()));
+    line.push_named(b" m ", u64::from(geometry.m()));
+    line.push_named(b" r ", u64::from(geometry.r()));
+    line.push(b" e");
+    push_coverage(&mut line, geometry);
+    line.push_named(b" stripes ", u64::from(geometry.stripes()));
+    line.push_named(b" blocks ", geometry.blocks());
+    line.push(b"\n");
+    line
 }
 
-// A name and a number.
-fn put_named<K: Sink>(output: &mut K, name: &[u8], number: u64) -> Result<(), Fault>
-    ensures puts { PutsAll (sink_view K.held K.faults) result (name.now ++ decimal number)
-        output.old output.new }
-    ensures failed { IfErr result (λ fault. fault ≡ Fault.Output) }
+// The entries, of which there are at most 31.
+fn push_coverage(line: &mut Line, geometry: &Geometry)
+    requires { length line.old + 651 ≤ LINE_LIMIT }
+    ensures text { line.new ≡ line.old ++ spaced geometry.now.e }
+    ensures short { length line.new ≤ length line.old + 651 }
 {
-    put_all(output, name)?;
-    put_number(output, number)
-}
-
-fn put_coverage<K: Sink>(output: &mut K, geometry: &Geometry) -> Result<(), Fault>
-    ensures puts { PutsAll (sink_view K.held K.faults) result
-        (codes " e" ++ spaced geometry.now.e) output.old output.new }
-    ensures failed { IfErr result (λ fault. fault ≡ Fault.Output) }
-{
-    put_all(output, b" e")?;
     for l in 0..geometry.classes() {
-        put_named(output, b" ", u64::from(geometry.coverage(l)))?;
+        line.push_named(b" ", u64::from(geometry.coverage(l)));
     }
-    Ok(())
 }
 
-fn put_epoch<K: Sink>(output: &mut K, epoch: u64) -> Result<(), Fault>
-    ensures puts { PutsAll (sink_view K.held K.faults) result (epoch_line epoch)
-        output.old output.new }
-    ensures failed { IfErr result (λ fault. fault ≡ Fault.Output) }
+fn epoch_line(epoch: u64) -> Line
+    ensures { result ≡ line_of_epoch epoch }
 {
-    put_named(output, b"epoch ", epoch)?;
-    put_all(output, b"\n")
+    let mut line = Line::new();
+    line.push_named(b"epoch ", epoch);
+    line.push(b"\n");
+    line
 }
 
-// The label, where there is one.
-fn put_label<K: Sink>(output: &mut K, label: &Label) -> Result<(), Fault>
-    ensures puts { PutsAll (sink_view K.held K.faults) result (label_line label.now)
-        output.old output.new }
-    ensures failed { IfErr result (λ fault. fault ≡ Fault.Output) }
+// Nothing where there is no label.
+fn label_line(label: &Label) -> Line
+    ensures { result ≡ line_of_label label.now }
 {
+    let mut line = Line::new();
     let text = label.bytes();
     if text.is_empty() {
-        return Ok(());
+        return line;
     }
-    put_all(output, b"label ")?;
-    put_all(output, text)?;
-    put_all(output, b"\n")
+    line.push(b"label ");
+    line.push(text);
+    line.push(b"\n");
+    line
 }
 
-fn put_frozen<K: Sink>(output: &mut K, frozen: bool) -> Result<(), Fault>
-    ensures puts { PutsAll (sink_view K.held K.faults) result (frozen_line frozen)
-        output.old output.new }
-    ensures failed { IfErr result (λ fault. fault ≡ Fault.Output) }
+// Nothing where it isn't frozen.
+fn frozen_line(frozen: bool) -> Line
+    ensures { result ≡ line_of_frozen frozen }
 {
+    let mut line = Line::new();
     if frozen {
-        put_all(output, b"frozen\n")
-    } else {
-        Ok(())
+        line.push(b"frozen\n");
     }
+    line
 }
 
-fn put_slot<K: Sink>(output: &mut K, member: &Member, slot: u8) -> Result<(), Fault>
+fn slot_line(member: &Member, slot: u8) -> Line
     requires { slot < 32 }
-    ensures puts { PutsAll (sink_view K.held K.faults) result (slot_line member.now slot)
-        output.old output.new }
-    ensures failed { IfErr result (λ fault. fault ≡ Fault.Output) }
+    ensures { result ≡ line_of_slot member.now slot }
 {
     let mark = member.marks()[usize::from(slot)];
-    put_named(output, b"slot ", u64::from(slot))?;
-    put_seat(output, mark, member.joins()[usize::from(slot)])?;
-    put_reason(output, mark, member.why(slot))?;
-    put_all(output, b"\n")
+    let joined = member.joins()[usize::from(slot)];
+    let mut line = Line::new();
+    line.push_named(b"slot ", u64::from(slot));
+    push_seat(&mut line, mark, joined);
+    push_reason(&mut line, mark, member.why(slot));
+    line.push(b"\n");
+    line
 }
 
-fn put_seat<K: Sink>(output: &mut K, mark: Mark, joined: u64) -> Result<(), Fault>
-    ensures puts { PutsAll (sink_view K.held K.faults) result (seat_text mark joined)
-        output.old output.new }
-    ensures failed { IfErr result (λ fault. fault ≡ Fault.Output) }
+fn push_seat(line: &mut Line, mark: Mark, joined: u64)
+    requires { length line.old + 32 ≤ LINE_LIMIT }
+    ensures text { line.new ≡ line.old ++ seat_text mark joined }
+    ensures short { length line.new ≤ length line.old + 32 }
 {
     match mark {
-        Mark::Live => put_named(output, b" live ", joined),
-        Mark::Rebuilding => put_named(output, b" rebuilding ", joined),
-        Mark::Down => put_all(output, b" down"),
+        Mark::Live => line.push_named(b" live ", joined),
+        Mark::Rebuilding => line.push_named(b" rebuilding ", joined),
+        Mark::Down => line.push(b" down"),
     }
 }
 
 // The reason, where it isn't the one that the mark tells.
-fn put_reason<K: Sink>(output: &mut K, mark: Mark, why: Why) -> Result<(), Fault>
-    ensures puts { PutsAll (sink_view K.held K.faults) result (reason_text mark why)
-        output.old output.new }
-    ensures failed { IfErr result (λ fault. fault ≡ Fault.Output) }
+fn push_reason(line: &mut Line, mark: Mark, why: Why)
+    requires { length line.old + 14 ≤ LINE_LIMIT }
+    ensures text { line.new ≡ line.old ++ reason_text mark why }
+    ensures short { length line.new ≤ length line.old + 14 }
 {
     match (mark, why) {
-        (Mark::Live, Why::Here) | (Mark::Rebuilding, Why::Rebuilding) | (Mark::Down, _) => Ok(()),
+        (Mark::Live, Why::Here) | (Mark::Rebuilding, Why::Rebuilding) | (Mark::Down, _) => {}
         _ => {
-            put_all(output, b" ")?;
-            put_all(output, why.words().as_bytes())
+            line.push(b" ");
+            line.push(why.words().as_bytes());
         }
     }
 }

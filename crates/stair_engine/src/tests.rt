@@ -1,13 +1,13 @@
 //! Worked rows of the commands, over memory. The cells and the answers were worked out elsewhere.
 
-ghost use Rattle.std.specs.Prelude.{◌≡◌, ◌<◌};
+ghost use Rattle.std.specs.Prelude.{◌≡◌, ◌<◌, None};
 
 use super::*;
 use stair_base::{Broken, SECTOR};
 use stair_conf::Key;
 use stair_member::Why;
 use stair_memrack::{Act, MemRack, What};
-use stair_rack::{MemSink, MemSource};
+use stair_rack::{MemSink, MemSource, Put};
 use std::alloc::AllocError;
 use std::marker::Brand;
 use std::sync::ledger::Blank;
@@ -368,6 +368,34 @@ fn an_array_is_shown(rt: HostRuntime) -> Result<(), Fail> {
         assert_eq!(rt; came.status, status, "{room}");
         assert!(rt; came.put == front, "{room}");
     }
+    Ok(())
+}
+
+// A sink that takes all that is put, and counts the puts.
+#[derive(Drop)]
+struct PutCounter {
+    puts: u32,
+}
+
+impl Sink for PutCounter {
+    ghost held = { λ _. None };
+
+    ghost faults = { λ _. 0 };
+
+    fn put(&mut self, from: &[u8]) -> Put {
+        self.puts = self.puts.saturating_add(1);
+        Put::Bytes(from.len())
+    }
+}
+
+// Of the array, its geometry and its epoch, and of each of its four slots.
+#[test]
+fn a_line_is_one_put(rt: HostRuntime) -> Result<(), Fail> {
+    let mut rack = MemRack::new(rt.alloc(), 4, 17, &[], 1000)?;
+    run(rt.alloc(), &mut rack, CREATE, TEXT, WHOLE)?;
+    let mut output = PutCounter { puts: 0 };
+    assert_eq!(rt; show(&mut rack, &mut output), Ok(Status::Done));
+    assert_eq!(rt; output.puts, 7);
     Ok(())
 }
 

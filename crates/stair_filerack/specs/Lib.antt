@@ -1,3 +1,4 @@
+pub mod Reason
 pub mod Slot
 pub mod Files
 pub mod FileRack

@@ -6,16 +6,25 @@ use Rattle.stair_rack.specs.declared.rack.Reply.{Reply}
 use Rattle.stair_rack.specs.declared.rack.Reply.TheVariants as reply
 use Rattle.stair_rack.specs.declared.rack.Got.{Got}
 use Rattle.stair_rack.specs.declared.rack.Got.TheVariants as got
+use Rattle.stair_filerack.specs.declared.reason.Reason.{Reason}
+
+-- an image file that is open
+pub record OpenFile (File : Type 0) : Type 0 where
+  pub file : File
+  -- the sector behind the one that was read or written last, where nothing came after that
+  pub next : Option ℕ
 
 pub record FileSlot (File : Type 0) : Type 0 where
   -- the path of its image file
   pub path : List ℕ
   -- the file that it holds open
-  pub file : Option File
+  pub file : Option (OpenFile File)
   -- the number of sectors that the last attach found, 0 where it was gone or there was none
   pub sectors : ℕ
   -- how often it was gone
   pub gones : ℕ
+  -- the first reason for which it was gone, but that there was no file
+  pub reason : Option Reason
 
 -- the path of a slot's image file: FOLDER/devJJ.img, where JJ is the slot's number in two decimal digits
 abbrev pub path_of : List ℕ → ℕ → List ℕ
@@ -24,34 +33,44 @@ path_of folder slot = folder ++ codes "/dev" ++ decimal (slot / 10) ++ decimal (
 
 -- a slot that no call has touched
 abbrev pub untouched : {File : Type 0} → List ℕ → FileSlot File
-untouched path = record { path = path; file = None; sectors = 0; gones = 0 }
+untouched path = record { path = path; file = None; sectors = 0; gones = 0; reason = None }
 
 -- whether a slot is attached: it holds its file open
 abbrev pub is_attached : {File : Type 0} → FileSlot File → Bool
 is_attached slot = is_some slot.file
 
+-- a slot that isn't attached
+abbrev pub detached : {File : Type 0} → FileSlot File → FileSlot File
+detached slot = record slot { file = None; sectors = 0 }
+
 -- a slot that was gone once more, with its file as it was
 abbrev pub gone_once_more : {File : Type 0} → FileSlot File → FileSlot File
 gone_once_more slot = record slot { gones = one_more slot.gones }
 
--- a slot that was gone, and lets go of its file
-abbrev pub let_go : {File : Type 0} → FileSlot File → FileSlot File
-let_go slot = record (gone_once_more slot) { file = None }
+-- a slot that was gone, keeps this reason and lets go of its file
+abbrev pub let_go : {File : Type 0} → Option Reason → FileSlot File → FileSlot File
+let_go reason slot = record (gone_once_more slot) { file = None; reason = reason }
+
+-- a file that was just opened
+abbrev pub opened : {File : Type 0} → File → OpenFile File
+opened file = record { file = file; next = None }
 
 -- a slot that holds a file of so many sectors open
-abbrev pub holding : {File : Type 0} → Option File → ℕ → FileSlot File → FileSlot File
+abbrev pub holding : {File : Type 0} → Option (OpenFile File) → ℕ → FileSlot File → FileSlot File
 holding file sectors slot = record slot { file = file; sectors = sectors }
 
--- a slot after an attach with this answer, which found this file of so many sectors
-abbrev pub attached_as : {File : Type 0} → Reply → Option File → ℕ → FileSlot File → FileSlot File
-attached_as reply.Done file sectors slot = holding file sectors slot
-attached_as reply.Gone file sectors slot = record (let_go slot) { sectors = 0 }
+-- a slot after an attach with this answer, which found this file of so many sectors, or keeps this reason
+abbrev pub attached_as : {File : Type 0} → Reply → Option (OpenFile File) → ℕ → Option Reason →
+    FileSlot File → FileSlot File
+attached_as reply.Done file sectors reason slot = holding file sectors slot
+attached_as reply.Gone file sectors reason slot = record (let_go reason slot) { sectors = 0 }
 
--- a slot after a read with this answer, which left its file so
-abbrev pub read_as : {File : Type 0} → Got → Option File → FileSlot File → FileSlot File
-read_as got.Good file slot = record slot { file = file }
-read_as got.Bad file slot = record slot { file = file }
-read_as got.Gone file slot = let_go slot
+-- a slot after a read with this answer, which left its file so, or keeps this reason
+abbrev pub read_as : {File : Type 0} → Got → Option (OpenFile File) → Option Reason →
+    FileSlot File → FileSlot File
+read_as got.Good file reason slot = record slot { file = file }
+read_as got.Bad file reason slot = record slot { file = file }
+read_as got.Gone file reason slot = let_go reason slot
 
 -- the file of a slot of so many sectors after a write of this sector with this answer, which left it so: one that
 -- failed is let go of, and one whose end the sector lies past is as it was
@@ -60,14 +79,16 @@ abbrev pub file_after_write : {File : Type 0} → Reply → ℕ → ℕ → Opti
 file_after_write reply.Done sectors sector new old = new
 file_after_write reply.Gone sectors sector new old = if nat_lt sector sectors then None else old
 
--- a slot after a write of this sector with this answer, which left its file so
-abbrev pub written_as : {File : Type 0} → ℕ → Reply → Option File → FileSlot File → FileSlot File
-written_as sector reply.Done file slot = record slot { file = file }
-written_as sector reply.Gone file slot = record (gone_once_more slot) {
+-- a slot after a write of this sector with this answer, which left its file so, or keeps this reason
+abbrev pub written_as : {File : Type 0} → ℕ → Reply → Option (OpenFile File) → Option Reason →
+    FileSlot File → FileSlot File
+written_as sector reply.Done file reason slot = record slot { file = file }
+written_as sector reply.Gone file reason slot = record (gone_once_more slot) {
   file = file_after_write reply.Gone slot.sectors sector file slot.file;
+  reason = reason;
 }
 
--- a slot after a sync with this answer
-abbrev pub synced_as : {File : Type 0} → Reply → FileSlot File → FileSlot File
-synced_as reply.Done slot = slot
-synced_as reply.Gone slot = let_go slot
+-- a slot after a sync with this answer, which keeps this reason
+abbrev pub synced_as : {File : Type 0} → Reply → Option Reason → FileSlot File → FileSlot File
+synced_as reply.Done reason slot = slot
+synced_as reply.Gone reason slot = let_go reason slot

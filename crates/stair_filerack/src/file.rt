@@ -1,53 +1,116 @@
 // An image file, which may be open.
-ghost use Rattle.std.specs.Prelude.{◌≡◌, ◌≢◌, ◌≤◌, ◌<◌, true, false, take, is_some, IsSome, None, IfOk, OnErr, MatchOption, MatchResult, OnOk};
-ghost use Rattle.std.specs.Fs.{asks_read, asks_write, asks_append, asks_truncate, asks_create, asks_create_new, metadata_len};
+ghost use Rattle.std.specs.Prelude.{◌≡◌, ◌≢◌, ◌≤◌, ◌<◌, true, false, take, IsTrue, IsSome, None, Some, IfOk, OnErr, MatchOption, MatchResult, OnOk};
+ghost use Rattle.std.specs.Fs.{asks_read, asks_write, asks_append, asks_truncate, asks_create, asks_create_new};
 ghost use Rattle.std.specs.Io.KnownBytes.{Consumes, Appends, IsAtEnd};
 ghost use Rattle.std.specs.Io.Seek.{StaysAt};
 ghost use Rattle.stair_image.specs.Seal.{sealed};
-ghost use Rattle.stair_filerack.specs.Files.{SeeksSector, ReadsSector, IsNoSector, ReadsNoSector, IsCutShort, FailsToRead, WritesSector, GoesOn, buffer_after, got_of, reply_of, sectors_in};
-ghost use Rattle.stair_filerack.specs.Slot.{file_after_write};
+ghost use Rattle.stair_filerack.specs.Reason.{KeepsReason, had_of};
+ghost use Rattle.stair_filerack.specs.Files.{CountsSectors, SeeksSector, FindsSector, ReadsSector, IsNoSector, ReadsNoSector, ReadsBadSector, IsCutShort, FailsToRead, WritesSector, GoesOn, IsGotOf, buffer_after, reply_of, sectors_in};
+ghost use Rattle.stair_filerack.specs.Slot.{opened, file_after_write};
 
-use stair_image::{SECTOR_BYTES, seal, unseal};
+use crate::access::Access;
+use crate::lock::{Lock, Locking};
+use crate::reason::{Reason, is_bad_sector, keep_first};
+use stair_image::{SECTOR_BYTES, Sealed, unseal};
 use stair_rack::{Got, Reply, read_retrying};
 use std::fs::{Files, Metadata, OpenFile, OpenOptions};
-use std::io;
 use std::io::{Read, Seek, SeekFrom, Write};
+use std::marker::Model;
+use std::os::unix::fs::FileTypeExt;
+use std::{fs, io};
 
-/// Opens an image file for reading and writing, and counts its sectors.
-pub(crate) fn open<F: Files>(runtime: &F, path: &str) -> io::Result<(F::File, u32)> {
-    counted(image_options().open(runtime, path)?)
+/// An image file that is open, and the sector behind the one that was read or written last, where nothing came after that:
+/// there the next read or write begins without a seek.
+#[derive(Drop)]
+pub(crate) struct Opened<T> {
+    file: T,
+    next: Option<u64>,
+}
+
+impl<T> Model for Opened<T> {
+    ghost use Rattle.stair_filerack.specs.Slot.{OpenFile};
+
+    ghost Value = { OpenFile T };
+
+    ghost view = { λ s. record { file = s.file; next = s.next } };
+}
+
+impl<T> Opened<T> {
+    /// A file that was just opened.
+    pub(crate) fn new(file: T) -> Opened<T>
+        ensures { result ≡ opened file }
+    {
+        Opened { file, next: None }
+    }
+}
+
+/// Opens an image file, with its lock where it is to be written, and counts its sectors.
+pub(crate) fn open<T: OpenFile + Seek + Lock + Drop, F: Files<File = T>>(
+    runtime: &F,
+    access: Access,
+    path: &str,
+) -> Result<(T, u32), Reason> {
+    // A pipe is told before it is opened, since that may wait for another program.
+    if !is_device(&fs::metadata(runtime, path)?) {
+        return Err(Reason::NoDevice);
+    }
+    let file = image_options(access).open(runtime, path)?;
+    if access == Access::Writing {
+        had(file.take_lock())?;
+    }
+    Ok(counted(file)?)
+}
+
+// Whether this is a file or a block device.
+fn is_device(metadata: &Metadata) -> bool {
+    let kind = metadata.file_type();
+    kind.is_file() || kind.is_block_device()
+}
+
+// Whether a file may be had, by what came of asking for its lock.
+fn had(locking: Locking) -> Result<(), Reason>
+    ensures { result ≡ had_of locking }
+{
+    match locking {
+        Locking::Taken | Locking::NoLocks => Ok(()),
+        Locking::InUse => Err(Reason::InUse),
+    }
 }
 
 // How an image file is opened.
-fn image_options() -> OpenOptions
-    ensures both { (asks_read result ≡ true) × (asks_write result ≡ true) }
+fn image_options(access: Access) -> OpenOptions
+    ensures read { asks_read result ≡ true }
+    ensures write { IsTrue (asks_write result) → access ≡ Access.Writing }
+    ensures both { access ≡ Access.Writing → asks_write result ≡ true }
     ensures not_created { (asks_create result ≡ false) × (asks_create_new result ≡ false) }
     ensures not_cut { (asks_truncate result ≡ false) × (asks_append result ≡ false) }
 {
     let mut options = OpenOptions::new();
     options.read(true);
-    options.write(true);
+    options.write(access == Access::Writing);
     options
 }
 
-/// The file with the number of its sectors.
-pub(crate) fn counted<T: OpenFile + Drop>(file: T) -> io::Result<(T, u32)>
-    ensures { IfOk result (λ found. found.0 ≡ file) }
+/// The file with the number of its sectors, by its end as a seek finds it.
+pub(crate) fn counted<T: Seek + Drop>(mut file: T) -> io::Result<(T, u32)>
+    ensures { IfOk result (λ found.
+        CountsSectors T.stream_position T.stream_bytes file found.0 found.1) }
 {
-    let sectors = sectors_of(&file.metadata()?);
-    Ok((file, sectors))
+    let end = file.seek(SeekFrom::End(0))?;
+    Ok((file, sectors_of(end)))
 }
 
-// The number of sectors of a file, by its length.
-fn sectors_of(metadata: &Metadata) -> u32
-    ensures { result ≡ sectors_in (metadata_len metadata.now) }
+// The number of sectors of a file of so many bytes.
+fn sectors_of(bytes: u64) -> u32
+    ensures { result ≡ sectors_in bytes }
 {
-    u32::try_from(metadata.len() / SECTOR_BYTES as u64).unwrap_or(u32::MAX)
+    u32::try_from(bytes / SECTOR_BYTES as u64).unwrap_or(u32::MAX)
 }
 
-/// Reads a sector of an open file of so many sectors. A file that fails is closed.
+/// Reads a sector of an open file of so many sectors. A file that fails is closed, and the reason kept.
 pub(crate) fn read<T: Read + Seek + Drop>(
-    file: &mut Option<T>,
+    file: &mut Option<Opened<T>>,
+    reason: &mut Option<Reason>,
     sectors: u32,
     sector: u32,
     into: &mut [u8; 512],
@@ -55,30 +118,40 @@ pub(crate) fn read<T: Read + Seek + Drop>(
     ensures good { result ≡ Got.Good →
         GoesOn (ReadsSector T.stream_position T.remaining sector into.new) file.old file.new }
     ensures bad { result ≡ Got.Bad → sector < sectors →
-        GoesOn (ReadsNoSector T.stream_position T.remaining sector) file.old file.new }
+        GoesOn (ReadsBadSector T.stream_position T.remaining sector) file.old file.new }
     ensures unread { result ≢ Got.Good → into.new ≡ into.old }
-    ensures unattached { file.old ≡ None → result ≡ Got.Gone }
+    ensures unattached { file.old ≡ None → (result ≡ Got.Gone) × (reason.new ≡ reason.old) }
     ensures past_end { IsSome file.old → sectors ≤ sector →
         (result ≡ Got.Bad) × (file.new ≡ file.old) }
     ensures closed { result ≡ Got.Gone → file.new ≡ None }
+    ensures kept { KeepsReason reason.old reason.new }
+    ensures told { result ≡ Got.Gone → IsSome file.old → IsSome reason.new }
+    ensures untold { result ≢ Got.Gone → reason.new ≡ reason.old }
 {
-    let Some(open) = file else {
+    let Some(image) = file else {
         return Got::Gone;
     };
     if sector >= sectors {
         return Got::Bad;
     }
-    let got = got_of(read_sector(open, sector), into);
+    let got = got_of(read_sector(image, sector), into, reason);
     if got == Got::Gone {
         *file = None;
     }
     got
 }
 
-// What a read with this outcome answers, and what the buffer holds then.
-fn got_of(outcome: io::Result<Option<[u8; 512]>>, into: &mut [u8; 512]) -> Got
-    ensures got { result ≡ got_of outcome }
+// What a read with this outcome answers, what the buffer holds then, and which reason is kept.
+fn got_of(
+    outcome: io::Result<Option<[u8; 512]>>,
+    into: &mut [u8; 512],
+    reason: &mut Option<Reason>,
+) -> Got
+    ensures got { IsGotOf outcome result }
     ensures buffer { into.new ≡ buffer_after outcome into.old }
+    ensures kept { KeepsReason reason.old reason.new }
+    ensures told { result ≡ Got.Gone → IsSome reason.new }
+    ensures untold { result ≢ Got.Gone → reason.new ≡ reason.old }
 {
     match outcome {
         Ok(Some(payload)) => {
@@ -86,81 +159,149 @@ fn got_of(outcome: io::Result<Option<[u8; 512]>>, into: &mut [u8; 512]) -> Got
             Got::Good
         }
         Ok(None) => Got::Bad,
-        Err(_) => Got::Gone,
+        Err(error) if is_bad_sector(&error) => Got::Bad,
+        Err(error) => {
+            keep_first(reason, Reason::Failed(error));
+            Got::Gone
+        }
     }
 }
 
-/// Writes a sector of an open file of so many sectors, which never grows. A file that fails is closed.
+/// Writes a sector of an open file of so many sectors, which never grows. A file that fails is closed, and the reason kept.
 pub(crate) fn write<T: Write + Seek + Drop>(
-    file: &mut Option<T>,
+    file: &mut Option<Opened<T>>,
+    reason: &mut Option<Reason>,
+    access: Access,
     sectors: u32,
     sector: u32,
     from: &[u8; 512],
+    last: &mut Sealed,
 ) -> Reply
     ensures done { result ≡ Reply.Done →
         GoesOn (WritesSector T.stream_position T.contents sector from.now) file.old file.new }
-    ensures unattached { file.old ≡ None → result ≡ Reply.Gone }
-    ensures past_end { sectors ≤ sector → (result ≡ Reply.Gone) × (file.new ≡ file.old) }
+    ensures reading { access ≡ Access.Reading → result ≡ Reply.Gone }
+    ensures unattached { file.old ≡ None → (result ≡ Reply.Gone) × (reason.new ≡ reason.old) }
+    ensures past_end { sectors ≤ sector →
+        (result ≡ Reply.Gone) × (file.new ≡ file.old) × (reason.new ≡ reason.old) }
     ensures after { file.new ≡ file_after_write result sectors sector file.new file.old }
+    ensures kept { KeepsReason reason.old reason.new }
+    ensures told { result ≡ Reply.Gone → IsSome file.old → sector < sectors → IsSome reason.new }
+    ensures untold { result ≡ Reply.Done → reason.new ≡ reason.old }
 {
-    let Some(open) = file else {
+    let Some(image) = file else {
         return Reply::Gone;
     };
     if sectors <= sector {
         return Reply::Gone;
     }
-    let reply = reply_of(write_sector(open, sector, from));
+    let reply = reply_of(write_sector(image, access, sector, from, last), reason);
     if reply == Reply::Gone {
         *file = None;
     }
     reply
 }
 
-/// Syncs the data of an open file. A file that fails is closed.
-pub(crate) fn sync<T: OpenFile + Drop>(file: &mut Option<T>) -> Reply
-    ensures unattached { file.old ≡ None → result ≡ Reply.Gone }
+/// Syncs the data of an open file. A file that fails is closed, and the reason kept.
+pub(crate) fn sync<T: OpenFile + Drop>(
+    file: &mut Option<Opened<T>>,
+    reason: &mut Option<Reason>,
+    access: Access,
+) -> Reply
+    ensures reading { access ≡ Access.Reading → result ≡ Reply.Gone }
+    ensures unattached { file.old ≡ None → (result ≡ Reply.Gone) × (reason.new ≡ reason.old) }
     ensures closed { result ≡ Reply.Gone → file.new ≡ None }
-    ensures open { result ≡ Reply.Done → file.new ≡ file.old }
+    ensures open { result ≡ Reply.Done → (file.new ≡ file.old) × (reason.new ≡ reason.old) }
+    ensures kept { KeepsReason reason.old reason.new }
+    ensures told { result ≡ Reply.Gone → IsSome file.old → IsSome reason.new }
 {
-    let Some(open) = file else {
+    let Some(image) = file else {
         return Reply::Gone;
     };
-    let reply = reply_of(open.sync_data());
+    let reply = reply_of(sync_data(image, access), reason);
     if reply == Reply::Gone {
         *file = None;
     }
     reply
 }
 
-// What a write or a sync with this outcome answers.
-fn reply_of(outcome: io::Result<()>) -> Reply
-    ensures { result ≡ reply_of outcome }
+// What a write or a sync with this outcome answers, and which reason is kept.
+fn reply_of(outcome: Result<(), Reason>, reason: &mut Option<Reason>) -> Reply
+    ensures reply { result ≡ reply_of outcome }
+    ensures kept { KeepsReason reason.old reason.new }
+    ensures told { result ≡ Reply.Gone → IsSome reason.new }
+    ensures untold { result ≡ Reply.Done → reason.new ≡ reason.old }
 {
     match outcome {
         Ok(()) => Reply::Done,
-        Err(_) => Reply::Gone,
+        Err(error) => {
+            keep_first(reason, error);
+            Reply::Gone
+        }
     }
 }
 
-// Reads a sector's payload: `None` exactly where the file ends within the sector, or where the sector isn't sealed.
-fn read_sector<T: Read + Seek>(file: &mut T, sector: u32) -> io::Result<Option<[u8; 512]>>
-    ensures { MatchResult result
-        (λ found. MatchOption found
-        (ReadsNoSector T.stream_position T.remaining sector file.old file.new)
-        (λ payload. ReadsSector T.stream_position T.remaining sector payload file.old file.new))
-        (λ _. FailsToRead T.stream_position T.remaining sector file.old file.new) }
+// Syncs the data of a file that was opened for writing.
+fn sync_data<T: OpenFile>(image: &Opened<T>, access: Access) -> Result<(), Reason>
+    ensures { access ≡ Access.Reading → result ≡ Err Reason.OpenForReading }
 {
-    seek_to(file, sector)?;
-    read_here(file, sector)
+    if access == Access::Reading {
+        return Err(Reason::OpenForReading);
+    }
+    Ok(image.file.sync_data()?)
 }
 
-// Writes a sector, sealed.
-fn write_sector<T: Write + Seek>(file: &mut T, sector: u32, from: &[u8; 512]) -> io::Result<()>
-    ensures { OnOk result (WritesSector T.stream_position T.contents sector from.now file.old
-        file.new) }
+// Reads a sector's payload: `None` exactly where the file ends within the sector, or where the sector isn't sealed.
+fn read_sector<T: Read + Seek>(image: &mut Opened<T>, sector: u32) -> io::Result<Option<[u8; 512]>>
+    ensures found { IfOk result (λ found. MatchOption found
+        (ReadsBadSector T.stream_position T.remaining sector image.old image.new)
+        (λ payload. ReadsSector T.stream_position T.remaining sector payload image.old image.new)) }
+    ensures failed { OnErr result (ReadsBadSector T.stream_position T.remaining sector image.old image.new) }
 {
-    seek_to(file, sector)?;
-    write_here(file, sector, from)
+    find_sector(image, sector)?;
+    match read_here(&mut image.file, sector)? {
+        Some(payload) => {
+            image.next = Some(u64::from(sector) + 1);
+            Ok(Some(payload))
+        }
+        None => Ok(None),
+    }
+}
+
+// Writes a sector of a file that was opened for writing, sealed.
+fn write_sector<T: Write + Seek>(
+    image: &mut Opened<T>,
+    access: Access,
+    sector: u32,
+    from: &[u8; 512],
+    last: &mut Sealed,
+) -> Result<(), Reason>
+    ensures done { OnOk result (WritesSector T.stream_position T.contents sector from.now image.old
+        image.new) }
+    ensures reading { access ≡ Access.Reading → result ≡ Err Reason.OpenForReading }
+{
+    if access == Access::Reading {
+        return Err(Reason::OpenForReading);
+    }
+    find_sector(image, sector)?;
+    last.seal(u64::from(sector), from);
+    image.file.write_all(last.sector())?;
+    image.next = Some(u64::from(sector) + 1);
+    Ok(())
+}
+
+// Brings a file to the place of a sector, by a seek unless the last read or write ended there.
+fn find_sector<T: Seek>(image: &mut Opened<T>, sector: u32) -> io::Result<()>
+    ensures next { image.new.next ≡ None }
+    ensures found { OnOk result (FindsSector T.stream_position sector image.old image.new.file) }
+    ensures failed { OnErr result ((image.old.next ≢ Some sector)
+        × StaysAt (T.stream_position image.old.file) (T.stream_position image.new.file)) }
+{
+    let follows = image.next == Some(u64::from(sector));
+    image.next = None;
+    if follows {
+        return Ok(());
+    }
+    seek_to(&mut image.file, sector)
 }
 
 // Seeks the place of a sector.
@@ -205,12 +346,4 @@ fn read_full<T: Read>(file: &mut T, into: &mut [u8; 544]) -> io::Result<usize>
         filled += count;
     }
     Ok(filled)
-}
-
-// Writes a sector at the file's place.
-fn write_here<T: Write>(file: &mut T, sector: u32, from: &[u8; 512]) -> io::Result<()>
-    ensures { OnOk result (Appends (T.contents file.old) (T.contents file.new)
-        (sealed sector from.now)) }
-{
-    file.write_all(&seal(u64::from(sector), from))
 }

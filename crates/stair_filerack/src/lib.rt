@@ -1,10 +1,16 @@
 //! A rack over image files.
 #![tactic(auto)]
 
+mod access;
 mod file;
+mod lock;
 mod rack;
+mod reason;
 mod slot;
 #[cfg(test)]
 mod tests;
 
-pub use rack::FileRack;
+pub use access::Access;
+pub use lock::{Lock, Locking};
+pub use rack::{FileRack, Refused};
+pub use reason::Reason;

@@ -1,12 +1,17 @@
 // A rack over image files.
-ghost use Rattle.std.specs.Prelude.{◌≡◌, ◌≢◌, ◌≤◌, ◌<◌, ℕ, false, [], None, IfOk, IsSome, string_bytes};
+ghost use Rattle.std.specs.Prelude.{◌≡◌, ◌≢◌, ◌≤◌, ◌<◌, ℕ, false, [], None, IfErr, IfOk, IsSome, IsSomeAnd, string_bytes};
 ghost use Rattle.stair_rack.specs.Count.{Rose};
-ghost use Rattle.stair_rack.specs.RackCounts.{NoneFalls};
-ghost use Rattle.stair_filerack.specs.Files.{ReadsSector, ReadsNoSector, WritesSector, GoesOn};
-ghost use Rattle.stair_filerack.specs.Slot.{untouched, path_of, attached_as, gone_once_more, read_as, written_as, synced_as};
-ghost use Rattle.stair_filerack.specs.FileRack.{slot_at, gones_of, with_slot, bads_after};
+ghost use Rattle.stair_rack.specs.RackCounts.{IsLaterCount, NoneFalls};
+ghost use Rattle.stair_filerack.specs.Reason.{IsCallers, KeepsReason};
+ghost use Rattle.stair_filerack.specs.Files.{ReadsSector, ReadsBadSector, WritesSector, GoesOn};
+ghost use Rattle.stair_filerack.specs.Slot.{untouched, detached, path_of, attached_as, gone_once_more, read_as, written_as, synced_as};
+ghost use Rattle.stair_filerack.specs.FileRack.{slot_at, gones_of, with_slot, bads_after, IsDetached};
 
+use crate::access::Access;
+use crate::lock::Lock;
+use crate::reason::Reason;
 use crate::slot::Slot;
+use stair_image::Sealed;
 use stair_rack::{Got, Rack, Reply};
 use std::alloc::{AllocError, Global};
 use std::fs::Files;
@@ -15,20 +20,24 @@ use std::marker::Model;
 // How many slots a rack has.
 const SLOTS: u8 = 32;
 
-/// A rack over the image files of a folder: slot J is the file `devJJ.img`, JJ being two decimal digits.
+/// A rack over the image files of a folder: slot J is the file `devJJ.img`, JJ being two decimal digits. What a path leads
+/// to may be a file or a block device.
 ///
 /// Sector T of a file is the 544 bytes from byte 544·T on, sealed as `stair_image` says. A file has as many sectors as
-/// it has whole ones when it is attached, and at most 4,294,967,295.
+/// it has whole ones up to its end when it is attached, and at most 4,294,967,295.
 ///
-/// An attached slot holds its file open: that the file was removed, or another put in its place, is noticed when the
-/// slot is attached anew. A file that is open never grows past what was attached. A sync is one of the file's data
-/// (`OpenFile::sync_data`).
+/// An attached slot holds its file open, with its lock where the rack is to write: that the file was removed, or another put
+/// in its place, is noticed when the slot is attached anew. A file that is open never grows past what was attached. A sync
+/// is one of the file's data (`OpenFile::sync_data`). For each slot the rack keeps the first reason for which it was gone.
 ///
 /// The rack isn't honest in the sense of [`Rack`]: it tells contracts no image, and of its files what their type tells.
 #[derive(Drop)]
 pub struct FileRack<F: Files> {
     runtime: F,
+    access: Access,
     slots: Vec<Slot<F::File>>,
+    // The sector that was written last, of whatever slot.
+    last: Sealed,
     bads: u64,
 }
 
@@ -38,14 +47,27 @@ impl<F: Files> Model for FileRack<F> {
 
     ghost Value = { FileRackState F.File };
 
-    ghost view = { λ s. record { bads = s.bads; slots = s.slots.items } };
+    ghost view = { λ s. record { access = s.access; bads = s.bads; slots = s.slots.items } };
 
     ghost invariant = { λ s. vec_len s.slots ≡ 32 };
 }
 
-impl<F: Files + Drop> FileRack<F> {
+/// A device that can't be had for a reason of the caller's.
+#[derive(Clone, Copy, Debug, Drop)]
+pub struct Refused {
+    /// Its slot.
+    pub slot: u8,
+    /// The reason.
+    pub reason: Reason,
+}
+
+impl<F: Files + Drop> FileRack<F>
+where
+    F::File: Lock,
+{
     /// A rack over the image files of this folder. It makes their 32 paths, and opens nothing.
-    pub fn at(rt: F, alloc: Global, folder: &str) -> Result<FileRack<F>, AllocError>
+    pub fn at(rt: F, alloc: Global, folder: &str, access: Access) -> Result<FileRack<F>, AllocError>
+        ensures access { IfOk result (λ rack. rack.access ≡ access) }
         ensures bads { IfOk result (λ rack. rack.bads ≡ 0) }
         ensures gones { IfOk result (λ rack. (j : ℕ) → gones_of rack j ≡ 0) }
         ensures slots { IfOk result (λ rack. (j : ℕ) → j < 32 →
@@ -57,9 +79,52 @@ impl<F: Files + Drop> FileRack<F> {
         }
         Ok(FileRack {
             runtime: rt,
+            access,
             slots,
+            last: Sealed::new(),
             bads: 0,
         })
+    }
+
+    /// Opens all devices that are there, each as an attach would, so that all are open at once, and lets go of them again.
+    /// Nothing is read or written, and no count rises.
+    ///
+    /// `Refused`: the first device that can't be had for a reason of the caller's ([`Reason::is_callers`]). A device that
+    /// fails otherwise, or isn't there, is passed over.
+    pub fn probe(&mut self) -> Result<(), Refused>
+        ensures refused { IfErr result (λ refused. (refused.slot < 32) × IsCallers refused.reason) }
+        ensures after { IsDetached self.old self.new }
+    {
+        let refused = self.open_all();
+        for slot in self.slots.iter_mut() {
+            slot.detach();
+        }
+        refused
+    }
+
+    // Opens all devices that are there, up to the first that is refused.
+    fn open_all(&mut self) -> Result<(), Refused>
+        ensures refused { IfErr result (λ refused. (refused.slot < 32) × IsCallers refused.reason) }
+        ensures access { self.new.access ≡ self.old.access }
+        ensures bads { self.new.bads ≡ self.old.bads }
+        ensures slots { (j : ℕ) → j < 32 →
+            detached (slot_at self.new j) ≡ detached (slot_at self.old j) }
+    {
+        for slot in 0..SLOTS {
+            let place = &mut self.slots[usize::from(slot)];
+            if let Err(reason) = place.probe(&self.runtime, self.access) {
+                return Err(Refused { slot, reason });
+            }
+        }
+        Ok(())
+    }
+
+    /// The first reason for which this slot was gone to a call, but that there was no file.
+    pub fn reason(&self, slot: u8) -> Option<Reason>
+        requires { slot < 32 }
+        ensures { result ≡ (slot_at self.now slot).reason }
+    {
+        self.slots[usize::from(slot)].reason()
     }
 }
 
@@ -72,7 +137,22 @@ fn path_of(alloc: Global, folder: &str, slot: u8) -> Result<String, AllocError>
     format!(in alloc; "{folder}/dev{tens}{ones}.img")
 }
 
-impl<F: Files + Drop> Rack for FileRack<F> {
+// The count of bad sectors after a read with this answer.
+fn bads_after(got: Got, bads: u64) -> u64
+    ensures after { result ≡ bads_after got bads }
+    ensures count { IsLaterCount bads result }
+    ensures bad { got ≡ Got.Bad → Rose bads result }
+{
+    match got {
+        Got::Bad => bads.saturating_add(1),
+        Got::Good | Got::Gone => bads,
+    }
+}
+
+impl<F: Files + Drop> Rack for FileRack<F>
+where
+    F::File: Lock,
+{
     ghost is_honest = { false };
 
     ghost history = { λ _. [] };
@@ -90,14 +170,17 @@ impl<F: Files + Drop> Rack for FileRack<F> {
         ensures gone { result ≡ Reply.Gone → Rose (gones_of self.old slot)
             (gones_of self.new slot) }
 
-        // What the rack is afterwards: the slot holds some file open where it is attached, and let go of the earlier
-        // one. How many sectors were found isn't said.
-        ensures attached { result ≡ Reply.Done → IsSome (slot_at self.new slot).file }
+        // What the rack is afterwards: the slot holds some file open where it is attached, which wasn't read or written
+        // yet, and let go of the earlier one. How many sectors were found isn't said.
+        ensures attached { result ≡ Reply.Done →
+            IsSomeAnd (slot_at self.new slot).file (λ held. held.next ≡ None) }
         ensures after { self.new ≡
             with_slot slot (attached_as result (slot_at self.new slot).file
-            (slot_at self.new slot).sectors (slot_at self.old slot)) self.old }
+            (slot_at self.new slot).sectors (slot_at self.new slot).reason (slot_at self.old slot))
+            self.old }
+        ensures kept { KeepsReason (slot_at self.old slot).reason (slot_at self.new slot).reason }
     {
-        self.slots[usize::from(slot)].attach(&self.runtime)
+        self.slots[usize::from(slot)].attach(&self.runtime, self.access)
     }
 
     fn sectors(&mut self, slot: u8) -> u32
@@ -117,7 +200,8 @@ impl<F: Files + Drop> Rack for FileRack<F> {
         ensures gone { result ≡ Got.Gone → Rose (gones_of self.old slot) (gones_of self.new slot) }
 
         // A slot that isn't attached is gone. Past its end an attached one is bad, and its file isn't touched.
-        ensures unattached { (slot_at self.old slot).file ≡ None → result ≡ Got.Gone }
+        ensures unattached { (slot_at self.old slot).file ≡ None → (result ≡ Got.Gone)
+            × (self.new ≡ with_slot slot (gone_once_more (slot_at self.old slot)) self.old) }
         ensures past_end { IsSome (slot_at self.old slot).file →
             (slot_at self.old slot).sectors ≤ sector →
             (result ≡ Got.Bad) × (self.new.slots ≡ self.old.slots) }
@@ -127,18 +211,23 @@ impl<F: Files + Drop> Rack for FileRack<F> {
             GoesOn (ReadsSector F.File.stream_position F.File.remaining sector into.new)
             (slot_at self.old slot).file (slot_at self.new slot).file }
         ensures unsealed { result ≡ Got.Bad → sector < (slot_at self.old slot).sectors →
-            GoesOn (ReadsNoSector F.File.stream_position F.File.remaining sector)
+            GoesOn (ReadsBadSector F.File.stream_position F.File.remaining sector)
             (slot_at self.old slot).file (slot_at self.new slot).file }
 
         // What the rack is afterwards.
         ensures bads { self.new.bads ≡ bads_after result self.old.bads }
         ensures after { self.new.slots ≡ (with_slot slot
-            (read_as result (slot_at self.new slot).file (slot_at self.old slot)) self.old).slots }
+            (read_as result (slot_at self.new slot).file (slot_at self.new slot).reason
+            (slot_at self.old slot)) self.old).slots }
+        ensures access { self.new.access ≡ self.old.access }
+
+        // The first reason stays, and there is one where the file failed.
+        ensures kept { KeepsReason (slot_at self.old slot).reason (slot_at self.new slot).reason }
+        ensures reason { result ≡ Got.Gone → IsSome (slot_at self.old slot).file →
+            IsSome (slot_at self.new slot).reason }
     {
         let got = self.slots[usize::from(slot)].read(sector, into);
-        if got == Got::Bad {
-            self.bads = self.bads.saturating_add(1);
-        }
+        self.bads = bads_after(got, self.bads);
         got
     }
 
@@ -149,8 +238,11 @@ impl<F: Files + Drop> Rack for FileRack<F> {
         ensures gone { result ≡ Reply.Gone → Rose (gones_of self.old slot)
             (gones_of self.new slot) }
 
-        // A slot that isn't attached is gone. So is one past its end, and its file isn't touched.
-        ensures unattached { (slot_at self.old slot).file ≡ None → result ≡ Reply.Gone }
+        // Where files are open for reading alone all slots are gone. A slot that isn't attached is gone. So is one past its
+        // end, and its file isn't touched.
+        ensures reading { self.old.access ≡ Access.Reading → result ≡ Reply.Gone }
+        ensures unattached { (slot_at self.old slot).file ≡ None → (result ≡ Reply.Gone)
+            × (self.new ≡ with_slot slot (gone_once_more (slot_at self.old slot)) self.old) }
         ensures past_end { (slot_at self.old slot).sectors ≤ sector → (result ≡ Reply.Gone)
             × (self.new ≡ with_slot slot (gone_once_more (slot_at self.old slot)) self.old) }
 
@@ -161,10 +253,13 @@ impl<F: Files + Drop> Rack for FileRack<F> {
 
         // What the rack is afterwards.
         ensures after { self.new ≡ with_slot slot
-            (written_as sector result (slot_at self.new slot).file (slot_at self.old slot))
-            self.old }
+            (written_as sector result (slot_at self.new slot).file (slot_at self.new slot).reason
+            (slot_at self.old slot)) self.old }
+        ensures kept { KeepsReason (slot_at self.old slot).reason (slot_at self.new slot).reason }
+        ensures reason { result ≡ Reply.Gone → IsSome (slot_at self.old slot).file →
+            sector < (slot_at self.old slot).sectors → IsSome (slot_at self.new slot).reason }
     {
-        self.slots[usize::from(slot)].write(sector, from)
+        self.slots[usize::from(slot)].write(self.access, sector, from, &mut self.last)
     }
 
     fn sync(&mut self, slot: u8) -> Reply
@@ -173,12 +268,17 @@ impl<F: Files + Drop> Rack for FileRack<F> {
             (gones_of self.new) }
         ensures gone { result ≡ Reply.Gone → Rose (gones_of self.old slot)
             (gones_of self.new slot) }
-        ensures unattached { (slot_at self.old slot).file ≡ None → result ≡ Reply.Gone }
+        ensures reading { self.old.access ≡ Access.Reading → result ≡ Reply.Gone }
+        ensures unattached { (slot_at self.old slot).file ≡ None → (result ≡ Reply.Gone)
+            × (self.new ≡ with_slot slot (gone_once_more (slot_at self.old slot)) self.old) }
 
-        // Exactly what the rack is afterwards.
+        // What the rack is afterwards.
         ensures after { self.new ≡ with_slot slot
-            (synced_as result (slot_at self.old slot)) self.old }
+            (synced_as result (slot_at self.new slot).reason (slot_at self.old slot)) self.old }
+        ensures kept { KeepsReason (slot_at self.old slot).reason (slot_at self.new slot).reason }
+        ensures reason { result ≡ Reply.Gone → IsSome (slot_at self.old slot).file →
+            IsSome (slot_at self.new slot).reason }
     {
-        self.slots[usize::from(slot)].sync()
+        self.slots[usize::from(slot)].sync(self.access)
     }
 }

@@ -1,24 +1,32 @@
 // A slot of the rack.
-ghost use Rattle.std.specs.Prelude.{◌≡◌, ◌≢◌, ◌≤◌, ◌<◌, None, Some, IfOk, OnErr, IsSome, string_bytes};
+ghost use Rattle.std.specs.Prelude.{◌≡◌, ◌≢◌, ◌≤◌, ◌<◌, None, Some, IfOk, IfErr, IsSome, IsSomeAnd, string_bytes};
 ghost use Rattle.stair_rack.specs.Count.{Rose};
 ghost use Rattle.stair_rack.specs.RackCounts.{IsLaterCount};
-ghost use Rattle.stair_filerack.specs.Files.{ReadsSector, ReadsNoSector, WritesSector, GoesOn};
-ghost use Rattle.stair_filerack.specs.Slot.{untouched, holding, attached_as, gone_once_more, read_as, written_as, synced_as};
+ghost use Rattle.stair_filerack.specs.Reason.{IsCallers, IsNoFile, KeepsReason, first_reason};
+ghost use Rattle.stair_filerack.specs.Files.{ReadsSector, ReadsBadSector, WritesSector, GoesOn};
+ghost use Rattle.stair_filerack.specs.Slot.{untouched, detached, opened, holding, attached_as, gone_once_more, read_as, written_as, synced_as};
 
+use crate::access::Access;
 use crate::file;
+use crate::file::Opened;
+use crate::lock::Lock;
+use crate::reason::{Reason, keep_first};
+use stair_image::Sealed;
 use stair_rack::{Got, Reply};
 use std::fs::{Files, OpenFile};
 use std::io;
 use std::io::{Read, Seek, Write};
 use std::marker::Model;
 
-/// A slot: the path of its image file, the file while the slot is attached, and what the last attach found.
+/// A slot: the path of its image file, the file while the slot is attached, what the last attach found, and the first reason
+/// for which it was gone.
 #[derive(Drop)]
 pub(crate) struct Slot<T> {
     path: String,
-    file: Option<T>,
+    file: Option<Opened<T>>,
     sectors: u32,
     gones: u64,
+    reason: Option<Reason>,
 }
 
 impl<T> Model for Slot<T> {
@@ -32,10 +40,11 @@ impl<T> Model for Slot<T> {
       file = s.file;
       sectors = s.sectors;
       gones = s.gones;
+      reason = s.reason;
     } };
 }
 
-impl<T: Read + Write + Seek + OpenFile + Drop> Slot<T> {
+impl<T: Read + Write + Seek + OpenFile + Lock + Drop> Slot<T> {
     /// The slot of this image file, which isn't opened.
     pub(crate) fn new(path: String) -> Slot<T>
         ensures { result ≡ untouched (string_bytes path) }
@@ -45,6 +54,7 @@ impl<T: Read + Write + Seek + OpenFile + Drop> Slot<T> {
             file: None,
             sectors: 0,
             gones: 0,
+            reason: None,
         }
     }
 
@@ -55,38 +65,84 @@ impl<T: Read + Write + Seek + OpenFile + Drop> Slot<T> {
         self.sectors
     }
 
+    /// The first reason for which it was gone, but that there was no file.
+    pub(crate) fn reason(&self) -> Option<Reason>
+        ensures { result ≡ self.now.reason }
+    {
+        self.reason
+    }
+
+    /// Opens the slot's file anew, and tells why where that fails for a reason of the caller's.
+    pub(crate) fn probe<F: Files<File = T>>(
+        &mut self,
+        runtime: &F,
+        access: Access,
+    ) -> Result<(), Reason>
+        ensures refused { IfErr result IsCallers }
+        ensures after { detached self.new ≡ detached self.old }
+    {
+        self.detach();
+        match file::open(runtime, access, self.path.as_str()) {
+            Ok((file, _)) => {
+                self.file = Some(Opened::new(file));
+                Ok(())
+            }
+            Err(reason) if reason.is_callers() => Err(reason),
+            Err(_) => Ok(()),
+        }
+    }
+
+    /// Lets go of the file, and forgets what the last attach found.
+    pub(crate) fn detach(&mut self)
+        ensures { self.new ≡ detached self.old }
+    {
+        self.file = None;
+        self.sectors = 0;
+    }
+
     /// Opens the slot's file anew.
-    pub(crate) fn attach<F: Files<File = T>>(&mut self, runtime: &F) -> Reply
-        ensures after { self.new ≡ attached_as result self.new.file self.new.sectors self.old }
-        ensures attached { result ≡ Reply.Done → IsSome self.new.file }
+    pub(crate) fn attach<F: Files<File = T>>(&mut self, runtime: &F, access: Access) -> Reply
+        ensures after { self.new ≡
+            attached_as result self.new.file self.new.sectors self.new.reason self.old }
+        ensures attached { result ≡ Reply.Done →
+            IsSomeAnd self.new.file (λ held. held.next ≡ None) }
+        ensures kept { KeepsReason self.old.reason self.new.reason }
         ensures count { IsLaterCount self.old.gones self.new.gones }
         ensures gone { result ≡ Reply.Gone → Rose self.old.gones self.new.gones }
     {
         // The earlier file is closed before the path is opened again.
         drop(self.file.take());
-        let opened = file::open(runtime, self.path.as_str());
-        self.hold(opened)
+        let found = file::open(runtime, access, self.path.as_str());
+        self.hold(found)
     }
 
     /// Holds the file that was opened, and so many sectors; where none was, the slot is gone.
-    pub(crate) fn hold(&mut self, opened: io::Result<(T, u32)>) -> Reply
-        ensures done { IfOk opened (λ found. (result ≡ Reply.Done)
-            × (self.new ≡ holding (Some found.0) found.1 self.old)) }
-        ensures failed { OnErr opened ((result ≡ Reply.Gone)
-            × (self.new ≡ attached_as Reply.Gone None 0 self.old)) }
+    pub(crate) fn hold(&mut self, found: Result<(T, u32), Reason>) -> Reply
+        ensures done { IfOk found (λ found. (result ≡ Reply.Done)
+            × (self.new ≡ holding (Some (opened found.0)) found.1 self.old)) }
+        ensures failed { IfErr found (λ _. (result ≡ Reply.Gone)
+            × (self.new ≡ attached_as Reply.Gone None 0 self.new.reason self.old)) }
+        ensures told { IfErr found (λ reason. (¬ IsNoFile reason) →
+            self.new.reason ≡ first_reason self.old.reason reason) }
+        ensures untold { IfErr found (λ reason. IsNoFile reason →
+            self.new.reason ≡ self.old.reason) }
+        ensures kept { KeepsReason self.old.reason self.new.reason }
         ensures count { IsLaterCount self.old.gones self.new.gones }
         ensures gone { result ≡ Reply.Gone → Rose self.old.gones self.new.gones }
     {
-        match opened {
+        match found {
             Ok((file, sectors)) => {
-                self.file = Some(file);
+                self.file = Some(Opened::new(file));
                 self.sectors = sectors;
                 Reply::Done
             }
-            Err(_) => {
+            Err(reason) => {
                 self.file = None;
                 self.sectors = 0;
                 self.gones = self.gones.saturating_add(1);
+                if !reason.is_no_file() {
+                    keep_first(&mut self.reason, reason);
+                }
                 Reply::Gone
             }
         }
@@ -98,36 +154,51 @@ impl<T: Read + Write + Seek + OpenFile + Drop> Slot<T> {
             GoesOn (ReadsSector T.stream_position T.remaining sector into.new)
             self.old.file self.new.file }
         ensures bad { result ≡ Got.Bad → sector < self.old.sectors →
-            GoesOn (ReadsNoSector T.stream_position T.remaining sector)
+            GoesOn (ReadsBadSector T.stream_position T.remaining sector)
             self.old.file self.new.file }
         ensures unread { result ≢ Got.Good → into.new ≡ into.old }
-        ensures unattached { self.old.file ≡ None → result ≡ Got.Gone }
+        ensures unattached { self.old.file ≡ None →
+            (result ≡ Got.Gone) × (self.new ≡ gone_once_more self.old) }
         ensures past_end { IsSome self.old.file → self.old.sectors ≤ sector →
             (result ≡ Got.Bad) × (self.new ≡ self.old) }
-        ensures after { self.new ≡ read_as result self.new.file self.old }
+        ensures after { self.new ≡ read_as result self.new.file self.new.reason self.old }
+        ensures kept { KeepsReason self.old.reason self.new.reason }
+        ensures told { result ≡ Got.Gone → IsSome self.old.file → IsSome self.new.reason }
         ensures count { IsLaterCount self.old.gones self.new.gones }
         ensures gone { result ≡ Got.Gone → Rose self.old.gones self.new.gones }
     {
-        let got = file::read(&mut self.file, self.sectors, sector, into);
+        let got = file::read(&mut self.file, &mut self.reason, self.sectors, sector, into);
         if got == Got::Gone {
             self.gones = self.gones.saturating_add(1);
         }
         got
     }
 
-    /// Writes a sector.
-    pub(crate) fn write(&mut self, sector: u32, from: &[u8; 512]) -> Reply
+    /// Writes a sector, which is sealed unless it was the last one that was.
+    pub(crate) fn write(
+        &mut self,
+        access: Access,
+        sector: u32,
+        from: &[u8; 512],
+        last: &mut Sealed,
+    ) -> Reply
         ensures done { result ≡ Reply.Done →
             GoesOn (WritesSector T.stream_position T.contents sector from.now)
             self.old.file self.new.file }
-        ensures unattached { self.old.file ≡ None → result ≡ Reply.Gone }
+        ensures reading { access ≡ Access.Reading → result ≡ Reply.Gone }
+        ensures unattached { self.old.file ≡ None →
+            (result ≡ Reply.Gone) × (self.new ≡ gone_once_more self.old) }
         ensures past_end { self.old.sectors ≤ sector →
             (result ≡ Reply.Gone) × (self.new ≡ gone_once_more self.old) }
-        ensures after { self.new ≡ written_as sector result self.new.file self.old }
+        ensures after { self.new ≡ written_as sector result self.new.file self.new.reason self.old }
+        ensures kept { KeepsReason self.old.reason self.new.reason }
+        ensures told { result ≡ Reply.Gone → IsSome self.old.file → sector < self.old.sectors →
+            IsSome self.new.reason }
         ensures count { IsLaterCount self.old.gones self.new.gones }
         ensures gone { result ≡ Reply.Gone → Rose self.old.gones self.new.gones }
     {
-        let reply = file::write(&mut self.file, self.sectors, sector, from);
+        let (file, reason) = (&mut self.file, &mut self.reason);
+        let reply = file::write(file, reason, access, self.sectors, sector, from, last);
         if reply == Reply::Gone {
             self.gones = self.gones.saturating_add(1);
         }
@@ -135,13 +206,17 @@ impl<T: Read + Write + Seek + OpenFile + Drop> Slot<T> {
     }
 
     /// Syncs the data of the slot's file.
-    pub(crate) fn sync(&mut self) -> Reply
-        ensures unattached { self.old.file ≡ None → result ≡ Reply.Gone }
-        ensures after { self.new ≡ synced_as result self.old }
+    pub(crate) fn sync(&mut self, access: Access) -> Reply
+        ensures reading { access ≡ Access.Reading → result ≡ Reply.Gone }
+        ensures unattached { self.old.file ≡ None →
+            (result ≡ Reply.Gone) × (self.new ≡ gone_once_more self.old) }
+        ensures after { self.new ≡ synced_as result self.new.reason self.old }
+        ensures kept { KeepsReason self.old.reason self.new.reason }
+        ensures told { result ≡ Reply.Gone → IsSome self.old.file → IsSome self.new.reason }
         ensures count { IsLaterCount self.old.gones self.new.gones }
         ensures gone { result ≡ Reply.Gone → Rose self.old.gones self.new.gones }
     {
-        let reply = file::sync(&mut self.file);
+        let reply = file::sync(&mut self.file, &mut self.reason, access);
         if reply == Reply::Gone {
             self.gones = self.gones.saturating_add(1);
         }

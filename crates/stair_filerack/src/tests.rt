@@ -1,13 +1,14 @@
 mod faulty;
 
-use crate::FileRack;
 use crate::file::{counted, open};
 use crate::slot::Slot;
+use crate::{Access, FileRack, Reason};
 use faulty::{Fault, FaultyFile};
+use stair_image::Sealed;
 use stair_rack::{Got, Rack, Reply};
-use std::fs;
 use std::io::ErrorKind;
 use std::test::Fail;
+use std::{fs, io};
 
 // What an attach of slot 3 answers, and the number of sectors that it found.
 fn attach(rack: &mut impl Rack) -> (Reply, u32) {
@@ -27,12 +28,20 @@ fn write_all(rack: &mut impl Rack, sectors: [u32; 3]) -> [Reply; 3] {
     sectors.map(|sector| rack.write(3, sector, &[0xA5; 512]))
 }
 
+// The words of a reason, where there is one.
+fn words_of(rt: &HostRuntime, reason: Option<Reason>) -> Result<String, Fail> {
+    match reason {
+        Some(reason) => Ok(reason.to_string(rt.alloc())?),
+        None => Ok(String::new(rt.alloc())),
+    }
+}
+
 #[test]
 fn real_files(rt: HostRuntime) -> Result<(), Fail> {
     let (folder, path) = ("real_files", "real_files/dev03.img");
     let _ = fs::remove_dir_all(&rt, folder);
     fs::create_dir(&rt, folder)?;
-    let mut rack = FileRack::at(&rt, rt.alloc(), folder)?;
+    let mut rack = FileRack::at(&rt, rt.alloc(), folder, Access::Writing)?;
     let (done, gone) = (Reply::Done, Reply::Gone);
     let (good, bad) = ((Got::Good, 0xA5), (Got::Bad, 0));
 
@@ -45,10 +54,24 @@ fn real_files(rt: HostRuntime) -> Result<(), Fail> {
     assert_eq!(rt; write_all(&mut rack, [0, 2, 3]), [done, done, gone]);
     assert_eq!(rt; rack.sync(3), done);
 
-    // Another rack reads what was written.
-    let mut second = FileRack::at(&rt, rt.alloc(), folder)?;
+    // Another rack reads what was written, and can't write; a third one that is to write can't have the file.
+    let mut second = FileRack::at(&rt, rt.alloc(), folder, Access::Reading)?;
     assert_eq!(rt; attach(&mut second), (done, 3));
     assert_eq!(rt; read_all(&mut second), [good, bad, good, bad]);
+    assert_eq!(rt; second.write(3, 1, &[0xA5; 512]), gone);
+    assert_eq!(rt; attach(&mut second), (done, 3));
+    assert_eq!(rt; second.sync(3), gone);
+    assert_eq!(rt;
+        words_of(&rt, second.reason(3))?.as_str(),
+        "open for reading alone"
+    );
+    let mut third = FileRack::at(&rt, rt.alloc(), folder, Access::Writing)?;
+    let refused = third.probe().err().ok_or("had")?;
+    assert_eq!(rt; refused.slot, 3);
+    assert_eq!(rt; words_of(&rt, Some(refused.reason))?.as_str(), "in use");
+    assert_eq!(rt; attach(&mut third), (gone, 0));
+    assert!(rt; rack.probe().is_ok());
+    assert_eq!(rt; attach(&mut rack), (done, 3));
     let mut bytes = fs::read(&rt, path)?;
     assert_eq!(rt; bytes.len(), 3 * 544 + 100);
 
@@ -70,6 +93,10 @@ fn real_files(rt: HostRuntime) -> Result<(), Fail> {
     fs::create_dir(&rt, path)?;
     assert_eq!(rt; read_all(&mut rack), [good, good, bad, bad]);
     assert_eq!(rt; attach(&mut rack), (gone, 0));
+    assert_eq!(rt;
+        words_of(&rt, rack.reason(3))?.as_str(),
+        "no file and no block device"
+    );
     fs::remove_dir_all(&rt, folder)?;
     Ok(())
 }
@@ -78,42 +105,86 @@ fn real_files(rt: HostRuntime) -> Result<(), Fail> {
 fn files_with_a_fault(rt: HostRuntime) -> Result<(), Fail> {
     let path = "faulty.img";
     let (done, gone) = (Reply::Done, Reply::Gone);
-    // Whether a slot holds a blank file with this fault, and what a read, a write, a sync and another read answer. A call
-    // that failed once wouldn't fail again, but only an interrupted one is tried again.
-    for (fault, held, first, written, synced, second) in [
-        (Fault::Length, gone, Got::Gone, gone, gone, Got::Gone),
-        (Fault::Sync, done, Got::Bad, done, gone, Got::Gone),
+    // Whether a slot holds a blank file with this fault, what a read, a write, a sync and another read answer, and the words
+    // of the reason that is kept. A call that failed once wouldn't fail again, but only an interrupted one is tried again.
+    for (fault, held, first, written, synced, second, words) in [
+        (Fault::End, gone, Got::Gone, gone, gone, Got::Gone, "broken"),
+        (Fault::Sync, done, Got::Bad, done, gone, Got::Gone, "broken"),
         (
-            Fault::Call(ErrorKind::Other),
+            Fault::Call(io::Error::from_raw_os_error(28)),
             done,
             Got::Gone,
             gone,
             gone,
             Got::Gone,
+            "No space left on device",
         ),
         (
-            Fault::Call(ErrorKind::Interrupted),
+            Fault::Call(io::Error::from_raw_os_error(5)),
+            done,
+            Got::Bad,
+            done,
+            done,
+            Got::Bad,
+            "",
+        ),
+        (
+            Fault::Call(io::Error::from(ErrorKind::Interrupted)),
             done,
             Got::Bad,
             done,
             done,
             Got::Good,
+            "",
         ),
     ] {
         fs::write(&rt, path, &[0; 544])?;
-        let (inner, _) = open(&rt, path)?;
+        let (inner, _) = open(&rt, Access::Writing, path)?;
         let mut slot = Slot::new(String::from_str(rt.alloc(), path)?);
+        let mut last = Sealed::new();
         let file = FaultyFile {
             inner,
             fault,
             failed: false,
         };
-        assert_eq!(rt; slot.hold(counted(file)), held, "{fault:?}");
+        let writing = Access::Writing;
+        assert_eq!(rt;
+            slot.hold(counted(file).map_err(Reason::Failed)),
+            held,
+            "{fault:?}"
+        );
         assert_eq!(rt; slot.read(0, &mut [0; 512]), first, "{fault:?}");
-        assert_eq!(rt; slot.write(0, &[2; 512]), written, "{fault:?}");
-        assert_eq!(rt; slot.sync(), synced, "{fault:?}");
+        assert_eq!(rt;
+            slot.write(writing, 0, &[2; 512], &mut last),
+            written,
+            "{fault:?}"
+        );
+        assert_eq!(rt; slot.sync(writing), synced, "{fault:?}");
         assert_eq!(rt; slot.read(0, &mut [0; 512]), second, "{fault:?}");
+        assert_eq!(rt; words_of(&rt, slot.reason())?.as_str(), words, "{fault:?}");
     }
     fs::remove_file(&rt, path)?;
     Ok(())
+}
+
+// Errors that tell of the caller and of the device, by their numbers and their names in Linux.
+#[test]
+fn reasons_of_callers_and_of_devices(rt: HostRuntime) {
+    for (number, is_callers) in [
+        (1, true),
+        (2, false),
+        (5, false),
+        (6, false),
+        (12, true),
+        (13, true),
+        (19, false),
+        (23, true),
+        (24, true),
+        (28, false),
+        (30, true),
+    ] {
+        let reason = Reason::Failed(io::Error::from_raw_os_error(number));
+        assert_eq!(rt; reason.is_callers(), is_callers, "{number}");
+    }
+    assert!(rt; !Reason::Failed(io::Error::other("full")).is_callers());
 }

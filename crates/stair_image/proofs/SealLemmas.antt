@@ -3,7 +3,7 @@ use Rattle.std.proofs.Common.{◌≡◌, ℕ, List, [], ◌++◌, length, take, 
 use Rattle.std.proofs.Math.Seq.{take-append_seam, drop-append_seam, drop-length}
 use borrow.Rule.Slice.PartMut.{put_mid}
 use Rattle.std.proofs.lemmas.List.{take-append-drop}
-use Rattle.stair_image.specs.Seal.{sealed, payload_in, tag_in, IsSealed}
+use Rattle.stair_image.specs.Seal.{sealed, tag_of, payload_in, tag_in, IsSealed}
 
 pub payload_in-append : (payload tag : List ℕ) → length payload ≡ 512 → payload_in (payload ++ tag) ≡ payload
 payload_in-append payload tag long =
@@ -25,3 +25,9 @@ put_mid-tag payload room tag long wide =
 pub sealed-payload_in : (number : ℕ) (sector : List ℕ) → IsSealed number sector → sector ≡ sealed number (payload_in sector)
 sealed-payload_in number sector is_sealed =
     sym (take-append-drop 512 sector) ∙ ap (λ (tag : List ℕ). payload_in sector ++ tag) is_sealed
+
+-- what was sealed is its payload, sealed
+pub sealed-again : (number : ℕ) (payload sector : List ℕ) → length payload ≡ 512 → sector ≡ sealed number payload
+    → sector ≡ sealed number (payload_in sector)
+sealed-again number payload sector long is =
+    is ∙ ap (sealed number) (sym (ap payload_in is ∙ payload_in-append payload (tag_of number payload) long))

@@ -5,6 +5,7 @@
 //! takes memory.
 #![tactic(auto)]
 
+mod last;
 pub mod laws;
 #[cfg(test)]
 mod tests;
@@ -13,6 +14,7 @@ ghost use Rattle.std.specs.Prelude.{◌≡◌};
 ghost use Rattle.std.specs.Option.{SomeIff};
 ghost use Rattle.stair_image.specs.Seal.{tag_of, sealed, payload_in, IsSealed};
 
+pub use last::Sealed;
 use sha2::{Digest, Sha256};
 
 /// The bytes of a payload.

@@ -1,17 +1,18 @@
 // A file with a fault.
 
+use crate::{Lock, Locking};
 use std::fs::{Metadata, OpenFile};
 use std::io;
-use std::io::{ErrorKind, Read, Seek, SeekFrom, Write};
+use std::io::{Read, Seek, SeekFrom, Write};
 
 #[derive(Clone, Copy, Debug, Drop)]
 pub(super) enum Fault {
-    // Its length isn't told.
-    Length,
+    // Its end can't be sought.
+    End,
     // Its data isn't synced.
     Sync,
     // The first read or write fails so, and then every second one.
-    Call(ErrorKind),
+    Call(io::Error),
 }
 
 #[derive(Drop)]
@@ -29,7 +30,7 @@ impl<T> FaultyFile<T> {
     fn fail(&mut self) -> io::Result<()> {
         self.failed = !self.failed;
         match self.fault {
-            Fault::Call(kind) if self.failed => Err(io::Error::from(kind)),
+            Fault::Call(error) if self.failed => Err(error),
             _ => Ok(()),
         }
     }
@@ -55,16 +56,16 @@ impl<T: Write> Write for FaultyFile<T> {
 
 impl<T: Seek> Seek for FaultyFile<T> {
     fn seek(&mut self, to: SeekFrom) -> io::Result<u64> {
-        self.inner.seek(to)
+        match (self.fault, to) {
+            (Fault::End, SeekFrom::End(_)) => broken(),
+            _ => self.inner.seek(to),
+        }
     }
 }
 
 impl<T: OpenFile> OpenFile for FaultyFile<T> {
     fn metadata(&self) -> io::Result<Metadata> {
-        match self.fault {
-            Fault::Length => broken(),
-            _ => self.inner.metadata(),
-        }
+        self.inner.metadata()
     }
 
     fn set_len(&self, _size: u64) -> io::Result<()> {
@@ -80,5 +81,11 @@ impl<T: OpenFile> OpenFile for FaultyFile<T> {
             Fault::Sync => broken(),
             _ => self.inner.sync_data(),
         }
+    }
+}
+
+impl<T: Lock> Lock for FaultyFile<T> {
+    fn take_lock(&self) -> Locking {
+        self.inner.take_lock()
     }
 }

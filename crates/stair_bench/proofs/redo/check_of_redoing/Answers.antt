@@ -24,3 +24,11 @@ redo_once-requires-in-loop-round-clause-stripe g c =
     let same = c.encode.ensures.same_shape ∙ c.in_ok-codec.ensures.geometry in
     let is = subst (λ (h : Geometry). cell_at h c.middle_block-middle.result.row c.middle_block-middle.result.slot ≡ Data block.0) (sym same) block.1 in
     subst (λ (h : Geometry). IsStripeOf h c.update.new.stripe) same (c.update.ensures.updated block.0 is).of
+
+pub update-requires-clause-data : goal.update-requires-clause-data
+update-requires-clause-data g c =
+    let block = c.middle_block-middle.ensures.data in
+    let same = c.encode.ensures.same_shape ∙ c.in_ok-codec.ensures.geometry in (
+      block.0,
+      subst (λ (h : Geometry). cell_at h c.middle_block-middle.result.row c.middle_block-middle.result.slot ≡ Data block.0) (sym same) block.1,
+    )

@@ -50,23 +50,25 @@ loop-slot-init g c =
     subst (λ (bytes : List ℕ). Holds (sink_view g.K.Sink.held g.K.Sink.faults) (HasPut bytes) c.args.output.now c.put_array.new.output)
     (sym (append-nil text)) c.in_ok-put_array.ensures.puts
 
-pub returns-in_err-put_slot-clause-puts : goal.returns-in_err-put_slot-clause-puts
-returns-in_err-put_slot-clause-puts g c =
+pub returns-in_err-put_all-clause-puts : goal.returns-in_err-put_all-clause-puts
+returns-in_err-put_all-clause-puts g c =
     let m = c.args.member.now in
     let slot = c.loop-slot.slot in
     let n = m.array.geometry.n in
     let below : slot < n = omega (arith, c.loop-slot-test.true, c.n-slot-end.ensures.value, ap (λ (of : Geometry). of.n) c.geometry.ensures.value) in
     let whole = lines_whole m (array_text m) slot n below in
     puts_more_part (sink_view g.K.Sink.held g.K.Sink.faults) _ (array_text m ++ slot_lines m slot) (slot_line m slot) whole.0
-    (array_text m ++ slot_lines m n) _ _ _ c.from_residual-in_err-put_slot.ensures.0 whole.1 c.loop-slot.invariant c.in_err-put_slot.ensures.puts
+    (array_text m ++ slot_lines m n) _ _ _ c.from_residual-in_err-put_all.ensures.0 whole.1 c.loop-slot.invariant
+    (rw (c.bytes.ensures ∙ c.slot_line.ensures) at c.in_err-put_all.ensures.puts)
 
 pub loop-slot-preserved : goal.loop-slot-preserved
 loop-slot-preserved g c =
     let view = sink_view g.K.Sink.held g.K.Sink.faults in
     let m = c.args.member.now in
     let slot = c.loop-slot.slot in
-    subst (λ (bytes : List ℕ). Holds view (HasPut bytes) c.args.output.now c.put_slot.new.output) (lines_more m (array_text m) slot)
-    (puts_more view (array_text m ++ slot_lines m slot) (slot_line m slot) _ _ _ c.loop-slot.invariant c.in_ok-put_slot.ensures.puts)
+    subst (λ (bytes : List ℕ). Holds view (HasPut bytes) c.args.output.now c.put_all.new.output) (lines_more m (array_text m) slot)
+    (puts_more view (array_text m ++ slot_lines m slot) (slot_line m slot) _ _ _ c.loop-slot.invariant
+    (rw (c.bytes.ensures ∙ c.slot_line.ensures) at c.in_ok-put_all.ensures.puts))
 
 pub returns-clause-puts : goal.returns-clause-puts
 returns-clause-puts g c =

@@ -1,16 +1,14 @@
 -- A blank, and the words.
-use Rattle.std.proofs.Common.{◌≡◌, ◌≢◌, ◌++◌, refl, ap, ◌∙◌}
+use Rattle.std.proofs.Common.{◌≡◌, ◌≢◌, ◌++◌, append_assoc, refl, ap, ◌∙◌}
 use Rattle.std.specs.Prelude.{codes}
 use Rattle.stair_super.specs.declared.mark.Mark.{Mark}
 use Rattle.stair_super.specs.declared.mark.Mark.TheVariants as mark
 use Rattle.stair_member.specs.Reasons.{words_of}
 use Rattle.stair_member.specs.declared.why.Why.{Why}
 use Rattle.stair_member.specs.declared.why.Why.TheVariants.{Here, Gone, NoSuper, OtherArray, OtherSlot, MarkedDown, OtherJoined, Rebuilding}
-use Rattle.stair_engine.specs.Outside.{sink_view}
 use Rattle.stair_engine.specs.Show.{reason_text}
-use Rattle.stair_engine.proofs.TextLaws.{puts_first, puts_then}
-use Rattle.stair_engine.proofs.show.put_reason.Goals.{in_default-via-in-Live+in_default, in_default-via-in-Rebuilding+in_default}
-use Rattle.stair_engine.proofs.show.put_reason.Goals as goal
+use Rattle.stair_engine.proofs.show.push_reason.Goals.{in_default-via-in-Live+in_default, in_default-via-in-Rebuilding+in_default}
+use Rattle.stair_engine.proofs.show.push_reason.Goals as goal
 
 -- the words of a live slot that isn't merely here
 live_text : (why : Why) → why ≢ Here → reason_text mark.Live why ≡ codes " " ++ words_of why
@@ -40,8 +38,8 @@ live_told m why is not = ap (λ (k : Mark). reason_text k why) is ∙ live_text 
 rebuilding_told : (m : Mark) (why : Why) → m ≡ mark.Rebuilding → why ≢ Rebuilding → reason_text m why ≡ codes " " ++ words_of why
 rebuilding_told m why is not = ap (λ (k : Mark). reason_text k why) is ∙ rebuilding_text why not
 
-pub returns-in_err-put_all-in_default-clause-puts : goal.returns-in_err-put_all-in_default-clause-puts
-returns-in_err-put_all-in_default-clause-puts g c =
+pub returns-in_default-clause-text : goal.returns-in_default-clause-text
+returns-in_default-clause-text c =
     let why = c.args.why in
     let told : reason_text c.args.mark why ≡ codes " " ++ words_of why =
     elim c.in_default.branch [
@@ -49,17 +47,4 @@ returns-in_err-put_all-in_default-clause-puts g c =
       | in_default-via-in-Rebuilding+in_default w ↦ rebuilding_told c.args.mark why w.in_default.is-0 w.in_default.not-Rebuilding-1
     ]
     in
-    rw told (puts_first (sink_view g.K.Sink.held g.K.Sink.faults) _ (codes " ") _ _ _ c.from_residual.ensures.0
-    c.in_err-put_all-in_default.ensures.puts)
-
-pub returns-in_ok-put_all-in_default-clause-puts : goal.returns-in_ok-put_all-in_default-clause-puts
-returns-in_ok-put_all-in_default-clause-puts g c =
-    let why = c.args.why in
-    let told : reason_text c.args.mark why ≡ codes " " ++ words_of why =
-    elim c.in_default.branch [
-      | in_default-via-in-Live+in_default w ↦ live_told c.args.mark why w.in_default.is-0 w.in_default.not-Here-1
-      | in_default-via-in-Rebuilding+in_default w ↦ rebuilding_told c.args.mark why w.in_default.is-0 w.in_default.not-Rebuilding-1
-    ]
-    in
-    rw told (puts_then (sink_view g.K.Sink.held g.K.Sink.faults) _ (codes " ") (words_of why) _ _ _ c.in_ok-put_all-in_default.ensures.puts
-    (rw (c.as_bytes.ensures.value ∙ c.words.ensures) at c.put_all-in_default.ensures.puts))
+    rw told (simp (c.push-in_default.ensures.text, c.push.ensures.text, c.as_bytes.ensures.value, c.words.ensures, append_assoc))

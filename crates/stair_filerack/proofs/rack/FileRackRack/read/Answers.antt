@@ -1,0 +1,42 @@
+use Rattle.std.proofs.Common.{◌≡◌, ◌≤◌, ℕ, set, ap, sym, ◌∙◌, subst, arith}
+use Rattle.std.specs.Prelude.{IsSome}
+use Rattle.stair_filerack.specs.Slot.{gone_once_more}
+use Rattle.stair_filerack.specs.FileRack.{bads_after}
+use Rattle.stair_filerack.proofs.RackLemmas.{Changes, slot_was, counts_kept, gone_rose, rack_of, set_changed, set_same, with_slots}
+use Rattle.stair_filerack.proofs.rack.FileRackRack.read.Goals as goal
+
+changes : (g : _) (c : goal.After-self-2-1 g) → Changes c.args.self.now c.self.inside.slots.items c.from.result c.args.slot c.index_mut.result.now c.read-got.new.self
+changes g c = record {
+  its_slots = ap (λ s. s.slots) (sym c.self.view_is);
+  within = omega (arith, c.self.invariant, c.from.ensures, c.requires);
+  same = c.from.ensures;
+  is = c.index_mut.ensures.value;
+}
+
+pub returns-clause-counts : goal.returns-clause-counts
+returns-clause-counts g c =
+    counts_kept c.args.self.now _ _ _ _ _ _ (changes g c) (rw (← c.self.view_is) c.bads_after-self-inside.ensures.count) c.read-got.ensures.count
+
+pub returns-clause-bad : goal.returns-clause-bad
+returns-clause-bad g c bad = rw (← c.self.view_is) (c.bads_after-self-inside.ensures.bad bad)
+
+pub returns-clause-gone : goal.returns-clause-gone
+returns-clause-gone g c gone = gone_rose c.args.self.now _ _ _ _ _ (changes g c) (c.read-got.ensures.gone gone)
+
+pub returns-clause-unattached : goal.returns-clause-unattached
+returns-clause-unattached g c none =
+    let was = slot_was c.args.self.now _ _ _ _ _ (changes g c) in
+    let here = c.read-got.ensures.unattached (ap (λ s. s.file) was ∙ none) in
+    let bads : c.bads_after-self-inside.result ≡ c.self.inside.bads =
+    c.bads_after-self-inside.ensures.after ∙ ap (λ got. bads_after got c.self.inside.bads) here.0 in (
+      here.0,
+      ap (λ (n : ℕ). rack_of c.self.inside.access n (set c.self.inside.slots.items c.from.result c.read-got.new.self)) bads
+          ∙ with_slots c.args.self.now _ _ _ _ _ c.self.view_is (set_changed c.args.self.now _ _ _ _ _ gone_once_more (changes g c) here.1),
+    )
+
+pub returns-clause-past_end : goal.returns-clause-past_end
+returns-clause-past_end g c some past =
+    let was = slot_was c.args.self.now _ _ _ _ _ (changes g c) in
+    let here = c.read-got.ensures.past_end (subst (λ s. IsSome s.file) (sym was) some)
+    (subst (λ s. s.sectors ≤ c.args.sector) (sym was) past) in
+    (here.0, set_same c.args.self.now _ _ _ _ _ (changes g c) here.1)
