@@ -11,7 +11,7 @@ use Rattle.stair_super.specs.declared.mark.Mark.TheVariants as mark
 use Rattle.stair_member.specs.Current.{IsCurrent, IsLive}
 use Rattle.stair_member.specs.Reasons.{IsReason, rank}
 use Rattle.stair_member.specs.Reserve.{Bears, IsOrderly}
-use Rattle.stair_member.specs.Superblocks.{Counts, CountsFor, First, HoldsSuper, Identifies, IsSuperOf, Second}
+use Rattle.stair_member.specs.Superblocks.{Counts, CountsFor, HoldsSuper, Identifies, IsSuperOf}
 use Rattle.stair_member.specs.declared.why.Why.{Why}
 use Rattle.stair_member.specs.declared.why.Why.TheVariants.{Here, Gone, NoSuper, OtherArray, OtherSlot, MarkedDown, OtherJoined, Rebuilding}
 use Rattle.stair_member.proofs.CountingLemmas.{more_mapped}
@@ -77,15 +77,6 @@ identifies_limits g image stands =
     let some = slot_count_member stands.slots (omega (arith, stands.many)) in
     let for : CountsFor g image some.0 = stands.each some.0 some.2 in
     counts_limits g image some.0 for.super for.counts
-
--- MEDIA THAT HOLD THE SAME SUPERBLOCKS
-
-pub super_by_holds : (a b : ℕ → Cell) (s : Superblock) → ((k : ℕ) (t : Superblock) → k < 2 → HoldsSuper (a k) t → HoldsSuper (b k) t)
-    → ((k : ℕ) (t : Superblock) → k < 2 → HoldsSuper (b k) t → HoldsSuper (a k) t) → IsSuperOf a s → IsSuperOf b s
-super_by_holds a b s to from (First holds rest) =
-    First (to 0 s (omega arith) holds) (λ other there. rest other (from 1 other (omega arith) there))
-super_by_holds a b s to from (Second holds rest) =
-    Second (to 1 s (omega arith) holds) (λ other there. rest other (from 0 other (omega arith) there))
 
 -- a slot whose superblock counts elsewhere too is live there, by a superblock that names the same
 pub live_moved : (g : Geometry) (a b : Image) (before after : Superblock) (j : ℕ) → before.array ≡ after.array

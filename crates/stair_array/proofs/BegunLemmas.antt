@@ -1,13 +1,14 @@
 -- A call may begin with the member that a survey answered.
-use Rattle.std.proofs.Common.{◌≡◌, ℕ, ◌-◌, ◌<◌, ◌≤◌, List, None, inl, inr, sym, ap, subst, arith}
+use Rattle.std.proofs.Common.{◌≡◌, ℕ, ◌-◌, ◌<◌, ◌≤◌, List, None, inl, inr, sym, ap, ◌∙◌, subst, arith}
 use Rattle.std.specs.Prelude.{◌≢◌, ◌⊎◌, IsTrue, Result, Ok, Some}
+use Rattle.std.proofs.lemmas.Bool.{cases_eq}
 use Rattle.stair_model.specs.Geometry.{Geometry}
 use Rattle.stair_model.specs.Slots.{HasSlot}
 use Rattle.stair_rack.specs.Answers.{IsHistory, Ran, any_call}
 use Rattle.stair_rack.specs.Crash.{image_now}
 use Rattle.stair_rack.specs.History.{Happening}
 use Rattle.stair_rack.specs.Media.{Image}
-use Rattle.stair_rack.specs.Offline.{IsOffline}
+use Rattle.stair_rack.specs.Offline.{IsAttached, IsOffline}
 use Rattle.stair_rack.specs.Sector.{Cell}
 use Rattle.stair_rack.specs.Stretch.{NothingReturned}
 use Rattle.stair_rack.proofs.TidyLemmas.{history_on}
@@ -28,10 +29,10 @@ use Rattle.stair_member.specs.Survey.{InFirst, InSecond, IsAnswer, IsPlaceOf, Is
 use Rattle.stair_rack.specs.Telling.{Telling}
 use Rattle.stair_member.specs.declared.fault.SurveyFault.{SurveyFault}
 use Rattle.stair_member.specs.declared.why.Why.{Why}
-use Rattle.stair_member.specs.declared.why.Why.TheVariants.{Here, OtherSlot, Rebuilding}
+use Rattle.stair_member.specs.declared.why.Why.TheVariants.{Here, OtherJoined, Rebuilding}
 use Rattle.stair_member.proofs.AskedLemmas.{asked_ran}
 use Rattle.stair_member.proofs.CountingLemmas.{all_but_mapped}
-use Rattle.stair_member.proofs.SuperLemmas.{slot_below}
+use Rattle.stair_member.proofs.SuperLemmas.{holds_once, slot_below}
 use Rattle.stair_array.specs.Represents.{AreSteady, Represents}
 use Rattle.stair_array.specs.State.{State}
 use Rattle.stair_array.specs.Surveyed.{Covers, CoversAll}
@@ -118,23 +119,26 @@ module _ (m : Membership) (f : Findings) (surveyed : IsSurveyed f m) {offline : 
 
   -- DRAWS
 
-  late : (why : Why) → (why ≡ Here) ⊎ (why ≡ Rebuilding) → rank OtherSlot < rank why
-  late why (inl is) = subst (λ (w : Why). rank OtherSlot < rank w) (sym is) (omega arith)
-  late why (inr is) = subst (λ (w : Why). rank OtherSlot < rank w) (sym is) (omega arith)
+  late : (why : Why) → (why ≡ Here) ⊎ (why ≡ Rebuilding) → rank OtherJoined < rank why
+  late why (inl is) = subst (λ (w : Why). rank OtherJoined < rank w) (sym is) (omega arith)
+  late why (inr is) = subst (λ (w : Why). rank OtherJoined < rank w) (sym is) (omega arith)
 
   -- a slot that is here counted in what was found
   here_found : (j : ℕ) → IsHere m j → CountsFor g f.image j
   here_found j here =
-      here_counts (HasSlot f.gone) g f.image found j (why_of m j) (late (why_of m j) here.why) (surveyed.reasons j here.below)
+      let past : rank OtherJoined < rank (why_of m j) = late (why_of m j) here.why in
+      here_counts (HasSlot f.gone) g f.image found j (why_of m j) (omega (arith, past)) (surveyed.reasons j here.below)
+
+  -- what lies in a place was read there
+  seen_here : (j k : ℕ) (s : Superblock) → j < g.n → k < 2 → HoldsSuper ((image j).cell k) s → HoldsSuper ((f.image j).cell k) s
+  seen_here j k s below place holds =
+      subst (λ (cell : Cell). HoldsSuper cell s) (read_cell f j k (omega (arith, below, small)) place)
+      (holds_read looked j k s below place (subst (λ (cell : Cell). HoldsSuper cell s) (agrees j k below place) holds))
 
   drawn_here : (j k : ℕ) (s : Superblock) → IsHere m j → k < 2 → HoldsSuper ((image j).cell k) s → s.draw ≤ m.drawn
   drawn_here j k s here place holds =
-      let below : j < g.n = here.below in
-      let in_range : j < 32 = omega (arith, below, small) in
       let for = here_found j here in
-      let seen : HoldsSuper ((f.image j).cell k) s =
-      subst (λ (cell : Cell). HoldsSuper cell s) (read_cell f j k in_range place)
-      (holds_read looked j k s below place (subst (λ (cell : Cell). HoldsSuper cell s) (agrees j k below place) holds)) in
+      let seen : HoldsSuper ((f.image j).cell k) s = seen_here j k s here.below place holds in
       let upto : s.draw ≤ for.super.draw = held_upto ((f.image j).cell) k for.super s place for.counts.super seen in
       let most : for.super.draw ≤ m.drawn = surveyed.drawn.above j for.super for.counts in
       omega (arith, upto, most)
@@ -142,6 +146,24 @@ module _ (m : Membership) (f : Findings) (surveyed : IsSurveyed f m) {offline : 
   drawn_taken : (j k : ℕ) (s : Superblock) → IsTaken None m j → k < 2 → HoldsSuper ((image j).cell k) s → s.draw ≤ m.drawn
   drawn_taken j k s (inl here) place holds = drawn_here j k s here place holds
   drawn_taken j k s (inr joins) place holds = let none = joins.0 in absurd (cc)
+
+  -- what lies aside of a slot that is here is the superblock by which it is
+  own_here : (j : ℕ) (t : Superblock) → IsHere m j → HoldsSuper ((image j).cell (1 - place_of m j)) t → t.joined ≡ joined_in m.array j
+  own_here j t here holds =
+      let for = here_found j here in
+      let below : j < g.n = here.below in
+      let lies : HoldsSuper ((f.image j).cell (1 - place_of m j)) for.super =
+      place_holds {cell = (f.image j).cell} {s = for.super} {k = 1 - place_of m j}
+      ((surveyed.places j (omega (arith, below, small))).other for.super for.counts.super) in
+      let same : t ≡ for.super =
+      holds_once ((f.image j).cell (1 - place_of m j)) t for.super (seen_here j (1 - place_of m j) t below (omega arith) holds) lies in
+      ap (λ (s : Superblock). s.joined) same
+      ∙ (elim (cases_eq for.super.joined (joined_at found j)) [
+        | inl joined ↦ joined
+        | inr apart ↦
+            absurd ((surveyed.reasons j below).first OtherJoined (late (why_of m j) here.why) (for.super, for.counts.super, apart))
+      ])
+      ∙ sym (ap (λ (array : Configuration). joined_in array j) surveyed.array)
 
   -- EPOCHS
 
@@ -167,13 +189,15 @@ module _ (m : Membership) (f : Findings) (surveyed : IsSurveyed f m) {offline : 
       (looked.orderly.joined i found.slot j s found (borne_first i s bears) found_borne (omega (arith, epochs, upto)) here
       (subst (λ (array : Configuration). mark_in array j ≢ Down) surveyed.array there))
 
-  pub known_here : IsOrderly g image → ((j : ℕ) (s : Superblock) → Bears g j ((image j).cell) s → Covers m s) → IsKnownTo None m image
-  known_here orderly covers = record {
+  pub known_here : (attached : ℕ → Type 0) → IsOrderly g image → ((j : ℕ) (s : Superblock) → Bears g j ((image j).cell) s → Covers m s)
+      → IsKnownTo None m attached image
+  known_here attached orderly covers = record {
     orderly = orderly;
     latest = λ j s bears. (covers j s bears).epoch;
     named = λ j s bears. (covers j s bears).one_list;
-    drawn = drawn_taken;
+    drawn = λ j k s taken on. drawn_taken j k s taken;
     aside = λ j s here counts one other. lies_aside j s counts one other;
+    own = λ j s here on. own_here j s here;
     reserved = reserved_here;
     reached = reached_here;
     joined = λ i j s bears. joined_here i j s bears (covers i s bears).epoch;
@@ -206,7 +230,8 @@ begins s before old new answer m surveys honest began stands none tolerated memb
       history = history_on {allowed = LeavesSectors} is ran;
       member = member;
       settled = steady;
+      down = λ j joins below. let none : None ≡ Some j = joins in absurd (cc);
       known = λ image left.
           known_here m surveys.findings surveyed looked image (steady_cells m.array.geometry new.history image steady left)
-          (subst (λ (g : Geometry). IsOrderly g image) same (after.orderly image left)) (covered.each image left);
+          (IsAttached new.history) (subst (λ (g : Geometry). IsOrderly g image) same (after.orderly image left)) (covered.each image left);
     }

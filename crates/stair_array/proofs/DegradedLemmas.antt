@@ -7,10 +7,10 @@ use Rattle.stair_rack.specs.Media.{Image, SlotImage, has_sector}
 use Rattle.stair_rack.specs.Sector.{Cell, Damaged}
 use Rattle.stair_super.specs.Superblock.{Superblock}
 use Rattle.stair_member.specs.Current.{IsLost}
-use Rattle.stair_member.specs.Reserve.{Bears, HasReached, HasReserved, IsOrderly}
-use Rattle.stair_member.specs.Superblocks.{Counts, HoldsSuper, IsSuperOf, First, Second}
+use Rattle.stair_member.specs.Reserve.{Bears, HasReached, HasReserved, HidesNoOther, IsOrderly}
+use Rattle.stair_member.specs.Superblocks.{Counts, HoldsSuper, IsSuperOf}
 use Rattle.stair_member.proofs.CountingLemmas.{all_but_mapped}
-use Rattle.stair_member.proofs.SuperLemmas.{holds_once, super_cells}
+use Rattle.stair_member.proofs.SuperLemmas.{holds_once, super_at, super_cells}
 use Rattle.stair_array.specs.Degraded.{AreAllDamaged, AreDamagedCopies, IsDegraded, IsDegradedSlot, Taken, Blank, Stays}
 use Rattle.stair_array.proofs.FormLemmas.{good_before, good_kept, same_kept}
 
@@ -84,11 +84,6 @@ counts_before {more = more} {less = less} {j = j} {s = s} copies first second co
   identity = counts.identity;
 }
 
--- in which place it lies
-pub super_at : {cell : ℕ → Cell} {s : Superblock} → IsSuperOf cell s → HoldsSuper (cell 0) s ⊎ HoldsSuper (cell 1) s
-super_at (First holds rest) = inl holds
-super_at (Second holds rest) = inr holds
-
 -- the superblocks of an image are in order where its cells are those of such an image, of which some may be damaged
 module _ (g : Geometry) (more less : Image) (copies : (j : ℕ) → AreDamagedCopies (more j).cell (less j).cell)
     (orderly : IsOrderly g more) where
@@ -105,45 +100,54 @@ module _ (g : Geometry) (more less : Image) (copies : (j : ℕ) → AreDamagedCo
       reached s (counts_before {more = more} {less = less} (copies j) first second counts)
       (lost_before j 0 first) (lost_before j 1 second)
 
-  -- where both places hold superblocks, the medium has the one that it had
-  hidden_apart : (j : ℕ) (first second s newest : Superblock) → HoldsSuper ((less j).cell 0) first → HoldsSuper ((less j).cell 1) second
-      → Bears g j ((less j).cell) s → IsSuperOf ((less j).cell) newest → Counts g less j newest × (s.array.epoch ≤ newest.array.epoch)
-  hidden_apart j first second s newest in_first in_second bears super =
-      let before =
-      orderly.hidden j s newest (bears_before (copies j) bears)
-      (super_cells ((less j).cell) ((more j).cell) newest (same_kept (copies j 0) (good_kept in_first.good))
-      (same_kept (copies j 1) (good_kept in_second.good)) super) in
-      (record { super = super; slot = before.0.slot; identity = before.0.identity }, before.1)
-
-  -- where they are one and the same
-  hidden_same : (j : ℕ) (s newest : Superblock) → Bears g j ((less j).cell) s → IsSuperOf ((less j).cell) newest → newest ≡ s
-      → Counts g less j newest × (s.array.epoch ≤ newest.array.epoch)
-  hidden_same j s newest bears super same = (
-    record {
-      super = super;
-      slot = ap (λ (t : Superblock). t.slot) same ∙ bears.slot;
-      identity = ap (λ (t : Superblock). t.array.geometry) same ∙ bears.identity;
-    },
-    let epoch : newest.array.epoch ≡ s.array.epoch = ap (λ (t : Superblock). t.array.epoch) same in omega arith,
-  )
-
-  hidden_before : (j : ℕ) (s newest : Superblock) → Bears g j ((less j).cell) s → IsSuperOf ((less j).cell) newest
-      → Counts g less j newest × (s.array.epoch ≤ newest.array.epoch)
-  hidden_before j s newest bears super =
+  -- what is newest is the superblock itself; or both places hold superblocks, and the medium has the newest that it had
+  super_before : (j : ℕ) (s newest : Superblock) → Bears g j ((less j).cell) s → IsSuperOf ((less j).cell) newest
+      → (newest ≡ s) ⊎ IsSuperOf ((more j).cell) newest
+  super_before j s newest bears super =
       elim (cases_lt bears.place 1) [
         | inl below ↦
             let here : HoldsSuper ((less j).cell 0) s = subst (λ (k : ℕ). HoldsSuper ((less j).cell k) s) (omega arith) bears.holds in
             elim (super_at super) [
-              | inl at ↦ hidden_same j s newest bears super (holds_once ((less j).cell 0) newest s at here)
-              | inr at ↦ hidden_apart j s newest s newest here at bears super
+              | inl at ↦ inl (holds_once ((less j).cell 0) newest s at here)
+              | inr at ↦ inr (both s newest here at)
             ]
         | inr above ↦
             let here : HoldsSuper ((less j).cell 1) s =
             subst (λ (k : ℕ). HoldsSuper ((less j).cell k) s) (omega (arith, bears.place_in)) bears.holds in
             elim (super_at super) [
-              | inl at ↦ hidden_apart j newest s s newest at here bears super
-              | inr at ↦ hidden_same j s newest bears super (holds_once ((less j).cell 1) newest s at here)
+              | inl at ↦ inr (both newest s at here)
+              | inr at ↦ inl (holds_once ((less j).cell 1) newest s at here)
             ]
+      ]
+    where
+      both : (first second : Superblock) → HoldsSuper ((less j).cell 0) first → HoldsSuper ((less j).cell 1) second → IsSuperOf ((more j).cell) newest
+      both first second in_first in_second =
+          super_cells ((less j).cell) ((more j).cell) newest (same_kept (copies j 0) (good_kept in_first.good))
+          (same_kept (copies j 1) (good_kept in_second.good)) super
+
+  hidden_before : (j : ℕ) (s newest : Superblock) → Bears g j ((less j).cell) s → IsSuperOf ((less j).cell) newest
+      → Counts g less j newest × (s.array.epoch ≤ newest.array.epoch)
+  hidden_before j s newest bears super =
+      elim (super_before j s newest bears super) [
+        | inl same ↦
+            let epoch : newest.array.epoch ≡ s.array.epoch = ap (λ (t : Superblock). t.array.epoch) same in (
+              record {
+                super = super;
+                slot = ap (λ (t : Superblock). t.slot) same ∙ bears.slot;
+                identity = ap (λ (t : Superblock). t.array.geometry) same ∙ bears.identity;
+              },
+              omega arith,
+            )
+        | inr was ↦
+            let before = orderly.hidden j s newest (bears_before (copies j) bears) was in
+            (record { super = super; slot = before.0.slot; identity = before.0.identity }, before.1)
+      ]
+
+  hides_before : HidesNoOther g less
+  hides_before j s newest bears super live =
+      elim (super_before j s newest bears super) [
+        | inl same ↦ sym (ap (λ (t : Superblock). t.joined) same)
+        | inr was ↦ orderly.hides j s newest (bears_before (copies j) bears) was live
       ]
 
   pub orderly_copies : IsOrderly g less
@@ -152,6 +156,7 @@ module _ (g : Geometry) (more less : Image) (copies : (j : ℕ) → AreDamagedCo
     one_list = λ i j a b first second.
         orderly.one_list i j a b (bears_before (copies i) first) (bears_before (copies j) second);
     hidden = hidden_before;
+    hides = hides_before;
     reached = λ i j a b first second earlier.
         all_but_mapped {P = HasReached g more a.array.epoch} {Q = HasReached g less a.array.epoch}
         (λ k below reached. reached_before a.array.epoch k reached)

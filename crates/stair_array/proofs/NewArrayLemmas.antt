@@ -208,6 +208,11 @@ module _ (g : Geometry) (image : Image) (limits : IsWithinLimits g) (id : length
           },
           omega (arith, last, epoch),
         );
+    hides = λ j s newest bears super live.
+        let is : newest ≡ first_super g j =
+        super_first j (image j) newest (bears_below g j ((image j).cell) s bears)
+        (kept_device g j (image j) s (new j (bears_below g j ((image j).cell) s bears)) bears) super in
+        ap (λ (t : Superblock). t.joined) (borne_is_first j s bears) ∙ sym (ap (λ (t : Superblock). t.joined) is);
     reached = λ i j a b bears_a bears_b earlier.
         let first : a.array.epoch ≡ 1 = ap (λ (array : Configuration). array.epoch) (borne_array i a bears_a) in
         let second : b.array.epoch ≡ 1 = ap (λ (array : Configuration). array.epoch) (borne_array j b bears_b) in

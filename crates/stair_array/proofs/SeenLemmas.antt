@@ -14,11 +14,11 @@ use Rattle.stair_member.specs.Reserve.{Bears, BearsFor, HasReached, IsOrderly, M
 use Rattle.stair_member.specs.Superblocks.{Counts, CountsFor, HoldsSuper, Identifies}
 use Rattle.stair_member.proofs.CountingLemmas.{all_but_mapped, common, more_from_all_but, more_mapped}
 use Rattle.stair_member.proofs.StandingLemmas.{others}
-use Rattle.stair_member.proofs.SuperLemmas.{counts_bears, counts_limits, slot_below, super_cells}
+use Rattle.stair_member.proofs.SuperLemmas.{counts_bears, counts_limits, slot_below, super_by_holds, super_cells}
 use Rattle.stair_array.specs.Degraded.{AreDamagedCopies, IsDegraded}
 use Rattle.stair_array.specs.Represents.{Shrinks}
 use Rattle.stair_array.specs.Tolerance.{IsToleratedAlone, IsWithinTolerance}
-use Rattle.stair_array.proofs.AgreeLemmas.{borne_upto, current_upto, has_newest, live_moved, own_joined, own_mark, super_by_holds}
+use Rattle.stair_array.proofs.AgreeLemmas.{borne_upto, current_upto, has_newest, live_moved, own_joined, own_mark}
 use Rattle.stair_member.proofs.EditionLemmas.{bears_below}
 use Rattle.stair_array.proofs.DegradedLemmas.{bears_before, degraded_copies, holds_before, orderly_copies}
 use Rattle.stair_array.proofs.FormLemmas.{same_kept}

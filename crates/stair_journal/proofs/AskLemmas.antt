@@ -14,7 +14,7 @@ use Rattle.stair_rack.proofs.MomentLemmas.{ran_join, ran_none}
 use Rattle.stair_rack.proofs.PassCounts.{rises_more, rises_none, rises_within}
 use Rattle.stair_rack.proofs.ReadRuns.{read_ran, reads_beside, reads_within}
 use Rattle.stair_rack.proofs.TellingLemmas.{later_called, later_join, later_none, reading_wider}
-use Rattle.stair_journal.specs.Asked.{Asks, Fails, Gives}
+use Rattle.stair_journal.specs.BodySteps.{Asks, Fails, Gives}
 use Rattle.stair_journal.specs.Reads.{PassesSlot, asking}
 use Rattle.stair_journal.proofs.LiveCounts.{live_below, live_next, live_none, live_within}
 use Rattle.stair_journal.proofs.TurnLemmas.{each_more}

@@ -20,8 +20,7 @@ use Rattle.stair_rack.specs.Sector.{Good}
 use Rattle.stair_rack.specs.Telling.{IsGone, IsReading}
 use Rattle.stair_rack.proofs.PassCounts.{rises_more, rises_none}
 use Rattle.stair_rack.proofs.TellingLemmas.{later_none, reading_wider}
-use Rattle.stair_journal.specs.Asked.{Asks, Fails, Gives}
-use Rattle.stair_journal.specs.Bodied.{AllSoFar, AreCellsRead, AsksBefore, FirstSoFar, IsBelow, IsCellGiven, IsCellUngiven, IsFirst, IsReadTo, ReadsCell, Standing, asking_of, cells_before}
+use Rattle.stair_journal.specs.BodySteps.{Asks, Fails, Gives, AllSoFar, AreCellsRead, AsksBefore, FirstSoFar, IsBelow, IsCellGiven, IsCellUngiven, IsFirst, IsReadTo, ReadsCell, Standing, asking_of, cells_before}
 use Rattle.stair_journal.specs.Bodies.{AllGiven, IsBodySector, IsFirstUngiven, ReadsBody, UngivenFirst}
 use Rattle.stair_journal.specs.Reads.{PassesAll, AsksCell, AsksFor, AsksInTurn, AsksRow, AsksUpTo, Given, IsUnreadUpTo, NotRedone, Redone, Ungiven, asking}
 use Rattle.stair_journal.specs.Redo.{IsRedo}

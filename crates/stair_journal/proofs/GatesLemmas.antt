@@ -22,7 +22,7 @@ use Rattle.stair_rack.proofs.PassCounts.{rises_more, rises_none}
 use Rattle.stair_rack.proofs.ReadRuns.{read_ran, reads_beside, reads_within}
 use Rattle.stair_rack.proofs.TellingLemmas.{later_join, later_none, reading_bad, reading_good, reading_wider}
 use Rattle.stair_journal.specs.Gate.{IsOpenWith, ReadsClosed}
-use Rattle.stair_journal.specs.Gated.{IsGateRead, IsNoted, IsReadOnce, IsSeen, IsSeenOpen, first_redo}
+use Rattle.stair_journal.specs.GatesSteps.{IsGateRead, IsNoted, IsReadOnce, IsSeen, IsSeenOpen, first_redo}
 use Rattle.stair_journal.specs.Gates.{IsFirstRedo, IsGateSector, IsOpened, IsRead, NoneOpen, OpenFirst, ReadsGates}
 use Rattle.stair_journal.specs.Reads.{ReadsGate}
 use Rattle.stair_journal.specs.declared.gates.Gates.{Gates}

@@ -13,7 +13,7 @@ use Rattle.stair_model.proofs.CountLaws.{sum_below_longer, sum_below_more}
 use Rattle.stair_model.proofs.SetLaws.{has_slot-none, same_cells}
 use Rattle.stair_rack.specs.Sector.{Good}
 use Rattle.stair_journal.specs.Gate.{has_number, bitmap_byte, bitmap, open_gate, closed_gate, IsOpenWith}
-use Rattle.stair_journal.specs.Marks.{IsMarked, IsMarkedCell}
+use Rattle.stair_journal.specs.GateSteps.{IsMarked, IsMarkedCell}
 use Rattle.stair_journal.specs.Redo.{IsRedo}
 use Rattle.stair_journal.specs.declared.redo.Redo.{Redo}
 use Rattle.stair_journal.proofs.BitLemmas.{bit_marks}

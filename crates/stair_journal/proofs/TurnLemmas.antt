@@ -10,7 +10,7 @@ use Rattle.stair_model.specs.Slots.{Slots, HasSlot}
 use Rattle.stair_model.specs.Stripe.{Stripe, cell}
 use Rattle.stair_rack.specs.History.{Happening}
 use Rattle.stair_rack.specs.Reading.{EachBelow}
-use Rattle.stair_journal.specs.Gated.{IsReadOnce}
+use Rattle.stair_journal.specs.GatesSteps.{IsReadOnce}
 use Rattle.stair_journal.specs.Reads.{Asking, AsksCell, AsksFor, AsksRow, AsksUpTo, Given, IsUnreadUpTo, NotRedone, ReadOnce, ReadsGate, Redone, Skipped, Ungiven}
 use Rattle.stair_journal.specs.declared.gates.Seen.{Seen}
 use Rattle.stair_journal.specs.declared.gates.Seen.TheVariants.{Gone}

@@ -20,7 +20,8 @@ use Rattle.stair_rack.proofs.PassCounts.{Seen}
 use Rattle.stair_rack.proofs.PhaseCounts.{WritesSlot, slot_none, slot_one, slot_asked, slot_then}
 use Rattle.stair_journal.specs.Gate.{has_number}
 use Rattle.stair_journal.specs.Redo.{IsRedo}
-use Rattle.stair_journal.specs.Journalling.{IsInRow, body_cell, body_writes, gate_writes}
+use Rattle.stair_journal.specs.Journalling.{body_cell, body_writes, gate_writes}
+use Rattle.stair_journal.specs.PhaseSteps.{IsInRow}
 use Rattle.stair_journal.specs.declared.redo.Redo.{Redo}
 
 -- some value is what a choice gave

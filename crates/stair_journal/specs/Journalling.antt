@@ -1,6 +1,6 @@
 -- What the journal's phases write, by slot and sector.
-use Rattle.std.specs.Prelude.{◌≡◌, ◌+◌, ◌-◌, ◌/◌, ◌%◌, ◌<◌, ◌≤◌, ◌==◌, ℕ, List, Option, Some, None, if◌then◌else◌, nat_lt}
-use Rattle.stair_model.specs.Device.{body_sector, body_start, gate_sector}
+use Rattle.std.specs.Prelude.{◌-◌, ◌/◌, ◌%◌, ◌==◌, ℕ, List, Option, Some, None, if◌then◌else◌, nat_lt}
+use Rattle.stair_model.specs.Device.{body_start, gate_sector}
 use Rattle.stair_model.specs.Geometry.{Geometry}
 use Rattle.stair_model.specs.Stripe.{Stripe, cell}
 use Rattle.stair_rack.specs.Placed.{Writes}
@@ -19,7 +19,3 @@ body_writes g redo stripe j k =
 -- on each slot, this gate
 abbrev pub gate_writes : List ℕ → Writes
 gate_writes gate j k = if k == gate_sector then Some gate else None
-
--- On this slot, the sectors of the body that are for the cells of one row.
-abbrev pub IsInRow : Geometry → ℕ → ℕ → ℕ → ℕ → Type 0
-IsInRow g slot row j k = (j ≡ slot) × (body_sector g row 0 ≤ k) × (k < body_sector g (row + 1) 0)

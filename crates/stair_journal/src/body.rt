@@ -5,8 +5,7 @@ ghost use Rattle.stair_model.specs.Slots.{IsSlotSet, has_slot, no_slots, slot_co
 ghost use Rattle.stair_model.specs.Stripe.{IsStripeOf};
 ghost use Rattle.stair_rack.specs.RackCounts.{RisesAtMost};
 ghost use Rattle.stair_rack.specs.Telling.{telling};
-ghost use Rattle.stair_journal.specs.Asked.{Asks, AsksSlot, AsksSlots, IsAnswer, IsFound};
-ghost use Rattle.stair_journal.specs.Bodied.{IsReadTo, ReadsCell, Standing, standing};
+ghost use Rattle.stair_journal.specs.BodySteps.{Asks, AsksSlot, AsksSlots, IsAnswer, IsFound, IsReadTo, ReadsCell, Standing, standing};
 ghost use Rattle.stair_journal.specs.Bodies.{ReadsBody};
 ghost use Rattle.stair_journal.specs.Reads.{AsksInTurn, asking};
 ghost use Rattle.stair_journal.specs.Redo.{IsRedo};

@@ -14,7 +14,7 @@ ghost use Rattle.stair_journal.specs.Gate.{
   bitmap_byte as byte_of,
   has_number as is_numbered,
 };
-ghost use Rattle.stair_journal.specs.Marks.{IsMarked, IsMarkedCell, IsMarkedIn};
+ghost use Rattle.stair_journal.specs.GateSteps.{IsMarked, IsMarkedCell, IsMarkedIn};
 ghost use Rattle.stair_journal.specs.Redo.{IsRedo};
 
 use crate::redo::Redo;

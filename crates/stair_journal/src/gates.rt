@@ -3,7 +3,7 @@ ghost use Rattle.std.specs.Prelude.{◌<◌, IsTrue};
 ghost use Rattle.stair_model.specs.Slots.{slot_count};
 ghost use Rattle.stair_rack.specs.RackCounts.{NoneFalls, RisesAtMost};
 ghost use Rattle.stair_rack.specs.Telling.{telling};
-ghost use Rattle.stair_journal.specs.Gated.{IsNoted, IsReadOnce, IsSeen};
+ghost use Rattle.stair_journal.specs.GatesSteps.{IsNoted, IsReadOnce, IsSeen};
 ghost use Rattle.stair_journal.specs.Gates.{ReadsGates};
 ghost use Rattle.stair_journal.specs.Reads.{ReadsGatesInTurn};
 

@@ -7,8 +7,9 @@ ghost use Rattle.stair_rack.specs.RackCounts.{NoneFalls};
 ghost use Rattle.stair_rack.specs.Telling.{telling};
 ghost use Rattle.stair_rack.specs.Writing.{IsOnSlot, Writing};
 ghost use Rattle.stair_journal.specs.Gate.{closed_gate as closed, open_gate as opened};
-ghost use Rattle.stair_journal.specs.Journalling.{IsInRow, body_writes, gate_writes};
+ghost use Rattle.stair_journal.specs.Journalling.{body_writes, gate_writes};
 ghost use Rattle.stair_journal.specs.Phases.{DoesPhase};
+ghost use Rattle.stair_journal.specs.PhaseSteps.{IsInRow};
 ghost use Rattle.stair_journal.specs.Redo.{IsRedo};
 
 use crate::gate::{GATE_SECTOR, closed_gate, open_gate};

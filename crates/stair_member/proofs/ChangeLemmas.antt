@@ -10,7 +10,7 @@ use Rattle.stair_super.specs.Superblock.{IsConfiguration, IsJoined, joined_in, m
 use Rattle.stair_super.specs.declared.configuration.Configuration.{Configuration}
 use Rattle.stair_super.specs.declared.mark.Mark.{Mark}
 use Rattle.stair_super.specs.declared.mark.Mark.TheVariants.{Live, Rebuilding, Down}
-use Rattle.stair_member.specs.Changes.{MayBegin, Names, joined_then, joined_up, place_then, without}
+use Rattle.stair_member.specs.Changes.{MayBegin, Names, joined_then, joined_up, without}
 use Rattle.stair_member.specs.Aims.{admitted, aimed, mark_for}
 use Rattle.stair_member.specs.Membership.{Membership, IsMarkedFor, IsMembership, member_of, place_of, why_of}
 use Rattle.stair_member.specs.declared.aim.Aim.{Aim}
@@ -143,19 +143,8 @@ aimed_past (aims.Admit slot) m j may past = cond-false _ _ _ (ne_eqb j slot (λ 
 aimed_past (aims.Promote slot) m j may past = cond-false _ _ _ (ne_eqb j slot (λ same. omega (arith, may.0, past, same)))
 aimed_past (aims.Stamp frozen label) m j may past = refl
 
-place_small : (aim : Aim) (j place : ℕ) → place < 2 → place_then aim j place < 2
-place_small aims.Fence j place small = small
-place_small (aims.Admit slot) j place small =
-    elim (cases_eq j slot) [
-      | inl same ↦ subst (λ (k : ℕ). k < 2) (sym (cond-true _ _ _ (eq-eqb j slot same))) (omega arith)
-      | inr other ↦ subst (λ (k : ℕ). k < 2) (sym (cond-false _ _ _ (ne_eqb j slot other))) small
-    ]
-place_small (aims.Promote slot) j place small = small
-place_small (aims.Stamp frozen label) j place small = small
-
-module _ (aim : Aim) (m : Membership) (named : Configuration) (whys : List Why) (places : List ℕ) (rules : IsMembership m) (may : MayBegin aim m)
-    (names : Names aim m.array whys m.drawn named) (each : (j : ℕ) → j < 32 → slice_index_or whys j why.Here ≡ aimed aim j (why_of m j))
-    (places_are : (j : ℕ) → j < 32 → slice_index places j ≡ place_then aim j (place_of m j)) where
+module _ (aim : Aim) (m : Membership) (named : Configuration) (whys : List Why) (rules : IsMembership m) (may : MayBegin aim m)
+    (names : Names aim m.array whys m.drawn named) (each : (j : ℕ) → j < 32 → slice_index_or whys j why.Here ≡ aimed aim j (why_of m j)) where
   begun_bounds : (j : ℕ) → j < 32 → mark_in named j ≢ Down
       → (1 ≤ joined_up aim m.drawn j (joined_in m.array j)) × (joined_up aim m.drawn j (joined_in m.array j) ≤ m.drawn)
   begun_bounds j small up =
@@ -195,8 +184,8 @@ module _ (aim : Aim) (m : Membership) (named : Configuration) (whys : List Why) 
     absent = λ j past small. names.absent j (subst (λ (g : Geometry). g.n ≤ j) names.geometry past);
   }
 
-  pub begun_rules : length whys ≡ 32 → length places ≡ 32 → IsLabel named.label → IsMembership (member_of named m.drawn whys places)
-  begun_rules whys_size places_size label = record {
+  pub begun_rules : length whys ≡ 32 → IsLabel named.label → IsMembership (member_of named m.drawn whys m.places)
+  begun_rules whys_size label = record {
     sizes = record {
       id = rw names.geometry rules.sizes.id;
       drawn = rules.sizes.drawn;
@@ -204,7 +193,7 @@ module _ (aim : Aim) (m : Membership) (named : Configuration) (whys : List Why) 
       joins = names.joins_size;
       label = label;
       whys = whys_size;
-      places = places_size;
+      places = rules.sizes.places;
     };
     array = begun_array;
     known = omega (arith, names.epoch_is);
@@ -214,7 +203,7 @@ module _ (aim : Aim) (m : Membership) (named : Configuration) (whys : List Why) 
     marked = λ j below.
         let less : j < m.array.geometry.n = subst (λ (g : Geometry). j < g.n) names.geometry below in
         subst (λ (x : Mark). IsMarkedFor (slice_index_or whys j why.Here) x) (sym (names.marks j less)) (marked_for (slice_index_or whys j why.Here));
-    places = λ j small. rw (places_are j small) (place_small aim j (place_of m j) (rules.places j small));
+    places = rules.places;
   }
 
 -- ---- slots that are dropped

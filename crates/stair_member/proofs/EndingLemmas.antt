@@ -11,10 +11,11 @@ use Rattle.stair_rack.specs.Sector.{Sector}
 use Rattle.stair_rack.proofs.KeptLemmas.{IsKept-mapped, IsKept-now}
 use Rattle.stair_rack.proofs.MomentLemmas.{at_every_mapped}
 use Rattle.stair_rack.proofs.PassCounts.{NoneFalls-then}
+use Rattle.stair_rack.proofs.StretchLemmas.{answered_allowed}
 use Rattle.stair_super.specs.Superblock.{mark_in}
 use Rattle.stair_super.specs.declared.mark.Mark.TheVariants as mark
 use Rattle.stair_member.specs.Aims.{admitted, aimed}
-use Rattle.stair_member.specs.Epochs.{IsRefusedBy, IsStanding, StandsOnDisk}
+use Rattle.stair_member.specs.Epochs.{IsGoneOf, IsRefusedBy, IsStanding, StandsOnDisk}
 use Rattle.stair_member.specs.Establishing.{Establishes, HasBegun, IsEstablished}
 use Rattle.stair_member.specs.Handings.{is_twice}
 use Rattle.stair_member.specs.Membership.{Membership, IsHere, IsMembership, why_of}
@@ -28,9 +29,9 @@ use Rattle.stair_member.proofs.AttemptLemmas.{Moved, Whole, aimed_here, gone_dow
 use Rattle.stair_member.proofs.ChangeLemmas.{IsUp}
 use Rattle.stair_member.proofs.RoundLemmas.{HasCome, come_like, drew_of, stands_then}
 use Rattle.stair_member.proofs.SafeLemmas.{AreStanding}
-use Rattle.stair_member.proofs.SpreadLemmas.{twice_is}
+use Rattle.stair_member.proofs.SpreadLemmas.{no_slot, twice_is}
 use Rattle.stair_member.proofs.TakingLemmas.{IsNamedFor, named_of, taking, taking_only}
-use Rattle.stair_member.proofs.EstablishLemmas.{Attempt, admits_less, aimed_after, aimed_taken, began_after, come_after, fell_after, gone_after, live_taken, named_after, now_aimed, only, rose_after, single}
+use Rattle.stair_member.proofs.EstablishLemmas.{Attempt, admits_less, aimed_after, aimed_taken, began_after, come_after, dropped_gone, fell_after, gone_after, live_taken, named_after, now_aimed, only, rose_after, single}
 
 pub record Ended (aim : Aim) (m0 last : Membership) (gone : Slots) (old new : Telling) : Type 0 where
   pub rules0 : IsMembership m0
@@ -45,13 +46,6 @@ pub record Ended (aim : Aim) (m0 last : Membership) (gone : Slots) (old new : Te
   pub counts : NoneFalls old.bads new.bads old.gones new.gones
   pub told : IsTrue new.honest
       → HasCome (taking aim m0) m0 last (admitted aim) (HasSlot gone) (IsNamedFor aim gone m0) old.history new.history
-
-not_twice : (o : Option ℕ) (j : ℕ) → o ≢ Some j → is_twice o j ≡ false
-not_twice o j other =
-    elim (cases_Bool (is_twice o j)) [
-      | inl is ↦ absurd (other (twice_is o j is))
-      | inr no_one ↦ no_one
-    ]
 
 taken_small : (aim : Aim) (m0 : Membership) (j : ℕ) → IsMembership m0 → HasSlot (taking aim m0) j → j < 32
 taken_small aim m0 j rules on =
@@ -73,6 +67,7 @@ ended aim m0 last gone refusal old new e done refused on_disk = record {
     below = e.below;
     rose = e.rose;
     dropped = e.dropped;
+    told = λ honest j call answered is. answered_allowed {allowed = IsGoneOf (HasSlot gone)} (e.told honest).told answered is;
     shut = λ honest before j has held places. (e.told honest).shut before j has held places;
   };
   done = done;
@@ -101,9 +96,9 @@ ended aim m0 last gone refusal old new e done refused on_disk = record {
         rising = far.rising;
         reserved = far.reserved;
         standing =
-            at_every_mapped {P = AreStanding m0 (admitted aim) come.editions old.history}
-            {Q = λ h. (j : ℕ) → HasSlot (taking aim m0) j → admitted aim ≢ Some j → IsSome (slot_state old.history j).size → IsStanding m0 come.editions old.history h j}
-            (λ h are j on other some. are j (taken_small aim m0 j e.rules0 on) (not_twice (admitted aim) j other) some) far.safely;
+            at_every_mapped {P = AreStanding m0 come.editions old.history}
+            {Q = λ h. (j : ℕ) → HasSlot (taking aim m0) j → IsSome (slot_state old.history j).size → IsStanding m0 come.editions old.history h j}
+            (λ h are j on some. are j (taken_small aim m0 j e.rules0 on) some) far.safely;
         drew = λ less. drew_of (taking aim m0) m0 last (admitted aim) come.editions old.history new.history far less;
         steady = λ j k small some is.
             far.steady.each j k (slot_state old.history j).pulls
@@ -192,16 +187,18 @@ module _ (aim0 aim : Aim) (m0 m last : Membership) (gone : Slots) (old now new :
     rose = rose_after aim0 aim m0 m gone old now a last None new round;
     counts = NoneFalls-then a.counts moves_last.counts;
     told = λ honest.
-        come_like (taking aim0 m0) m0 last last (admitted aim0) (λ j. HasSlot gone j ⊎ (nothing ≡ Some j)) (HasSlot gone)
-        (IsNamedFor aim0 gone m0) (IsNamedFor aim0 gone m0) old.history new.history refl refl refl (λ j has. inl has) (λ c is. is) (come_after aim0 aim m0 m gone old now a last None new round same honest);
+        come_like (taking aim0 m0) m0 last last (admitted aim0) (λ j. HasSlot gone j ⊎ (no_slot ≡ Some j)) (HasSlot gone)
+        (IsNamedFor aim0 gone m0) (IsNamedFor aim0 gone m0) old.history new.history refl refl refl
+        (λ j. (
+          λ has. inl has,
+          λ is. elim is [ inl has ↦ has | inr never ↦ let clash : no_slot ≡ Some j = never in absurd (cc) ],
+        )) (λ c is. is) (come_after aim0 aim m0 m gone old now a last None new round same honest);
   }
-    where
-      nothing : Option ℕ
-      nothing = None
 
   on_disk_then : IsTrue new.honest → StandsOnDisk (admitted aim0) last old.history new.history
   on_disk_then honest =
       let stands = by None refl round in record {
+        got = λ j k is which. stands.got j k is (elim which [ inl at ↦ inl at | inr joins ↦ inr (admits_still j joins.0 is, joins.1) ]);
         on_disk = stands.on_disk;
         in_both = λ j k is here small. stands.in_both j k (admits_still j is here) here small;
         synced = stands.synced;
@@ -220,7 +217,7 @@ module _ (aim0 aim : Aim) (m0 m last : Membership) (gone : Slots) (old now new :
       by which none (BrokeOff j is drew) = let clash : None ≡ Some j = sym none ∙ is in absurd (cc)
       by which none (WentOn mid between now_same drew began) =
           stands_then (taking aim0 m0) m0 m (admitted aim0) (HasSlot gone) (IsNamedFor aim0 gone m0) old.history now.history (a.told (same ∙ honest))
-          (named_of aim0 gone m0 m a.began) a.rules0 a.rules drew.room drew.live
+          (dropped_gone aim0 m0 gone) (named_of aim0 gone m0 m a.began) a.rules0 a.rules drew.room drew.live
           drew.lives (live_taken aim0 aim m0 m gone old now a) aim mid began.begun last between.history new.history which began.here drew.few
           (drew.told (sym now_same ∙ same ∙ honest)) drew.places began.begins began.begun_rules began.heres
           (here_taken_in mid between which drew began) (began.told honest) began.places (single aim0 aim m0 m gone old now a) (only aim0 aim m0 m gone old now a)

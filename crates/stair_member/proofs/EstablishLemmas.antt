@@ -10,7 +10,9 @@ use Rattle.stair_rack.specs.RackCounts.{NoneFalls}
 use Rattle.stair_rack.proofs.PassCounts.{NoneFalls-same}
 use Rattle.stair_super.specs.Superblock.{joined_in, mark_in}
 use Rattle.stair_super.specs.declared.mark.Mark.TheVariants as mark
+use Rattle.stair_super.specs.declared.configuration.Configuration.{Configuration}
 use Rattle.stair_member.specs.Changes.{IsLiveSlot, MayBegin}
+use Rattle.stair_member.specs.Epochs.{IsDropped, IsTaken}
 use Rattle.stair_member.specs.Aims.{IsAimed, admitted, aimed, frozen_then, label_then, mark_for}
 use Rattle.stair_member.specs.Establishing.{Did, HasBegun, NotYet}
 use Rattle.stair_member.specs.Handings.{is_twice}
@@ -26,7 +28,7 @@ use Rattle.stair_member.proofs.ChangeLemmas.{IsUp, was_up}
 use Rattle.stair_member.proofs.CountingLemmas.{has_or_not}
 use Rattle.stair_member.proofs.RoundLemmas.{HasCome, come_begun, come_drawn, come_first, come_like, twice_at}
 use Rattle.stair_member.proofs.SpreadLemmas.{twice_is}
-use Rattle.stair_member.proofs.TakingLemmas.{IsAway, IsNamedFor, admits_below, began_wider, named_of, taking, taking_all}
+use Rattle.stair_member.proofs.TakingLemmas.{IsAway, IsNamedFor, admits_below, admits_up, began_wider, named_of, taking, taking_all}
 
 pub record Attempt (aim0 aim : Aim) (m0 m : Membership) (gone : Slots) (old now : Telling) : Type 0 where
   pub rules0 : IsMembership m0
@@ -82,6 +84,29 @@ attempt_first aim m gone now rules may down formed none = record {
   began = NotYet refl (λ j below out. refl);
   told = λ is. come_first (taking aim m) m (admitted aim) (HasSlot gone) (IsNamedFor aim gone m) now.history none;
 }
+
+-- ---- slots that an epoch drops
+
+-- a slot that takes part is aimed to be up, so one that is dropped was gone
+taken_up : (aim : Aim) (m : Membership) (j : ℕ) → IsTaken (admitted aim) m j → IsUp (aimed aim j (why_of m j))
+taken_up aim m j (inl here) = aimed_up aim j (why_of m j) here.why
+taken_up aim m j (inr joins) = inr (admits_up aim j (why_of m j) joins.0)
+
+taken_below : (joining : Option ℕ) (m : Membership) (j : ℕ) → IsTaken joining m j → j < m.array.geometry.n
+taken_below joining m j (inl here) = here.below
+taken_below joining m j (inr joins) = joins.1
+
+pub dropped_gone : (aim : Aim) (m : Membership) (gone : Slots) (c : Configuration) (j : ℕ) → IsNamedFor aim gone m c
+    → IsDropped (admitted aim) m c j → HasSlot gone j
+dropped_gone aim m gone c j (inl same) drops =
+    let later : m.array.epoch < c.epoch = drops.is_new in
+    let epoch : c.epoch ≡ m.array.epoch = ap (λ (x : Configuration). x.epoch) same in
+    absurd (omega (arith, later, epoch))
+dropped_gone aim m gone c j (inr named) drops =
+    elim (named.1.marks j (taken_below (admitted aim) m j drops.taken)) [
+      | inl as_aimed ↦ absurd (mark_up (aimed aim j (why_of m j)) (taken_up aim m j drops.taken) (sym as_aimed ∙ drops.down))
+      | inr was ↦ was.0
+    ]
 
 -- ---- of an attempt
 
@@ -276,11 +301,14 @@ module _ (aim0 aim : Aim) (m0 m : Membership) (gone : Slots) (old now : Telling)
         by (BrokeOff j is drew) =
             come_like (taking aim0 m0) m0 last last (admitted aim0) (λ i. HasSlot gone i ⊎ (Some j ≡ Some i)) (λ i. HasSlot gone i ⊎ (which ≡ Some i))
             (IsNamedFor aim0 gone m0) (IsNamedFor aim0 gone m0) old.history new.history refl refl refl
-            (λ i at. elim at [ inl has ↦ inl has | inr one ↦ inr (sym is ∙ one) ]) (λ x is_named. is_named)
-            (come_drawn (taking aim0 m0) m0 m (admitted aim0) (HasSlot gone) (IsNamedFor aim0 gone m0) old.history now.history before named_now a.rules0 a.rules drew.room drew.live drew.lives
+            (λ i. (
+              λ at. elim at [ inl has ↦ inl has | inr one ↦ inr (sym is ∙ one) ],
+              λ at. elim at [ inl has ↦ inl has | inr one ↦ inr (is ∙ one) ],
+            )) (λ x is_named. is_named)
+            (come_drawn (taking aim0 m0) m0 m (admitted aim0) (HasSlot gone) (IsNamedFor aim0 gone m0) old.history now.history before (dropped_gone aim0 m0 gone) named_now a.rules0 a.rules drew.room drew.live drew.lives
             live_taken last (Some j) new.history (drew.told honest) drew.places)
         by (WentOn mid between now_same drew began) =
-            come_begun (taking aim0 m0) m0 m (admitted aim0) (HasSlot gone) (IsNamedFor aim0 gone m0) old.history now.history before named_now a.rules0 a.rules drew.room drew.live drew.lives
+            come_begun (taking aim0 m0) m0 m (admitted aim0) (HasSlot gone) (IsNamedFor aim0 gone m0) old.history now.history before (dropped_gone aim0 m0 gone) named_now a.rules0 a.rules drew.room drew.live drew.lives
             live_taken aim mid began.begun last between.history new.history which began.here drew.few (drew.told (sym now_same ∙ same ∙ honest)) drew.places
             began.begins began.begun_rules began.heres (here_taken mid between drew began) (began.told honest) began.places single only
             (subst (λ (x : Membership). IsNamedFor aim0 gone m0 x.array) began.places.rest named_after)

@@ -7,7 +7,7 @@ use Rattle.stair_rack.specs.Crash.{CrashMayLeave, image_now}
 use Rattle.stair_rack.specs.History.{Happening, SlotState, slot_state}
 use Rattle.stair_rack.specs.Media.{Image}
 use Rattle.stair_rack.specs.Moments.{IsMoment}
-use Rattle.stair_rack.specs.Offline.{IsKept, Here, Lost}
+use Rattle.stair_rack.specs.Offline.{IsAttached, IsKept, Here, Lost}
 use Rattle.stair_rack.specs.Sector.{Cell, Good, Damaged, MayLeave, settled}
 use Rattle.stair_rack.proofs.CrashLemmas.{CrashMayLeave-now, settled_left}
 use Rattle.stair_rack.proofs.MomentLemmas.{at_moment}
@@ -26,7 +26,7 @@ use Rattle.stair_member.specs.Reserve.{Bears}
 use Rattle.stair_member.specs.Superblocks.{HoldsSuper, IsSuperOf, Counts}
 use Rattle.stair_member.specs.declared.aim.Aim.{Aim}
 use Rattle.stair_member.proofs.CountingLemmas.{common, has_or_not}
-use Rattle.stair_member.proofs.EditionLemmas.{Comes, Stayed, Harmed, Cut, Wrote, IsOf, Entry, Issue, SlotComes, SameMedium, NothingThere, bears_below, bears_of, held_of, holds_copy, slot_comes}
+use Rattle.stair_member.proofs.EditionLemmas.{Comes, Stayed, Harmed, Cut, Wrote, IsOf, Entry, Issue, IsWritable, SlotComes, SameMedium, NothingThere, bears_below, bears_of, held_of, holds_copy, slot_comes, writable_or_not}
 use Rattle.stair_member.proofs.NewestLemmas.{IsNoOlder, super_no_older}
 use Rattle.stair_member.proofs.StandingLemmas.{others}
 use Rattle.stair_member.proofs.SuperLemmas.{counts_bears, slot_below, super_cells}
@@ -50,26 +50,26 @@ pub record Reaches (m : Membership) (draw epoch : ℕ) (s : Superblock) : Type 0
 
 module _ (aim : Aim) (gone : Slots) (m last : Membership) (old new : List Happening) (f : IsFencing aim gone m last old new) (h : List Happening)
     (at : IsMoment old h new) (image : Image) (left : CrashMayLeave h image)
-    (r : AreReserved f.issued.slots f.issued.editions m old h) where
-  pub known : IsKnownTo (admitted aim) m (image_now old)
+    (r : AreReserved (admitted aim) f.issued.slots f.issued.editions m old h) where
+  pub known : IsKnownTo (admitted aim) m (IsAttached old) (image_now old)
   known = f.begun.known (image_now old) (CrashMayLeave-now old)
 
   pub comes : (j : ℕ) → j < m.array.geometry.n
-      → SlotComes f.issued.slots r.editions j (slot_state old j).pulls (slot_state h j) ((image_now old j).cell) ((image j).cell)
+      → SlotComes (IsWritable f.issued.slots old) r.editions j (slot_state old j).pulls (slot_state h j) ((image_now old j).cell) ((image j).cell)
   comes j below =
       slot_comes f.issued.slots r.editions old h image j (history_tidy f.begun.history) (λ k lt. f.begun.settled j k below lt)
       r.ran (each_before f.returned at) left
 
   pub from : (j : ℕ) (s : Superblock) → (bears : Bears m.array.geometry j ((image j).cell) s)
-      → IsOf f.issued.slots r.editions j ((image_now old j).cell bears.place) s
+      → IsOf (IsWritable f.issued.slots old) r.editions j ((image_now old j).cell bears.place) s
   from j s bears =
-      bears_of f.issued.slots r.editions j (slot_state old j).pulls (slot_state h j) ((image_now old j).cell) ((image j).cell)
+      bears_of (IsWritable f.issued.slots old) r.editions j (slot_state old j).pulls (slot_state h j) ((image_now old j).cell) ((image j).cell)
       m.array.geometry s (comes j (bears_below m.array.geometry j ((image j).cell) s bears)) bears
 
   -- a slot no place of which is lost has the medium that it had
   pub record IsThere (j : ℕ) : Type 0 where
     pub same : (slot_state h j).pulls ≡ (slot_state old j).pulls
-    pub each : (k : ℕ) → k < 2 → Comes f.issued.slots r.editions j ((image_now old j).cell k) ((image j).cell k)
+    pub each : (k : ℕ) → k < 2 → Comes (IsWritable f.issued.slots old) r.editions j ((image_now old j).cell k) ((image j).cell k)
 
   pub there : (j : ℕ) → j < m.array.geometry.n → IsWhole ((image j).cell) → IsThere j
   there j below whole =
@@ -79,8 +79,8 @@ module _ (aim : Aim) (gone : Slots) (m last : Membership) (old new : List Happen
       ]
 
   -- where its places weren't written they hold what they held
-  pub stayed : (j k : ℕ) → k < 2 → IsWhole ((image j).cell) → ¬ HasSlot f.issued.slots j
-      → Comes f.issued.slots r.editions j ((image_now old j).cell k) ((image j).cell k)
+  pub stayed : (j k : ℕ) → k < 2 → IsWhole ((image j).cell) → ¬ IsWritable f.issued.slots old j
+      → Comes (IsWritable f.issued.slots old) r.editions j ((image_now old j).cell k) ((image j).cell k)
       → (image j).cell k ≡ (image_now old j).cell k
   stayed j k lt whole not_in (Stayed is) = is
   stayed j k lt whole not_in (Harmed is) = absurd (whole k lt (ByOutside is))
@@ -93,11 +93,11 @@ module _ (aim : Aim) (gone : Slots) (m last : Membership) (old new : List Happen
     bears : Bears m.array.geometry j ((image j).cell) s
     bears = counts_bears m.array.geometry image j s counts
 
-    two : (p : ℕ) → p < 2 → IsOf f.issued.slots r.editions j ((image_now old j).cell k) (copy_of e j)
-        → IsOf f.issued.slots r.editions j ((image_now old j).cell p) s → e.array.epoch ≤ s.array.epoch
+    two : (p : ℕ) → p < 2 → IsOf (IsWritable f.issued.slots old) r.editions j ((image_now old j).cell k) (copy_of e j)
+        → IsOf (IsWritable f.issued.slots old) r.editions j ((image_now old j).cell p) s → e.array.epoch ≤ s.array.epoch
     two p p_in (Entry was) (Entry was') =
-        elim (has_or_not f.issued.slots j) [
-          | inl has ↦ let most : e.draw ≤ m.drawn = known.drawn j k (copy_of e j) (f.issued.taking j has) k_in was in absurd (omega arith)
+        elim (writable_or_not f.issued.slots old j) [
+          | inl has ↦ let most : e.draw ≤ m.drawn = known.drawn j k (copy_of e j) (f.issued.taking j has.0) has.1 k_in was in absurd (omega arith)
           | inr not_in ↦
               let is = there j below whole in
               let super : IsSuperOf ((image_now old j).cell) s =
@@ -112,9 +112,9 @@ module _ (aim : Aim) (gone : Slots) (m last : Membership) (old new : List Happen
               }) super).1
         ]
     two p p_in (Entry was) (Issue b has among formed is) =
-        let most : e.draw ≤ m.drawn = known.drawn j k (copy_of e j) (f.issued.taking j has) k_in was in absurd (omega arith)
+        let most : e.draw ≤ m.drawn = known.drawn j k (copy_of e j) (f.issued.taking j has.0) has.1 k_in was in absurd (omega arith)
     two p p_in (Issue a has among formed is) (Entry was') =
-        let most : s.draw ≤ m.drawn = known.drawn j p s (f.issued.taking j has) p_in was' in absurd (omega arith)
+        let most : s.draw ≤ m.drawn = known.drawn j p s (f.issued.taking j has.0) has.1 p_in was' in absurd (omega arith)
     two p p_in (Issue a has among formed is) (Issue b has' among' formed' is') =
         let draw : s.draw ≡ b.draw = ap (λ (t : Superblock). t.draw) is' in
         let epoch : s.array.epoch ≡ b.array.epoch = ap (λ (t : Superblock). t.array.epoch) is' in
@@ -124,7 +124,7 @@ module _ (aim : Aim) (gone : Slots) (m last : Membership) (old new : List Happen
     later_epoch : HoldsSuper ((image j).cell k) (copy_of e j) → e.array.epoch ≤ s.array.epoch
     later_epoch holds =
         two bears.place bears.place_in
-        (held_of f.issued.slots r.editions j ((image_now old j).cell k) ((image j).cell k) (copy_of e j)
+        (held_of (IsWritable f.issued.slots old) r.editions j ((image_now old j).cell k) ((image j).cell k) (copy_of e j)
         ((there j below whole).each k k_in) holds)
         (from j s bears)
 
@@ -177,4 +177,4 @@ pub no_earlier : {offline : ℕ → Type 0} (aim : Aim) (gone : Slots) (m last :
     → AllBut m.array.geometry.n m.array.geometry.m (HasDraw f.issued.editions draw epoch old h) → epoch ≤ current.array.epoch
 no_earlier {offline} aim gone m last old h new image current draw epoch f at left =
     no_earlier_then aim gone m last old new f h at image left
-    (at_moment {P = AreReserved f.issued.slots f.issued.editions m old} f.issued.reserved at) {offline = offline} current draw epoch
+    (at_moment {P = AreReserved (admitted aim) f.issued.slots f.issued.editions m old} f.issued.reserved at) {offline = offline} current draw epoch

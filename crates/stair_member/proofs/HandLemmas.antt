@@ -1,7 +1,7 @@
 -- A superblock that is written and synced.
 use Rattle.std.proofs.Common.{◌≡◌, ◌≢◌, ℕ, ◌<◌, Bool, true, false, List, [], ◌∷◌, ◌++◌, ◌-◌, length, ◌⊎◌, inl, inr, refl, sym, ap, ◌∙◌, subst, arith, Option, None, Some}
-use Rattle.std.specs.Prelude.{⊤, IsTrue, IsSome}
-use Rattle.std.proofs.lemmas.Bool.{cases_eq, false≢true}
+use Rattle.std.specs.Prelude.{⊤, ◌&&◌, not, IsTrue, IsSome}
+use Rattle.std.proofs.lemmas.Bool.{cases_Bool, cases_eq, false≢true}
 use Rattle.std.proofs.lemmas.List.{get_or-set_other, get_or-set_same}
 use Rattle.stair_model.specs.Slots.{Slots}
 use Rattle.stair_rack.specs.Answers.{Calls, IsBesideAttach, Told, Untold, Ran, is_ready}
@@ -10,26 +10,78 @@ use Rattle.stair_rack.specs.Media.{has_sector}
 use Rattle.stair_rack.specs.Moments.{AtEveryMoment}
 use Rattle.stair_rack.specs.Offline.{IsHeld, IsKept, IsOfflineUntilAttached}
 use Rattle.stair_rack.specs.Passes.{IsWritten}
-use Rattle.stair_rack.specs.Sector.{Good, Sector, damaged, settled, synced}
+use Rattle.stair_rack.specs.Sector.{Good, Sector, content, damaged, settled, synced}
 use Rattle.stair_rack.specs.declared.rack.Reply.{Reply}
 use Rattle.stair_rack.specs.declared.rack.Reply.TheVariants as reply
-use Rattle.stair_rack.proofs.CallLemmas.{sync_done, sync_gone, write_done, write_gone}
+use Rattle.stair_rack.proofs.CallLemmas.{sync_done, sync_gone, write_done, write_gone, write_landed}
 use Rattle.stair_rack.proofs.KeptLemmas.{IsKept-mapped, IsKept-onward, IsKept-since, keeps_sector}
-use Rattle.stair_rack.proofs.MomentLemmas.{IsThis, at_every_from, at_every_mapped, calls_ran, ran_acts, ran_before, ran_join, ran_weakened}
+use Rattle.stair_rack.proofs.MomentLemmas.{IsThis, at_every_join, at_every_none, at_last, at_every_from, at_every_mapped, at_some_wider, calls_ran, moment_last, moment_wider, ran_acts, ran_before, ran_join, ran_none, ran_weakened}
 use Rattle.stair_rack.proofs.OfflineLemmas.{and-true_left, and-true_right, held_on, pulls_on, refused, reply_if-Done, stopped_on}
 use Rattle.stair_rack.proofs.PlacedLemmas.{reach_on}
-use Rattle.stair_rack.proofs.StandingLemmas.{has_lower, medium_on, settled_on, standing_on}
+use Rattle.stair_rack.proofs.StandingLemmas.{has_lower, medium_on, settled_on, standing_on, standing_throughout}
 use Rattle.stair_rack.proofs.StepLemmas.{kept, slot_after_call}
 use Rattle.stair_super.specs.Spelling.{spelled}
 use Rattle.stair_super.specs.Superblock.{Superblock}
 use Rattle.stair_member.specs.Changes.{issue, turned}
-use Rattle.stair_member.specs.Epochs.{IsOnDisk}
-use Rattle.stair_member.specs.Handings.{HasPlaces, Handed, IsGiven, IsGivenOrNot, IsGiving, IsHanding, IsSpreading, IsUnsynced, PlacesHanded, StaysSettled, Syncs, Writes, is_twice, with_places}
+use Rattle.stair_member.specs.Epochs.{HasGot, IsGoneCall, IsGoneOf, IsOnDisk}
+use Rattle.stair_member.specs.Handings.{HasPlaces, Handed, IsGiven, IsGivenOrNot, IsGiving, IsHanding, IsSpreading, IsUnsynced, PlacesHanded, Stands, StaysSettled, Syncs, Unsynced, Writes, is_twice, place_after, with_places}
 use Rattle.stair_member.specs.Membership.{Membership, place_of}
 use Rattle.stair_member.proofs.ApartLemmas.{apart_join, apart_once}
 
 abbrev IsUnchanged : Sector → Type 0
 IsUnchanged s = s.since ≡ []
+
+-- a superblock that a place got in a stretch it got in a longer one
+pub got_sooner : {a : ℕ → SlotCall → Type 0} {j k : ℕ} {block : Superblock} {old mid new : List Happening} → Ran a old mid
+    → HasGot mid new j k block → HasGot old new j k block
+got_sooner {a} {j} {k} {block} {old} {mid} {new} before got = record {
+  moment = got.moment;
+  is_one = moment_wider {a = a} {b = a} before (ran_none new) got.is_one;
+  ready = got.ready;
+  landed =
+      at_some_wider {a = a} {b = a} {P = λ h. content ((slot_state h j).sector k) ≡ Good (spelled block)} before (ran_none got.moment)
+      got.landed;
+  since =
+      at_every_mapped {P = λ h. IsOnDisk mid h j k block} {Q = λ h. IsOnDisk old h j k block}
+      (λ h is. IsKept-since (pulls_on {allowed = a} j before) is) got.since;
+}
+
+-- where it isn't written over
+pub got_later : {b : ℕ → SlotCall → Type 0} {j k : ℕ} {block : Superblock} {old mid new : List Happening}
+    → ((bytes : List ℕ) → ¬ b j (Write k bytes reply.Done)) → Ran b mid new → HasGot old mid j k block → HasGot old new j k block
+got_later {b} {j} {k} {block} {old} {mid} {new} spares after got = record {
+  moment = got.moment;
+  is_one = moment_wider {a = b} {b = b} (ran_none old) after got.is_one;
+  ready = got.ready;
+  landed = got.landed;
+  since =
+      at_every_join {P = λ h. IsOnDisk old h j k block} got.since
+      (standing_throughout {allowed = b} (slot_state old j).pulls j k (Good (spelled block)) spares after
+      (at_last {P = λ h. IsOnDisk old h j k block} got.since));
+}
+
+-- ---- calls that were answered gone
+
+pub gone_wider : {P Q : ℕ → Type 0} {old new : List Happening} → ((j : ℕ) → P j → Q j) → Ran (IsGoneOf P) old new → Ran (IsGoneOf Q) old new
+gone_wider {P} {Q} into ran = ran_weakened {allowed = IsGoneOf P} {more = IsGoneOf Q} (λ j c is gone. into j (is gone)) ran
+
+-- of one call on slot j, which was answered so
+call_told : {c : SlotCall} {old new : List Happening} (j : ℕ) (answer : Reply) → (IsGoneCall c → answer ≡ reply.Gone) → Calls old new j c
+    → Ran (IsGoneOf (λ i. (i ≡ j) × (answer ≡ reply.Gone))) old new
+call_told {c} j answer says called =
+    ran_weakened {allowed = IsThis j c} {more = IsGoneOf (λ i. (i ≡ j) × (answer ≡ reply.Gone))}
+    (λ i d this gone. (this.0, says (subst IsGoneCall this.1 gone))) (calls_ran called)
+
+-- a slot that was synced is ready
+sync_ready : {old new : List Happening} {j : ℕ} → Calls old new j (Sync reply.Done) → is_ready new j ≡ true
+sync_ready {old} {new} {j} (Told acts runs answered is) =
+    let h = acts ++ old in
+    ap (λ g. is_ready g j) is
+    ∙ ap (λ (b : SlotState). b.attached && not (stopped h)) (slot_after_call h j (Sync reply.Done))
+    ∙ reply_if-Done _ answered
+sync_ready {old} {new} {j} (Untold acts runs answered is_stopped nothing is) =
+    let gone : reply.Done ≡ reply.Gone = refused (acts ++ old) j (Sync reply.Done) is_stopped answered in
+    absurd (cc)
 
 -- ---- runs that keep what is settled
 
@@ -136,16 +188,18 @@ module _ (m : Membership) (j : ℕ) (small : place_of m j < 2) where
       }
 
   pub handed_unwritten : (old new : List Happening) → Calls old new j (Write (place_of m j) (spelled (issue m j)) reply.Gone)
-      → Handed m j false reply.Gone old new
+      → Handed m m j false reply.Gone old new
   handed_unwritten old new called = record {
     ran = writing reply.Gone called;
+    told = call_told j reply.Gone (λ is. refl) called;
+    got = λ done k is. absurd (cc);
     stands = λ done k is. absurd (cc);
     synced = λ done k some. absurd (cc);
     steady = unwritten_steady old new called;
     apart = apart_once m j (writing reply.Gone called) (unwritten_steady old new called);
     shut = λ gone before held has. write_gone old new j (place_of m j) (spelled (issue m j)) before called held (reach (slot_state old j) has);
-    unsynced = λ gone single. no_write;
-    between = λ single. between_unsynced m j old new no_write;
+    left = λ gone. Unsynced refl no_write;
+    between = between_unsynced m j old new no_write;
   }
     where
       no_write : Ran (IsUnsynced m j) old new
@@ -188,9 +242,11 @@ module _ (m : Membership) (j : ℕ) (small : place_of m j < 2) where
     no_sync : Ran (IsUnsynced m j) old mid
     no_sync = unsynced_call m j (Writes (place_of m j) reply.Done (inl refl) refl) (λ is. cc) wrote
 
-    pub handed_unsynced : Calls mid new j (Sync reply.Gone) → Handed m j false reply.Gone old new
+    pub handed_unsynced : Calls mid new j (Sync reply.Gone) → Handed m m j false reply.Gone old new
     handed_unsynced called = record {
       ran = ran_join (writing reply.Done wrote) (syncing reply.Gone called);
+      told = ran_join (call_told j reply.Gone (λ is. refl) wrote) (call_told j reply.Gone (λ is. refl) called);
+      got = λ done k is. absurd (cc);
       stands = λ done k is. absurd (cc);
       synced = λ done k some. absurd (cc);
       steady = steady_by reply.Gone called (unsynced_here called);
@@ -198,8 +254,8 @@ module _ (m : Membership) (j : ℕ) (small : place_of m j < 2) where
           apart_once m j (ran_join (writing reply.Done wrote) (syncing reply.Gone called)) (steady_by reply.Gone called (unsynced_here called));
       shut = λ gone before held has.
           sync_gone mid new j before called (held_on {allowed = IsHanding m j false} {before = before} j (writing reply.Done wrote) held);
-      unsynced = λ gone single. all_along;
-      between = λ single. between_unsynced m j old new all_along;
+      left = λ gone. Unsynced refl all_along;
+      between = between_unsynced m j old new all_along;
     }
       where
         all_along : Ran (IsUnsynced m j) old new
@@ -219,9 +275,15 @@ module _ (m : Membership) (j : ℕ) (small : place_of m j < 2) where
         (λ pulls is. inl (synced_here called pulls (place_of m j)
         (medium_kept {allowed = IsHanding m j false} pulls j (place_of m j) (writing reply.Done wrote) is)))
 
-    pub handed_once : Calls mid new j (Sync reply.Done) → Handed m j false reply.Done old new
-    handed_once called = record {
+    pub handed_once : (last : Membership) → Calls mid new j (Sync reply.Done) → Handed m last j false reply.Done old new
+    handed_once last called = record {
       ran = ran_join (writing reply.Done wrote) (syncing reply.Done called);
+      told = ran_join (call_told j reply.Done (λ is. is) wrote) (call_told j reply.Done (λ is. is) called);
+      got = λ done k is.
+          elim is [
+            | inl at ↦ subst (λ x. HasGot old new j x (issue m j)) (sym at) (got_once called)
+            | inr both ↦ absurd (false≢true both.0)
+          ];
       stands = λ done k is.
           elim is [
             | inl at ↦ subst (λ x. IsOnDisk old new j x (issue m j)) (sym at) on_disk
@@ -232,8 +294,8 @@ module _ (m : Membership) (j : ℕ) (small : place_of m j < 2) where
       steady = synced_steady called;
       apart = apart_once m j (ran_join (writing reply.Done wrote) (syncing reply.Done called)) (synced_steady called);
       shut = λ gone before held has. absurd (cc);
-      unsynced = λ gone single. absurd (cc);
-      between = λ single. between_once called;
+      left = λ gone. absurd (cc);
+      between = between_once called;
     }
       where
         settles : (s : Sector)
@@ -248,6 +310,20 @@ module _ (m : Membership) (j : ℕ) (small : place_of m j < 2) where
             {Q = λ s. s ≡ synced ((slot_state mid j).sector (place_of m j))} {R = λ s. s ≡ settled (Good (spelled (issue m j)))}
             (pulls_on {allowed = IsHanding m j false} j (syncing reply.Done called))
             (write_done old mid j (place_of m j) (spelled (issue m j)) wrote) (λ some. sync_done mid new j (place_of m j) called some) settles
+
+        got_once : Calls mid new j (Sync reply.Done) → HasGot old new j (place_of m j) (issue m j)
+        got_once called =
+            let whole = ran_join (writing reply.Done wrote) (syncing reply.Done called) in
+            record {
+              moment = new;
+              is_one = moment_last whole.more whole.is;
+              ready = sync_ready called;
+              landed =
+                  at_some_wider {a = IsHanding m j false} {b = IsHanding m j false}
+                  {P = λ h. content ((slot_state h j).sector (place_of m j)) ≡ Good (spelled (issue m j))} (ran_none old) (syncing reply.Done called)
+                  (write_landed old mid j (place_of m j) (spelled (issue m j)) wrote);
+              since = at_every_none {P = λ h. IsOnDisk old h j (place_of m j) (issue m j)} new on_disk;
+            }
 
         between_once : Calls mid new j (Sync reply.Done) → AtEveryMoment (IsGivenOrNot m j old) old new
         between_once (Told acts runs answered is) =
@@ -305,90 +381,126 @@ unsynced_back m last j place_same same i c is at = (
   (is at).1,
 )
 
-pub handed_back : (m last : Membership) (j : ℕ) (both : Bool) (answer : Reply) (old new : List Happening) → last ≡ with_places m last.places
-    → place_of last j ≡ place_of m j → Handed last j both answer old new → Handed m j both answer old new
-handed_back m last j both answer old new rest place_same handed =
+pub handed_back : (m last next : Membership) (j : ℕ) (both : Bool) (answer : Reply) (old new : List Happening) → last ≡ with_places m last.places
+    → place_of last j ≡ place_of m j → Handed last next j both answer old new → Handed m next j both answer old new
+handed_back m last next j both answer old new rest place_same handed =
     let same : issue last j ≡ issue m j = ap (λ (x : Membership). issue x j) rest in
     let into : (k : ℕ) → IsGiven last both j k → IsGiven m both j k = λ k given. elim given [ inl is ↦ inl (is ∙ place_same) | inr is ↦ inr is ] in
     let onto : (k : ℕ) → IsGiven m both j k → IsGiven last both j k = λ k given. elim given [ inl is ↦ inl (is ∙ sym place_same) | inr is ↦ inr is ] in
     record {
       ran = ran_weakened {allowed = IsHanding last j both} {more = IsHanding m j both} (handing_back m last j both both into same) handed.ran;
+      told = handed.told;
+      got = λ done k given. subst (HasGot old new j k) same (handed.got done k (onto k given));
       stands = λ done k given. subst (IsOnDisk old new j k) same (handed.stands done k (onto k given));
       synced = handed.synced;
       steady = handed.steady;
       apart = handed.apart;
       shut = handed.shut;
-      unsynced = λ gone single.
-          ran_weakened {allowed = IsUnsynced last j} {more = IsUnsynced m j} (unsynced_back m last j place_same same) (handed.unsynced gone single);
-      between = λ single.
+      left = λ gone.
+          elim (handed.left gone) [
+            | Unsynced kept ran ↦
+                Unsynced (kept ∙ place_same)
+                (ran_weakened {allowed = IsUnsynced last j} {more = IsUnsynced m j} (unsynced_back m last j place_same same) ran)
+            | Stands on ↦ Stands (subst (IsOnDisk old new j (1 - place_of next j)) same on)
+          ];
+      between =
           at_every_mapped {P = IsGivenOrNot last j old} {Q = IsGivenOrNot m j old}
           (λ x is.
           elim is [
             | inl ran ↦ inl (ran_weakened {allowed = IsUnsynced last j} {more = IsUnsynced m j} (unsynced_back m last j place_same same) ran)
             | inr on ↦ inr (subst (λ k. IsOnDisk old x j k (issue m j)) place_same (subst (IsOnDisk old x j (place_of last j)) same on))
-          ]) (handed.between single);
+          ]) handed.between;
     }
 
 -- ---- in both places
 
-pub handed_twice : (m : Membership) (j : ℕ) (answer : Reply) (old mid new : List Happening) → place_of m j ≡ 0 → place_of (turned m j) j ≡ 1
-    → Handed m j false reply.Done old mid → Handed (turned m j) j false answer mid new → Handed m j true answer old new
-handed_twice m j answer old mid new zero one first second =
-    let within : (k : ℕ) → IsGiven m false j k → IsGiven m true j k =
-    λ k given. elim given [ inl is ↦ inl is | inr is ↦ absurd (false≢true is.0) ] in
-    let next : (k : ℕ) → IsGiven (turned m j) false j k → IsGiven m true j k =
-    λ k given. elim given [ inl is ↦ inr (refl, omega (arith, is, one)) | inr is ↦ absurd (false≢true is.0) ] in
-    record {
-      ran =
-          ran_join (ran_weakened {allowed = IsHanding m j false} {more = IsHanding m j true} (handing_back m m j false true within refl) first.ran)
-          (ran_weakened {allowed = IsHanding (turned m j) j false} {more = IsHanding m j true} (handing_back m (turned m j) j false true next refl) second.ran);
-      stands = λ done k given. elim (cases_eq k 1) [
-        | inl is ↦ subst (λ x. IsOnDisk old new j x (issue m j)) (sym is) (second_place done)
-        | inr other ↦ subst (λ x. IsOnDisk old new j x (issue m j)) (sym (other_place k given other)) first_place
-      ];
-      synced = λ done k some.
-          IsKept-onward {P = λ s. ⊤} {Q = IsUnchanged} {R = IsUnchanged} (pulls_on {allowed = IsHanding (turned m j) j false} j second.ran)
-          (medium_on {allowed = IsHanding m j false} j k first.ran some) (λ there. second.synced done k there) (λ s was is. inr is);
-      steady = stays_join {allowed = IsHanding (turned m j) j false} first.steady second.ran second.steady;
-      apart = apart_join first.apart second.apart;
-      shut = λ gone before held has.
-          second.shut gone before (held_on {allowed = IsHanding m j false} {before = before} j first.ran held)
-          (reach_on {allowed = IsHanding m j false} j 1 (handing_beside m j false j) first.ran has);
-      unsynced = λ gone single. absurd (false≢true (sym single));
-      between = λ single. absurd (false≢true (sym single));
-    }
-  where
-    other_place : (k : ℕ) → IsGiven m true j k → k ≢ 1 → k ≡ 0
-    other_place k (inl is) other = is ∙ zero
-    other_place k (inr both) other = let less : k < 2 = both.1 in omega arith
+module _ (m mid last : Membership) (j : ℕ) (answer : Reply) (old now new : List Happening) (small : place_of m j < 2)
+    (other : place_of (turned m j) j ≡ 1 - place_of m j) (first : Handed m mid j false reply.Done old now)
+    (second : Handed (turned m j) last j false answer now new) where
+  place_or : (k : ℕ) → IsGiven m true j k → (k ≡ place_of m j) ⊎ (k ≡ 1 - place_of m j)
+  place_or k (inl is) = inl is
+  place_or k (inr both) = elim (cases_eq k (place_of m j)) [ inl is ↦ inl is | inr apart ↦ inr (omega (arith, both.1, apart, small)) ]
 
-    first_place : IsOnDisk old new j 0 (issue m j)
-    first_place =
-        standing_on {allowed = IsHanding (turned m j) j false} (slot_state old j).pulls j 0 (Good (spelled (issue m j)))
-        (λ bytes is. unwritten bytes is.1) second.ran (first.stands refl 0 (inl (sym zero)))
-      where
-        unwritten : (bytes : List ℕ) → ¬ IsGiving (turned m j) false j (Write 0 bytes reply.Done)
-        unwritten bytes (Writes k given (inl at) is) = let same : 0 ≡ k = cc in omega (arith, same, at, one)
-        unwritten bytes (Writes k given (inr both) is) = false≢true both.0
-        unwritten bytes (Syncs given is) = absurd (cc)
+  -- the second superblock isn't written over the first
+  spares : (bytes : List ℕ) → ¬ IsGiving (turned m j) false j (Write (place_of m j) bytes reply.Done)
+  spares bytes (Writes k given (inl at) is) = let same : place_of m j ≡ k = cc in omega (arith, same, at, other, small)
+  spares bytes (Writes k given (inr both) is) = false≢true both.0
+  spares bytes (Syncs given is) = absurd (cc)
 
-    second_place : answer ≡ reply.Done → IsOnDisk old new j 1 (issue m j)
-    second_place done =
-        IsKept-since (pulls_on {allowed = IsHanding m j false} j first.ran) (second.stands done 1 (inl (sym one)))
+  first_stands : AtEveryMoment (λ h. IsOnDisk old h j (place_of m j) (issue m j)) now new
+  first_stands =
+      standing_throughout {allowed = IsHanding (turned m j) j false} (slot_state old j).pulls j (place_of m j) (Good (spelled (issue m j)))
+      (λ bytes is. spares bytes is.1) second.ran (first.stands refl (place_of m j) (inl refl))
+
+  pub handed_twice : Handed m last j true answer old new
+  handed_twice = record {
+    ran =
+        ran_join
+        (ran_weakened {allowed = IsHanding m j false} {more = IsHanding m j true}
+        (handing_back m m j false true (λ k given. elim given [ inl is ↦ inl is | inr is ↦ absurd (false≢true is.0) ]) refl) first.ran)
+        (ran_weakened {allowed = IsHanding (turned m j) j false} {more = IsHanding m j true}
+        (handing_back m (turned m j) j false true
+        (λ k given. elim given [ inl is ↦ inr (refl, omega (arith, is, other)) | inr is ↦ absurd (false≢true is.0) ]) refl) second.ran);
+    told =
+        ran_join
+        (gone_wider {P = λ i. (i ≡ j) × (reply.Done ≡ reply.Gone)} {Q = λ i. (i ≡ j) × (answer ≡ reply.Gone)}
+        (λ i never. let clash : reply.Done ≡ reply.Gone = never.1 in absurd (cc)) first.told) second.told;
+    got = λ done k given.
+        elim (place_or k given) [
+          | inl is ↦
+              subst (λ x. HasGot old new j x (issue m j)) (sym is)
+              (got_later {b = IsHanding (turned m j) j false} (λ bytes may. spares bytes may.1) second.ran (first.got refl (place_of m j) (inl refl)))
+          | inr is ↦
+              subst (λ x. HasGot old new j x (issue m j)) (sym is)
+              (got_sooner {a = IsHanding m j false} first.ran (second.got done (1 - place_of m j) (inl (sym other))))
+        ];
+    stands = λ done k given.
+        elim (place_or k given) [
+          | inl is ↦
+              subst (λ x. IsOnDisk old new j x (issue m j)) (sym is)
+              (at_last {P = λ h. IsOnDisk old h j (place_of m j) (issue m j)} first_stands)
+          | inr is ↦
+              subst (λ x. IsOnDisk old new j x (issue m j)) (sym is)
+              (IsKept-since (pulls_on {allowed = IsHanding m j false} j first.ran) (second.stands done (1 - place_of m j) (inl (sym other))))
+        ];
+    synced = λ done k some.
+        IsKept-onward {P = λ s. ⊤} {Q = IsUnchanged} {R = IsUnchanged} (pulls_on {allowed = IsHanding (turned m j) j false} j second.ran)
+        (medium_on {allowed = IsHanding m j false} j k first.ran some) (λ there. second.synced done k there) (λ s was is. inr is);
+    steady = stays_join {allowed = IsHanding (turned m j) j false} first.steady second.ran second.steady;
+    apart = apart_join first.apart second.apart;
+    shut = λ gone before held has.
+        second.shut gone before (held_on {allowed = IsHanding m j false} {before = before} j first.ran held)
+        (reach_on {allowed = IsHanding m j false} j 1 (handing_beside m j false j) first.ran has);
+    left = λ gone.
+        elim (second.left gone) [
+          | Unsynced kept ran ↦
+              let back : 1 - place_of last j ≡ place_of m j = omega (arith, kept, other, small) in
+              Stands
+              (subst (λ k. IsOnDisk old new j k (issue m j)) (sym back)
+              (at_last {P = λ h. IsOnDisk old h j (place_of m j) (issue m j)} first_stands))
+          | Stands on ↦ Stands (IsKept-since (pulls_on {allowed = IsHanding m j false} j first.ran) on)
+        ];
+    between =
+        at_every_join {P = IsGivenOrNot m j old} first.between
+        (at_every_mapped {P = λ h. IsOnDisk old h j (place_of m j) (issue m j)} {Q = IsGivenOrNot m j old} (λ h on. inr on) first_stands);
+  }
 
 -- it was gone at once
-pub handed_neither : (m : Membership) (j : ℕ) (old new : List Happening) → Handed m j false reply.Gone old new → Handed m j true reply.Gone old new
-handed_neither m j old new handed = record {
+pub handed_neither : (m last : Membership) (j : ℕ) (old new : List Happening) → Handed m last j false reply.Gone old new
+    → Handed m last j true reply.Gone old new
+handed_neither m last j old new handed = record {
   ran =
       ran_weakened {allowed = IsHanding m j false} {more = IsHanding m j true}
       (handing_back m m j false true (λ k given. elim given [ inl is ↦ inl is | inr is ↦ absurd (false≢true is.0) ]) refl) handed.ran;
+  told = handed.told;
+  got = λ done k given. absurd (cc);
   stands = λ done k given. absurd (cc);
   synced = λ done k some. absurd (cc);
   steady = handed.steady;
   apart = handed.apart;
   shut = handed.shut;
-  unsynced = λ gone single. absurd (false≢true (sym single));
-  between = λ single. absurd (false≢true (sym single));
+  left = handed.left;
+  between = handed.between;
 }
 
 -- ---- the next places
@@ -398,6 +510,19 @@ place_turned m j small size = get_or-set_same m.places j (1 - place_of m j) 0 (o
 
 pub place_unturned : (m : Membership) (i j : ℕ) → i ≢ j → place_of (turned m j) i ≡ place_of m i
 place_unturned m i j other = get_or-set_other m.places j i (1 - place_of m j) 0 other
+
+-- the place that isn't next after a slot was handed its superblock is one that was written
+pub given_last : (m last : Membership) (twice : Option ℕ) (j : ℕ) → place_of m j < 2
+    → place_of last j ≡ place_after (is_twice twice j) (place_of m j) → IsGiven m (is_twice twice j) j (1 - place_of last j)
+given_last m last twice j small after =
+    elim (cases_Bool (is_twice twice j)) [
+      | inl both ↦
+          let is : place_of last j ≡ place_of m j = after ∙ ap (λ (z : Bool). place_after z (place_of m j)) both in
+          inr (both, omega (arith, small, is))
+      | inr one ↦
+          let is : place_of last j ≡ 1 - place_of m j = after ∙ ap (λ (z : Bool). place_after z (place_of m j)) one in
+          inl (omega (arith, small, is))
+    ]
 
 pub places_once : (m last : Membership) (j : ℕ) (answer : Reply) → j < 32 → length m.places ≡ 32 → (answer ≡ reply.Done → last ≡ turned m j)
     → (answer ≡ reply.Gone → last ≡ m) → PlacesHanded m last j false answer
@@ -424,15 +549,15 @@ places_neither m last j is = record {
   others = λ i other. ap (λ (x : Membership). place_of x i) is;
 }
 
-pub places_twice : (m mid last : Membership) (j : ℕ) (answer : Reply) → j < 32 → length m.places ≡ 32 → length mid.places ≡ 32 → place_of m j ≡ 0
+pub places_twice : (m mid last : Membership) (j : ℕ) (answer : Reply) → j < 32 → length m.places ≡ 32 → length mid.places ≡ 32 → place_of m j < 2
     → mid ≡ turned m j → (answer ≡ reply.Done → last ≡ turned mid j) → (answer ≡ reply.Gone → last ≡ mid) → PlacesHanded m last j true answer
-places_twice m mid last j answer small size mid_size zero is done gone =
+places_twice m mid last j answer small size mid_size place_in is done gone =
     let second = places_once mid last j answer small mid_size done gone in record {
       rest = second.rest ∙ ap (λ (x : Membership). with_places x last.places) is;
       done = λ was.
-          let one : place_of mid j ≡ 1 = ap (λ (x : Membership). place_of x j) is ∙ place_turned m j small size ∙ ap (λ (x : ℕ). 1 - x) zero in
+          let other : place_of mid j ≡ 1 - place_of m j = ap (λ (x : Membership). place_of x j) is ∙ place_turned m j small size in
           let back : place_of last j ≡ 1 - place_of mid j = second.done was in
-          omega (arith, one, back, zero);
+          omega (arith, other, back, place_in);
       gone = λ was single. absurd (false≢true (sym single));
       others = λ i other. second.others i other ∙ ap (λ (x : Membership). place_of x i) is ∙ place_unturned m i j other;
     }

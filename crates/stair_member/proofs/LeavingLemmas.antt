@@ -3,6 +3,7 @@ use Rattle.std.proofs.Common.{◌≡◌, ◌⊎◌, ℕ, List, inl, inr, sym, su
 use Rattle.stair_model.specs.Slots.{Slots}
 use Rattle.stair_rack.specs.History.{Happening}
 use Rattle.stair_rack.specs.Media.{Image}
+use Rattle.stair_rack.specs.Offline.{IsAttached}
 use Rattle.stair_member.specs.Epochs.{IsTaken}
 use Rattle.stair_member.specs.Establishing.{Leaves}
 use Rattle.stair_member.specs.Fencing.{IsBegun, IsKnownTo}
@@ -32,13 +33,14 @@ module _ (joining : Option ℕ) (leaving : Slots) (m start : Membership) (leaves
   taken_before j (inl here) = inl (here_before j here)
   taken_before j (inr joins) = inr joins
 
-  known : (image : Image) → IsKnownTo joining m image → IsKnownTo joining (with_whys m start.whys) image
-  known image k = record {
+  known : (attached : ℕ → Type 0) (image : Image) → IsKnownTo joining m attached image → IsKnownTo joining (with_whys m start.whys) attached image
+  known attached image k = record {
     orderly = k.orderly;
     latest = k.latest;
     named = k.named;
-    drawn = λ j place s taken below holds. k.drawn j place s (taken_before j taken) below holds;
+    drawn = λ j place s taken on below holds. k.drawn j place s (taken_before j taken) on below holds;
     aside = λ j s here counts. k.aside j s (here_before j here) counts;
+    own = λ j s here on holds. k.own j s (here_before j here) on holds;
     reserved = k.reserved;
     reached = k.reached;
     joined = k.joined;
@@ -50,5 +52,6 @@ module _ (joining : Option ℕ) (leaving : Slots) (m start : Membership) (leaves
         history = begun.history;
         member = subst IsMembership start_is rules;
         settled = begun.settled;
-        known = λ image may. known image (begun.known image may);
+        down = begun.down;
+        known = λ image may. known (IsAttached h) image (begun.known image may);
       })

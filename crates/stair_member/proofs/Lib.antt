@@ -20,10 +20,13 @@ pub mod EditionLemmas
 pub mod NumberLemmas
 pub mod FencingLemmas
 pub mod StoodLemmas
+pub mod TurnLemmas
+pub mod HidesLemmas
 pub mod OrderLemmas
 pub mod AgainLemmas
 pub mod AttemptLemmas
 pub mod LeavingLemmas
+pub mod SeeingLemmas
 pub mod TakingLemmas
 pub mod EstablishLemmas
 pub mod EndingLemmas

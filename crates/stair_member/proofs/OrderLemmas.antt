@@ -23,7 +23,7 @@ use Rattle.stair_member.specs.Aims.{admitted}
 use Rattle.stair_member.specs.Counting.{AllBut}
 use Rattle.stair_member.specs.Current.{IsLost, ByOutside, Worn}
 use Rattle.stair_member.specs.Editions.{Edition, copy_of}
-use Rattle.stair_member.specs.Epochs.{AreReserved, HasDraw, IsStanding, AsWas, Given}
+use Rattle.stair_member.specs.Epochs.{AreReserved, HasDraw, WasGiven, IsStanding, AsWas, Given}
 use Rattle.stair_member.specs.Fencing.{IsFencing, HasDrawn}
 use Rattle.stair_member.specs.Membership.{Membership, IsHere, place_of}
 use Rattle.stair_member.specs.Reserve.{Bears, HasReached, HasReserved, IsOrderly, NoEpochAbove}
@@ -31,8 +31,9 @@ use Rattle.stair_member.specs.Superblocks.{HoldsSuper, IsSuperOf, First, Second,
 use Rattle.stair_member.specs.declared.aim.Aim.{Aim}
 use Rattle.stair_member.proofs.CountingLemmas.{all_but_mapped, has_or_not}
 use Rattle.stair_member.proofs.DecisionLemmas.{no_super, super_decided}
-use Rattle.stair_member.proofs.EditionLemmas.{Comes, Stayed, Harmed, Cut, Wrote, IsOf, Entry, Issue, SlotComes, SameMedium, NothingThere, bears_below, held_of, holds_copy, none_held_there}
+use Rattle.stair_member.proofs.EditionLemmas.{Comes, Stayed, Harmed, Cut, Wrote, IsOf, Entry, Issue, IsWritable, SlotComes, SameMedium, NothingThere, bears_below, held_of, holds_copy, none_held_there, writable_or_not}
 use Rattle.stair_member.proofs.FencingLemmas.{IsThere, IsWhole, Reaches, comes, from, known, on_disk, reaches, stayed, there}
+use Rattle.stair_member.proofs.HidesLemmas.{hides_kept}
 use Rattle.stair_member.proofs.NewestLemmas.{IsNoOlder, places_whole, super_no_older}
 use Rattle.stair_member.proofs.NumberLemmas.{block_named, joined_most, number_from, number_rises}
 use Rattle.stair_member.proofs.SuperLemmas.{counts_bears, holds_once, slot_below, super_cells}
@@ -127,7 +128,7 @@ latest_of (x ∷ xs) bound =
 
 module _ (aim : Aim) (gone : Slots) (m last : Membership) (old new : List Happening) (f : IsFencing aim gone m last old new) (h : List Happening)
     (at : IsMoment old h new) (image : Image) (left : CrashMayLeave h image)
-    (r : AreReserved f.issued.slots f.issued.editions m old h) where
+    (r : AreReserved (admitted aim) f.issued.slots f.issued.editions m old h) where
   -- of a superblock that stood there when the call began
   entry_bears : (j k : ℕ) (s : Superblock) → k < 2 → HoldsSuper ((image_now old j).cell k) s → s.slot ≡ j → s.array.geometry ≡ m.array.geometry
       → Bears m.array.geometry j ((image_now old j).cell) s
@@ -167,8 +168,8 @@ module _ (aim : Aim) (gone : Slots) (m last : Membership) (old new : List Happen
   -- ONE LIST
 
   one_list_of : (i j p q : ℕ) (a b : Superblock) → Bears m.array.geometry i ((image i).cell) a → Bears m.array.geometry j ((image j).cell) b
-      → p < 2 → q < 2 → IsOf f.issued.slots r.editions i ((image_now old i).cell p) a
-      → IsOf f.issued.slots r.editions j ((image_now old j).cell q) b → a.array.epoch ≡ b.array.epoch → a.array ≡ b.array
+      → p < 2 → q < 2 → IsOf (IsWritable f.issued.slots old) r.editions i ((image_now old i).cell p) a
+      → IsOf (IsWritable f.issued.slots old) r.editions j ((image_now old j).cell q) b → a.array.epoch ≡ b.array.epoch → a.array ≡ b.array
   one_list_of i j p q a b of_a of_b p_in q_in (Entry was) (Entry was') same =
       (known aim gone m last old new f h at image left r).orderly.one_list i j a b (entry_bears i p a p_in was of_a.slot of_a.identity)
       (entry_bears j q b q_in was' of_b.slot of_b.identity) same
@@ -207,7 +208,7 @@ module _ (aim : Aim) (gone : Slots) (m last : Membership) (old new : List Happen
     newer = super_no_older ((image j).cell) newest s bears.place bears.place_in super bears.holds
 
     of_edition : (e : Edition) → Contains f.issued.editions e → newest ≡ copy_of e j
-        → IsOf f.issued.slots r.editions j ((image_now old j).cell bears.place) s
+        → IsOf (IsWritable f.issued.slots old) r.editions j ((image_now old j).cell bears.place) s
         → s.array.epoch ≤ newest.array.epoch
     of_edition e among is (Entry was) =
         let most : s.array.epoch ≤ m.array.epoch = entry_epoch j s (was_borne j s bears was) in
@@ -233,8 +234,8 @@ module _ (aim : Aim) (gone : Slots) (m last : Membership) (old new : List Happen
     Stood = HoldsSuper ((image_now old j).cell p) newest → HoldsSuper ((image_now old j).cell bears.place) s
         → IsSuperOf ((image_now old j).cell) newest ⊎ (newest ≡ s)
 
-    hides : Stood → IsOf f.issued.slots r.editions j ((image_now old j).cell p) newest
-        → IsOf f.issued.slots r.editions j ((image_now old j).cell bears.place) s
+    hides : Stood → IsOf (IsWritable f.issued.slots old) r.editions j ((image_now old j).cell p) newest
+        → IsOf (IsWritable f.issued.slots old) r.editions j ((image_now old j).cell bears.place) s
         → Counts m.array.geometry image j newest × (s.array.epoch ≤ newest.array.epoch)
     hides stood (Entry was) (Entry was') =
         elim (stood was was') [
@@ -253,7 +254,7 @@ module _ (aim : Aim) (gone : Slots) (m last : Membership) (old new : List Happen
         ]
     hides stood (Entry was) (Issue d has among formed is) =
         let most : newest.draw ≤ m.drawn =
-        (known aim gone m last old new f h at image left r).drawn j p newest (f.issued.taking j has) p_in was in
+        (known aim gone m last old new f h at image left r).drawn j p newest (f.issued.taking j has.0) has.1 p_in was in
         let above : m.drawn < d.draw = (f.issued.each d (r.within d among)).above in
         let draw : s.draw ≡ d.draw = ap (λ (t : Superblock). t.draw) is in
         let least : s.draw ≤ newest.draw = newer.draws in
@@ -309,16 +310,16 @@ module _ (aim : Aim) (gone : Slots) (m last : Membership) (old new : List Happen
         ]
 
     hidden_by : IsSuperOf ((image j).cell) newest
-        → SlotComes f.issued.slots r.editions j (slot_state old j).pulls (slot_state h j) ((image_now old j).cell) ((image j).cell)
+        → SlotComes (IsWritable f.issued.slots old) r.editions j (slot_state old j).pulls (slot_state h j) ((image_now old j).cell) ((image j).cell)
         → Counts m.array.geometry image j newest × (s.array.epoch ≤ newest.array.epoch)
     hidden_by super (NothingThere none) = absurd (none_held_there ((image j).cell bears.place) s (none bears.place) bears.holds)
     hidden_by (First here rest) (SameMedium same each) =
         hides j s newest bears (First here rest) 0 (omega arith) here (stood_first here rest)
-        (held_of f.issued.slots r.editions j ((image_now old j).cell 0) ((image j).cell 0) newest (each 0 (omega arith)) here)
+        (held_of (IsWritable f.issued.slots old) r.editions j ((image_now old j).cell 0) ((image j).cell 0) newest (each 0 (omega arith)) here)
         (from aim gone m last old new f h at image left r j s bears)
     hidden_by (Second here rest) (SameMedium same each) =
         hides j s newest bears (Second here rest) 1 (omega arith) here (stood_second here rest)
-        (held_of f.issued.slots r.editions j ((image_now old j).cell 1) ((image j).cell 1) newest (each 1 (omega arith)) here)
+        (held_of (IsWritable f.issued.slots old) r.editions j ((image_now old j).cell 1) ((image j).cell 1) newest (each 1 (omega arith)) here)
         (from aim gone m last old new f h at image left r j s bears)
 
   hidden : (j : ℕ) (s newest : Superblock) → Bears m.array.geometry j ((image j).cell) s → IsSuperOf ((image j).cell) newest
@@ -356,13 +357,13 @@ module _ (aim : Aim) (gone : Slots) (m last : Membership) (old new : List Happen
         (λ k lt. subst (λ c. ¬ IsLost c) (same k lt) (whole k lt))
 
     -- it is of a slot that the call writes
-    module _ (has : HasSlot f.issued.slots j) (was : HoldsSuper ((image_now old j).cell borne.place) s) where
+    module _ (has : IsWritable f.issued.slots old j) (was : HoldsSuper ((image_now old j).cell borne.place) s) where
       most : s.draw ≤ m.drawn
       most =
-          (known aim gone m last old new f h at image left r).drawn j borne.place s (f.issued.taking j has) borne.place_in was
+          (known aim gone m last old new f h at image left r).drawn j borne.place s (f.issued.taking j has.0) has.1 borne.place_in was
 
       is_here : IsHere m j
-      is_here = elim (f.issued.taking j has) [ inl is ↦ is | inr joins ↦ absurd (other joins.0) ]
+      is_here = elim (f.issued.taking j has.0) [ inl is ↦ is | inr joins ↦ absurd (other joins.0) ]
 
       settled_place : (k : ℕ) → k < 2 → ((slot_state old j).sector k).since ≡ []
       settled_place k lt = f.begun.settled j k below lt
@@ -437,7 +438,7 @@ module _ (aim : Aim) (gone : Slots) (m last : Membership) (old new : List Happen
       next_is : (image j).cell (1 - place_of m j) ≡ (image_now old j).cell (1 - place_of m j)
           → IsKept (slot_state old j).pulls (place_of m j)
           (λ x. (x.base ≡ ((slot_state old j).sector (place_of m j)).base) ⊎ (x.base ≡ Damaged)) (slot_state h j)
-          → Comes f.issued.slots r.editions j ((image_now old j).cell (place_of m j)) ((image j).cell (place_of m j)) → IsStill j s
+          → Comes (IsWritable f.issued.slots old) r.editions j ((image_now old j).cell (place_of m j)) ((image j).cell (place_of m j)) → IsStill j s
       next_is aside kept (Stayed is) = cells_stayed (both_stayed aside is)
       next_is aside kept (Harmed is) = absurd (whole (place_of m j) next_in (ByOutside is))
       next_is aside kept (Cut has' bad) =
@@ -465,17 +466,17 @@ module _ (aim : Aim) (gone : Slots) (m last : Membership) (old new : List Happen
           let within : s.draw ≤ m.drawn = most in
           absurd (omega arith)
 
-    still_of : IsOf f.issued.slots r.editions j ((image_now old j).cell borne.place) s → IsStill j s
+    still_of : IsOf (IsWritable f.issued.slots old) r.editions j ((image_now old j).cell borne.place) s → IsStill j s
     still_of (Issue e has among formed is) = Written e (r.within e among) is
     still_of (Entry was) =
-        elim (has_or_not f.issued.slots j) [
+        elim (writable_or_not f.issued.slots old j) [
           | inl has ↦
               standing_is has was
               (at_moment
               {P = λ x.
-              (i : ℕ) → HasSlot f.issued.slots i → admitted aim ≢ Some i → IsSome (slot_state old i).size
+              (i : ℕ) → HasSlot f.issued.slots i → IsSome (slot_state old i).size
               → IsStanding m f.issued.editions old x i}
-              f.issued.standing at j has other (medium_there old j borne.place s (history_tidy f.begun.history) was))
+              f.issued.standing at j has.0 (medium_there old j borne.place s (history_tidy f.begun.history) was))
           | inr not_in ↦
               cells_stayed
               (λ k lt. stayed aim gone m last old new f h at image left r j k lt whole not_in (here.each k lt))
@@ -548,11 +549,11 @@ module _ (aim : Aim) (gone : Slots) (m last : Membership) (old new : List Happen
         | inr found ↦
             let e : Edition = found.0 in
             let above : m.array.epoch < e.array.epoch = found.2 in
-            all_but_mapped {P = HasDraw r.editions e.array.epoch m.array.epoch old h} {Q = HasReserved m.array.geometry image}
+            all_but_mapped {P = WasGiven f.issued.slots r.editions e.array.epoch m.array.epoch old h} {Q = HasReserved m.array.geometry image}
             (λ j below d s counts first second.
             let reached : Reaches m e.array.epoch m.array.epoch s =
             reaches aim gone m last old new f h at image left r j s e.array.epoch m.array.epoch counts (places_whole ((image j).cell) first second)
-            (draw_of_call e.array.epoch m.array.epoch j d) in
+            (draw_of_call e.array.epoch m.array.epoch j d.has) in
             above_from e.array.epoch s.draw reached.draws (no_later e.array.epoch (omega arith) found.3))
             (r.reserved e found.1 above)
       ]
@@ -561,14 +562,14 @@ module _ (aim : Aim) (gone : Slots) (m last : Membership) (old new : List Happen
 
   -- all but m have a new draw with this epoch
   reached_by : (draw epoch : ℕ) → m.drawn < draw → (bound : ℕ) → bound ≤ epoch
-      → AllBut m.array.geometry.n m.array.geometry.m (HasDraw r.editions draw epoch old h)
+      → AllBut m.array.geometry.n m.array.geometry.m (WasGiven f.issued.slots r.editions draw epoch old h)
       → AllBut m.array.geometry.n m.array.geometry.m (HasReached m.array.geometry image bound)
   reached_by draw epoch above bound le all =
-      all_but_mapped {P = HasDraw r.editions draw epoch old h} {Q = HasReached m.array.geometry image bound}
+      all_but_mapped {P = WasGiven f.issued.slots r.editions draw epoch old h} {Q = HasReached m.array.geometry image bound}
       (λ j below d s counts first second.
       let reached : Reaches m draw epoch s =
       reaches aim gone m last old new f h at image left r j s draw epoch counts (places_whole ((image j).cell) first second)
-      (draw_of_call draw epoch j d) in
+      (draw_of_call draw epoch j d.has) in
       let least : epoch ≤ s.array.epoch = reached.epochs above in
       omega arith)
       all
@@ -583,8 +584,8 @@ module _ (aim : Aim) (gone : Slots) (m last : Membership) (old new : List Happen
       ((known aim gone m last old new f h at image left r).reached i a bears less)
 
   reached_of : (i j p q : ℕ) (a b : Superblock) → Bears m.array.geometry i ((image i).cell) a → Bears m.array.geometry j ((image j).cell) b
-      → p < 2 → q < 2 → IsOf f.issued.slots r.editions i ((image_now old i).cell p) a
-      → IsOf f.issued.slots r.editions j ((image_now old j).cell q) b → a.array.epoch < b.array.epoch
+      → p < 2 → q < 2 → IsOf (IsWritable f.issued.slots old) r.editions i ((image_now old i).cell p) a
+      → IsOf (IsWritable f.issued.slots old) r.editions j ((image_now old j).cell q) b → a.array.epoch < b.array.epoch
       → AllBut m.array.geometry.n m.array.geometry.m (HasReached m.array.geometry image a.array.epoch)
   reached_of i j p q a b of_a of_b p_in q_in (Entry was) (Entry was') less =
       let most : b.array.epoch ≤ m.array.epoch = entry_epoch j b (entry_bears j q b q_in was' of_b.slot of_b.identity) in
@@ -613,8 +614,8 @@ module _ (aim : Aim) (gone : Slots) (m last : Membership) (old new : List Happen
   -- JOINED NUMBERS
 
   joined_of : (i k j p q : ℕ) (a b : Superblock) → Bears m.array.geometry i ((image i).cell) a → Bears m.array.geometry k ((image k).cell) b
-      → p < 2 → q < 2 → IsOf f.issued.slots r.editions i ((image_now old i).cell p) a
-      → IsOf f.issued.slots r.editions k ((image_now old k).cell q) b → a.array.epoch ≤ b.array.epoch
+      → p < 2 → q < 2 → IsOf (IsWritable f.issued.slots old) r.editions i ((image_now old i).cell p) a
+      → IsOf (IsWritable f.issued.slots old) r.editions k ((image_now old k).cell q) b → a.array.epoch ≤ b.array.epoch
       → mark_at a j ≢ Down → mark_at b j ≢ Down → joined_at a j ≤ joined_at b j
   joined_of i k j p q a b of_a of_b p_in q_in (Entry was) (Entry was') le up up' =
       (known aim gone m last old new f h at image left r).orderly.joined i k j a b (entry_bears i p a p_in was of_a.slot of_a.identity)
@@ -669,6 +670,7 @@ module _ (aim : Aim) (gone : Slots) (m last : Membership) (old new : List Happen
         one_list_of i j of_a.place of_b.place a b of_a of_b of_a.place_in of_b.place_in
         (from aim gone m last old new f h at image left r i a of_a) (from aim gone m last old new f h at image left r j b of_b) same;
     hidden = hidden;
+    hides = hides_kept aim gone m last old new f h at image left r hidden;
     reached = λ i j a b of_a of_b less.
         reached_of i j of_a.place of_b.place a b of_a of_b of_a.place_in of_b.place_in
         (from aim gone m last old new f h at image left r i a of_a) (from aim gone m last old new f h at image left r j b of_b) less;
@@ -681,4 +683,23 @@ pub orderly : (aim : Aim) (gone : Slots) (m last : Membership) (old h new : List
     → IsMoment old h new → CrashMayLeave h image → IsOrderly m.array.geometry image
 orderly aim gone m last old h new image f at left =
     orderly_then aim gone m last old new f h at image left
-    (at_moment {P = AreReserved f.issued.slots f.issued.editions m old} f.issued.reserved at)
+    (at_moment {P = AreReserved (admitted aim) f.issued.slots f.issued.editions m old} f.issued.reserved at)
+
+-- each slot has still reached what it had reached, but the one that joins
+pub each_reached : (aim : Aim) (gone : Slots) (m last : Membership) (old h new : List Happening) (image : Image) (j epoch : ℕ)
+    → IsFencing aim gone m last old new → IsMoment old h new → CrashMayLeave h image → epoch ≤ m.array.epoch → admitted aim ≢ Some j
+    → HasReached m.array.geometry (image_now old) epoch j → HasReached m.array.geometry image epoch j
+each_reached aim gone m last old h new image j epoch f at left =
+    has_reached aim gone m last old new f h at image left
+    (at_moment {P = AreReserved (admitted aim) f.issued.slots f.issued.editions m old} f.issued.reserved at) j epoch
+
+-- so that all slots but m have
+pub reached_on : (aim : Aim) (gone : Slots) (m last : Membership) (old h new : List Happening) (image : Image) → IsFencing aim gone m last old new
+    → IsMoment old h new → CrashMayLeave h image
+    → AllBut m.array.geometry.n m.array.geometry.m
+    (λ j. (admitted aim ≢ Some j) × HasReached m.array.geometry (image_now old) m.array.epoch j)
+    → AllBut m.array.geometry.n m.array.geometry.m (HasReached m.array.geometry image m.array.epoch)
+reached_on aim gone m last old h new image f at left before =
+    all_but_mapped {P = λ j. (admitted aim ≢ Some j) × HasReached m.array.geometry (image_now old) m.array.epoch j}
+    {Q = HasReached m.array.geometry image m.array.epoch}
+    (λ j below reached. each_reached aim gone m last old h new image j m.array.epoch f at left (omega arith) reached.0 reached.1) before

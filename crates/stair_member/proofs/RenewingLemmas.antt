@@ -255,7 +255,10 @@ module _ (aim0 aim : Aim) (m0 m last : Membership) (gone more : Slots) (j : ℕ)
     told = λ honest.
         come_like (taking aim0 m0) m0 last (without last j) (admitted aim0) (λ i. HasSlot gone i ⊎ (Some j ≡ Some i)) (HasSlot more)
         (IsNamedFor aim0 gone m0) (IsNamedFor aim0 more m0) old.history new.history refl refl refl
-        (λ i has. elim ((members i).0 has) [ inl had ↦ inl had | inr at ↦ inr (ap (λ (k : ℕ). Some k) (sym at)) ])
+        (λ i. (
+          λ has. elim ((members i).0 has) [ inl had ↦ inl had | inr at ↦ inr (ap (λ (k : ℕ). Some k) (sym at)) ],
+          λ is. (members i).1 (elim is [ inl had ↦ inl had | inr at ↦ inr (let same : i ≡ j = cc in same) ]),
+        ))
         (λ c is. named_wider aim0 gone more m0 c into is)
         (come_after aim0 aim m0 m gone old now a last (Some j) new round same honest);
   }

@@ -2,6 +2,7 @@
 use Rattle.std.proofs.Common.{◌≡◌, ℕ, ◌+◌, ◌-◌, ◌<◌, ◌≤◌, false, List, [], ◌⊎◌, inl, inr, refl, sym, ap, ◌∙◌, subst, arith, Option}
 use Rattle.std.specs.Prelude.{IsSome, Contains}
 use Rattle.std.proofs.lemmas.Bool.{false≢true}
+use Rattle.stair_model.specs.Slots.{Slots, HasSlot}
 use Rattle.stair_rack.specs.Answers.{Ran}
 use Rattle.stair_rack.specs.History.{Happening, Write, slot_state}
 use Rattle.stair_rack.specs.Offline.{ButForOutside, IsKept}
@@ -11,8 +12,8 @@ use Rattle.stair_rack.proofs.KeptLemmas.{IsKept-mapped, IsKept-now, keeps_sector
 use Rattle.stair_rack.proofs.StepLemmas.{kept}
 use Rattle.stair_super.specs.Superblock.{IsSuperblock}
 use Rattle.stair_member.specs.Editions.{Edition, copy_of}
-use Rattle.stair_member.specs.Epochs.{AsWas, Given, IsOnDisk, IsStanding}
-use Rattle.stair_member.specs.Handings.{IsGiving, IsUnsynced, Syncs, Writes, is_twice}
+use Rattle.stair_member.specs.Epochs.{AsWas, Given, HasGot, IsOnDisk, IsStanding}
+use Rattle.stair_member.specs.Handings.{IsGiving, IsUnsynced, Syncs, Writes}
 use Rattle.stair_member.specs.Membership.{Membership, place_of}
 
 -- ---- the newest superblock of a slot
@@ -27,6 +28,13 @@ pub record HasNewest (m : Membership) (draw epoch : ℕ) (editions : List Editio
   pub reaches : epoch ≤ edition.array.epoch
   pub on_disk : IsOnDisk old h j (1 - place_of m j) (copy_of edition j)
 
+-- the slot, one of these, got it in the call
+pub record GotNewest (slots : Slots) (m : Membership) (draw epoch : ℕ) (editions : List Edition) (old h : List Happening) (j : ℕ)
+    : Type 0 where
+  pub slot : HasSlot slots j
+  pub newest : HasNewest m draw epoch editions old h j
+  pub got : HasGot old h j (1 - place_of m j) (copy_of newest.edition j)
+
 -- of a member whose next place of the slot is the same
 pub newest_like : (m m' : Membership) (draw epoch : ℕ) (editions : List Edition) (old h : List Happening) (j : ℕ) → place_of m' j ≡ place_of m j
     → HasNewest m draw epoch editions old h j → HasNewest m' draw epoch editions old h j
@@ -37,6 +45,21 @@ newest_like m m' draw epoch editions old h j same newest = record {
   draws = newest.draws;
   reaches = newest.reaches;
   on_disk = subst (λ k. IsOnDisk old h j (1 - k) (copy_of newest.edition j)) (sym same) newest.on_disk;
+}
+
+pub got_newest_like : (slots : Slots) (m m' : Membership) (draw epoch : ℕ) (editions : List Edition) (old h : List Happening) (j : ℕ)
+    → place_of m' j ≡ place_of m j → GotNewest slots m draw epoch editions old h j → GotNewest slots m' draw epoch editions old h j
+got_newest_like slots m m' draw epoch editions old h j same n = record {
+  slot = n.slot;
+  newest = record {
+    edition = n.newest.edition;
+    among = n.newest.among;
+    formed = n.newest.formed;
+    draws = n.newest.draws;
+    reaches = n.newest.reaches;
+    on_disk = subst (λ k. IsOnDisk old h j (1 - k) (copy_of n.newest.edition j)) (sym same) n.newest.on_disk;
+  };
+  got = subst (λ k. HasGot old h j (1 - k) (copy_of n.newest.edition j)) (sym same) n.got;
 }
 
 -- ---- a slot that has a superblock
@@ -65,9 +88,8 @@ safe_like m0 m m' editions old h j same (Untouched at other next) = Untouched (s
 safe_like m0 m m' editions old h j same (Renewed newest) = Renewed (newest_like m m' (m0.drawn + 1) m0.array.epoch editions old h j same newest)
 
 -- at every moment
-abbrev pub AreStanding : Membership → Option ℕ → List Edition → List Happening → List Happening → Type 0
-AreStanding m0 twice editions old h =
-    (j : ℕ) → j < 32 → is_twice twice j ≡ false → IsSome (slot_state old j).size → IsStanding m0 editions old h j
+abbrev pub AreStanding : Membership → List Edition → List Happening → List Happening → Type 0
+AreStanding m0 editions old h = (j : ℕ) → j < 32 → IsSome (slot_state old j).size → IsStanding m0 editions old h j
 
 pub standing_wider : (m0 : Membership) (editions more : List Edition) (old h : List Happening) (j : ℕ)
     → ((e : Edition) → Contains editions e → Contains more e) → IsStanding m0 editions old h j → IsStanding m0 more old h j

@@ -16,17 +16,17 @@ use Rattle.stair_rack.specs.declared.rack.Got.TheVariants as got
 use Rattle.stair_rack.specs.declared.rack.Reply.TheVariants as reply
 use Rattle.stair_rack.proofs.CallLemmas.{attach_done, attach_gone}
 use Rattle.stair_rack.proofs.PassCounts.{rises_more, rises_none}
-use Rattle.stair_rack.proofs.MomentLemmas.{IsThis, at_end, calls_ran, ran_any, ran_join}
+use Rattle.stair_rack.proofs.MomentLemmas.{IsThis, at_end, calls_ran, ran_any, ran_join, ran_none}
 use Rattle.stair_rack.proofs.OfflineLemmas.{held_on, offline_from_unready, offline_now, pulls_on}
 use Rattle.stair_rack.proofs.ReadLemmas.{was_read_gone}
 use Rattle.stair_super.specs.Newer.{IsOlder, is_older, newer_super}
 use Rattle.stair_super.specs.Spelling.{SpellsSuperblock}
 use Rattle.stair_super.proofs.Order.{older_is}
 use Rattle.stair_super.specs.Superblock.{Superblock}
-use Rattle.stair_member.specs.Asked.{AsksBelow, AsksSlot}
+use Rattle.stair_member.specs.Asked.{AsksBelow, AsksSlot, FindsWithin, IsWhatWasRead, FoundBoth, FoundNone}
 use Rattle.stair_member.specs.Findings.{Findings, IsPlaceFound}
-use Rattle.stair_member.specs.Shows.{AreSights, HoldsThis, IsNewest, IsSeen, IsSight, block_in, newest_at}
-use Rattle.stair_member.specs.Superblocks.{HasSuper, IsSuperOf, First, Second}
+use Rattle.stair_member.specs.Shows.{AreSights, IsNewest, IsSeen, IsSight, block_in, newest_at}
+use Rattle.stair_member.specs.Superblocks.{HoldsThis, HasSuper, IsSuperOf, First, Second}
 use Rattle.stair_member.specs.Survey.{IsNextPlace, IsPlaceOf, InFirst, InSecond}
 use Rattle.stair_rack.specs.Telling.{IsFoundGone, IsLater, IsReading, Telling, telling}
 use Rattle.stair_member.specs.declared.look.Seen.{Seen}
@@ -44,6 +44,10 @@ module _ (honest : Bool) (old new : List Happening) (bads bads' : ℕ) (gones go
       → IsSeen j k (telling honest old bads gones) (telling honest new bads' gones') (seen.Block s)
   seen_block bytes s told good spells = record {
     cell = Good bytes;
+    answer = got.Good;
+    called = told;
+    finds = λ honest. sym (good honest);
+    unread = λ is. absurd (cc);
     found = IsPlaceFound.Read (reading_good honest old new bads bads' gones gones' j k bytes told good);
     holds = record { bytes = bytes; good = refl; spells = spells };
     gone = λ is. absurd (cc);
@@ -54,6 +58,10 @@ module _ (honest : Bool) (old new : List Happening) (bads bads' : ℕ) (gones go
       → IsSeen j k (telling honest old bads gones) (telling honest new bads' gones') seen.Nothing
   seen_nothing bytes told good none = record {
     cell = Good bytes;
+    answer = got.Good;
+    called = told;
+    finds = λ honest. sym (good honest);
+    unread = λ is. absurd (cc);
     found = IsPlaceFound.Read (reading_good honest old new bads bads' gones gones' j k bytes told good);
     holds = λ s holds. none s (spelled_here bytes s holds);
     gone = λ is. absurd (cc);
@@ -63,6 +71,10 @@ module _ (honest : Bool) (old new : List Happening) (bads bads' : ℕ) (gones go
       → IsSeen j k (telling honest old bads gones) (telling honest new bads' gones') seen.Nothing
   seen_bad began told rose = record {
     cell = Damaged;
+    answer = got.Bad;
+    called = told;
+    finds = λ honest. refl;
+    unread = λ is. absurd (cc);
     found = IsPlaceFound.Read (reading_bad honest old new bads bads' gones gones' j k began told rose);
     holds = λ s. no_super Damaged s refl;
     gone = λ is. absurd (cc);
@@ -72,6 +84,10 @@ module _ (honest : Bool) (old new : List Happening) (bads bads' : ℕ) (gones go
       → IsSeen j k (telling honest old bads gones) (telling honest new bads' gones') seen.Gone
   seen_gone told rose = record {
     cell = Damaged;
+    answer = got.Gone;
+    called = told;
+    finds = λ honest. (refl, refl);
+    unread = λ is. refl;
     found = IsPlaceFound.Unread refl refl;
     holds = λ s. no_super Damaged s refl;
     gone = λ is. record { gone = rose; unready = λ is. was_read_gone (told is) };
@@ -159,6 +175,7 @@ pub sight_gone : (honest : Bool) (old new : List Happening) (bads bads' : ℕ) (
 sight_gone honest old new bads bads' gones gones' j told rose = record {
   cell = λ k. Damaged;
   places = λ k below. IsPlaceFound.Unread refl refl;
+  finds = λ on. record { from = old; to = new; sooner = ran_none old; finds = FoundNone (told on) refl refl refl; later = ran_none new };
   newest = damaged_bare;
   next = record { below = omega arith; other = λ s of. absurd (damaged_bare (super_held (λ k. Damaged) s of)) };
   gone = λ is. (
@@ -169,6 +186,12 @@ sight_gone honest old new bads bads' gones gones' j told rose = record {
   );
   held = λ on not_lost. absurd (not_lost refl);
 }
+
+read_mapped : (gone gone' : Type 0) (answer : Got) (h : List Happening) (j k : ℕ) (cell : Cell) → (gone → gone') → IsWhatWasRead gone answer h j k cell
+    → IsWhatWasRead gone' answer h j k cell
+read_mapped gone gone' got.Good h j k cell into is = is
+read_mapped gone gone' got.Bad h j k cell into is = is
+read_mapped gone gone' got.Gone h j k cell into is = (is.0, into is.1)
 
 -- a read of this place, where it is told
 abbrev pub WasAsked : Bool → List Happening → List Happening → ℕ → ℕ → Type 0
@@ -265,6 +288,16 @@ module _ (honest : Bool) (old att mid new : List Happening) (bads bads₁ bads�
     sight_read block next lost newest place either = record {
       cell = both first.cell second.cell;
       places = places lost either;
+      finds = λ is. record {
+        from = old;
+        to = new;
+        sooner = ran_none old;
+        finds = FoundBoth att mid first.answer second.answer (attached is) (first.called is) (second.called is)
+            (read_mapped (a ≡ seen.Gone) (IsTrue lost) first.answer mid j 0 first.cell (λ gone. either.1 (inl gone)) (first.finds is))
+            (read_mapped (b ≡ seen.Gone) (IsTrue lost) second.answer new j 1 second.cell (λ gone. either.1 (inr gone)) (second.finds is))
+            (λ lost_is. elim (either.0 lost_is) [ inl gone ↦ inl (first.unread gone) | inr gone ↦ inr (second.unread gone) ]);
+        later = ran_none new;
+      };
       newest = newest (both first.cell second.cell) first.holds second.holds;
       next = place (both first.cell second.cell) first.holds second.holds;
       gone = λ is. elim (either.0 is) [ inl gone ↦ first_gone gone | inr gone ↦ second_gone gone ];
@@ -280,6 +313,16 @@ asks_ran {old} {new} {j} (AsksSlot.There attached between first second a b c) =
     ran_join (ran_any {allowed = IsThis j (Attach reply.Done)} (calls_ran a))
     (ran_join (ran_any {allowed = IsThis j (Read 0 first)} (calls_ran b)) (ran_any {allowed = IsThis j (Read 1 second)} (calls_ran c)))
 
+finds_wider : {gone : Type 0} {j : ℕ} {cell : ℕ → Cell} {old mid new later : List Happening} → Ran any_call old mid → Ran any_call new later
+    → FindsWithin gone j cell mid new → FindsWithin gone j cell old later
+finds_wider before after within = record {
+  from = within.from;
+  to = within.to;
+  sooner = ran_join before within.sooner;
+  finds = within.finds;
+  later = ran_join within.later after;
+}
+
 -- what bears a sight out does so in each longer stretch
 sight_wider : (old mid new later : Telling) → IsLater old mid → mid.honest ≡ new.honest → NoneFalls mid.bads new.bads mid.gones new.gones
     → IsLater new later
@@ -289,6 +332,7 @@ sight_wider old mid new later first same within second j block next lost sight =
   places = λ k below.
       place_found_mapped (IsTrue lost) (IsTrue lost) j k mid new old later (sight.cell k) (λ is. is)
       (reading_wider old mid new later first same within second j k (sight.cell k)) (sight.places k below);
+  finds = λ is. finds_wider (first.ran (same ∙ second.honest ∙ is)) (second.ran is) (sight.finds (second.honest ∙ is));
   newest = sight.newest;
   next = sight.next;
   gone = λ is. gone_wider old mid new later first same within second j (sight.gone is);
@@ -427,6 +471,7 @@ image_of cells j = record { size = None; cell = cells j; removed = [] }
 -- a sight, but for its cells
 record IsSightOf (j : ℕ) (old new : Telling) (block : Option Superblock) (place : ℕ) (lost : Bool) (cells : ℕ → Cell) : Type 0 where
   places : (k : ℕ) → k < 2 → IsPlaceFound (IsTrue lost) j k old new (cells k)
+  finds : IsTrue new.honest → FindsWithin (IsTrue lost) j cells old.history new.history
   newest : IsNewest cells block
   next : IsNextPlace cells place
   gone : IsTrue lost → IsFoundGone j old new
@@ -435,7 +480,7 @@ record IsSightOf (j : ℕ) (old new : Telling) (block : Option Superblock) (plac
 sight_of_cells : (j : ℕ) (old new : Telling) (block : Option Superblock) (place : ℕ) (lost : Bool) → IsSight j old new block place lost
     → (cells : ℕ → Cell) × IsSightOf j old new block place lost cells
 sight_of_cells j old new block place lost s =
-    (s.cell, record { places = s.places; newest = s.newest; next = s.next; gone = s.gone; held = s.held })
+    (s.cell, record { places = s.places; finds = s.finds; newest = s.newest; next = s.next; gone = s.gone; held = s.held })
 
 pub sights_all : (sights : Sights) (old now : Telling) (count count' : Option ℕ)
     → AreSightsBelow 32 sights.newest sights.next sights.gone old now count count'
@@ -450,7 +495,7 @@ sights_all sights old now count count' all =
       findings = f;
       found = record {
         formed = all.formed;
-        each = λ j below. record { places = (some.1 j below).places; gone = (some.1 j below).gone; held = (some.1 j below).held };
+        each = λ j below. record { places = (some.1 j below).places; finds = (some.1 j below).finds; gone = (some.1 j below).gone; held = (some.1 j below).held };
       };
       tells = record {
         gone = refl;

@@ -8,12 +8,12 @@ use Rattle.stair_model.specs.Slots.{Slots, HasSlot}
 use Rattle.stair_rack.specs.Answers.{Ran}
 use Rattle.stair_rack.specs.History.{Happening, SlotCall, Write, slot_state}
 use Rattle.stair_rack.specs.Moments.{AtEveryMoment, IsMoment}
-use Rattle.stair_rack.specs.Offline.{ButForOutside}
-use Rattle.stair_rack.specs.Sector.{Good}
+use Rattle.stair_rack.specs.Offline.{ButForOutside, IsHeld, IsOfflineUntilAttached}
+use Rattle.stair_rack.specs.Sector.{Good, settled}
 use Rattle.stair_rack.specs.declared.rack.Reply.TheVariants as reply
 use Rattle.stair_rack.proofs.KeptLemmas.{IsKept-since}
 use Rattle.stair_rack.proofs.MomentLemmas.{at_every_from, at_every_join, at_every_mapped, at_every_none, at_moment, ran_before, ran_join, ran_none, ran_weakened}
-use Rattle.stair_rack.proofs.OfflineLemmas.{pulls_on}
+use Rattle.stair_rack.proofs.OfflineLemmas.{offline_on, pulls_on}
 use Rattle.stair_rack.proofs.StandingLemmas.{standing_on}
 use Rattle.stair_super.specs.Spelling.{spelled}
 use Rattle.stair_super.specs.Superblock.{IsSuperblock}
@@ -21,13 +21,13 @@ use Rattle.stair_super.specs.declared.configuration.Configuration.{Configuration
 use Rattle.stair_member.specs.Changes.{issue}
 use Rattle.stair_member.specs.Counting.{AllBut}
 use Rattle.stair_member.specs.Editions.{Edition, copy_of, edition_of}
-use Rattle.stair_member.specs.Epochs.{AreReserved, AWrite, ASync, AsWas, Given, HasDraw, IsIssuing, IsOnDisk, IsStanding}
-use Rattle.stair_member.specs.Handings.{IsGiven, IsGivenOrNot, IsGiving, IsSpreading, IsUnsynced, PlacesBelow, SpreadBelow, StaysApart, StaysSettled, Syncs, Writes, is_twice, place_after}
+use Rattle.stair_member.specs.Epochs.{AreReserved, AWrite, ASync, AsWas, Given, HasGot, IsDropped, IsIssuing, IsOnDisk, IsStanding, WasGiven}
+use Rattle.stair_member.specs.Handings.{HasPlaces, IsGiven, IsGivenOrNot, IsGiving, IsLeft, IsSpreading, IsUnsynced, PlacesBelow, SpreadBelow, Stands, StaysApart, StaysSettled, Syncs, Unsynced, Writes, is_twice, place_after}
 use Rattle.stair_member.specs.Membership.{Membership, IsMembership, place_of}
 use Rattle.stair_member.proofs.ApartLemmas.{apart_after, apart_none}
 use Rattle.stair_member.proofs.CountingLemmas.{all_but_mapped, has_or_not}
-use Rattle.stair_member.proofs.HandLemmas.{stays_join, stays_none}
-use Rattle.stair_member.proofs.SafeLemmas.{AreStanding, HasNewest, IsBased, IsSafe, Renewed, Untouched, newest_like, next_kept, other_kept, safe_first, standing_wider}
+use Rattle.stair_member.proofs.HandLemmas.{given_last, got_later, got_sooner, spreading_beside, stays_join, stays_none}
+use Rattle.stair_member.proofs.SafeLemmas.{AreStanding, GotNewest, HasNewest, IsBased, IsSafe, Renewed, Untouched, newest_like, next_kept, other_kept, safe_first, standing_wider}
 
 abbrev pub with_edition : List Edition → Edition → List Edition
 with_edition editions e = editions ++ e ∷ []
@@ -43,12 +43,17 @@ pub record IsNew (m : Membership) (drawn : ℕ) (e : Edition) : Type 0 where
 
 -- Either the epoch of the beginning is still the member's; or all slots but m hold a draw for the member's epoch, of at least
 -- the greatest epoch before it.
-pub data Standing (m0 m : Membership) (twice : Option ℕ) (editions : List Edition) (old h : List Happening) : Type 0 where
-  First : m.array.epoch ≡ m0.array.epoch → Standing m0 m twice editions old h
+pub data Standing (slots : Slots) (m0 m : Membership) (twice : Option ℕ) (editions : List Edition) (old h : List Happening) : Type 0 where
+  First : m.array.epoch ≡ m0.array.epoch → Standing slots m0 m twice editions old h
   Later : (previous : ℕ) → m0.array.epoch ≤ previous → previous < m.array.epoch
       → ((e : Edition) → Contains editions e → (e.array ≡ m.array) ⊎ (e.array.epoch ≤ previous))
-      → AllBut m.array.geometry.n m.array.geometry.m (λ j. HasNewest m m.array.epoch previous editions old h j × (is_twice twice j ≡ false))
-      → Standing m0 m twice editions old h
+      → AllBut m.array.geometry.n m.array.geometry.m (λ j. GotNewest slots m m.array.epoch previous editions old h j × (is_twice twice j ≡ false))
+      → Standing slots m0 m twice editions old h
+
+-- these editions drop slots alone that are offline, where they were held and had both places
+abbrev pub DropGone : Option ℕ → List Edition → Membership → List Happening → List Happening → Type 0
+DropGone joining editions m0 old h = (e : Edition) (j : ℕ) → Contains editions e → IsDropped joining m0 e.array j
+    → (before : List Happening) → IsHeld before old j → HasPlaces (slot_state old j) → IsOfflineUntilAttached before h j
 
 -- a call that began with m0 and has come to m
 pub record SoFar (slots : Slots) (m0 m : Membership) (twice : Option ℕ) (editions : List Edition) (old h : List Happening) : Type 0 where
@@ -56,16 +61,16 @@ pub record SoFar (slots : Slots) (m0 m : Membership) (twice : Option ℕ) (editi
   pub each : (e : Edition) → Contains editions e → IsNew m0 m.drawn e
   pub latest : (e : Edition) → Contains editions e → (e.array ≡ m.array) ⊎ (e.array.epoch < m.array.epoch)
   pub one_list : (a b : Edition) → Contains editions a → Contains editions b → a.array.epoch ≡ b.array.epoch → a.array ≡ b.array
-  pub reserved : AtEveryMoment (AreReserved slots editions m0 old) old h
+  pub reserved : AtEveryMoment (AreReserved twice slots editions m0 old) old h
   pub steady : StaysSettled old h
   pub apart : StaysApart old h
-  pub standing : Standing m0 m twice editions old h
+  pub standing : Standing slots m0 m twice editions old h
   pub began : (m.array ≡ m0.array) ⊎ (m0.drawn < m.array.epoch)
   pub geometry : m.array.geometry ≡ m0.array.geometry
   pub least : m0.drawn ≤ m.drawn
   pub rising : (a b : Edition) → Contains editions a → Contains editions b → a.draw < b.draw → a.array.epoch ≤ b.array.epoch
-  pub safe : (j : ℕ) → j < 32 → is_twice twice j ≡ false → IsSome (slot_state old j).size → IsSafe m0 m editions old h j
-  pub safely : AtEveryMoment (AreStanding m0 twice editions old) old h
+  pub safe : (j : ℕ) → j < 32 → IsSome (slot_state old j).size → IsSafe m0 m editions old h j
+  pub safely : AtEveryMoment (AreStanding m0 editions old) old h
 
 no_editions : (e : Edition) → ¬ Contains [] e
 no_editions e among = absurd (omega (arith, among.1))
@@ -83,6 +88,7 @@ so_far_first slots m0 twice h = record {
         ran = ran_none h;
         reserved = λ e among above. absurd (no_editions e among);
         reached = λ a b in_a in_b less. absurd (no_editions a in_a);
+        left_out = λ e j among. absurd (no_editions e among);
       });
   steady = stays_none h;
   apart = apart_none h;
@@ -91,8 +97,8 @@ so_far_first slots m0 twice h = record {
   geometry = refl;
   least = omega arith;
   rising = λ a b in_a in_b less. absurd (no_editions a in_a);
-  safe = λ j small single some. safe_first m0 h j some;
-  safely = at_every_none h (λ j small single some. standing_first (safe_first m0 h j some));
+  safe = λ j small some. safe_first m0 h j some;
+  safely = at_every_none h (λ j small some. standing_first (safe_first m0 h j some));
 }
   where
     standing_first : {j : ℕ} → IsSafe m0 m0 [] h h j → IsStanding m0 [] h h j
@@ -104,8 +110,10 @@ so_far_first slots m0 twice h = record {
 module _ (slots : Slots) (m0 b last : Membership) (twice twice_now : Option ℕ) (editions : List Edition) (old h new : List Happening) (to : Slots)
     (gone : Option ℕ) (i : ℕ) (before : SoFar slots m0 b twice editions old h) (rules0 : IsMembership m0) (rules : IsMembership b)
     (drawn : m0.drawn < b.drawn) (spread : SpreadBelow b to twice_now i h new) (places : PlacesBelow b last to twice_now i)
+    (lefts : (j : ℕ) → i ≤ j → IsLeft b last j h new)
     (within : (j : ℕ) → HasSlot to j → HasSlot slots j) (formed : (j : ℕ) → HasSlot to j → (j < 32) × IsSuperblock (issue b j))
-    (single : (j : ℕ) → is_twice twice j ≡ false → is_twice twice_now j ≡ false) where
+    (single : (j : ℕ) → is_twice twice j ≡ false → is_twice twice_now j ≡ false)
+    (drops : DropGone twice (with_edition editions (edition_of b)) m0 old h) where
   array_same : last.array ≡ b.array
   array_same = ap (λ (m : Membership). m.array) places.rest
 
@@ -203,48 +211,55 @@ module _ (slots : Slots) (m0 b last : Membership) (twice twice_now : Option ℕ)
       (λ bytes is. spared j small not_twice bytes (subst (λ l. IsSpreading b to twice_now j (Write l bytes reply.Done)) at is)) ran on
 
   has_draw : (x : List Happening) → Ran (IsSpreading b to twice_now) h x → (draw epoch previous : ℕ) → draw ≤ b.array.epoch → epoch ≤ previous
-      → (j : ℕ) → j < b.array.geometry.n → HasNewest b b.array.epoch previous editions old h j × (is_twice twice j ≡ false)
-      → HasDraw (with_edition editions (edition_of b)) draw epoch old x j
+      → (j : ℕ) → j < b.array.geometry.n → GotNewest slots b b.array.epoch previous editions old h j × (is_twice twice j ≡ false)
+      → WasGiven slots (with_edition editions (edition_of b)) draw epoch old x j
   has_draw x ran draw epoch previous most reached j below newest =
-      let drawn_most : b.array.epoch ≤ newest.0.edition.draw = newest.0.draws in
-      let reaches : previous ≤ newest.0.edition.array.epoch = newest.0.reaches in
+      let n = newest.0.newest in
+      let drawn_most : b.array.epoch ≤ n.edition.draw = n.draws in
+      let reaches : previous ≤ n.edition.array.epoch = n.reaches in
       let small : j < 32 = omega (arith, devices, below) in
       let at : place_of b j < 2 = rules.places j small in record {
-        edition = newest.0.edition;
-        among = later newest.0.among;
-        formed = newest.0.formed;
-        draws = omega (arith, most, drawn_most);
-        reaches = omega (arith, reached, reaches);
-        place = 1 - place_of b j;
-        place_in = omega arith;
-        on_disk = stands_on x ran j (1 - place_of b j) newest.0.edition refl small newest.1 newest.0.on_disk;
+        slot = newest.0.slot;
+        has = record {
+          edition = n.edition;
+          among = later n.among;
+          formed = n.formed;
+          draws = omega (arith, most, drawn_most);
+          reaches = omega (arith, reached, reaches);
+          place = 1 - place_of b j;
+          place_in = omega arith;
+          on_disk = stands_on x ran j (1 - place_of b j) n.edition refl small newest.1 n.on_disk;
+        };
+        got = got_later {b = IsSpreading b to twice_now} (spared j small newest.1) ran newest.0.got;
       }
 
-  reserved_at : (x : List Happening) → Ran (IsSpreading b to twice_now) h x → AreReserved slots (with_edition editions (edition_of b)) m0 old x
+  reserved_at : (x : List Happening) → Ran (IsSpreading b to twice_now) h x → AreReserved twice slots (with_edition editions (edition_of b)) m0 old x
   reserved_at x ran = record {
     editions = with_edition editions (edition_of b);
     within = λ e among. among;
     ran = ran_upto x ran;
     reserved = λ e among above. by_standing before.standing e among above;
     reached = λ a c in_a in_c less. reached_by before.standing a c in_a in_c less;
+    left_out = λ e j among dropped began held has.
+        offline_on {allowed = IsSpreading b to twice_now} {before = began} j (spreading_beside b to twice_now j) ran (drops e j among dropped began held has);
   }
     where
-      of_start : (draw epoch : ℕ) → AllBut b.array.geometry.n b.array.geometry.m (HasDraw (with_edition editions (edition_of b)) draw epoch old x)
-          → AllBut m0.array.geometry.n m0.array.geometry.m (HasDraw (with_edition editions (edition_of b)) draw epoch old x)
+      of_start : (draw epoch : ℕ) → AllBut b.array.geometry.n b.array.geometry.m (WasGiven slots (with_edition editions (edition_of b)) draw epoch old x)
+          → AllBut m0.array.geometry.n m0.array.geometry.m (WasGiven slots (with_edition editions (edition_of b)) draw epoch old x)
       of_start draw epoch have =
-          subst (λ (g : Geometry). AllBut g.n g.m (HasDraw (with_edition editions (edition_of b)) draw epoch old x)) before.geometry have
+          subst (λ (g : Geometry). AllBut g.n g.m (WasGiven slots (with_edition editions (edition_of b)) draw epoch old x)) before.geometry have
 
-      by_standing : Standing m0 b twice editions old h → (e : Edition) → Contains (with_edition editions (edition_of b)) e
+      by_standing : Standing slots m0 b twice editions old h → (e : Edition) → Contains (with_edition editions (edition_of b)) e
           → m0.array.epoch < e.array.epoch
-          → AllBut m0.array.geometry.n m0.array.geometry.m (HasDraw (with_edition editions (edition_of b)) e.array.epoch m0.array.epoch old x)
+          → AllBut m0.array.geometry.n m0.array.geometry.m (WasGiven slots (with_edition editions (edition_of b)) e.array.epoch m0.array.epoch old x)
       by_standing (First same) e among above = let most = latest_epoch e among in absurd (omega (arith, most, same, above))
       by_standing (Later previous least less others have) e among above =
           of_start e.array.epoch m0.array.epoch
           (all_but_mapped (λ j below newest. has_draw x ran e.array.epoch m0.array.epoch previous (latest_epoch e among) least j below newest) have)
 
-      reached_by : Standing m0 b twice editions old h → (a c : Edition) → Contains (with_edition editions (edition_of b)) a
+      reached_by : Standing slots m0 b twice editions old h → (a c : Edition) → Contains (with_edition editions (edition_of b)) a
           → Contains (with_edition editions (edition_of b)) c → a.array.epoch < c.array.epoch
-          → AllBut m0.array.geometry.n m0.array.geometry.m (HasDraw (with_edition editions (edition_of b)) c.array.epoch a.array.epoch old x)
+          → AllBut m0.array.geometry.n m0.array.geometry.m (WasGiven slots (with_edition editions (edition_of b)) c.array.epoch a.array.epoch old x)
       reached_by (First same) a c in_a in_c less =
           let most = latest_epoch c in_c in
           let least = least_epoch a in_a in
@@ -261,8 +276,8 @@ module _ (slots : Slots) (m0 b last : Membership) (twice twice_now : Option ℕ)
 
   -- the newest superblock of a slot after the pass
   newest_after : (previous : ℕ) → previous < b.array.epoch → (j : ℕ) → j < b.array.geometry.n
-      → HasNewest b b.array.epoch previous editions old h j × (is_twice twice j ≡ false)
-      → HasNewest last b.array.epoch previous (with_edition editions (edition_of b)) old new j × (is_twice twice j ≡ false)
+      → GotNewest slots b b.array.epoch previous editions old h j × (is_twice twice j ≡ false)
+      → GotNewest slots last b.array.epoch previous (with_edition editions (edition_of b)) old new j × (is_twice twice j ≡ false)
   newest_after previous less j below newest =
       elim (has_or_not to j) [
         | inr out ↦ (kept (inl out), newest.1)
@@ -276,39 +291,52 @@ module _ (slots : Slots) (m0 b last : Membership) (twice twice_now : Option ℕ)
       small : j < 32
       small = omega (arith, devices, below)
 
-      kept : (¬ HasSlot to j) ⊎ (i ≤ j) → HasNewest last b.array.epoch previous (with_edition editions (edition_of b)) old new j
+      kept : (¬ HasSlot to j) ⊎ (i ≤ j) → GotNewest slots last b.array.epoch previous (with_edition editions (edition_of b)) old new j
       kept which =
-          let same : place_of last j ≡ place_of b j = places.others j which (single j newest.1) in record {
-            edition = newest.0.edition;
-            among = later newest.0.among;
-            formed = newest.0.formed;
-            draws = newest.0.draws;
-            reaches = newest.0.reaches;
-            on_disk = stands_on new spread.ran j (1 - place_of last j) newest.0.edition (ap (λ (z : ℕ). 1 - z) same) small newest.1
-                (subst (λ k. IsOnDisk old h j (1 - k) (copy_of newest.0.edition j)) (sym same) newest.0.on_disk);
+          let n = newest.0.newest in
+          let same : place_of last j ≡ place_of b j =
+          elim which [ inl out ↦ places.out j out | inr past ↦ places.later j past (single j newest.1) ] in record {
+            slot = newest.0.slot;
+            newest = record {
+              edition = n.edition;
+              among = later n.among;
+              formed = n.formed;
+              draws = n.draws;
+              reaches = n.reaches;
+              on_disk = stands_on new spread.ran j (1 - place_of last j) n.edition (ap (λ (z : ℕ). 1 - z) same) small newest.1
+                  (subst (λ k. IsOnDisk old h j (1 - k) (copy_of n.edition j)) (sym same) n.on_disk);
+            };
+            got = subst (λ k. HasGot old new j (1 - k) (copy_of n.edition j)) (sym same)
+                (got_later {b = IsSpreading b to twice_now} (spared j small newest.1) spread.ran newest.0.got);
           }
 
-      given : HasSlot to j → j < i → HasNewest last b.array.epoch previous (with_edition editions (edition_of b)) old new j
+      given : HasSlot to j → j < i → GotNewest slots last b.array.epoch previous (with_edition editions (edition_of b)) old new j
       given on earlier =
           let at : place_of b j < 2 = rules.places j small in
           let turned : place_of last j ≡ 1 - place_of b j =
           places.done j earlier on ∙ ap (λ (z : Bool). place_after z (place_of b j)) (single j newest.1) in
           let back : 1 - place_of last j ≡ place_of b j = omega (arith, at, turned) in record {
-            edition = edition_of b;
-            among = Contains-push editions (edition_of b);
-            formed = (formed j on).1;
-            draws = rules.known;
-            reaches = omega (arith, less);
-            on_disk =
-                subst (λ k. IsOnDisk old new j k (copy_of (edition_of b) j)) (sym back)
-                (IsKept-since (pulls_on {allowed = IsIssuing slots editions} j before.ran) (spread.stands j (place_of b j) earlier on (inl refl)));
+            slot = within j on;
+            newest = record {
+              edition = edition_of b;
+              among = Contains-push editions (edition_of b);
+              formed = (formed j on).1;
+              draws = rules.known;
+              reaches = omega (arith, less);
+              on_disk =
+                  subst (λ k. IsOnDisk old new j k (copy_of (edition_of b) j)) (sym back)
+                  (IsKept-since (pulls_on {allowed = IsIssuing slots editions} j before.ran) (spread.stands j (place_of b j) earlier on (inl refl)));
+            };
+            got =
+                subst (λ k. HasGot old new j k (copy_of (edition_of b) j)) (sym back)
+                (got_sooner {a = IsIssuing slots editions} before.ran (spread.got j (place_of b j) earlier on (inl refl)));
           }
 
-  standing_after : Standing m0 b twice editions old h → Standing m0 last twice (with_edition editions (edition_of b)) old new
+  standing_after : Standing slots m0 b twice editions old h → Standing slots m0 last twice (with_edition editions (edition_of b)) old new
   standing_after (First same) = First (ap (λ (a : Configuration). a.epoch) array_same ∙ same)
   standing_after (Later previous least less others have) =
       let of_b : AllBut b.array.geometry.n b.array.geometry.m
-      (λ j. HasNewest last b.array.epoch previous (with_edition editions (edition_of b)) old new j × (is_twice twice j ≡ false)) =
+      (λ j. GotNewest slots last b.array.epoch previous (with_edition editions (edition_of b)) old new j × (is_twice twice j ≡ false)) =
       all_but_mapped (newest_after previous less) have in
       Later previous least (subst (λ (a : Configuration). previous < a.epoch) (sym array_same) less)
       (λ e among.
@@ -316,7 +344,7 @@ module _ (slots : Slots) (m0 b last : Membership) (twice twice_now : Option ℕ)
       (cases (λ e. (e.array ≡ b.array) ⊎ (e.array.epoch ≤ previous)) (inl refl) others e among))
       (subst
       (λ (a : Configuration). AllBut a.geometry.n a.geometry.m
-      (λ j. HasNewest last a.epoch previous (with_edition editions (edition_of b)) old new j × (is_twice twice j ≡ false))) (sym array_same) of_b)
+      (λ j. GotNewest slots last a.epoch previous (with_edition editions (edition_of b)) old new j × (is_twice twice j ≡ false))) (sym array_same) of_b)
 
   -- a greater draw never has an earlier epoch: the new edition has the greatest draw and the latest epoch
   rising : (x y : Edition) → Contains (with_edition editions (edition_of b)) x → Contains (with_edition editions (edition_of b)) y → x.draw < y.draw
@@ -330,129 +358,130 @@ module _ (slots : Slots) (m0 b last : Membership) (twice twice_now : Option ℕ)
 
   -- ---- of a slot that has a superblock
 
+  unsynced_out : (x : List Happening) → Ran (IsSpreading b to twice_now) h x → (j : ℕ) → ¬ HasSlot to j → Ran (IsUnsynced b j) h x
+  unsynced_out x ran j out =
+      ran_weakened {allowed = IsSpreading b to twice_now} {more = IsUnsynced b j} (λ l c is same. absurd (out (subst (HasSlot to) same is.0))) ran
+
   -- the slot isn't one of these, or isn't synced yet, or its superblock stands
-  given_or_not : (x : List Happening) → IsMoment h x new → (j : ℕ) → is_twice twice j ≡ false
+  given_or_not : (x : List Happening) → IsMoment h x new → (j : ℕ)
       → Ran (IsUnsynced b j) h x ⊎ (HasSlot to j × IsOnDisk h x j (place_of b j) (issue b j))
-  given_or_not x at j not_twice =
+  given_or_not x at j =
       elim (has_or_not to j) [
-        | inr out ↦
-            inl
-            (ran_weakened {allowed = IsSpreading b to twice_now} {more = IsUnsynced b j} (λ l c is same. absurd (out (subst (HasSlot to) same is.0)))
-            (ran_before {allowed = IsSpreading b to twice_now} spread.ran at))
+        | inr out ↦ inl (unsynced_out x (ran_before {allowed = IsSpreading b to twice_now} spread.ran at) j out)
         | inl on ↦
-            elim (at_moment {P = IsGivenOrNot b j h} (spread.between j (single j not_twice)) at) [
+            elim (at_moment {P = IsGivenOrNot b j h} (spread.between j) at) [
               | inl ran ↦ inl ran
               | inr stands ↦ inr (on, stands)
             ]
       ]
 
-  standing_at : (x : List Happening) → IsMoment h x new → (j : ℕ) → j < 32 → is_twice twice j ≡ false → IsSafe m0 b editions old h j
+  -- it stands
+  given_now : (x : List Happening) (j k : ℕ) → HasSlot to j → k < 2 → IsOnDisk h x j k (issue b j)
       → IsStanding m0 (with_edition editions (edition_of b)) old x j
-  standing_at x at j small not_twice (Renewed newest) =
-      let draws : m0.drawn + 1 ≤ newest.edition.draw = newest.draws in
-      let below : place_of b j < 2 = rules.places j small in
-      Given (record {
-        edition = newest.edition;
-        among = later newest.among;
-        formed = newest.formed;
-        draws = draws;
-        reaches = newest.reaches;
-        place = 1 - place_of b j;
-        place_in = omega arith;
-        on_disk =
-            stands_on x (ran_before {allowed = IsSpreading b to twice_now} spread.ran at) j (1 - place_of b j) newest.edition refl small not_twice newest.on_disk;
-      })
-  standing_at x at j small not_twice (Untouched same other next) =
-      elim (given_or_not x at j not_twice) [
-        | inl ran ↦
-            subst (λ (k : ℕ). ButForOutside old x j (1 - k) (λ s. s ≡ (slot_state old j).sector (1 - k))
-            → ButForOutside old x j k (IsBased ((slot_state old j).sector k).base) → IsStanding m0 (with_edition editions (edition_of b)) old x j) (sym same)
-            (λ other_now next_now. AsWas other_now next_now)
-            (other_kept b j (slot_state old j).pulls (rules.places j small) h x ran ((slot_state old j).sector (1 - place_of b j))
-            (subst (λ (k : ℕ). ButForOutside old h j (1 - k) (λ s. s ≡ (slot_state old j).sector (1 - k))) (sym same) other))
-            (next_kept b j (slot_state old j).pulls (rules.places j small) h x ran ((slot_state old j).sector (place_of b j)).base
-            (subst (λ (k : ℕ). ButForOutside old h j k (IsBased ((slot_state old j).sector k).base)) (sym same) next))
-        | inr stands ↦
-            Given (record {
-              edition = edition_of b;
-              among = Contains-push editions (edition_of b);
-              formed = (formed j stands.0).1;
-              draws = omega (arith, drawn);
-              reaches = least_epoch (edition_of b) (Contains-push editions (edition_of b));
-              place = place_of b j;
-              place_in = rules.places j small;
-              on_disk = IsKept-since (pulls_on {allowed = IsIssuing slots editions} j before.ran) stands.1;
-            })
-      ]
+  given_now x j k on k_in stands = Given (record {
+    edition = edition_of b;
+    among = Contains-push editions (edition_of b);
+    formed = (formed j on).1;
+    draws = omega (arith, drawn);
+    reaches = least_epoch (edition_of b) (Contains-push editions (edition_of b));
+    place = k;
+    place_in = k_in;
+    on_disk = IsKept-since (pulls_on {allowed = IsIssuing slots editions} j before.ran) stands;
+  })
 
-  -- the slot wasn't one of these, or was gone or after one that was
-  safe_passed : (j : ℕ) → j < 32 → is_twice twice j ≡ false → (¬ HasSlot to j) ⊎ (i ≤ j) → IsSafe m0 b editions old h j
+  -- while the slot isn't synced its newest superblock stays
+  newest_stays : (x : List Happening) (j : ℕ) → j < 32 → Ran (IsUnsynced b j) h x → HasNewest b (m0.drawn + 1) m0.array.epoch editions old h j
+      → HasNewest b (m0.drawn + 1) m0.array.epoch (with_edition editions (edition_of b)) old x j
+  newest_stays x j small ran newest = record {
+    edition = newest.edition;
+    among = later newest.among;
+    formed = newest.formed;
+    draws = newest.draws;
+    reaches = newest.reaches;
+    on_disk =
+        other_kept b j (slot_state old j).pulls (rules.places j small) h x ran (settled (Good (spelled (copy_of newest.edition j)))) newest.on_disk;
+  }
+
+  standing_at : (x : List Happening) → IsMoment h x new → (j : ℕ) → j < 32 → IsSafe m0 b editions old h j
+      → IsStanding m0 (with_edition editions (edition_of b)) old x j
+  standing_at x at j small safe =
+      elim (given_or_not x at j) [
+        | inr stands ↦ given_now x j (place_of b j) stands.0 (rules.places j small) stands.1
+        | inl ran ↦ unsynced_yet ran safe
+      ]
+    where
+      unsynced_yet : Ran (IsUnsynced b j) h x → IsSafe m0 b editions old h j → IsStanding m0 (with_edition editions (edition_of b)) old x j
+      unsynced_yet ran (Renewed newest) =
+          let stays = newest_stays x j small ran newest in Given (record {
+            edition = stays.edition;
+            among = stays.among;
+            formed = stays.formed;
+            draws = stays.draws;
+            reaches = stays.reaches;
+            place = 1 - place_of b j;
+            place_in = omega arith;
+            on_disk = stays.on_disk;
+          })
+      unsynced_yet ran (Untouched same other next) =
+          subst (λ (k : ℕ). ButForOutside old x j (1 - k) (λ s. s ≡ (slot_state old j).sector (1 - k))
+          → ButForOutside old x j k (IsBased ((slot_state old j).sector k).base) → IsStanding m0 (with_edition editions (edition_of b)) old x j) (sym same)
+          (λ other_now next_now. AsWas other_now next_now)
+          (other_kept b j (slot_state old j).pulls (rules.places j small) h x ran ((slot_state old j).sector (1 - place_of b j))
+          (subst (λ (k : ℕ). ButForOutside old h j (1 - k) (λ s. s ≡ (slot_state old j).sector (1 - k))) (sym same) other))
+          (next_kept b j (slot_state old j).pulls (rules.places j small) h x ran ((slot_state old j).sector (place_of b j)).base
+          (subst (λ (k : ℕ). ButForOutside old h j k (IsBased ((slot_state old j).sector k).base)) (sym same) next))
+
+  -- the slot wasn't synced, and its next place is the same
+  safe_passed : (j : ℕ) → j < 32 → place_of last j ≡ place_of b j → Ran (IsUnsynced b j) h new → IsSafe m0 b editions old h j
       → IsSafe m0 last (with_edition editions (edition_of b)) old new j
-  safe_passed j small not_twice which (Renewed newest) =
-      let same : place_of last j ≡ place_of b j = places.others j which (single j not_twice) in
-      Renewed (newest_like b last (m0.drawn + 1) m0.array.epoch (with_edition editions (edition_of b)) old new j same (record {
-        edition = newest.edition;
-        among = later newest.among;
-        formed = newest.formed;
-        draws = newest.draws;
-        reaches = newest.reaches;
-        on_disk = stands_on new spread.ran j (1 - place_of b j) newest.edition refl small not_twice newest.on_disk;
-      }))
-  safe_passed j small not_twice which (Untouched same other next) =
+  safe_passed j small kept ran (Renewed newest) =
+      Renewed (newest_like b last (m0.drawn + 1) m0.array.epoch (with_edition editions (edition_of b)) old new j kept (newest_stays new j small ran newest))
+  safe_passed j small kept ran (Untouched same other next) =
       subst (λ (k : ℕ). ButForOutside old new j (1 - k) (λ s. s ≡ (slot_state old j).sector (1 - k))
       → ButForOutside old new j k (IsBased ((slot_state old j).sector k).base) → IsSafe m0 last (with_edition editions (edition_of b)) old new j) (sym same)
-      (λ other_now next_now. Untouched (places.others j which (single j not_twice) ∙ same) other_now next_now)
+      (λ other_now next_now. Untouched (kept ∙ same) other_now next_now)
       (other_kept b j (slot_state old j).pulls (rules.places j small) h new ran ((slot_state old j).sector (1 - place_of b j))
       (subst (λ (k : ℕ). ButForOutside old h j (1 - k) (λ s. s ≡ (slot_state old j).sector (1 - k))) (sym same) other))
       (next_kept b j (slot_state old j).pulls (rules.places j small) h new ran ((slot_state old j).sector (place_of b j)).base
       (subst (λ (k : ℕ). ButForOutside old h j k (IsBased ((slot_state old j).sector k).base)) (sym same) next))
-    where
-      ran : Ran (IsUnsynced b j) h new
-      ran =
-          elim which [
-            | inl out ↦
-                ran_weakened {allowed = IsSpreading b to twice_now} {more = IsUnsynced b j} (λ l c is at. absurd (out (subst (HasSlot to) at is.0)))
-                spread.ran
-            | inr past ↦ spread.untouched j past (single j not_twice)
-          ]
 
-  -- it was handed the new edition
-  safe_given : (j : ℕ) → j < 32 → is_twice twice j ≡ false → HasSlot to j → j < i → IsSafe m0 last (with_edition editions (edition_of b)) old new j
-  safe_given j small not_twice on earlier =
-      let at : place_of b j < 2 = rules.places j small in
-      let turned : place_of last j ≡ 1 - place_of b j =
-      places.done j earlier on ∙ ap (λ (z : Bool). place_after z (place_of b j)) (single j not_twice) in
-      let back : 1 - place_of last j ≡ place_of b j = omega (arith, at, turned) in
-      Renewed (record {
-        edition = edition_of b;
-        among = Contains-push editions (edition_of b);
-        formed = (formed j on).1;
-        draws = omega (arith, drawn);
-        reaches = least_epoch (edition_of b) (Contains-push editions (edition_of b));
-        on_disk =
-            subst (λ k. IsOnDisk old new j k (copy_of (edition_of b) j)) (sym back)
-            (IsKept-since (pulls_on {allowed = IsIssuing slots editions} j before.ran) (spread.stands j (place_of b j) earlier on (inl refl)));
-      })
+  -- the new edition stands in the place that isn't next
+  safe_given : (j : ℕ) → HasSlot to j → IsOnDisk h new j (1 - place_of last j) (issue b j)
+      → IsSafe m0 last (with_edition editions (edition_of b)) old new j
+  safe_given j on stands = Renewed (record {
+    edition = edition_of b;
+    among = Contains-push editions (edition_of b);
+    formed = (formed j on).1;
+    draws = omega (arith, drawn);
+    reaches = least_epoch (edition_of b) (Contains-push editions (edition_of b));
+    on_disk = IsKept-since (pulls_on {allowed = IsIssuing slots editions} j before.ran) stands;
+  })
 
-  safe_after : (j : ℕ) → j < 32 → is_twice twice j ≡ false → IsSafe m0 b editions old h j → IsSafe m0 last (with_edition editions (edition_of b)) old new j
-  safe_after j small not_twice is =
+  safe_after : (j : ℕ) → j < 32 → IsSafe m0 b editions old h j → IsSafe m0 last (with_edition editions (edition_of b)) old new j
+  safe_after j small is =
       elim (has_or_not to j) [
-        | inr out ↦ safe_passed j small not_twice (inl out) is
+        | inr out ↦ safe_passed j small (places.out j out) (unsynced_out new spread.ran j out) is
         | inl on ↦
             elim (cases_lt j i) [
-              | inl earlier ↦ safe_given j small not_twice on earlier
-              | inr past ↦ safe_passed j small not_twice (inr past) is
+              | inl earlier ↦
+                  safe_given j on
+                  (spread.stands j (1 - place_of last j) earlier on (given_last b last twice_now j (rules.places j small) (places.done j earlier on)))
+              | inr past ↦
+                  elim (lefts j past) [
+                    | Unsynced kept ran ↦ safe_passed j small kept ran is
+                    | Stands stands ↦ safe_given j on stands
+                  ]
             ]
       ]
 
-  safely_after : AtEveryMoment (AreStanding m0 twice (with_edition editions (edition_of b)) old) old new
+  safely_after : AtEveryMoment (AreStanding m0 (with_edition editions (edition_of b)) old) old new
   safely_after =
       at_every_join
-      (at_every_mapped {P = AreStanding m0 twice editions old} {Q = AreStanding m0 twice (with_edition editions (edition_of b)) old}
-      (λ x are j small not_twice some.
-      standing_wider m0 editions (with_edition editions (edition_of b)) old x j (λ e among. later among) (are j small not_twice some)) before.safely)
-      (at_every_from {P = AreStanding m0 twice (with_edition editions (edition_of b)) old} spread.ran.more spread.ran.is
-      (λ x at j small not_twice some. standing_at x at j small not_twice (before.safe j small not_twice some)))
+      (at_every_mapped {P = AreStanding m0 editions old} {Q = AreStanding m0 (with_edition editions (edition_of b)) old}
+      (λ x are j small some.
+      standing_wider m0 editions (with_edition editions (edition_of b)) old x j (λ e among. later among) (are j small some)) before.safely)
+      (at_every_from {P = AreStanding m0 (with_edition editions (edition_of b)) old} spread.ran.more spread.ran.is
+      (λ x at j small some. standing_at x at j small (before.safe j small some)))
 
   pub stage : SoFar slots m0 last twice (with_edition editions (edition_of b)) old new
   stage = record {
@@ -462,10 +491,17 @@ module _ (slots : Slots) (m0 b last : Membership) (twice twice_now : Option ℕ)
     one_list = one_list;
     reserved =
         at_every_join
-        (at_every_mapped {P = AreReserved slots editions m0 old} {Q = AreReserved slots (with_edition editions (edition_of b)) m0 old}
-        (λ x r. record { editions = r.editions; within = λ e among. later (r.within e among); ran = r.ran; reserved = r.reserved; reached = r.reached })
+        (at_every_mapped {P = AreReserved twice slots editions m0 old} {Q = AreReserved twice slots (with_edition editions (edition_of b)) m0 old}
+        (λ x r. record {
+          editions = r.editions;
+          within = λ e among. later (r.within e among);
+          ran = r.ran;
+          reserved = r.reserved;
+          reached = r.reached;
+          left_out = r.left_out;
+        })
         before.reserved)
-        (at_every_from {P = AreReserved slots (with_edition editions (edition_of b)) m0 old} spread.ran.more spread.ran.is
+        (at_every_from {P = AreReserved twice slots (with_edition editions (edition_of b)) m0 old} spread.ran.more spread.ran.is
         (λ x at. reserved_at x (ran_before {allowed = IsSpreading b to twice_now} spread.ran at)));
     steady = stays_join {allowed = IsSpreading b to twice_now} before.steady spread.ran spread.steady;
     apart = apart_after before.apart spread;
@@ -474,6 +510,6 @@ module _ (slots : Slots) (m0 b last : Membership) (twice twice_now : Option ℕ)
     geometry = ap (λ (a : Configuration). a.geometry) array_same ∙ before.geometry;
     least = subst (λ d. m0.drawn ≤ d) (sym drawn_same) before.least;
     rising = rising;
-    safe = λ j small not_twice some. safe_after j small not_twice (before.safe j small not_twice some);
+    safe = λ j small some. safe_after j small (before.safe j small some);
     safely = safely_after;
   }

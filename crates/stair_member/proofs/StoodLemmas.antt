@@ -28,7 +28,7 @@ use Rattle.stair_member.specs.declared.aim.Aim.{Aim}
 use Rattle.stair_member.specs.declared.why.Why.{Why}
 use Rattle.stair_member.specs.declared.why.Why.TheVariants.{Here, Gone, NoSuper, OtherArray, OtherSlot, MarkedDown, OtherJoined, Rebuilding}
 use Rattle.stair_member.proofs.CountingLemmas.{common}
-use Rattle.stair_member.proofs.EditionLemmas.{IsOf, Entry, Issue, held_of, holds_copy}
+use Rattle.stair_member.proofs.EditionLemmas.{IsOf, Entry, Issue, IsWritable, held_of, holds_copy}
 use Rattle.stair_member.proofs.FencingLemmas.{IsWhole, Reaches, known, from, on_disk, reaches, there}
 use Rattle.stair_member.proofs.StandingLemmas.{others}
 use Rattle.stair_member.proofs.SuperLemmas.{counts_bears}
@@ -73,7 +73,7 @@ not_down : (why : Why) → (why ≡ Here) ⊎ (why ≡ Rebuilding) → mark_for 
 not_down why (inl here) down = let e : Live ≡ Down = sym (ap mark_for here) ∙ down in cc
 not_down why (inr here) down = let e : mark.Rebuilding ≡ Down = sym (ap mark_for here) ∙ down in cc
 
-formed_here : (m last : Membership) (j : ℕ) → IsMembership last → Stands m last → j < m.array.geometry.n
+pub formed_here : (m last : Membership) (j : ℕ) → IsMembership last → Stands m last → j < m.array.geometry.n
     → (why_of last j ≡ Here) ⊎ (why_of last j ≡ Rebuilding) → IsSuperblock (copy_of (edition_of last) j)
 formed_here m last j is stands below here =
     record {
@@ -88,7 +88,7 @@ formed_here m last j is stands below here =
     }
 
 module _ (aim : Aim) (gone : Slots) (m last : Membership) (old new : List Happening) (f : IsFencing aim gone m last old new) (is : IsMembership last)
-    (stands : Stands m last) (image : Image) (left : CrashMayLeave new image) (r : AreReserved f.issued.slots f.issued.editions m old new) where
+    (stands : Stands m last) (image : Image) (left : CrashMayLeave new image) (r : AreReserved (admitted aim) f.issued.slots f.issued.editions m old new) where
   end : IsMoment old new new
   end = moment_last f.issued.ran.more f.issued.ran.is
 
@@ -115,7 +115,7 @@ module _ (aim : Aim) (gone : Slots) (m last : Membership) (old new : List Happen
     place_in : 1 - place_of last j < 2
     place_in = omega arith
 
-    it_is : IsOf f.issued.slots r.editions j ((image_now old j).cell (1 - place_of last j)) (copy_of (edition_of last) j)
+    it_is : IsOf (IsWritable f.issued.slots old) r.editions j ((image_now old j).cell (1 - place_of last j)) (copy_of (edition_of last) j)
         → (e : Edition) × IsLast e × (copy_of (edition_of last) j ≡ copy_of e j)
     it_is (Entry was) =
         absurd
@@ -142,7 +142,7 @@ module _ (aim : Aim) (gone : Slots) (m last : Membership) (old new : List Happen
     last_edition : (e : Edition) × IsLast e × (copy_of (edition_of last) j ≡ copy_of e j)
     last_edition =
         it_is
-        (held_of f.issued.slots r.editions j ((image_now old j).cell (1 - place_of last j)) ((image j).cell (1 - place_of last j))
+        (held_of (IsWritable f.issued.slots old) r.editions j ((image_now old j).cell (1 - place_of last j)) ((image j).cell (1 - place_of last j))
         (copy_of (edition_of last) j) ((there aim gone m last old new f new end image left r j below whole).each (1 - place_of last j) place_in)
         last_place)
 
@@ -178,7 +178,7 @@ module _ (aim : Aim) (gone : Slots) (m last : Membership) (old new : List Happen
       bears : Bears m.array.geometry current.slot ((image current.slot).cell) current
       bears = counts_bears m.array.geometry image current.slot current is_current.counts
 
-      at_last_epoch : IsOf f.issued.slots r.editions current.slot ((image_now old current.slot).cell bears.place) current
+      at_last_epoch : IsOf (IsWritable f.issued.slots old) r.editions current.slot ((image_now old current.slot).cell bears.place) current
           → current.array ≡ last.array
       at_last_epoch (Entry was) =
           absurd
@@ -230,5 +230,5 @@ pub stands : {offline : ℕ → Type 0} (aim : Aim) (gone : Slots) (m last : Mem
     → AtMost m.array.geometry.m (IsFailed offline m.array.geometry image current) → IsNamedBy last image current
 stands {offline} aim gone m last old new image current st left =
     stands_then aim gone m last old new st.fencing st.member st.established.stands image left
-    (at_last {P = AreReserved st.fencing.issued.slots st.fencing.issued.editions m old} st.fencing.issued.reserved) {offline = offline} current
+    (at_last {P = AreReserved (admitted aim) st.fencing.issued.slots st.fencing.issued.editions m old} st.fencing.issued.reserved) {offline = offline} current
     st.on_disk

@@ -29,6 +29,19 @@ pub super_held : (cell : ℕ → Cell) (s : Superblock) → IsSuperOf cell s →
 super_held cell s (First a _) = record { place = 0; place_in = omega arith; super = s; holds = a }
 super_held cell s (Second a _) = record { place = 1; place_in = omega arith; super = s; holds = a }
 
+-- in which of the two it lies
+pub super_at : {cell : ℕ → Cell} {s : Superblock} → IsSuperOf cell s → HoldsSuper (cell 0) s ⊎ HoldsSuper (cell 1) s
+super_at (First holds rest) = inl holds
+super_at (Second holds rest) = inr holds
+
+-- media that hold the same superblocks have the same one
+pub super_by_holds : (a b : ℕ → Cell) (s : Superblock) → ((k : ℕ) (t : Superblock) → k < 2 → HoldsSuper (a k) t → HoldsSuper (b k) t)
+    → ((k : ℕ) (t : Superblock) → k < 2 → HoldsSuper (b k) t → HoldsSuper (a k) t) → IsSuperOf a s → IsSuperOf b s
+super_by_holds a b s to from (First holds rest) =
+    First (to 0 s (omega arith) holds) (λ other there. rest other (from 1 other (omega arith) there))
+super_by_holds a b s to from (Second holds rest) =
+    Second (to 1 s (omega arith) holds) (λ other there. rest other (from 0 other (omega arith) there))
+
 -- the cells of the two places alone tell it
 pub super_cells : (a b : ℕ → Cell) (s : Superblock) → a 0 ≡ b 0 → a 1 ≡ b 1 → IsSuperOf a s → IsSuperOf b s
 super_cells a b s first second (First holds rest) =

@@ -1,8 +1,10 @@
 -- The calls of a survey.
-use Rattle.std.specs.Prelude.{◌≡◌, ℕ, zero, suc, List, ⊤}
-use Rattle.stair_rack.specs.Answers.{Calls}
-use Rattle.stair_rack.specs.History.{Happening, SlotCall, Attach, Sectors, Read, Write, Sync}
+use Rattle.std.specs.Prelude.{◌≡◌, ◌⊎◌, ℕ, zero, suc, List, ⊤}
+use Rattle.stair_rack.specs.Answers.{Calls, Ran, any_call}
+use Rattle.stair_rack.specs.History.{Happening, SlotCall, Attach, Sectors, Read, Write, Sync, slot_state}
+use Rattle.stair_rack.specs.Sector.{Cell, Damaged, content}
 use Rattle.stair_rack.specs.declared.rack.Got.{Got}
+use Rattle.stair_rack.specs.declared.rack.Got.TheVariants as got
 use Rattle.stair_rack.specs.declared.rack.Reply.TheVariants.{Done, Gone}
 
 -- The calls on slot j: it is attached, and where it is there each superblock place is read, once.
@@ -11,6 +13,34 @@ pub data AsksSlot (j : ℕ) (old new : List Happening) : Type 0 where
   There : (attached between : List Happening) (first second : Got)
       → Calls old attached j (Attach Done) → Calls attached between j (Read 0 first)
       → Calls between new j (Read 1 second) → AsksSlot j old new
+
+-- What a read that was answered so found in sector k of slot j, as it stands at h: its content, or nothing that can be read;
+-- and the slot counts as gone where it was gone to the read.
+abbrev pub IsWhatWasRead : Type 0 → Got → List Happening → ℕ → ℕ → Cell → Type 0
+IsWhatWasRead gone got.Good h j k cell = cell ≡ content ((slot_state h j).sector k)
+IsWhatWasRead gone got.Bad h j k cell = cell ≡ Damaged
+IsWhatWasRead gone got.Gone h j k cell = (cell ≡ Damaged) × gone
+
+-- The same calls, and that they found these cells: of the medium that the attach found, each place as its one read found it.
+-- The slot counts as gone where it was so to one of them, and nowhere else.
+pub data FindsSlot (gone : Type 0) (j : ℕ) (cell : ℕ → Cell) (old new : List Happening)
+    : Type 0 where
+  FoundNone : Calls old new j (Attach Gone) → cell 0 ≡ Damaged → cell 1 ≡ Damaged → gone
+      → FindsSlot gone j cell old new
+  FoundBoth : (attached between : List Happening) (first second : Got)
+      → Calls old attached j (Attach Done) → Calls attached between j (Read 0 first)
+      → Calls between new j (Read 1 second) → IsWhatWasRead gone first between j 0 (cell 0)
+      → IsWhatWasRead gone second new j 1 (cell 1)
+      → (gone → (first ≡ got.Gone) ⊎ (second ≡ got.Gone)) → FindsSlot gone j cell old new
+
+-- in a part of a stretch
+pub record FindsWithin (gone : Type 0) (j : ℕ) (cell : ℕ → Cell) (old new : List Happening)
+    : Type 0 where
+  pub from : List Happening
+  pub to : List Happening
+  pub sooner : Ran any_call old from
+  pub finds : FindsSlot gone j cell from to
+  pub later : Ran any_call to new
 
 -- these calls on the slots below this one, in rising order, and no others
 abbrev pub AsksBelow : ℕ → List Happening → List Happening → Type 0

@@ -42,13 +42,6 @@ joined_then aim epoch j mark.Down joined = 0
 joined_then aim epoch j mark.Live joined = joined_up aim epoch j joined
 joined_then aim epoch j mark.Rebuilding joined = joined_up aim epoch j joined
 
--- an admitted slot has its first superblock in place 0
-abbrev pub place_then : Aim → ℕ → ℕ → ℕ
-place_then (Admit slot) j place = if j == slot then 0 else place
-place_then (Promote slot) j place = place
-place_then Fence j place = place
-place_then (Stamp frozen label) j place = place
-
 -- the slot of the aim is one of the array's; and one that is promoted is here
 abbrev pub MayBegin : Aim → Membership → Type 0
 MayBegin (Admit slot) m = slot < m.array.geometry.n
@@ -77,4 +70,4 @@ pub record Begins (aim : Aim) (m begun : Membership) : Type 0 where
   pub names : Names aim m.array begun.whys m.drawn begun.array
   pub drawn : begun.drawn ≡ m.drawn
   pub whys : (j : ℕ) → j < 32 → why_of begun j ≡ aimed aim j (why_of m j)
-  pub places : (j : ℕ) → j < 32 → place_of begun j ≡ place_then aim j (place_of m j)
+  pub places : begun.places ≡ m.places

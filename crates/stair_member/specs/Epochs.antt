@@ -1,16 +1,21 @@
 -- What establishing an epoch means: which superblocks are written, when an epoch stands, and why none does.
 use Rattle.std.specs.Prelude.{◌≡◌, ◌≢◌, ◌⊎◌, ℕ, ◌+◌, ◌-◌, ◌^◌, ◌<◌, ◌≤◌, true, IsTrue, List, [], Contains, Option, Some, IsSome}
 use Rattle.stair_model.specs.Slots.{Slots, HasSlot, IsSlotSet}
-use Rattle.stair_rack.specs.Answers.{Ran}
+use Rattle.stair_rack.specs.Answers.{Ran, is_ready}
 use Rattle.stair_rack.specs.Count.{Rose}
-use Rattle.stair_rack.specs.History.{Happening, SlotCall, Sync, Write, slot_state, stopped}
+use Rattle.stair_rack.specs.History.{Happening, SlotCall, Attach, Sectors, Read, Sync, Write, slot_state, stopped}
 use Rattle.stair_rack.specs.Media.{has_sector}
-use Rattle.stair_rack.specs.Moments.{AtEveryMoment}
+use Rattle.stair_rack.specs.Moments.{AtEveryMoment, IsMoment}
 use Rattle.stair_rack.specs.Offline.{ButForOutside, IsHeld, IsOfflineUntilAttached}
+use Rattle.stair_rack.specs.Passes.{Landed}
 use Rattle.stair_rack.specs.Sector.{Damaged, Good, settled}
+use Rattle.stair_rack.specs.Stretch.{WasAnswered}
 use Rattle.stair_rack.specs.declared.rack.Reply.{Reply}
+use Rattle.stair_rack.specs.declared.rack.Reply.TheVariants as reply
 use Rattle.stair_super.specs.Spelling.{spelled}
 use Rattle.stair_super.specs.Superblock.{Superblock, IsSuperblock, mark_in}
+use Rattle.stair_super.specs.declared.configuration.Configuration.{Configuration}
+use Rattle.stair_super.specs.declared.mark.Mark.TheVariants as mark
 use Rattle.stair_member.specs.Aims.{IsAimed, admitted, mark_for}
 use Rattle.stair_member.specs.Counting.{AllBut, AtMost, MoreThan}
 use Rattle.stair_member.specs.Editions.{Edition, copy_of, edition_of}
@@ -42,6 +47,16 @@ pub data IsIssuing (slots : Slots) (editions : List Edition) (j : ℕ) (call : S
 abbrev pub IsOnDisk : List Happening → List Happening → ℕ → ℕ → Superblock → Type 0
 IsOnDisk old h j k block = ButForOutside old h j k (λ s. s ≡ settled (Good (spelled block)))
 
+-- Place k of slot j got this superblock: it landed there, and from a moment after that on, at which the slot was ready, the
+-- place has it on the disk, but for the outside. No call that establishes an epoch attaches a slot, so the medium hadn't been
+-- pulled by that moment.
+pub record HasGot (old new : List Happening) (j k : ℕ) (block : Superblock) : Type 0 where
+  pub moment : List Happening
+  pub is_one : IsMoment old moment new
+  pub ready : is_ready moment j ≡ true
+  pub landed : Landed old moment j k (spelled block)
+  pub since : AtEveryMoment (λ h. IsOnDisk old h j k block) moment new
+
 -- Slot j has one of these editions on its disk, but for the outside: with at least this draw, and of at least this epoch.
 pub record HasDraw (editions : List Edition) (draw epoch : ℕ) (old h : List Happening) (j : ℕ)
     : Type 0 where
@@ -54,20 +69,44 @@ pub record HasDraw (editions : List Edition) (draw epoch : ℕ) (old h : List Ha
   pub place_in : place < 2
   pub on_disk : IsOnDisk old h j place (copy_of edition j)
 
--- What was written up to a moment, by a member that began so: these editions alone, which are some of the call's; and before
--- one of a new epoch is written, all slots but m have a draw for it, whose superblock names the epoch before it.
-pub record AreReserved (slots : Slots) (all : List Edition) (m : Membership)
+-- Slot j, one of these, was given such an edition: it got it in a place, and has it there since, but for the outside. A slot
+-- that was pulled before has none.
+pub record WasGiven (slots : Slots) (editions : List Edition) (draw epoch : ℕ)
+    (old h : List Happening) (j : ℕ) : Type 0 where
+  pub slot : HasSlot slots j
+  pub has : HasDraw editions draw epoch old h j
+  pub got : HasGot old h j has.place (copy_of has.edition j)
+
+-- the slot is here, or is to be admitted
+abbrev pub IsTaken : Option ℕ → Membership → ℕ → Type 0
+IsTaken joining m j = IsHere m j ⊎ ((joining ≡ Some j) × (j < m.array.geometry.n))
+
+-- a new epoch marks a slot Down that took part when the call began, or was to be admitted
+pub record IsDropped (joining : Option ℕ) (m : Membership) (array : Configuration) (j : ℕ)
+    : Type 0 where
+  pub is_new : m.array.epoch < array.epoch
+  pub taken : IsTaken joining m j
+  pub down : mark_in array j ≡ mark.Down
+
+-- What was written up to a moment, by a member that began so: these editions alone, which are some of the call's.
+pub record AreReserved (joining : Option ℕ) (slots : Slots) (all : List Edition) (m : Membership)
     (old h : List Happening) : Type 0 where
   pub editions : List Edition
   pub within : (e : Edition) → Contains editions e → Contains all e
   pub ran : Ran (IsIssuing slots editions) old h
+  -- before one of a new epoch is written, all slots but m were given a draw for it, which names the epoch before it
   pub reserved : (e : Edition) → Contains editions e → m.array.epoch < e.array.epoch
       → AllBut m.array.geometry.n m.array.geometry.m
-      (λ j. HasDraw editions e.array.epoch m.array.epoch old h j)
+      (λ j. WasGiven slots editions e.array.epoch m.array.epoch old h j)
   pub reached : (a b : Edition) → Contains editions a → Contains editions b
       → a.array.epoch < b.array.epoch
       → AllBut m.array.geometry.n m.array.geometry.m
-      (λ j. HasDraw editions b.array.epoch a.array.epoch old h j)
+      (λ j. WasGiven slots editions b.array.epoch a.array.epoch old h j)
+  -- and each slot that it drops was gone before: it is offline, where it was held and had both places
+  pub left_out : (e : Edition) (j : ℕ) → Contains editions e → IsDropped joining m e.array j
+      → (before : List Happening) → IsHeld before old j
+      → ((slot_state old j).attached ≡ true → IsTrue (has_sector (slot_state old j).size 1))
+      → IsOfflineUntilAttached before h j
 
 -- Of a slot with a medium, at a moment: the place that isn't next is as it was and the next one wasn't synced yet, but for
 -- the outside; or it has an edition of the call on its disk, with a new draw.
@@ -97,10 +136,6 @@ pub record IsIssued (aim : Aim) (gone : ℕ → Type 0) (m last : Membership) (e
 abbrev pub IsPlaceSettled : List Happening → List Happening → ℕ → ℕ → Type 0
 IsPlaceSettled old h j k = ButForOutside old h j k (λ s. s.since ≡ [])
 
--- the slot is here, or is to be admitted
-abbrev pub IsTaken : Option ℕ → Membership → ℕ → Type 0
-IsTaken joining m j = IsHere m j ⊎ ((joining ≡ Some j) × (j < m.array.geometry.n))
-
 -- What a call wrote that began with the member m and ended with `last`, Ok or refused, for this, where the slots in `gone`
 -- were gone to it.
 pub record Issued (aim : Aim) (gone : Slots) (m last : Membership) (old new : List Happening)
@@ -116,14 +151,14 @@ pub record Issued (aim : Aim) (gone : Slots) (m last : Membership) (old new : Li
   -- a greater draw never has an earlier epoch
   pub rising : (a b : Edition) → Contains editions a → Contains editions b → a.draw < b.draw
       → a.array.epoch ≤ b.array.epoch
-  pub reserved : AtEveryMoment (AreReserved slots editions m old) old new
-  -- the superblock that a slot has is never written over, but that of the slot that is to be admitted
-  pub standing : AtEveryMoment (λ h. (j : ℕ) → HasSlot slots j → admitted aim ≢ Some j
+  pub reserved : AtEveryMoment (AreReserved (admitted aim) slots editions m old) old new
+  -- the superblock that a slot has is never written over
+  pub standing : AtEveryMoment (λ h. (j : ℕ) → HasSlot slots j
       → IsSome (slot_state old j).size → IsStanding m editions old h j) old new
-  -- where the epoch that is the member's at last is a new one, all slots but m have a draw for it then
+  -- where the epoch that is the member's at last is a new one, all slots but m were given a draw for it
   pub drew : m.array.epoch < last.array.epoch
       → AllBut m.array.geometry.n m.array.geometry.m
-      (λ j. HasDraw editions last.array.epoch m.array.epoch old new j)
+      (λ j. WasGiven slots editions last.array.epoch m.array.epoch old new j)
   -- a superblock place with nothing unsynced at first has none at last, or the rack is stopped
   pub steady : (j k : ℕ) → k < 2 → IsSome (slot_state old j).size
       → ((slot_state old j).sector k).since ≡ []
@@ -135,12 +170,27 @@ pub record Issued (aim : Aim) (gone : Slots) (m last : Membership) (old new : Li
 
 -- SLOTS THAT WERE GONE
 
--- these slots answered gone in the call, and a held one whose medium has both places is offline until it is attached
+-- a write or a sync that was answered gone
+abbrev pub IsGoneCall : SlotCall → Type 0
+IsGoneCall (Attach answer) = ⊥
+IsGoneCall (Sectors size) = ⊥
+IsGoneCall (Read k answer) = ⊥
+IsGoneCall (Write k bytes answer) = answer ≡ reply.Gone
+IsGoneCall (Sync answer) = answer ≡ reply.Gone
+
+-- where the call was answered so, the slot is one of these
+abbrev pub IsGoneOf : (ℕ → Type 0) → ℕ → SlotCall → Type 0
+IsGoneOf gone j call = IsGoneCall call → gone j
+
+-- These slots answered gone in the call, and a held one whose medium has both places is offline until it is attached. On an
+-- honest rack all that answered so are among them.
 pub record WereGone (gone : Slots) (m last : Membership) (old new : Telling) : Type 0 where
   pub formed : IsSlotSet gone
   pub below : (j : ℕ) → HasSlot gone j → j < m.array.geometry.n
   pub rose : (j : ℕ) → HasSlot gone j → Rose (old.gones j) (new.gones j)
   pub dropped : (j : ℕ) → HasSlot gone j → why_of last j ≡ Gone
+  pub told : IsTrue new.honest → (j : ℕ) (call : SlotCall)
+      → WasAnswered j call old.history new.history → IsGoneCall call → HasSlot gone j
   pub shut : IsTrue new.honest → (before : List Happening) (j : ℕ) → HasSlot gone j
       → IsHeld before old.history j
       → ((slot_state old.history j).attached ≡ true
@@ -160,10 +210,13 @@ pub record Stands (m last : Membership) : Type 0 where
   -- enough slots are live
   pub enough : AtMost m.array.geometry.m (IsMissing last)
 
--- On an honest rack each slot that is here has a superblock of it on its disk, but for the outside, and was synced whole; one
--- that was admitted has it in both places.
+-- On an honest rack each slot that is here got a superblock of it in the call, has it on its disk, but for the outside, and
+-- was synced whole; one that was admitted has it in both places.
 pub record StandsOnDisk (joining : Option ℕ) (last : Membership) (old new : List Happening)
     : Type 0 where
+  pub got : (j k : ℕ) → IsHere last j
+      → (k ≡ 1 - place_of last j) ⊎ ((joining ≡ Some j) × (k < 2))
+      → HasGot old new j k (copy_of (edition_of last) j)
   pub on_disk : (j : ℕ) → IsHere last j
       → IsOnDisk old new j (1 - place_of last j) (copy_of (edition_of last) j)
   pub in_both : (j k : ℕ) → joining ≡ Some j → IsHere last j → k < 2

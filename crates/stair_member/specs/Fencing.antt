@@ -6,6 +6,7 @@ use Rattle.stair_rack.specs.Answers.{IsHistory}
 use Rattle.stair_rack.specs.Crash.{CrashMayLeave, EachImage}
 use Rattle.stair_rack.specs.History.{Happening, slot_state}
 use Rattle.stair_rack.specs.Media.{Image}
+use Rattle.stair_rack.specs.Offline.{IsAttached}
 use Rattle.stair_rack.specs.Stretch.{NothingReturned}
 use Rattle.stair_super.specs.Superblock.{Superblock, joined_at, joined_in, mark_at, mark_in}
 use Rattle.stair_super.specs.declared.mark.Mark.TheVariants.{Down}
@@ -41,21 +42,31 @@ abbrev pub HasDrawn : Geometry → Image → ℕ → ℕ → Type 0
 HasDrawn g image epoch j = (s : Superblock) → Counts g image j s
     → ¬ IsLost ((image j).cell 0) → ¬ IsLost ((image j).cell 1) → epoch ≤ s.draw
 
--- An image as a member knows the array that has looked at it: what it saw covers what the media bear.
-pub record IsKnownTo (joining : Option ℕ) (m : Membership) (image : Image) : Type 0 where
+-- what lies aside of a slot that takes part and is attached has the joined number that the member means
+abbrev pub HaveOwnNumbers : Membership → (ℕ → Type 0) → Image → Type 0
+HaveOwnNumbers m attached image = (j : ℕ) (s : Superblock) → IsHere m j → attached j
+    → HoldsSuper ((image j).cell (1 - place_of m j)) s → s.joined ≡ joined_in m.array j
+
+-- An image as a member knows the array that has looked at it, where these slots are attached: what it saw covers what the
+-- media bear.
+pub record IsKnownTo (joining : Option ℕ) (m : Membership) (attached : ℕ → Type 0)
+    (image : Image) : Type 0 where
   pub orderly : IsOrderly m.array.geometry image
   -- no medium bears a later epoch than the member's, and that one names what the member has
   pub latest : (j : ℕ) (s : Superblock) → Bears m.array.geometry j ((image j).cell) s
       → s.array.epoch ≤ m.array.epoch
   pub named : (j : ℕ) (s : Superblock) → Bears m.array.geometry j ((image j).cell) s
       → s.array.epoch ≡ m.array.epoch → s.array ≡ m.array
-  -- a slot that is here, or is to be admitted, holds no superblock of a greater draw than was seen, of whatever array
-  pub drawn : (j k : ℕ) (s : Superblock) → IsTaken joining m j → k < 2
+  -- a slot that is here, or is to be admitted, and is attached holds no superblock of a greater draw than was seen, of
+  -- whatever array
+  pub drawn : (j k : ℕ) (s : Superblock) → IsTaken joining m j → attached j → k < 2
       → HoldsSuper ((image j).cell k) s → s.draw ≤ m.drawn
   -- the superblock of a slot that is here doesn't lie in the place that is written next, unless a place of it is lost
   pub aside : (j : ℕ) (s : Superblock) → IsHere m j → Counts m.array.geometry image j s
       → ¬ IsLost ((image j).cell 0) → ¬ IsLost ((image j).cell 1)
       → HoldsSuper ((image j).cell (1 - place_of m j)) s
+  -- and whatever lies in the other place is of the admission that the member means
+  pub own : HaveOwnNumbers m attached image
   -- The member's epoch is in order, though no medium may bear it any more. The slot that is to be admitted is an exception,
   -- since its superblock may be written over.
   pub reserved : AllBut m.array.geometry.n m.array.geometry.m
@@ -66,13 +77,15 @@ pub record IsKnownTo (joining : Option ℕ) (m : Membership) (image : Image) : T
   pub joined : (i j : ℕ) (s : Superblock) → Bears m.array.geometry i ((image i).cell) s
       → mark_at s j ≢ Down → mark_in m.array j ≢ Down → joined_at s j ≤ joined_in m.array j
 
--- a call begins with this member: nothing is unsynced in a superblock place, and the member knows what a crash may leave
+-- A call begins with this member: nothing is unsynced in a superblock place, the slot that is to be admitted is Down, and the
+-- member knows what a crash may leave.
 pub record IsBegun (joining : Option ℕ) (m : Membership) (old : List Happening) : Type 0 where
   pub history : IsHistory old
   pub member : IsMembership m
   pub settled : (j k : ℕ) → j < m.array.geometry.n → k < 2
       → ((slot_state old j).sector k).since ≡ []
-  pub known : EachImage (IsKnownTo joining m) old
+  pub down : (j : ℕ) → joining ≡ Some j → j < m.array.geometry.n → mark_in m.array j ≡ Down
+  pub known : EachImage (IsKnownTo joining m (IsAttached old)) old
 
 -- what an epoch names once it stands, in an image: its superblocks are current, and the slots that are live are here
 pub record IsNamedBy (last : Membership) (image : Image) (current : Superblock) : Type 0 where
@@ -98,8 +111,9 @@ pub record HasStood (aim : Aim) (gone : Slots) (m last : Membership) (old new : 
   -- the slot that is promoted was here
   pub promoted : (slot : ℕ) → aim ≡ Promote slot → IsHere m slot
 
--- What is asked of the slot that the next call is to admit: it isn't here, and holds no greater draw than was seen.
+-- What is asked of the slot that the next call is to admit: it isn't here, and where it is attached its medium holds no
+-- greater draw than was seen.
 pub record MayJoin (next : Option ℕ) (last : Membership) (h : List Happening) : Type 0 where
   pub absent : (j : ℕ) → next ≡ Some j → ¬ IsHere last j
-  pub drawn : EachImage (λ image. (j k : ℕ) (s : Superblock) → next ≡ Some j → k < 2
-      → HoldsSuper ((image j).cell k) s → s.draw ≤ last.drawn) h
+  pub drawn : EachImage (λ image. (j k : ℕ) (s : Superblock) → next ≡ Some j → IsAttached h j
+      → k < 2 → HoldsSuper ((image j).cell k) s → s.draw ≤ last.drawn) h

@@ -7,6 +7,7 @@ use Rattle.stair_rack.specs.Media.{Image}
 use Rattle.stair_rack.specs.Offline.{IsHeld}
 use Rattle.stair_rack.specs.Sector.{Cell, Damaged}
 use Rattle.stair_rack.specs.Telling.{Telling, IsFoundGone, IsReading}
+use Rattle.stair_member.specs.Asked.{FindsWithin}
 
 -- What was read is itself an image: the cells of each slot's superblock places, damaged where nothing could be read. Which
 -- array stands, its current superblock and its live slots are those of this image.
@@ -24,6 +25,9 @@ pub data IsPlaceFound (gone : Type 0) (j k : ℕ) (old new : Telling) (cell : Ce
 pub record IsFound (f : Findings) (j : ℕ) (old new : Telling) : Type 0 where
   pub places : (k : ℕ) → k < 2
       → IsPlaceFound (HasSlot f.gone j) j k old new ((f.image j).cell k)
+  -- on an honest rack: by its calls, each place as its one read found it
+  pub finds : IsTrue new.honest
+      → FindsWithin (HasSlot f.gone j) j ((f.image j).cell) old.history new.history
   pub gone : HasSlot f.gone j → IsFoundGone j old new
   -- a slot that wasn't gone is held, in whatever session this happened
   pub held : IsTrue new.honest → ¬ HasSlot f.gone j → (before : List Happening)

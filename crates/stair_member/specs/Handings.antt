@@ -10,7 +10,7 @@ use Rattle.stair_rack.specs.declared.rack.Reply.{Reply}
 use Rattle.stair_rack.specs.declared.rack.Reply.TheVariants as reply
 use Rattle.stair_super.specs.Spelling.{spelled}
 use Rattle.stair_member.specs.Changes.{issue}
-use Rattle.stair_member.specs.Epochs.{IsOnDisk, IsPlaceSettled}
+use Rattle.stair_member.specs.Epochs.{HasGot, IsGoneOf, IsOnDisk, IsPlaceSettled}
 use Rattle.stair_member.specs.Membership.{Membership, place_of}
 
 -- a slot that is attached has both superblock places
@@ -59,10 +59,20 @@ pub record StaysApart (old new : List Happening) : Type 0 where
   pub each : (j pulls : ℕ) → GoesOnApart pulls j old → AtEveryMoment (AreApart pulls j) old new
   pub after : (j pulls : ℕ) → GoesOnApart pulls j old → GoesOnApart pulls j new
 
--- slot j was handed its superblock, or was gone
-pub record Handed (m : Membership) (j : ℕ) (both : Bool) (answer : Reply)
+-- What is left of a slot that was gone to a pass, or that the pass didn't come to: it wasn't synced, and its next place is the
+-- same; or its superblock stands in the place that isn't next.
+pub data IsLeft (m last : Membership) (j : ℕ) (old new : List Happening) : Type 0 where
+  Unsynced : place_of last j ≡ place_of m j → Ran (IsUnsynced m j) old new
+      → IsLeft m last j old new
+  Stands : IsOnDisk old new j (1 - place_of last j) (issue m j) → IsLeft m last j old new
+
+-- slot j was handed its superblock, by a member that is `last` afterwards, or was gone
+pub record Handed (m last : Membership) (j : ℕ) (both : Bool) (answer : Reply)
     (old new : List Happening) : Type 0 where
   pub ran : Ran (IsHanding m j both) old new
+  pub told : Ran (IsGoneOf (λ i. (i ≡ j) × (answer ≡ reply.Gone))) old new
+  pub got : answer ≡ reply.Done → (k : ℕ) → IsGiven m both j k
+      → HasGot old new j k (issue m j)
   pub stands : answer ≡ reply.Done → (k : ℕ) → IsGiven m both j k
       → IsOnDisk old new j k (issue m j)
   pub synced : answer ≡ reply.Done → (k : ℕ) → IsSome (slot_state old j).size
@@ -71,8 +81,8 @@ pub record Handed (m : Membership) (j : ℕ) (both : Bool) (answer : Reply)
   pub apart : StaysApart old new
   pub shut : answer ≡ reply.Gone → (before : List Happening) → IsHeld before old j
       → HasPlaces (slot_state old j) → IsOfflineUntilAttached before new j
-  pub unsynced : answer ≡ reply.Gone → both ≡ false → Ran (IsUnsynced m j) old new
-  pub between : both ≡ false → AtEveryMoment (IsGivenOrNot m j old) old new
+  pub left : answer ≡ reply.Gone → IsLeft m last j old new
+  pub between : AtEveryMoment (IsGivenOrNot m j old) old new
 
 -- the slot that is handed both places
 abbrev pub is_twice : Option ℕ → ℕ → Bool
@@ -86,19 +96,22 @@ IsSpreading m to twice i call = HasSlot to i × IsGiving m (is_twice twice i) i 
 pub record SpreadBelow (m : Membership) (to : Slots) (twice : Option ℕ) (i : ℕ)
     (old new : List Happening) : Type 0 where
   pub ran : Ran (IsSpreading m to twice) old new
+  pub got : (j k : ℕ) → j < i → HasSlot to j → IsGiven m (is_twice twice j) j k
+      → HasGot old new j k (issue m j)
   pub stands : (j k : ℕ) → j < i → HasSlot to j → IsGiven m (is_twice twice j) j k
       → IsOnDisk old new j k (issue m j)
   pub synced : (j k : ℕ) → j < i → HasSlot to j → IsSome (slot_state old j).size
       → IsPlaceSettled old new j k
   pub steady : StaysSettled old new
   pub apart : StaysApart old new
-  pub untouched : (j : ℕ) → i ≤ j → is_twice twice j ≡ false → Ran (IsUnsynced m j) old new
-  pub between : (j : ℕ) → is_twice twice j ≡ false → AtEveryMoment (IsGivenOrNot m j old) old new
+  pub between : (j : ℕ) → AtEveryMoment (IsGivenOrNot m j old) old new
 
--- all slots of `to` were, or those below one that was gone
-pub record Spread (m : Membership) (to : Slots) (twice gone : Option ℕ)
+-- all slots of `to` were, by a member that is `last` afterwards, or those below one that was gone
+pub record Spread (m last : Membership) (to : Slots) (twice gone : Option ℕ)
     (old new : List Happening) : Type 0 where
   pub below : SpreadBelow m to twice (unwrap_or gone 32) old new
+  pub told : Ran (IsGoneOf (λ j. gone ≡ Some j)) old new
+  pub left : (j : ℕ) → unwrap_or gone 32 ≤ j → IsLeft m last j old new
   pub shut : (j : ℕ) → gone ≡ Some j → (before : List Happening) → IsHeld before old j
       → HasPlaces (slot_state old j) → IsOfflineUntilAttached before new j
 
@@ -124,5 +137,5 @@ pub record PlacesBelow (m last : Membership) (to : Slots) (twice : Option ℕ) (
   pub rest : last ≡ with_places m last.places
   pub done : (j : ℕ) → j < i → HasSlot to j
       → place_of last j ≡ place_after (is_twice twice j) (place_of m j)
-  pub others : (j : ℕ) → (¬ HasSlot to j) ⊎ (i ≤ j) → is_twice twice j ≡ false
-      → place_of last j ≡ place_of m j
+  pub out : (j : ℕ) → ¬ HasSlot to j → place_of last j ≡ place_of m j
+  pub later : (j : ℕ) → i ≤ j → is_twice twice j ≡ false → place_of last j ≡ place_of m j

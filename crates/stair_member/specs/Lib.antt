@@ -10,6 +10,7 @@ pub mod Reasons
 pub mod Membership
 pub mod StoredMember
 pub mod Survey
+pub mod Seeing
 pub mod Shows
 pub mod Aims
 pub mod Editions

@@ -4,7 +4,7 @@ use Rattle.stair_model.specs.Geometry.{Geometry}
 use Rattle.stair_rack.specs.Media.{Image}
 use Rattle.stair_rack.specs.Sector.{Cell}
 use Rattle.stair_super.specs.Superblock.{Superblock, joined_at, mark_at}
-use Rattle.stair_super.specs.declared.mark.Mark.TheVariants.{Down}
+use Rattle.stair_super.specs.declared.mark.Mark.TheVariants.{Down, Live}
 use Rattle.stair_member.specs.Counting.{AllBut, MoreThan}
 use Rattle.stair_member.specs.Superblocks.{HoldsSuper, IsSuperOf, Counts}
 use Rattle.stair_member.specs.Current.{IsLost, Serves}
@@ -33,6 +33,11 @@ abbrev pub HasReached : Geometry → Image → ℕ → ℕ → Type 0
 HasReached g image epoch j = (s : Superblock) → Counts g image j s
     → ¬ IsLost ((image j).cell 0) → ¬ IsLost ((image j).cell 1) → epoch ≤ s.array.epoch
 
+-- a medium whose superblock marks its slot Live hides none with another joined number
+abbrev pub HidesNoOther : Geometry → Image → Type 0
+HidesNoOther g image = (j : ℕ) (s newest : Superblock) → Bears g j ((image j).cell) s
+    → IsSuperOf ((image j).cell) newest → mark_at newest j ≡ Live → s.joined ≡ newest.joined
+
 -- The superblocks of the image are in order, hidden ones too.
 pub record IsOrderly (g : Geometry) (image : Image) : Type 0 where
   -- every epoch that a medium bears was drawn on all slots but m, so that the next one is drawn above it
@@ -44,6 +49,8 @@ pub record IsOrderly (g : Geometry) (image : Image) : Type 0 where
   pub hidden : (j : ℕ) (s newest : Superblock) → Bears g j ((image j).cell) s
       → IsSuperOf ((image j).cell) newest
       → Counts g image j newest × (s.array.epoch ≤ newest.array.epoch)
+  -- and where it marks the slot Live, it is of the same admission
+  pub hides : HidesNoOther g image
   -- an epoch is followed by a later one only once all slots but m have reached it
   pub reached : (i j : ℕ) (a b : Superblock) → Bears g i ((image i).cell) a
       → Bears g j ((image j).cell) b → a.array.epoch < b.array.epoch

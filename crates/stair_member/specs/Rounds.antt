@@ -25,7 +25,7 @@ pub record DrewOut (m last : Membership) (gone : Option ℕ) (old new : Telling)
   pub lives : (j : ℕ) → HasSlot live j ↔ IsLiveSlot m j
   pub places : PlacesBelow (with_draw m) last live None (unwrap_or gone 32)
   pub rose : (j : ℕ) → gone ≡ Some j → HasSlot live j × Rose (old.gones j) (new.gones j)
-  pub told : IsTrue new.honest → Spread (with_draw m) live None gone old.history new.history
+  pub told : IsTrue new.honest → Spread (with_draw m) last live None gone old.history new.history
   pub counts : NoneFalls old.bads new.bads old.gones new.gones
 
 -- nothing was done
@@ -55,7 +55,7 @@ pub record BeganOut (aim : Aim) (m last : Membership) (gone : Option ℕ) (old n
   pub places : PlacesBelow begun last here (admitted aim) (unwrap_or gone 32)
   pub rose : (j : ℕ) → gone ≡ Some j → HasSlot here j × Rose (old.gones j) (new.gones j)
   pub told : IsTrue new.honest
-      → Spread begun here (admitted aim) gone old.history new.history
+      → Spread begun last here (admitted aim) gone old.history new.history
   pub counts : NoneFalls old.bads new.bads old.gones new.gones
 
 pub data Round (aim : Aim) (m last : Membership) (gone : Option ℕ) (old new : Telling)

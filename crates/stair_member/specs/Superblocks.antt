@@ -1,5 +1,5 @@
 -- The superblocks of media, and which array stands by them.
-use Rattle.std.specs.Prelude.{◌≡◌, ◌<◌, ℕ, List}
+use Rattle.std.specs.Prelude.{◌≡◌, ◌<◌, ℕ, List, Option, None, Some}
 use Rattle.stair_model.specs.Geometry.{Geometry}
 use Rattle.stair_rack.specs.Media.{Image}
 use Rattle.stair_rack.specs.Sector.{Cell, Good}
@@ -13,6 +13,11 @@ pub record HoldsSuper (cell : Cell) (s : Superblock) : Type 0 where
   pub bytes : List ℕ
   pub good : cell ≡ Good bytes
   pub spells : SpellsSuperblock bytes s
+
+-- the superblock that the cell holds, None where it holds none
+abbrev pub HoldsThis : Cell → Option Superblock → Type 0
+HoldsThis cell None = (s : Superblock) → ¬ HoldsSuper cell s
+HoldsThis cell (Some s) = HoldsSuper cell s
 
 -- one of the two superblock places of a medium with these cells holds one, of whatever array
 pub record HasSuper (cell : ℕ → Cell) : Type 0 where

@@ -2,7 +2,7 @@
 ghost use Rattle.std.specs.Prelude.{◌≡◌, ◌≢◌, ◌<◌, ◌≤◌, ◌⊎◌, ℕ, Some, length, slice_index, slice_index_or};
 ghost use Rattle.stair_super.specs.Label.{IsLabel};
 ghost use Rattle.stair_super.specs.declared.mark.Mark.TheVariants as mark;
-ghost use Rattle.stair_member.specs.Changes.{Names, joined_then, place_then};
+ghost use Rattle.stair_member.specs.Changes.{Names, joined_then};
 ghost use Rattle.stair_member.specs.Aims.{aimed, frozen_then, label_then, mark_for};
 ghost use Rattle.stair_member.specs.declared.aim.Aim.TheVariants as admit;
 ghost use Rattle.stair_member.specs.declared.why.Why.TheVariants as why;
@@ -82,20 +82,6 @@ pub(crate) fn joins_of(marks: &[Mark; 32], joins: &[u64; 32], aim: &Aim, epoch: 
         joined[at] = joined_of(marks[at], joins[at], slot, aim, epoch);
     }
     joined
-}
-
-// The next place of each slot: an admitted one has its first superblock in place 0.
-pub(crate) fn places_of(places: &[u32; 32], aim: &Aim) -> [u32; 32]
-    requires { (j : ℕ) → aim.now ≡ admit.Admit j → j < 32 }
-    ensures each { (j : ℕ) → j < 32 → slice_index result j
-        ≡ place_then aim.now j (slice_index places.now j) }
-    ensures size { length result ≡ 32 }
-{
-    let mut next = *places;
-    if let Aim::Admit(slot) = aim {
-        next[usize::from(*slot)] = 0;
-    }
-    next
 }
 
 // Whether the array is frozen then.

@@ -16,7 +16,7 @@ ghost use Rattle.stair_member.specs.Establishing.{AreFallen, Leaves};
 ghost use Rattle.stair_member.specs.Membership.{IsMembership, IsMissing};
 
 use crate::aim::Aim;
-use crate::begin::{aimed_whys, begun_array, places_of};
+use crate::begin::{aimed_whys, begun_array};
 use crate::member::Member;
 use crate::why::Why;
 use stair_base::Slots;
@@ -118,9 +118,8 @@ impl Member {
         ensures rules { IsMembership self.new }
     {
         let whys = aimed_whys(&self.whys, aim);
-        let places = places_of(&self.places, aim);
         let array = begun_array(&self.array, &whys, aim, self.drawn);
-        *self = Member::new(array, self.drawn, whys, places);
+        *self = Member::new(array, self.drawn, whys, self.places);
     }
 
     // The slots that became Down since then.

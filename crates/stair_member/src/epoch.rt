@@ -73,11 +73,12 @@ pub fn stamp<R: Rack>(
 /// Admits the device in a slot that is Down: establishes an epoch, as [`fence`] does, in which the slot is Rebuilding and
 /// its joined number is the epoch. The slots that became Down are answered.
 ///
-/// The slot's superblock is written to both its places, each synced before the next. Where the slot was gone meanwhile
-/// `Gone` comes, and an epoch without it stands. Otherwise it is refused as a fence is.
+/// The slot's superblock is written to its next place and then to the other one, each synced before the next. Where the slot
+/// was gone meanwhile `Gone` comes, and an epoch without it stands. Otherwise it is refused as a fence is.
 ///
-/// The laws of epochs ask that neither place of the slot holds a superblock of a greater draw than the member has seen,
-/// since such a one would hide those of the new epoch. After a call that established an epoch `MayJoin` says so.
+/// The member is to have looked at the medium (`Member::see`): the place that holds the newer of its superblocks is written
+/// last. The laws of epochs ask that neither place holds a superblock of a greater draw than the member has seen, since such
+/// a one would hide those of the new epoch. After a call that established an epoch `MayJoin` says so.
 pub fn admit<R: Rack>(rack: &mut R, member: &mut Member, slot: u8) -> Result<Slots, AdmitFault>
     requires below { slot < member.old.array.geometry.n }
     requires down { mark_in member.old.array slot ≡ mark.Down }

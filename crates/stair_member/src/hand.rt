@@ -7,7 +7,7 @@ ghost use Rattle.stair_super.specs.Superblock.{mark_in};
 ghost use Rattle.stair_super.specs.declared.mark.Mark.TheVariants as mark;
 ghost use Rattle.stair_member.specs.Changes.{turned};
 ghost use Rattle.stair_member.specs.Handings.{Handed, PlacesBelow, PlacesHanded, Spread, is_twice};
-ghost use Rattle.stair_member.specs.Membership.{IsMembership, place_of};
+ghost use Rattle.stair_member.specs.Membership.{IsMembership};
 
 use crate::member::Member;
 use stair_base::Slots;
@@ -18,7 +18,7 @@ use stair_super::write_super;
 fn put<R: Rack>(rack: &mut R, member: &mut Member, slot: u8) -> Reply
     requires below { slot < member.old.array.geometry.n }
     requires up { mark_in member.old.array slot ≢ mark.Down }
-    ensures told { IsTrue R.is_honest → Handed member.old slot false result
+    ensures told { IsTrue R.is_honest → Handed member.old member.new slot false result
         (R.history rack.old) (R.history rack.new) }
     ensures done { result ≡ Reply.Done → member.new ≡ turned member.old slot }
     ensures unturned { result ≡ Reply.Gone → member.new ≡ member.old }
@@ -41,12 +41,11 @@ fn put<R: Rack>(rack: &mut R, member: &mut Member, slot: u8) -> Reply
     Reply::Done
 }
 
-// The slot is handed its superblock: in its next place, or in place 0 and then in place 1.
+// The slot is handed its superblock: in its next place, or in that one and then in the other.
 fn hand<R: Rack>(rack: &mut R, member: &mut Member, slot: u8, both: bool) -> Reply
     requires below { slot < member.old.array.geometry.n }
     requires up { mark_in member.old.array slot ≢ mark.Down }
-    requires first { IsTrue both → place_of member.old slot ≡ 0 }
-    ensures told { IsTrue R.is_honest → Handed member.old slot both result
+    ensures told { IsTrue R.is_honest → Handed member.old member.new slot both result
         (R.history rack.old) (R.history rack.new) }
     ensures places { PlacesHanded member.old member.new slot both result }
     ensures gone { result ≡ Reply.Gone → Rose (R.gones rack.old slot) (R.gones rack.new slot) }
@@ -83,10 +82,9 @@ pub(crate) fn spread<R: Rack>(
     to: Slots,
     twice: Option<u8>,
 ) -> Option<u8>
-    requires slots { (j : ℕ) → HasSlot to j → (j < member.old.array.geometry.n)
+    requires { (j : ℕ) → HasSlot to j → (j < member.old.array.geometry.n)
         × (mark_in member.old.array j ≢ mark.Down) }
-    requires first { (j : ℕ) → twice ≡ Some j → place_of member.old j ≡ 0 }
-    ensures told { IsTrue R.is_honest → Spread member.old to twice result
+    ensures told { IsTrue R.is_honest → Spread member.old member.new to twice result
         (R.history rack.old) (R.history rack.new) }
     ensures places { PlacesBelow member.old member.new to twice (unwrap_or result 32) }
     ensures gone { (j : ℕ) → result ≡ Some j →

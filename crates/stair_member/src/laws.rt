@@ -1,31 +1,36 @@
 //! Laws of the superblocks of media, of slots that are live or have failed, of the order of superblocks, and of epochs.
 
-ghost use Rattle.std.specs.Prelude.{◌≡◌, ◌*◌, ◌<◌, ◌≤◌, ◌↔◌, ◌⊎◌, ℕ, Bool, IsTrue, List, Option};
+ghost use Rattle.std.specs.Prelude.{◌≡◌, ◌≢◌, ◌*◌, ◌-◌, ◌<◌, ◌≤◌, ◌↔◌, ◌⊎◌, ℕ, Bool, IsTrue, List, Option, Some};
 ghost use Rattle.stair_model.specs.Geometry.{Geometry, IsWithinLimits};
 ghost use Rattle.stair_model.specs.Slots.{Slots, HasSlot};
 ghost use Rattle.stair_rack.specs.Answers.{Ran};
-ghost use Rattle.stair_rack.specs.Crash.{CrashMayLeave};
+ghost use Rattle.stair_rack.specs.Crash.{CrashMayLeave, image_now};
 ghost use Rattle.stair_rack.specs.History.{Happening, stopped};
 ghost use Rattle.stair_rack.specs.Media.{Image};
 ghost use Rattle.stair_rack.specs.Moments.{IsMoment};
-ghost use Rattle.stair_rack.specs.Sector.{Cell};
+ghost use Rattle.stair_rack.specs.Sector.{Cell, Good};
 ghost use Rattle.stair_rack.specs.Stretch.{NothingReturned};
+ghost use Rattle.stair_super.specs.Spelling.{spelled};
 ghost use Rattle.stair_super.specs.Superblock.{Superblock};
+ghost use Rattle.stair_member.specs.Aims.{admitted, mark_for};
 ghost use Rattle.stair_member.specs.declared.aim.Aim.{Aim};
+ghost use Rattle.stair_member.specs.declared.why.Why.TheVariants.{Here};
 ghost use Rattle.stair_member.specs.Counting.{MoreThan, AtMost, AllBut};
-ghost use Rattle.stair_member.specs.Current.{IsCurrent, IsFailed, IsLive, IsLost, Serves};
-ghost use Rattle.stair_member.specs.Editions.{Edition};
+ghost use Rattle.stair_member.specs.Current.{HasMark, IsCurrent, IsFailed, IsLive, IsLost, Serves};
+ghost use Rattle.stair_member.specs.Editions.{Edition, copy_of, edition_of};
 ghost use Rattle.stair_member.specs.Epochs.{HasDraw, IsIssuing};
 ghost use Rattle.stair_member.specs.Fencing.{HasStood, IsBegun, IsCopy, IsFencing, IsNamedBy, MayBear, MayJoin};
 ghost use Rattle.stair_member.specs.Establishing.{Leaves};
-ghost use Rattle.stair_member.specs.Membership.{IsMembership, Membership};
+ghost use Rattle.stair_member.specs.Membership.{IsHere, IsMembership, Membership, place_of, why_of};
 ghost use Rattle.stair_member.specs.Reserve.{
   Bears,
   HasGreatestDraw,
+  HasReached,
   HasReserved,
   IsLastDrawn,
   IsOrderly,
 };
+ghost use Rattle.stair_member.specs.Seeing.{Sees};
 ghost use Rattle.stair_member.specs.Superblocks.{
   Counts,
   CountsFor,
@@ -115,6 +120,39 @@ pub fn epoch_laws()
     ensures orderly { (aim : Aim) (gone : Slots) (m last : Membership)
         (old h new : List Happening) (image : Image) → IsFencing aim gone m last old new →
         IsMoment old h new → CrashMayLeave h image → IsOrderly m.array.geometry image }
+    // and each slot has still reached the epochs that it had, but the slot that joins;
+    ensures each_reached { (aim : Aim) (gone : Slots) (m last : Membership)
+        (old h new : List Happening) (image : Image) (j epoch : ℕ) →
+        IsFencing aim gone m last old new → IsMoment old h new → CrashMayLeave h image →
+        epoch ≤ m.array.epoch → admitted aim ≢ Some j →
+        HasReached m.array.geometry (image_now old) epoch j →
+        HasReached m.array.geometry image epoch j }
+    // so all slots but m have still reached the one before
+    ensures reached { (aim : Aim) (gone : Slots) (m last : Membership)
+        (old h new : List Happening) (image : Image) → IsFencing aim gone m last old new →
+        IsMoment old h new → CrashMayLeave h image →
+        AllBut m.array.geometry.n m.array.geometry.m (λ j. (admitted aim ≢ Some j)
+        × HasReached m.array.geometry (image_now old) m.array.epoch j) →
+        AllBut m.array.geometry.n m.array.geometry.m
+        (HasReached m.array.geometry image m.array.epoch) }
+    // Once an epoch stands each slot that takes part has reached it,
+    ensures each_stood { (aim : Aim) (gone : Slots) (m last : Membership)
+        (old new : List Happening) (image : Image) (j : ℕ) →
+        HasStood aim gone m last old new → CrashMayLeave new image → IsHere last j →
+        HasReached last.array.geometry image last.array.epoch j }
+    // so all slots but m are live and have
+    ensures stood { (aim : Aim) (gone : Slots) (m last : Membership) (old new : List Happening)
+        (image : Image) → HasStood aim gone m last old new → CrashMayLeave new image →
+        AllBut last.array.geometry.n last.array.geometry.m (λ j. (why_of last j ≡ Here)
+        × HasReached last.array.geometry image last.array.epoch j) }
+    // One whose last place holds its superblock has its mark by each superblock that names the epoch, whatever became of
+    // its other place.
+    ensures takes_part { (aim : Aim) (gone : Slots) (m last : Membership)
+        (old new : List Happening) (image : Image) (j : ℕ) (current : Superblock) →
+        HasStood aim gone m last old new → CrashMayLeave new image → IsHere last j →
+        (image j).cell (1 - place_of last j) ≡ Good (spelled (copy_of (edition_of last) j)) →
+        current.array ≡ last.array →
+        HasMark last.array.geometry image current (mark_for (why_of last j)) j }
     // so that after an epoch that stands the next call begins likewise, unless the rack is stopped
     ensures again { (aim : Aim) (gone : Slots) (next : Option ℕ) (m last : Membership)
         (old new : List Happening) → HasStood aim gone m last old new → MayJoin next last new →
@@ -123,4 +161,8 @@ pub fn epoch_laws()
     ensures left { (joining : Option ℕ) (leaving : Slots) (m start : Membership)
         (h : List Happening) → Leaves leaving m start → IsMembership start →
         IsBegun joining m h → IsBegun joining start h }
+    // or with one that looked at a slot which doesn't take part
+    ensures seen { (joining : Option ℕ) (slot : ℕ) (first second : Option Superblock)
+        (m seen : Membership) (h : List Happening) → Sees slot first second m seen →
+        IsMembership seen → ¬ IsHere m slot → IsBegun joining m h → IsBegun joining seen h }
 {}

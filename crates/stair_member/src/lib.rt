@@ -13,11 +13,13 @@ pub mod laws;
 mod look;
 mod member;
 mod round;
+mod seeing;
 mod surveying;
 #[cfg(test)]
 mod tests;
 mod why;
 
+pub use aim::Aim;
 pub use epoch::{admit, fence, promote, stamp};
 pub use fault::{AdmitFault, FenceFault, SurveyFault};
 pub use member::Member;

@@ -6,7 +6,8 @@ ghost use Rattle.stair_rack.specs.RackCounts.{NoneFalls, RisesAtMost};
 ghost use Rattle.stair_rack.specs.Sector.{Cell};
 ghost use Rattle.stair_rack.specs.declared.rack.Got.{Got as Answer};
 ghost use Rattle.stair_member.specs.Asked.{AsksSlot};
-ghost use Rattle.stair_member.specs.Shows.{HoldsThis, IsNewest, IsSeen, IsSight, block_in};
+ghost use Rattle.stair_member.specs.Shows.{IsNewest, IsSeen, IsSight, block_in};
+ghost use Rattle.stair_member.specs.Superblocks.{HoldsThis};
 ghost use Rattle.stair_member.specs.Survey.{IsNextPlace};
 ghost use Rattle.stair_rack.specs.Telling.{telling};
 
@@ -113,9 +114,10 @@ fn block_of(seen: Seen) -> Option<Super>
 }
 
 // The place that doesn't hold the newer one of these; the second where both are equal.
-fn next_place(first: Option<Super>, second: Option<Super>) -> u32
-    ensures { (cell : ℕ → Cell) → HoldsThis (cell 0) first → HoldsThis (cell 1) second →
+pub(crate) fn next_place(first: Option<Super>, second: Option<Super>) -> u32
+    ensures place { (cell : ℕ → Cell) → HoldsThis (cell 0) first → HoldsThis (cell 1) second →
         IsNextPlace cell result }
+    ensures below { result < 2 }
 {
     match (first, second) {
         (Some(first), Some(second)) => { if is_older(&first, &second) { 0 } else { 1 } }

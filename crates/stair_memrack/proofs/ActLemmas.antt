@@ -1,5 +1,5 @@
 -- The acts before a call, one after another: the slots in memory stand as the history tells, and there is memory for the acts that are still to come.
-use Rattle.std.proofs.Common.{◌≡◌, ◌≢◌, ℕ, ◌<◌, ◌≤◌, ◌+◌, Bool, true, not, ◌&&◌, ◌||◌, List, [], ◌∷◌, ◌++◌, length, take, drop, get_or, ◌⊎◌, inl, inr, refl, sym, ap, ◌∙◌, subst, arith, Option, None, Some}
+use Rattle.std.proofs.Common.{◌≡◌, ◌≢◌, ℕ, ◌<◌, ◌≤◌, ◌+◌, Bool, true, not, ◌&&◌, ◌||◌, List, [], ◌∷◌, ◌++◌, length, map, take, drop, get_or, ◌⊎◌, inl, inr, refl, sym, ap, ◌∙◌, subst, arith, Option, None, Some}
 use Rattle.std.specs.Prelude.{is_some, if◌then◌else◌, cond, ◌==◌, nat_lt, nat_le, slice_set, count_by}
 use Rattle.std.proofs.lemmas.Bool.{cond-true, cond-false, cond_both, eq-eqb, ne_eqb, cases_eq, cases_lt, lt-ltb, le-ltb, and_parts, ltb-true}
 use Rattle.std.proofs.lemmas.Bool.Decides.{nat_tests}
@@ -9,8 +9,11 @@ use Rattle.std.proofs.lemmas.List.Sums.{sum_by-cons}
 use Rattle.stair_rack.specs.History.{Happening}
 use Rattle.stair_memrack.specs.declared.act.Act.{Act}
 use Rattle.stair_memrack.specs.declared.act.What.{What}
-use Rattle.stair_memrack.specs.declared.act.What.TheVariants.{Pull, InsertBlank, InsertOld, Damage, Stop}
+use Rattle.stair_memrack.specs.declared.act.What.TheVariants.{Pull, PullLosing, InsertBlank, InsertOld, Damage, Stop}
+use Rattle.stair_memrack.specs.declared.disk.Settling.{Settling}
+use Rattle.stair_memrack.specs.declared.disk.Settling.TheVariants.{AsRead, AsSynced}
 use Rattle.stair_memrack.specs.declared.disk.StoredSector.{StoredSector}
+use Rattle.stair_memrack.specs.Disk.{settle}
 use Rattle.stair_memrack.specs.Place.{PlaceState, with_pulled, pulled, inserted, inserted_old, damaged_at}
 use Rattle.stair_memrack.specs.Script.{after_what, after_acts}
 use Rattle.stair_memrack.specs.Shelf.{IsShelfOf, place_at, HasRoom, changed, performed, is_stop, blank_for, AreBlanks, acts_at, acts_from}
@@ -25,12 +28,13 @@ HasRoom-less places m n less has = record { each = λ j below. let it = has.each
 record TakesOne (change : PlaceState → PlaceState) : Type 0 where
   pub each : (p : PlaceState) → (length (change p).removed ≤ length p.removed + 1) × ((change p).room ≡ p.room)
 
-pulled-one : TakesOne pulled
-pulled-one = record { each = λ p. from p p.medium }
+pulled-one : (how : Settling) → TakesOne (pulled how)
+pulled-one how = record { each = λ p. from p p.medium }
   where
-    from : (p : PlaceState) (m : Option (List StoredSector)) → (length (with_pulled m p).removed ≤ length p.removed + 1) × ((with_pulled m p).room ≡ p.room)
+    from : (p : PlaceState) (m : Option (List StoredSector))
+        → (length (with_pulled how m p).removed ≤ length p.removed + 1) × ((with_pulled how m p).room ≡ p.room)
     from p None = (omega arith, refl)
-    from p (Some sectors) = (omega (arith, length-append p.removed (sectors ∷ [])), refl)
+    from p (Some sectors) = (omega (arith, length-append p.removed (map (settle how) sectors ∷ [])), refl)
 
 inserted-one : (blank : Option (List StoredSector)) → TakesOne (inserted blank)
 inserted-one blank = record {
@@ -78,7 +82,8 @@ HasRoom-changed places n j change count one has =
 
 pub HasRoom-performed : (what : What) (blank : Option (List StoredSector)) (places : List PlaceState) (n : ℕ) → length places ≡ 32
     → HasRoom places (n + 1) → HasRoom (performed what blank places) n
-HasRoom-performed (Pull j) blank places n count has = HasRoom-changed places n j pulled count pulled-one has
+HasRoom-performed (Pull j) blank places n count has = HasRoom-changed places n j (pulled AsRead) count (pulled-one AsRead) has
+HasRoom-performed (PullLosing j) blank places n count has = HasRoom-changed places n j (pulled AsSynced) count (pulled-one AsSynced) has
 HasRoom-performed (InsertBlank j size) blank places n count has = HasRoom-changed places n j (inserted blank) count (inserted-one blank) has
 HasRoom-performed (InsertOld j i) blank places n count has = HasRoom-changed places n j (inserted_old i) count (inserted_old-one i) has
 HasRoom-performed (Damage j k) blank places n count has = HasRoom-changed places n j (damaged_at k) count (damaged_at-one k) has
@@ -89,7 +94,8 @@ changed-count places j change =
     cond_both (nat_lt j 32) _ places (λ ps. length ps ≡ length places) (λ e. length-set places j (change (place_at places j))) (λ e. refl)
 
 pub performed-count : (what : What) (blank : Option (List StoredSector)) (places : List PlaceState) → length (performed what blank places) ≡ length places
-performed-count (Pull j) blank places = changed-count places j pulled
+performed-count (Pull j) blank places = changed-count places j (pulled AsRead)
+performed-count (PullLosing j) blank places = changed-count places j (pulled AsSynced)
 performed-count (InsertBlank j size) blank places = changed-count places j (inserted blank)
 performed-count (InsertOld j i) blank places = changed-count places j (inserted_old i)
 performed-count (Damage j k) blank places = changed-count places j (damaged_at k)

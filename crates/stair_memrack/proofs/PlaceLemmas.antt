@@ -5,15 +5,17 @@ use Rattle.std.proofs.Math.Path.{fun_ext}
 use Rattle.std.proofs.lemmas.Bool.{cond-true, cond-false, eq-eqb, ne_eqb, cases_eq, cases_Bool, cases_lt, ltb-true, ltb-false, lt-ltb, le-ltb, and_from, not_from_false, false≢true}
 use Rattle.std.proofs.lemmas.List.{get_or-set_same, get_or-set_other, get_or_past, get_or-replicate, set_past, length-set, length-map, length-replicate, map-append}
 use Rattle.std.proofs.lemmas.Option.{slice_get-map, slice_get-get_or}
-use Rattle.stair_rack.specs.Sector.{Sector, damaged, content, wrote, synced}
+use Rattle.stair_rack.specs.Sector.{Sector, settled, damaged, wrote}
 use Rattle.stair_rack.specs.Media.{Medium, has_sector, sectors_of}
 use Rattle.stair_rack.specs.History.{SlotState, Pulled, InsertedBlank, InsertedOld, SectorDamaged, Write, with_old, after_act, after_attach, after_write, after_sync}
 use Rattle.stair_rack.specs.declared.rack.Reply.{Reply}
 use Rattle.stair_rack.specs.declared.rack.Reply.TheVariants as reply
 use Rattle.stair_memrack.specs.declared.disk.StoredSector.{StoredSector}
-use Rattle.stair_memrack.specs.Disk.{cell_of, unwritten, settle, written, stored_at, stored_in, medium_of}
+use Rattle.stair_memrack.specs.declared.disk.Settling.{Settling}
+use Rattle.stair_memrack.specs.declared.disk.Settling.TheVariants.{AsRead, AsSynced}
+use Rattle.stair_memrack.specs.Disk.{cell_of, unwritten, kept_cell, settle, written, stored_at, stored_in, medium_of}
 use Rattle.stair_memrack.specs.Place.{PlaceState, size_of, with_pulled, pulled, inserted, inserted_old, damaged_at, attached_as, written_as, synced_as}
-use Rattle.stair_memrack.specs.Script.{medium_now}
+use Rattle.stair_memrack.specs.Script.{kept_of, medium_kept}
 use Rattle.stair_memrack.specs.Shelf.{Written, with_write, IsStored, IsMediumOf, IsPlaceOf}
 
 -- SECTORS
@@ -21,8 +23,12 @@ use Rattle.stair_memrack.specs.Shelf.{Written, with_write, IsStored, IsMediumOf,
 pub IsStored-unwritten : (w : List (List ℕ)) → IsStored w unwritten damaged
 IsStored-unwritten w = record { base_is = refl; content_is = refl; since_is = refl; pending_is = refl }
 
-IsStored-settle : (w : List (List ℕ)) (x : StoredSector) (s : Sector) → IsStored w x s → IsStored w (settle x) (synced s)
-IsStored-settle w x s is = record { base_is = is.content_is; content_is = is.content_is; since_is = refl; pending_is = refl }
+kept_cell-is : (how : Settling) {w : List (List ℕ)} (x : StoredSector) (s : Sector) → IsStored w x s → cell_of (kept_cell how x) ≡ kept_of how s
+kept_cell-is AsRead x s is = is.content_is
+kept_cell-is AsSynced x s is = is.base_is
+
+IsStored-settle : (how : Settling) (w : List (List ℕ)) (x : StoredSector) (s : Sector) → IsStored w x s → IsStored w (settle how x) (settled (kept_of how s))
+IsStored-settle how w x s is = let kept = kept_cell-is how x s is in record { base_is = kept; content_is = kept; since_is = refl; pending_is = refl }
 
 IsStored-written : (w : List (List ℕ)) (bytes : List ℕ) (x : StoredSector) (s : Sector) → IsStored w x s
     → IsStored (bytes ∷ w) (written bytes x) (wrote bytes s)
@@ -55,10 +61,14 @@ IsStored-set w w' sectors f k i x s within new others old =
           (subst (λ v. IsStored v (stored_at sectors i) (f i)) (sym (others other)) old))
     ]
 
-stored_at-settle : (sectors : List StoredSector) (k : ℕ) → stored_at (map settle sectors) k ≡ settle (stored_at sectors k)
-stored_at-settle [] k = refl
-stored_at-settle (x ∷ sectors) zero = refl
-stored_at-settle (x ∷ sectors) (suc k) = stored_at-settle sectors k
+unwritten-settle : (how : Settling) → unwritten ≡ settle how unwritten
+unwritten-settle AsRead = refl
+unwritten-settle AsSynced = refl
+
+stored_at-settle : (how : Settling) (sectors : List StoredSector) (k : ℕ) → stored_at (map (settle how) sectors) k ≡ settle how (stored_at sectors k)
+stored_at-settle how [] k = unwritten-settle how
+stored_at-settle how (x ∷ sectors) zero = refl
+stored_at-settle how (x ∷ sectors) (suc k) = stored_at-settle how sectors k
 
 stored_at-blank : (n k : ℕ) → stored_at (replicate n unwritten) k ≡ unwritten
 stored_at-blank n k =
@@ -99,40 +109,50 @@ IsMediumOf-changed w w' (Some sectors) size sector k x s within new others is = 
   each = λ i. IsStored-set w w' sectors sector k i (x (stored_at sectors k)) s within new (others i) (is.each i);
 }
 
-IsMediumOf-settled : (w : Written) (medium : Option (List StoredSector)) (size : Option ℕ) (sector : ℕ → Sector) → IsMediumOf w medium size sector
-    → IsMediumOf w (option_map (map settle) medium) size (λ k. synced (sector k))
-IsMediumOf-settled w None size sector is = record { size_is = is.size_is; each = λ k. IsStored-settle (w k) unwritten (sector k) (is.each k) }
-IsMediumOf-settled w (Some sectors) size sector is = record {
-  size_is = is.size_is ∙ ap (λ n. Some n) (sym (length-map sectors settle));
+IsMediumOf-settled : (how : Settling) (w : Written) (medium : Option (List StoredSector)) (size : Option ℕ) (sector : ℕ → Sector)
+    → IsMediumOf w medium size sector → IsMediumOf w (option_map (map (settle how)) medium) size (λ k. settled (kept_of how (sector k)))
+IsMediumOf-settled how w None size sector is = record {
+  size_is = is.size_is;
   each = λ k.
-      subst (λ x. IsStored (w k) x (synced (sector k))) (sym (stored_at-settle sectors k)) (IsStored-settle (w k) (stored_at sectors k) (sector k) (is.each k));
+      subst (λ x. IsStored (w k) x (settled (kept_of how (sector k)))) (sym (unwritten-settle how))
+      (IsStored-settle how (w k) unwritten (sector k) (is.each k));
+}
+IsMediumOf-settled how w (Some sectors) size sector is = record {
+  size_is = is.size_is ∙ ap (λ n. Some n) (sym (length-map sectors (settle how)));
+  each = λ k.
+      subst (λ x. IsStored (w k) x (settled (kept_of how (sector k)))) (sym (stored_at-settle how sectors k))
+      (IsStored-settle how (w k) (stored_at sectors k) (sector k) (is.each k));
 }
 
--- the medium that comes back settled as reads found it
+-- the medium that comes back is as reads find it
 IsMediumOf-old : (w : Written) (sectors : List StoredSector)
-    → IsMediumOf w (Some (map settle sectors)) (Some (length sectors)) (sectors_of (Some (length sectors)) (medium_of sectors).cell)
+    → IsMediumOf w (Some (map (settle AsRead) sectors)) (Some (length sectors)) (sectors_of (Some (length sectors)) (medium_of sectors).cell)
 IsMediumOf-old w sectors = record {
-  size_is = ap (λ n. Some n) (sym (length-map sectors settle));
-  each = λ k. subst (λ x. IsStored (w k) x (sectors_of (Some (length sectors)) (medium_of sectors).cell k)) (sym (stored_at-settle sectors k)) (found k);
+  size_is = ap (λ n. Some n) (sym (length-map sectors (settle AsRead)));
+  each = λ k.
+      subst (λ x. IsStored (w k) x (sectors_of (Some (length sectors)) (medium_of sectors).cell k)) (sym (stored_at-settle AsRead sectors k)) (found k);
 }
   where
-    found : (k : ℕ) → IsStored (w k) (settle (stored_at sectors k)) (sectors_of (Some (length sectors)) (medium_of sectors).cell k)
+    found : (k : ℕ) → IsStored (w k) (settle AsRead (stored_at sectors k)) (sectors_of (Some (length sectors)) (medium_of sectors).cell k)
     found k =
         elim (cases_Bool (nat_lt k (length sectors))) [
           | inl below ↦
-              subst (λ s. IsStored (w k) (settle (stored_at sectors k)) s) (sym (cond-true _ _ _ below))
+              subst (λ s. IsStored (w k) (settle AsRead (stored_at sectors k)) s) (sym (cond-true _ _ _ below))
               (record { base_is = refl; content_is = refl; since_is = refl; pending_is = refl })
           | inr above ↦
               let past : stored_at sectors k ≡ unwritten = get_or_past sectors k unwritten (ltb-false k (length sectors) above) in
-              subst (λ s. IsStored (w k) (settle (stored_at sectors k)) s) (sym (cond-false _ _ _ above))
-              (subst (λ x. IsStored (w k) (settle x) damaged) (sym past) (IsStored-unwritten (w k)))
+              subst (λ s. IsStored (w k) (settle AsRead (stored_at sectors k)) s) (sym (cond-false _ _ _ above))
+              (subst (λ x. IsStored (w k) (settle AsRead x) damaged) (sym past) (IsStored-unwritten (w k)))
         ]
 
--- what is pulled is what reads find
-pub medium_now-is : {w : Written} (sectors : List StoredSector) (b : SlotState) → IsMediumOf w (Some sectors) b.size b.sector → medium_now b ≡ medium_of sectors
-medium_now-is sectors b is =
-    let size : unwrap_or b.size 0 ≡ length sectors = ap (λ n. unwrap_or n 0) is.size_is in
-    let cell : (λ (k : ℕ). content (b.sector k)) ≡ (λ k. cell_of (stored_at sectors k).now) = fun_ext (λ k. sym (is.each k).content_is) in
+-- what is pulled is the medium, settled so
+medium_kept-is : (how : Settling) {w : Written} (sectors : List StoredSector) (b : SlotState) → IsMediumOf w (Some sectors) b.size b.sector
+    → medium_kept how b ≡ medium_of (map (settle how) sectors)
+medium_kept-is how {w} sectors b is =
+    let size : unwrap_or b.size 0 ≡ length (map (settle how) sectors) =
+    ap (λ n. unwrap_or n 0) is.size_is ∙ sym (length-map sectors (settle how)) in
+    let cell : (λ (k : ℕ). kept_of how (b.sector k)) ≡ (λ k. cell_of (stored_at (map (settle how) sectors) k).now) =
+    fun_ext (λ k. sym ((IsMediumOf-settled how w (Some sectors) b.size b.sector is).each k).content_is) in
     λ i. record { size = size i; cell = cell i }
 
 pub map-remove : {X Y : Type 0} (f : X → Y) (xs : List X) (i : ℕ) → map f (remove xs i) ≡ remove (map f xs) i
@@ -142,13 +162,6 @@ map-remove f (x ∷ xs) zero = refl
 map-remove f (x ∷ xs) (suc i) = ap (λ ys. f x ∷ ys) (map-remove f xs i)
 
 -- ACTS
-
-pub pulled-parts : (p : PlaceState) (medium : Option (List StoredSector)) (removed : List (List StoredSector)) (room : ℕ) (sectors : List StoredSector)
-    → p.medium ≡ Some sectors → medium ≡ None → removed ≡ p.removed ++ sectors ∷ [] → room ≡ p.room
-    → record { medium = medium; removed = removed; attached = false; found = p.found; room = room } ≡ pulled p
-pulled-parts p medium removed room sectors was none now same =
-    (λ i. record { medium = none i; removed = now i; attached = false; found = p.found; room = same i })
-    ∙ ap (λ m. with_pulled m p) (sym was)
 
 -- a slot that holds a medium
 abbrev pub IsFull : SlotState → Type 0
@@ -161,19 +174,22 @@ none_is_full (Some sectors) size is = ap is_some is
 pub is_full : {w : Written} (p : PlaceState) (b : SlotState) → IsPlaceOf w p b → is_some b.size ≡ is_some p.medium
 is_full p b is = none_is_full p.medium b.size is.medium.size_is
 
-pub IsPlaceOf-pulled : {w : Written} (p : PlaceState) (b : SlotState) → IsPlaceOf w p b → is_some b.size ≡ true
-    → IsPlaceOf w (pulled p) (after_act (Pulled (medium_now b)) b)
-IsPlaceOf-pulled {w} p b is full = pulled_from p.medium (sym (is_full p b is) ∙ full) refl
+pub IsPlaceOf-pulled : {w : Written} (how : Settling) (p : PlaceState) (b : SlotState) → IsPlaceOf w p b → is_some b.size ≡ true
+    → IsPlaceOf w (pulled how p) (after_act (Pulled (medium_kept how b)) b)
+IsPlaceOf-pulled {w} how p b is full = pulled_from p.medium (sym (is_full p b is) ∙ full) refl
   where
-    pulled_from : (m : Option (List StoredSector)) → is_some m ≡ true → p.medium ≡ m → IsPlaceOf w (pulled p) (after_act (Pulled (medium_now b)) b)
+    pulled_from : (m : Option (List StoredSector)) → is_some m ≡ true → p.medium ≡ m
+        → IsPlaceOf w (pulled how p) (after_act (Pulled (medium_kept how b)) b)
     pulled_from None some at = absurd (false≢true some)
     pulled_from (Some sectors) some at =
-        let now : medium_now b ≡ medium_of sectors = medium_now-is sectors b (subst (λ m. IsMediumOf w m b.size b.sector) at is.medium) in
-        subst (λ m. IsPlaceOf w (with_pulled m p) (after_act (Pulled (medium_now b)) b)) (sym at)
+        let kept : medium_kept how b ≡ medium_of (map (settle how) sectors) =
+        medium_kept-is how sectors b (subst (λ m. IsMediumOf w m b.size b.sector) at is.medium) in
+        subst (λ m. IsPlaceOf w (with_pulled how m p) (after_act (Pulled (medium_kept how b)) b)) (sym at)
         (record {
           medium = IsMediumOf-none w;
           removed_is =
-              ap₂ (λ (xs : List Medium) (m : Medium). xs ++ m ∷ []) is.removed_is now ∙ sym (map-append medium_of p.removed (sectors ∷ []));
+              ap₂ (λ (xs : List Medium) (m : Medium). xs ++ m ∷ []) is.removed_is kept
+              ∙ sym (map-append medium_of p.removed (map (settle how) sectors ∷ []));
           attached_is = refl;
           found_is = is.found_is;
         })
@@ -195,11 +211,11 @@ IsPlaceOf-inserted_old {w} p b i is empty within =
     let it : slice_get p.removed i ≡ Some sectors = slice_get-get_or p.removed i [] below in
     let old : slice_get b.removed i ≡ Some (medium_of sectors) =
     ap (λ xs. slice_get xs i) is.removed_is ∙ slice_get-map medium_of p.removed i ∙ ap (option_map medium_of) it in
-    let does : inserted_old i p ≡ record p { medium = Some (map settle sectors); removed = remove p.removed i } =
+    let does : inserted_old i p ≡ record p { medium = Some (map (settle AsRead) sectors); removed = remove p.removed i } =
     cond-true _ _ _ (and_from _ _ (not_from_false _ (sym (is_full p b is) ∙ empty)) (lt-ltb i (length p.removed) below))
-    ∙ ap (λ m. record p { medium = option_map (map settle) m; removed = remove p.removed i }) it in
+    ∙ ap (λ m. record p { medium = option_map (map (settle AsRead)) m; removed = remove p.removed i }) it in
     subst (λ q. IsPlaceOf w q (after_act (InsertedOld i) b)) (sym does)
-    (subst (λ m. IsPlaceOf w (record p { medium = Some (map settle sectors); removed = remove p.removed i }) (with_old i m b)) (sym old)
+    (subst (λ m. IsPlaceOf w (record p { medium = Some (map (settle AsRead) sectors); removed = remove p.removed i }) (with_old i m b)) (sym old)
     (record {
       medium = IsMediumOf-old w sectors;
       removed_is = ap (λ xs. remove xs i) is.removed_is ∙ sym (map-remove medium_of p.removed i);
@@ -219,10 +235,10 @@ IsPlaceOf-damaged {w} p b k is has =
       found_is = is.found_is;
     }
 
-pub pulled-none : (p : PlaceState) → is_some p.medium ≡ false → pulled p ≡ p
-pulled-none p empty = from p.medium empty
+pub pulled-none : (how : Settling) (p : PlaceState) → is_some p.medium ≡ false → pulled how p ≡ p
+pulled-none how p empty = from p.medium empty
   where
-    from : (m : Option (List StoredSector)) → is_some m ≡ false → with_pulled m p ≡ p
+    from : (m : Option (List StoredSector)) → is_some m ≡ false → with_pulled how m p ≡ p
     from None none = refl
     from (Some sectors) none = absurd (false≢true (sym none))
 
@@ -269,7 +285,7 @@ IsPlaceOf-written p b k bytes reply.Gone is within = is
 pub IsPlaceOf-synced : {w : Written} (p : PlaceState) (b : SlotState) (answer : Reply) → IsPlaceOf w p b
     → IsPlaceOf w (synced_as answer p) (after_sync answer b)
 IsPlaceOf-synced {w} p b reply.Done is = record {
-  medium = IsMediumOf-settled w p.medium b.size b.sector is.medium;
+  medium = IsMediumOf-settled AsRead w p.medium b.size b.sector is.medium;
   removed_is = is.removed_is;
   attached_is = is.attached_is;
   found_is = is.found_is;

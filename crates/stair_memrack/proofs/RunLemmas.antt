@@ -2,6 +2,7 @@
 use Rattle.std.proofs.Common.{◌≡◌, ℕ, ◌<◌, Bool, true, false, not, ◌&&◌, List, [], ◌∷◌, ◌++◌, length, inl, inr, refl, sym, ap, ◌∙◌, subst, arith, Option, None, Some}
 use Rattle.std.specs.Prelude.{is_some, if◌then◌else◌, ◌==◌, nat_lt, unwrap_or}
 use Rattle.std.proofs.lemmas.Bool.{cond-true, cond-false, cases_Bool, and_parts, or_parts, not-false, eqb-true, ltb-true, false≢true}
+use Rattle.stair_rack.specs.Sector.{Sector, MayLeave}
 use Rattle.stair_rack.specs.Media.{has_sector}
 use Rattle.stair_rack.specs.Crash.{Settles}
 use Rattle.stair_rack.specs.History.{SlotAct, Pulled, InsertedBlank, InsertedOld, SectorDamaged, SlotCall, SlotState, Happening, Made, Stopped, Acted, Called, slot_state, stopped}
@@ -9,16 +10,18 @@ use Rattle.stair_rack.specs.History as slot
 use Rattle.stair_rack.specs.Outside.{MayHappen, IsAct}
 use Rattle.stair_rack.specs.Answers.{IsAnswered, ChangesNothing, Runs, Ran, Calls, Told, Untold, no_call}
 use Rattle.stair_rack.proofs.MomentLemmas.{ran_none, ran_join}
-use Rattle.stair_rack.proofs.CrashLemmas.{newest_left}
+use Rattle.stair_rack.proofs.CrashLemmas.{content_left, MayLeave-base}
 use Rattle.stair_rack.proofs.OfflineLemmas.{refused}
 use Rattle.stair_rack.proofs.CallLemmas.{refused_changes_nothing, attach_changes_nothing}
 use Rattle.stair_memrack.specs.declared.act.Act.{Act}
 use Rattle.stair_memrack.specs.declared.act.What.{What}
-use Rattle.stair_memrack.specs.declared.act.What.TheVariants.{Pull, InsertBlank, InsertOld, Damage, Stop}
+use Rattle.stair_memrack.specs.declared.act.What.TheVariants.{Pull, PullLosing, InsertBlank, InsertOld, Damage, Stop}
+use Rattle.stair_memrack.specs.declared.disk.Settling.{Settling}
+use Rattle.stair_memrack.specs.declared.disk.Settling.TheVariants.{AsRead, AsSynced}
 use Rattle.stair_memrack.specs.declared.record.Call.{Call}
 use Rattle.stair_memrack.specs.declared.record.Call.TheVariants as call
 use Rattle.stair_rack.specs.declared.rack.Reply.TheVariants as reply
-use Rattle.stair_memrack.specs.Script.{medium_now, act_where, followed_by, after_what, after_acts}
+use Rattle.stair_memrack.specs.Script.{kept_of, medium_kept, act_where, pull_of, followed_by, after_what, after_acts}
 use Rattle.stair_memrack.specs.Record.{MemRackState, slot_call, recorded, after_late, stopped_by_record, history_of, has_room, moment, with_call, counted, lets_go, without_room, after_call}
 
 -- ACTS
@@ -31,8 +34,12 @@ no_size : (size : Option ℕ) → not (is_some size) ≡ true → size ≡ None
 no_size None none = refl
 no_size (Some n) none = absurd (false≢true none)
 
-pub settles_now : (b : SlotState) → is_some b.size ≡ true → Settles b (medium_now b)
-settles_now b full = record { size = some_size b.size full; each = λ k. newest_left (b.sector k).base (b.sector k).since }
+kept_left : (how : Settling) (s : Sector) → MayLeave s (kept_of how s)
+kept_left AsRead s = content_left s
+kept_left AsSynced s = MayLeave-base s
+
+settles_kept : (how : Settling) (b : SlotState) → is_some b.size ≡ true → Settles b (medium_kept how b)
+settles_kept how b full = record { size = some_size b.size full; each = λ k. kept_left how (b.sector k) }
 
 ran_act : (h : List Happening) (e : Happening) → IsAct h e → Ran no_call h (e ∷ h)
 ran_act h e may = record { more = e ∷ []; is = refl; runs = (tt, inl may) }
@@ -48,8 +55,13 @@ acted_ran h j act applies may =
       | inr none ↦ subst (λ e. Ran no_call h (followed_by e h)) (sym (cond-false _ (Some (Acted j act)) None none)) (ran_none {allowed = no_call} h)
     ]
 
+pull-ran : (how : Settling) (j : ℕ) (h : List Happening) → Ran no_call h (followed_by (pull_of how j h) h)
+pull-ran how j h =
+    acted_ran h j (Pulled (medium_kept how (slot_state h j))) (is_some (slot_state h j).size) (λ full. settles_kept how (slot_state h j) full)
+
 pub after_what-ran : (what : What) (h : List Happening) → Ran no_call h (after_what what h)
-after_what-ran (Pull j) h = acted_ran h j (Pulled (medium_now (slot_state h j))) (is_some (slot_state h j).size) (λ full. settles_now (slot_state h j) full)
+after_what-ran (Pull j) h = pull-ran AsRead j h
+after_what-ran (PullLosing j) h = pull-ran AsSynced j h
 after_what-ran (InsertBlank j size) h = acted_ran h j (InsertedBlank size) (not (is_some (slot_state h j).size)) (λ empty. no_size (slot_state h j).size empty)
 after_what-ran (InsertOld j i) h =
     acted_ran h j (InsertedOld i) (not (is_some (slot_state h j).size) && nat_lt i (length (slot_state h j).removed))

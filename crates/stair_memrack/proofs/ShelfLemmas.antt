@@ -7,11 +7,13 @@ use Rattle.stair_rack.specs.Media.{has_sector}
 use Rattle.stair_rack.specs.History.{SlotAct, Pulled, InsertedBlank, InsertedOld, SectorDamaged, Happening, Stopped, Acted, after_act, slot_state, stopped}
 use Rattle.stair_rack.proofs.StepLemmas.{slot_after_act, slot_after_act_elsewhere}
 use Rattle.stair_memrack.specs.declared.act.What.{What}
-use Rattle.stair_memrack.specs.declared.act.What.TheVariants.{Pull, InsertBlank, InsertOld, Damage, Stop}
+use Rattle.stair_memrack.specs.declared.act.What.TheVariants.{Pull, PullLosing, InsertBlank, InsertOld, Damage, Stop}
+use Rattle.stair_memrack.specs.declared.disk.Settling.{Settling}
+use Rattle.stair_memrack.specs.declared.disk.Settling.TheVariants.{AsRead, AsSynced}
 use Rattle.stair_memrack.specs.declared.disk.StoredSector.{StoredSector}
 use Rattle.stair_memrack.specs.Disk.{unwritten}
 use Rattle.stair_memrack.specs.Place.{PlaceState, no_place, pulled, inserted, inserted_old, damaged_at}
-use Rattle.stair_memrack.specs.Script.{medium_now, act_where, followed_by, after_what}
+use Rattle.stair_memrack.specs.Script.{medium_kept, act_where, pull_of, followed_by, after_what}
 use Rattle.stair_memrack.specs.Shelf.{writes_in, IsPlaceOf, IsShelfOf, place_at, changed, performed, is_stop, blank_for}
 use Rattle.stair_memrack.proofs.PlaceLemmas.{is_full, removed-count, pulled-none, damaged-past, IsPlaceOf-pulled, IsPlaceOf-inserted, IsPlaceOf-inserted_old, IsPlaceOf-damaged}
 
@@ -94,14 +96,19 @@ or-true : (b : Bool) → (b || true) ≡ true
 or-true true = refl
 or-true false = refl
 
+IsShelfOf-pulled : (how : Settling) (places : List PlaceState) (stop : Bool) (h : List Happening) (j : ℕ) → IsShelfOf places stop h
+    → IsShelfOf (changed j (pulled how) places) (stop || false) (followed_by (pull_of how j h) h)
+IsShelfOf-pulled how places stop h j is =
+    subst (λ s. IsShelfOf (changed j (pulled how) places) s (followed_by (pull_of how j h) h)) (sym (or-false stop))
+    (IsShelfOf-acted places stop h j (Pulled (medium_kept how (slot_state h j))) (pulled how) is (is_some (slot_state h j).size)
+    (λ full here. IsPlaceOf-pulled how (place_at places j) (slot_state h j) here full)
+    (λ empty here. pulled-none how (place_at places j) (sym (is_full (place_at places j) (slot_state h j) here) ∙ empty)))
+
 -- what an act does to the slots in memory is what it does to the rack
 pub IsShelfOf-performed : (what : What) (blank : Option (List StoredSector)) (places : List PlaceState) (stop : Bool) (h : List Happening)
     → blank ≡ blank_for what → IsShelfOf places stop h → IsShelfOf (performed what blank places) (stop || is_stop what) (after_what what h)
-IsShelfOf-performed (Pull j) blank places stop h given is =
-    subst (λ s. IsShelfOf (performed (Pull j) blank places) s (after_what (Pull j) h)) (sym (or-false stop))
-    (IsShelfOf-acted places stop h j (Pulled (medium_now (slot_state h j))) pulled is (is_some (slot_state h j).size)
-    (λ full here. IsPlaceOf-pulled (place_at places j) (slot_state h j) here full)
-    (λ empty here. pulled-none (place_at places j) (sym (is_full (place_at places j) (slot_state h j) here) ∙ empty)))
+IsShelfOf-performed (Pull j) blank places stop h given is = IsShelfOf-pulled AsRead places stop h j is
+IsShelfOf-performed (PullLosing j) blank places stop h given is = IsShelfOf-pulled AsSynced places stop h j is
 IsShelfOf-performed (InsertBlank j size) blank places stop h given is =
     subst (λ s. IsShelfOf (performed (InsertBlank j size) blank places) s (after_what (InsertBlank j size) h)) (sym (or-false stop))
     (subst (λ m. IsShelfOf (changed j (inserted m) places) stop (after_what (InsertBlank j size) h)) (sym given)

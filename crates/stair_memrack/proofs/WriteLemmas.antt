@@ -9,13 +9,14 @@ use Rattle.stair_rack.specs.History as slot
 use Rattle.stair_rack.specs.declared.rack.Reply.TheVariants as reply
 use Rattle.stair_memrack.specs.declared.act.Act.{Act}
 use Rattle.stair_memrack.specs.declared.act.What.{What}
-use Rattle.stair_memrack.specs.declared.act.What.TheVariants.{Pull, InsertBlank, InsertOld, Damage, Stop}
+use Rattle.stair_memrack.specs.declared.act.What.TheVariants.{Pull, PullLosing, InsertBlank, InsertOld, Damage, Stop}
+use Rattle.stair_memrack.specs.declared.disk.Settling.TheVariants.{AsRead, AsSynced}
 use Rattle.stair_memrack.specs.declared.record.Recorded.{Recorded}
 use Rattle.stair_memrack.specs.declared.disk.StoredSector.{StoredSector}
 use Rattle.stair_memrack.specs.Disk.{stored_in}
 use Rattle.stair_memrack.specs.Place.{PlaceState}
 use Rattle.stair_memrack.specs.Origin.{image_over}
-use Rattle.stair_memrack.specs.Script.{medium_now, act_where, followed_by, after_what, after_acts}
+use Rattle.stair_memrack.specs.Script.{medium_kept, act_where, followed_by, after_what, after_acts}
 use Rattle.stair_memrack.specs.Record.{MemRackState, slot_call, after_calls, after_late, recorded, stopped_by_record, history_of, has_room, moment}
 use Rattle.stair_memrack.specs.Shelf.{Written, with_write, writes_in, IsShelfOf, place_at}
 
@@ -24,7 +25,8 @@ acted-writes h i j act applies =
     cond_both (nat_lt i 32 && applies) (Some (Acted i act)) None (λ e. writes_in (followed_by e h) j ≡ writes_in h j) (λ e. refl) (λ e. refl)
 
 what-writes : (what : What) (h : List Happening) (j : ℕ) → writes_in (after_what what h) j ≡ writes_in h j
-what-writes (Pull i) h j = acted-writes h i j (Pulled (medium_now (slot_state h i))) (is_some (slot_state h i).size)
+what-writes (Pull i) h j = acted-writes h i j (Pulled (medium_kept AsRead (slot_state h i))) (is_some (slot_state h i).size)
+what-writes (PullLosing i) h j = acted-writes h i j (Pulled (medium_kept AsSynced (slot_state h i))) (is_some (slot_state h i).size)
 what-writes (InsertBlank i size) h j = acted-writes h i j (InsertedBlank size) (not (is_some (slot_state h i).size))
 what-writes (InsertOld i l) h j = acted-writes h i j (InsertedOld l) (not (is_some (slot_state h i).size) && nat_lt l (length (slot_state h i).removed))
 what-writes (Damage i k) h j = acted-writes h i j (SectorDamaged k) (has_sector (slot_state h i).size k)

@@ -5,6 +5,8 @@ use Rattle.stair_rack.specs.Media.{Medium}
 use Rattle.stair_memrack.specs.declared.disk.StoredCell.{StoredCell}
 use Rattle.stair_memrack.specs.declared.disk.StoredCell.TheVariants as stored
 use Rattle.stair_memrack.specs.declared.disk.StoredSector.{StoredSector}
+use Rattle.stair_memrack.specs.declared.disk.Settling.{Settling}
+use Rattle.stair_memrack.specs.declared.disk.Settling.TheVariants.{AsRead, AsSynced}
 
 -- what a read finds in it
 abbrev pub cell_of : StoredCell → Cell
@@ -16,8 +18,13 @@ cell_of stored.TornOverDamage = TornOverDamage
 abbrev pub unwritten : StoredSector
 unwritten = record { base = stored.Damaged; now = stored.Damaged; pending = 0 }
 
-abbrev pub settle : StoredSector → StoredSector
-settle s = record { base = s.now; now = s.now; pending = 0 }
+-- what stays of it where its medium settles so
+abbrev pub kept_cell : Settling → StoredSector → StoredCell
+kept_cell AsRead s = s.now
+kept_cell AsSynced s = s.base
+
+abbrev pub settle : Settling → StoredSector → StoredSector
+settle how s = record { base = kept_cell how s; now = kept_cell how s; pending = 0 }
 
 abbrev pub written : List ℕ → StoredSector → StoredSector
 written bytes s = record { base = s.base; now = stored.Good bytes; pending = s.pending + 1 }

@@ -6,6 +6,8 @@ use Rattle.stair_rack.specs.declared.rack.Reply.TheVariants as reply
 use Rattle.stair_rack.specs.declared.rack.Got.{Got}
 use Rattle.stair_rack.specs.declared.rack.Got.TheVariants as got
 use Rattle.stair_memrack.specs.declared.disk.StoredSector.{StoredSector}
+use Rattle.stair_memrack.specs.declared.disk.Settling.{Settling}
+use Rattle.stair_memrack.specs.declared.disk.Settling.TheVariants.{AsRead}
 use Rattle.stair_memrack.specs.declared.record.Ask.{Ask}
 use Rattle.stair_memrack.specs.declared.record.Ask.TheVariants as ask
 use Rattle.stair_memrack.specs.declared.record.Call.{Call}
@@ -28,16 +30,17 @@ no_place = record { medium = None; removed = []; attached = false; found = 0; ro
 
 -- What the outside does to it, and nothing where that doesn't apply.
 
-abbrev pub with_pulled : Option (List StoredSector) → PlaceState → PlaceState
-with_pulled None p = p
-with_pulled (Some sectors) p = record p {
+abbrev pub with_pulled : Settling → Option (List StoredSector) → PlaceState → PlaceState
+with_pulled how None p = p
+with_pulled how (Some sectors) p = record p {
   medium = None;
-  removed = p.removed ++ sectors ∷ [];
+  removed = p.removed ++ map (settle how) sectors ∷ [];
   attached = false;
 }
 
-abbrev pub pulled : PlaceState → PlaceState
-pulled p = with_pulled p.medium p
+-- its medium settles so
+abbrev pub pulled : Settling → PlaceState → PlaceState
+pulled how p = with_pulled how p.medium p
 
 abbrev pub inserted : Option (List StoredSector) → PlaceState → PlaceState
 inserted medium p = if is_some p.medium then p else record p { medium = medium }
@@ -46,7 +49,7 @@ abbrev pub inserted_old : ℕ → PlaceState → PlaceState
 inserted_old i p =
     if not (is_some p.medium) && nat_lt i (length p.removed)
     then record p {
-      medium = option_map (map settle) (slice_get p.removed i);
+      medium = option_map (map (settle AsRead)) (slice_get p.removed i);
       removed = remove p.removed i;
     } else p
 
@@ -91,7 +94,7 @@ abbrev pub sync_reply : Bool → PlaceState → Reply
 sync_reply stopped p = reply_if (is_open stopped p)
 
 abbrev pub synced_as : Reply → PlaceState → PlaceState
-synced_as reply.Done p = record p { medium = option_map (map settle) p.medium }
+synced_as reply.Done p = record p { medium = option_map (map (settle AsRead)) p.medium }
 synced_as reply.Gone p = p
 
 -- it keeps what an attach found

@@ -1,24 +1,37 @@
 -- What a script of acts of the outside does to a rack.
 use Rattle.std.specs.Prelude.{ℕ, Bool, not, ◌&&◌, List, [], ◌∷◌, length, Option, None, Some, is_some, if◌then◌else◌, nat_lt, ◌==◌, unwrap_or}
-use Rattle.stair_rack.specs.Sector.{content}
+use Rattle.stair_rack.specs.Sector.{Cell, Sector, content}
 use Rattle.stair_rack.specs.Media.{Medium, has_sector}
 use Rattle.stair_rack.specs.History.{SlotAct, Pulled, InsertedBlank, InsertedOld, SectorDamaged, SlotState, Happening, Stopped, Acted, slot_state}
 use Rattle.stair_memrack.specs.declared.act.Act.{Act}
 use Rattle.stair_memrack.specs.declared.act.What.{What}
-use Rattle.stair_memrack.specs.declared.act.What.TheVariants.{Pull, InsertBlank, InsertOld, Damage, Stop}
+use Rattle.stair_memrack.specs.declared.act.What.TheVariants.{Pull, PullLosing, InsertBlank, InsertOld, Damage, Stop}
+use Rattle.stair_memrack.specs.declared.disk.Settling.{Settling}
+use Rattle.stair_memrack.specs.declared.disk.Settling.TheVariants.{AsRead, AsSynced}
 
--- the slot's medium as reads find it
-abbrev pub medium_now : SlotState → Medium
-medium_now b = record { size = unwrap_or b.size 0; cell = λ k. content (b.sector k) }
+-- what stays of a sector where its medium settles so
+abbrev pub kept_of : Settling → Sector → Cell
+kept_of AsRead s = content s
+kept_of AsSynced s = s.base
+
+-- the slot's medium, settled so
+abbrev pub medium_kept : Settling → SlotState → Medium
+medium_kept how b = record { size = unwrap_or b.size 0; cell = λ k. kept_of how (b.sector k) }
 
 -- this act on slot j, where that is one of the 32 slots and the act applies
 abbrev pub act_where : Bool → ℕ → SlotAct → Option Happening
 act_where applies j act = if nat_lt j 32 && applies then Some (Acted j act) else None
 
--- What happens, None where the act doesn't apply. A medium that is pulled settles as reads find it.
+-- the medium of slot j is pulled, and settles so
+abbrev pub pull_of : Settling → ℕ → List Happening → Option Happening
+pull_of how j h = act_where (is_some (slot_state h j).size) j
+    (Pulled (medium_kept how (slot_state h j)))
+
+-- What happens, None where the act doesn't apply. A medium that is pulled settles as reads find it, or, where it loses
+-- what wasn't synced, as at its last sync.
 abbrev pub event_of : What → List Happening → Option Happening
-event_of (Pull j) h = act_where (is_some (slot_state h j).size) j
-    (Pulled (medium_now (slot_state h j)))
+event_of (Pull j) h = pull_of AsRead j h
+event_of (PullLosing j) h = pull_of AsSynced j h
 event_of (InsertBlank j size) h = act_where (not (is_some (slot_state h j).size)) j
     (InsertedBlank size)
 event_of (InsertOld j i) h =

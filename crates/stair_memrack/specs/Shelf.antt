@@ -5,7 +5,8 @@ use Rattle.stair_rack.specs.History.{SlotCall, Write, SlotState, Happening, Made
 use Rattle.stair_rack.specs.declared.rack.Reply.TheVariants as reply
 use Rattle.stair_memrack.specs.declared.act.Act.{Act}
 use Rattle.stair_memrack.specs.declared.act.What.{What}
-use Rattle.stair_memrack.specs.declared.act.What.TheVariants.{Pull, InsertBlank, InsertOld, Damage, Stop}
+use Rattle.stair_memrack.specs.declared.act.What.TheVariants.{Pull, PullLosing, InsertBlank, InsertOld, Damage, Stop}
+use Rattle.stair_memrack.specs.declared.disk.Settling.TheVariants.{AsRead, AsSynced}
 use Rattle.stair_memrack.specs.declared.disk.StoredSector.{StoredSector}
 use Rattle.stair_memrack.specs.Disk.{cell_of, unwritten, stored_in, medium_of}
 use Rattle.stair_memrack.specs.Place.{PlaceState, no_place, pulled, inserted, inserted_old, damaged_at}
@@ -68,7 +69,8 @@ changed j change places = if nat_lt j 32 then slice_set places j (change (place_
 
 -- what an act does to the slots in memory, where this is the medium that it may put in
 abbrev pub performed : What → Option (List StoredSector) → List PlaceState → List PlaceState
-performed (Pull j) blank places = changed j pulled places
+performed (Pull j) blank places = changed j (pulled AsRead) places
+performed (PullLosing j) blank places = changed j (pulled AsSynced) places
 performed (InsertBlank j size) blank places = changed j (inserted blank) places
 performed (InsertOld j i) blank places = changed j (inserted_old i) places
 performed (Damage j k) blank places = changed j (damaged_at k) places

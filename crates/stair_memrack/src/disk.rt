@@ -3,7 +3,7 @@ ghost use Rattle.std.specs.Prelude.{◌≡◌, ◌<◌, ◌-◌, ◌^◌, length
 ghost use Rattle.stair_memrack.specs.declared.disk.StoredCell.TheVariants as StoredCell;
 ghost use Rattle.stair_memrack.specs.Origin.{held};
 ghost use Rattle.stair_memrack.specs.Left.{torn_over, now_of};
-ghost use Rattle.stair_memrack.specs.Disk.{unwritten, settle, stored_at, written};
+ghost use Rattle.stair_memrack.specs.Disk.{unwritten, kept_cell, settle, stored_at, written};
 
 use std::alloc::{AllocError, Global};
 use std::marker::Model;
@@ -18,6 +18,15 @@ pub(crate) enum StoredCell {
     Torn,
     /// A crash cut a write over a damaged or a worn cell.
     TornOverDamage,
+}
+
+/// How a medium settles: what stays of each of its sectors.
+#[derive(Clone, Copy, Debug, Drop)]
+pub(crate) enum Settling {
+    /// What a read finds.
+    AsRead,
+    /// What it held at the last sync. What was written since is lost.
+    AsSynced,
 }
 
 /// A sector of a medium.
@@ -62,6 +71,18 @@ impl StoredCell {
         match self {
             StoredCell::Good(_) | StoredCell::Torn => StoredCell::Torn,
             StoredCell::Damaged | StoredCell::TornOverDamage => StoredCell::TornOverDamage,
+        }
+    }
+}
+
+impl StoredSector {
+    // What stays of it where its medium settles so.
+    fn kept_cell(self, how: Settling) -> StoredCell
+        ensures { result ≡ kept_cell how self }
+    {
+        match how {
+            Settling::AsRead => self.now,
+            Settling::AsSynced => self.base,
         }
     }
 }
@@ -186,13 +207,17 @@ impl Disk {
         }
     }
 
-    /// Settles each sector as what a read finds.
-    pub(crate) fn settle(&mut self)
-        ensures { self.new ≡ map settle self.old }
+    /// Settles each sector.
+    pub(crate) fn settle(&mut self, how: Settling)
+        ensures { self.new ≡ map (settle how) self.old }
     {
         for sector in self.sectors.iter_mut() {
-            sector.base = sector.now;
-            sector.pending = 0;
+            let cell = sector.kept_cell(how);
+            *sector = StoredSector {
+                base: cell,
+                now: cell,
+                pending: 0,
+            };
         }
     }
 }

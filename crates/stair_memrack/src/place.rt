@@ -4,7 +4,7 @@ ghost use Rattle.stair_memrack.specs.Disk.{stored_in};
 ghost use Rattle.stair_memrack.specs.Origin.{held};
 ghost use Rattle.stair_memrack.specs.Place.{pulled, inserted, inserted_old, damaged_at, attach_reply, attached_as, read_got, write_reply, written_as, sync_reply, synced_as, answer_of, answered_as, asks_to_let_go};
 
-use crate::disk::{Cells, Disk, StoredCell};
+use crate::disk::{Cells, Disk, Settling, StoredCell};
 use crate::record::{Ask, Call};
 use stair_rack::{Got, Reply};
 use std::alloc::{AllocError, Global};
@@ -84,12 +84,13 @@ impl Place {
         }
     }
 
-    /// Pulls the medium, where there is one.
-    pub(crate) fn pull(&mut self)
+    /// Pulls the medium, where there is one, and it settles so.
+    pub(crate) fn pull(&mut self, how: Settling)
         requires { length self.old.removed < self.old.room }
-        ensures { self.new ≡ pulled self.old }
+        ensures { self.new ≡ pulled how self.old }
     {
-        if let Some(disk) = self.medium.take() {
+        if let Some(mut disk) = self.medium.take() {
+            disk.settle(how);
             self.removed.push_reserved(disk);
             self.attached = false;
         }
@@ -104,13 +105,13 @@ impl Place {
         }
     }
 
-    /// Puts a medium of the drawer back, where the slot holds none and the drawer has it. It settled as what reads find.
+    /// Puts a medium of the drawer back, where the slot holds none and the drawer has it, as reads find it there.
     pub(crate) fn insert_old(&mut self, index: u32)
         ensures { self.new ≡ inserted_old index self.old }
     {
         if self.medium.is_none() && (index as usize) < self.removed.len() {
             let mut disk = self.removed.remove(index as usize);
-            disk.settle();
+            disk.settle(Settling::AsRead);
             self.medium = Some(disk);
         }
     }
@@ -215,7 +216,7 @@ impl Place {
             return Reply::Gone;
         }
         if let Some(disk) = &mut self.medium {
-            disk.settle();
+            disk.settle(Settling::AsRead);
         }
         Reply::Done
     }

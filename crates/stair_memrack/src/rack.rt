@@ -28,7 +28,7 @@ use std::marker::Model;
 ///
 /// All five calls are numbered, `sectors` too, from 0 on. Before the call numbered `at` the acts of the script with that
 /// number are done, in the order of the list; an act that doesn't apply does nothing. A medium that is pulled settles as
-/// reads find it.
+/// reads find it, or as at its last sync, by the act.
 ///
 /// It records its calls, and has room for as many as it was made for. A call that finds no room stops it for good.
 #[derive(Drop)]
@@ -88,7 +88,7 @@ impl MemRack {
     ///
     /// There is a pick for each sector to which something was written since its device's last sync, by slot and then by
     /// sector: 0 leaves what the sector held then, n the n-th content written since, and any other number a torn cell. A
-    /// missing pick is 0. Media that were pulled stay in their drawers, as reads found them.
+    /// missing pick is 0. Media that were pulled stay in their drawers, as they settled.
     ///
     /// It takes all memory here, and none later, as [`MemRack::new`] does. Where there is none the old rack is gone too.
     pub fn after_crash(

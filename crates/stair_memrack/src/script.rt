@@ -5,7 +5,7 @@ ghost use Rattle.stair_memrack.specs.Script.{after_acts};
 ghost use Rattle.stair_memrack.specs.Shelf.{IsShelfOf, HasRoom, AreBlanks, acts_from, performed, is_stop};
 
 use crate::act::{Act, What};
-use crate::disk::Disk;
+use crate::disk::{Disk, Settling};
 use crate::place::Place;
 
 // Does this act, where it applies. The medium that it may put in is taken from `blank`.
@@ -16,7 +16,8 @@ fn perform(what: What, blank: &mut Option<Disk>, places: &mut Vec<Place>, stoppe
     ensures stopped { stopped.new ≡ (stopped.old || is_stop what) }
 {
     match what {
-        What::Pull { slot } if slot < 32 => places[slot as usize].pull(),
+        What::Pull { slot } if slot < 32 => places[slot as usize].pull(Settling::AsRead),
+        What::PullLosing { slot } if slot < 32 => places[slot as usize].pull(Settling::AsSynced),
         What::InsertBlank { slot, .. } if slot < 32 => places[slot as usize].insert(blank),
         What::InsertOld { slot, index } if slot < 32 => places[slot as usize].insert_old(index),
         What::Damage { slot, sector } if slot < 32 => places[slot as usize].damage(sector),

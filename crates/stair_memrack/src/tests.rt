@@ -190,6 +190,26 @@ fn each_pick_leaves_its_content(rt: HostRuntime) -> Result<(), Fail> {
     Ok(())
 }
 
+// The medium of slot 0 is pulled and put back. By the way in which it is pulled, what its sectors 1 and 2 read as then.
+#[test]
+fn a_medium_that_is_pulled_keeps_what_was_not_synced_or_loses_it(
+    rt: HostRuntime,
+) -> Result<(), Fail> {
+    let back = What::InsertOld { slot: 0, index: 0 };
+    for (pull, first, second) in [
+        (What::Pull { slot: 0 }, (Got::Good, 3), (Got::Good, 4)),
+        (What::PullLosing { slot: 0 }, (Got::Good, 1), (Got::Bad, 0)),
+    ] {
+        let mut rack = pending_rack(rt.alloc(), &[pull, back])?;
+        assert_eq!(rt; read(&mut rack, 0, 1), (Got::Gone, 0), "{pull:?}");
+        assert_eq!(rt; rack.attach(0), Reply::Done, "{pull:?}");
+        assert_eq!(rt; read(&mut rack, 0, 1), first, "{pull:?}");
+        assert_eq!(rt; read(&mut rack, 0, 2), second, "{pull:?}");
+        assert_eq!(rt; read(&mut rack, 1, 0), (Got::Good, 5), "{pull:?}");
+    }
+    Ok(())
+}
+
 // A first crash tears sector 0 of slot 1, over a sector that was never written, while the medium of slot 0 lies in the
 // drawer. The sector is written again, and what a second crash leaves of it is read.
 #[test]

@@ -9,6 +9,7 @@ use Rattle.stair_rack.specs.Outside.{MayHappen}
 use Rattle.stair_rack.specs.Answers.{IsAnswered, IsBesideAttach, ChangesNothing, IsNoAttach, Calls, Told, Untold, Ran, no_call, is_ready, is_readable}
 use Rattle.stair_rack.specs.Offline.{IsKept, Here, Lost, ButForOutside, IsHeld, IsOfflineUntilAttached}
 use Rattle.stair_rack.specs.Passes.{Landed, WasSynced, IsWritten, IsWrittenOver, OverOld, OverDamage}
+use Rattle.stair_rack.specs.Stretch.{WasAnswered}
 use Rattle.stair_rack.specs.declared.rack.Reply.{Reply}
 use Rattle.stair_rack.specs.declared.rack.Got.TheVariants as got
 use Rattle.stair_rack.specs.declared.rack.Reply.TheVariants as reply
@@ -269,6 +270,12 @@ module _ (old new : List Happening) (j : ℕ) where
       nothing_unsynced (Untold acts runs answered is_stopped nothing is) k =
           let gone : reply.Done ≡ reply.Gone = refused (acts ++ old) j (Sync reply.Done) is_stopped answered in
           absurd (cc)
+
+  -- and the sync is told
+  pub sync_told : Calls old new j (Sync reply.Done) → WasAnswered j (Sync reply.Done) old new
+  sync_told (Told acts runs answered is) = record { earlier = acts; later = []; is = is }
+  sync_told (Untold acts runs answered is_stopped nothing is) =
+      let gone : reply.Done ≡ reply.Gone = refused (acts ++ old) j (Sync reply.Done) is_stopped answered in absurd (cc)
 
   -- where the slot was gone, and it is held, it is offline
   pub sync_gone : (before : List Happening) → Calls old new j (Sync reply.Gone) → IsHeld before old j → IsOfflineUntilAttached before new j

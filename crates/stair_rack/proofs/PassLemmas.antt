@@ -10,13 +10,15 @@ use Rattle.stair_rack.specs.Answers.{Calls, any_call, reply_if}
 use Rattle.stair_rack.specs.Moments.{IsMoment, AtEveryMoment}
 use Rattle.stair_rack.specs.Offline.{ButForOutside, IsHeld, IsOfflineUntilAttached}
 use Rattle.stair_rack.specs.Passes.{Turns, IsOn, IsDone, Landed, WasSynced, IsWritten, IsWrittenOver, Wrote, Settled}
+use Rattle.stair_rack.specs.Stretch.{WasAnswered}
 use Rattle.stair_rack.specs.declared.rack.Reply.{Reply}
 use Rattle.stair_rack.specs.declared.rack.Reply.TheVariants as reply
 use Rattle.stair_rack.proofs.StepLemmas.{kept_throughout}
 use Rattle.stair_rack.proofs.MomentLemmas.{ran_weakened, at_some_wider, at_every_from, at_moment, at_last}
 use Rattle.stair_rack.proofs.KeptLemmas.{IsKept-mapped, SectorKeeps, keeps_sector, IsKept-now}
 use Rattle.stair_rack.proofs.OfflineLemmas.{reply_if-Done, HeldState, IsHeld-state, AwayState}
-use Rattle.stair_rack.proofs.CallLemmas.{write_landed, sync_landed, ReachState, shut_from, Unwritten, write_turned, sync_turned, write_shut_turned, sync_shut_turned}
+use Rattle.stair_rack.proofs.CallLemmas.{write_landed, sync_landed, sync_told, ReachState, shut_from, Unwritten, write_turned, sync_turned, write_shut_turned, sync_shut_turned}
+use Rattle.stair_rack.proofs.StretchLemmas.{answered_wider}
 use Rattle.stair_rack.proofs.TurnLemmas.{turn, turn_of, IsTurn, IsOn-turn, turns_ran, Turned, BeforeAndAfter, turned_below}
 
 -- ANSWERS OF A TURN
@@ -220,6 +222,13 @@ module _ (to gone : Slots) (within : (j : ℕ) → HasSlot gone j → HasSlot to
         at_some_wider {a = any_call} {b = any_call} {P = λ h. (k : ℕ) → ((slot_state h j).sector k).since ≡ []}
         there.sooner there.later (sync_landed there.mid there.next j called)
 
+    told_sync : (j : ℕ) → IsDone to gone j → WasAnswered j (Sync reply.Done) old new
+    told_sync j done =
+        let there = turn_of Sync to gone 32 j (slots j done.0) done.0 old new turns in
+        let called : Calls there.mid there.next j (Sync reply.Done) =
+        subst (Calls there.mid there.next j) (done_turn Sync to gone j done) there.called in
+        answered_wider {a = any_call} {b = any_call} there.sooner there.later (sync_told there.mid there.next j called)
+
     pub Settled-from_turns : Settled to gone old new
     Settled-from_turns =
         let ran = turns_ran Sync to gone 32 old new turns in
@@ -228,6 +237,7 @@ module _ (to gone : Slots) (within : (j : ℕ) → HasSlot gone j → HasSlot to
           turns = turns;
           answered = within;
           landed = landed_sync;
+          was_synced = told_sync;
           settled = λ j k done some. (synced_throughout j k done some).end;
           others = λ j k some not_done.
               at_last {P = λ h. ButForOutside old h j k (λ s. s ≡ (slot_state old j).sector k)} (unsynced_throughout j k some not_done);

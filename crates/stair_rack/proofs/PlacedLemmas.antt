@@ -1,28 +1,31 @@
 -- A phase, built from its writes and its syncs.
-use Rattle.std.proofs.Common.{◌≡◌, ℕ, true, List, [], ◌⊎◌, inl, inr, refl, sym, ap, ◌∙◌, subst, Option, None, Some, slice_get}
+use Rattle.std.proofs.Common.{◌≡◌, ℕ, true, List, [], ◌<◌, ◌∷◌, ◌++◌, ◌⊎◌, inl, inr, refl, sym, ap, ◌∙◌, subst, Option, None, Some, slice_get}
 use Rattle.std.specs.Prelude.{Bool, ◌↔◌, ◌==◌, ◌&&◌, IsTrue, IsSome}
 use Rattle.std.proofs.lemmas.Bool.{and_right, cases_Bool, cases_eq, cond-true, cond-false, eq-eqb, ne_eqb, false≢true}
 use Rattle.stair_model.specs.Slots.{Slots, has_slot, HasSlot}
 use Rattle.stair_rack.specs.Sector.{Cell, Good, Damaged, Sector, settled, damaged, content, wrote, synced, torn, Leaves}
 use Rattle.stair_rack.specs.Media.{has_sector}
-use Rattle.stair_rack.specs.History.{SlotAct, Pulled, InsertedBlank, InsertedOld, SectorDamaged, SlotCall, Attach, Sectors, Read, Write, Sync, Happening, SlotState, after_act, after_call, slot_state, stopped}
+use Rattle.stair_rack.specs.History.{SlotAct, Pulled, InsertedBlank, InsertedOld, SectorDamaged, SlotCall, Attach, Sectors, Read, Write, Sync, Happening, Called, SlotState, after_act, after_call, slot_state, stopped}
 use Rattle.stair_rack.specs.Outside.{MayHappen}
 use Rattle.stair_rack.specs.Answers.{Calls, Ran}
 use Rattle.stair_rack.specs.Moments.{AtEveryMoment}
-use Rattle.stair_rack.specs.Offline.{IsKept, Lost, ButForOutside, IsHeld, IsOfflineUntilAttached}
+use Rattle.stair_rack.specs.Offline.{IsKept, Here, Lost, ButForOutside, WasPulled, IsHeld, IsOfflineUntilAttached}
 use Rattle.stair_rack.specs.Passes.{IsOn, Landed, Wrote, Settled}
-use Rattle.stair_rack.specs.Placed.{Writes, one_write, IsSlot, IsGoneSlot, IsWriteOf, IsSyncOf, IsOver, MayLeaveIn, AsBefore, ByOutside, Cut, MayBeUnder, Before, Placed}
+use Rattle.stair_rack.specs.Placed.{Writes, one_write, IsSlot, IsGoneSlot, IsWriteOf, IsSyncOf, IsOver, MayLeaveIn, AsBefore, ByOutside, Cut, MayBeUnder, Before, DidPhase, Placed}
+use Rattle.stair_rack.specs.Stretch.{WasAnswered}
 use Rattle.stair_rack.specs.Writing.{Writing}
-use Rattle.stair_rack.specs.Answers.{any_call, IsBesideAttach}
+use Rattle.stair_rack.specs.Answers.{any_call, Runs, IsAnswered, IsBesideAttach, is_ready}
 use Rattle.stair_rack.proofs.MomentLemmas.{ran_any}
 use Rattle.stair_rack.specs.declared.rack.Reply.{Reply}
 use Rattle.stair_rack.specs.declared.rack.Reply.TheVariants as reply
-use Rattle.stair_rack.proofs.StepLemmas.{keeps_slot, kept, kept_throughout}
+use Rattle.stair_rack.proofs.StepLemmas.{keeps_slot, kept, kept_throughout, slot_after_call}
 use Rattle.stair_rack.proofs.MomentLemmas.{ran_none, ran_join, ran_weakened, calls_ran, IsThis, at_some_wider, at_every_join, at_every_mapped, at_every_from, at_moment, at_last}
 use Rattle.stair_rack.proofs.KeptLemmas.{with_old_cases, IsKept-onward, IsKept-since, IsKept-mapped, IsKept-now, SectorKeeps, keeps_sector}
-use Rattle.stair_rack.proofs.OfflineLemmas.{pulls_on, held_on, offline_on}
+use Rattle.stair_rack.proofs.OfflineLemmas.{pulls_on, held_on, offline_on, reply_if-Done}
+use Rattle.stair_rack.proofs.ReadLemmas.{ready_unpulled}
 use Rattle.stair_rack.proofs.CrashLemmas.{content_left, Leaves-settled, Leaves-wrote, Leaves-mapped, KeepsLeaving, leaves_throughout}
-use Rattle.stair_rack.proofs.CallLemmas.{write_done, write_landed, write_gone, write_others, sync_done, sync_gone}
+use Rattle.stair_rack.proofs.CallLemmas.{write_done, write_landed, write_gone, write_others, sync_done, sync_gone, sync_told}
+use Rattle.stair_rack.proofs.StretchLemmas.{answered_runs}
 
 -- ONE STEP OF THE WRITES
 
@@ -108,6 +111,7 @@ pub record SyncStep (on gone : ℕ → Type 0) (now next : List Happening) : Typ
   pub answered : (j : ℕ) → gone j → on j
   pub settled : (j k : ℕ) → on j → (¬ gone j) → IsSome (slot_state now j).size
       → ButForOutside now next j k (λ s. s ≡ synced ((slot_state now j).sector k))
+  pub told : (j : ℕ) → on j → (¬ gone j) → WasAnswered j (Sync reply.Done) now next
   pub shut : (before : List Happening) (j : ℕ) → gone j → IsHeld before now j → IsOfflineUntilAttached before next j
 
 pub SyncStep-pass : (to gone : Slots) (now next : List Happening) → Settled to gone now next → SyncStep (HasSlot to) (HasSlot gone) now next
@@ -118,6 +122,7 @@ SyncStep-pass to gone now next s = record {
   known = known_slot gone;
   answered = s.answered;
   settled = λ j k on fine some. s.settled j k (on, fine) some;
+  told = λ j on fine. s.was_synced j (on, fine);
   shut = s.shut;
 }
 
@@ -130,6 +135,7 @@ SyncStep-call j answer now next called = record {
   known = λ i. known_reply j i answer;
   answered = λ i gone. gone.0;
   settled = λ i k same fine some. synced_at answer called i k same fine some;
+  told = λ i same fine. told_at answer called i same fine;
   shut = λ before i gone held.
       let gone_call : Calls now next j (Sync reply.Gone) = subst (λ r. Calls now next j (Sync r)) gone.1 called in
       let here : IsOfflineUntilAttached before next j = sync_gone now next j before gone_call (subst (λ n. IsHeld before now n) gone.0 held) in
@@ -143,6 +149,12 @@ SyncStep-call j answer now next called = record {
         (sync_done now next j k called (subst (λ n. IsSome (slot_state now n).size) same some))
     synced_at reply.Gone called i k same fine some = absurd (fine (same, refl))
 
+    told_at : (answer : Reply) → Calls now next j (Sync answer) → (i : ℕ) → i ≡ j → (¬ ((i ≡ j) × (answer ≡ reply.Gone)))
+        → WasAnswered i (Sync reply.Done) now next
+    told_at reply.Done called i same fine =
+        subst (λ n. WasAnswered n (Sync reply.Done) now next) (sym same) (sync_told now next j called)
+    told_at reply.Gone called i same fine = absurd (fine (same, refl))
+
 -- none of them
 pub SyncStep-none : (h : List Happening) → SyncStep (λ j. ⊥) (λ j. ⊥) h h
 SyncStep-none h = record {
@@ -150,6 +162,7 @@ SyncStep-none h = record {
   known = λ j. inr (λ gone. gone);
   answered = λ j gone. gone;
   settled = λ j k on fine some. absurd on;
+  told = λ j on fine. absurd on;
   shut = λ before j gone held. absurd gone;
 }
 
@@ -360,6 +373,33 @@ module _ (what : Writes) (to : ℕ → Type 0) (j k : ℕ) (was : Sector) where
     reads = before.reads;
   }
 
+-- what a sync settles, it settles at once
+kept_synced : {pulls k : ℕ} {P Q : Sector → Type 0} (b : SlotState) → ((x : Sector) → P x → Q (synced x)) → IsKept pulls k P b
+    → IsKept pulls k Q (after_call (Sync reply.Done) b)
+kept_synced b settles (Here same some (inl is)) = Here same some (inl (ap synced is))
+kept_synced {k = k} b settles (Here same some (inr is)) = Here same some (inr (settles (b.sector k) is))
+kept_synced b settles (Lost less) = Lost less
+
+-- syncs alone, one of which this slot answered
+module _ (to : ℕ → Type 0) (mid new : List Happening) (j : ℕ) (syncs : Ran (IsSyncOf to) mid new)
+    (told : WasAnswered j (Sync reply.Done) mid new) where
+  synced_runs : Runs (IsSyncOf to) (Called j (Sync reply.Done) ∷ told.earlier) mid
+  synced_runs = answered_runs {allowed = IsSyncOf to} {j = j} {c = Sync reply.Done} syncs told
+
+  -- up to that sync
+  up_to_sync : Ran (IsSyncOf to) mid (told.earlier ++ mid)
+  up_to_sync = record { more = told.earlier; is = refl; runs = synced_runs.0 }
+
+  -- and with it
+  through_sync : Ran (IsSyncOf to) mid (Called j (Sync reply.Done) ∷ (told.earlier ++ mid))
+  through_sync = record { more = Called j (Sync reply.Done) ∷ told.earlier; is = refl; runs = synced_runs }
+
+  ready_then : is_ready (told.earlier ++ mid) j ≡ true
+  ready_then =
+      let answered : IsAnswered (told.earlier ++ mid) j (Sync reply.Done) =
+      elim synced_runs.1 [ inl act ↦ absurd act | inr call ↦ call.1 ] in
+      reply_if-Done _ answered
+
 module _ (what : Writes) (to gone on gone' : ℕ → Type 0) (so_far : ℕ → ℕ → Type 0) (old mid new : List Happening)
     (w : Writing what to gone so_far old mid) (all : (j k : ℕ) (bytes : List ℕ) → to j → what j k ≡ Some bytes → so_far j k)
     (s : SyncStep on gone' mid new) (within : (j : ℕ) → on j → to j) (enough : (j : ℕ) → to j → (¬ gone j) → on j) where
@@ -418,6 +458,63 @@ module _ (what : Writes) (to gone on gone' : ℕ → Type 0) (so_far : ℕ → �
         sync = λ x may before. elim before [ inl is ↦ inr (ap synced is) | inr is ↦ inr (ap synced is) ];
       })) phase_syncs half
 
+  phase_did : (j : ℕ) → to j → (¬ (gone j ⊎ gone' j)) → DidPhase what old mid new j
+  phase_did j is_to fine = record {
+    moment = next;
+    is_one = record { before = Called j (Sync reply.Done) ∷ told.earlier; later = told.later; from = refl; to = told.is };
+    there = λ pulled. unpulled (subst (λ (b : SlotState). (slot_state old j).pulls < b.pulls) (slot_after_call now j (Sync reply.Done)) pulled);
+    landed = λ k bytes is.
+        at_some_wider {a = any_call} {b = IsSyncOf to} {P = λ h. content ((slot_state h j).sector k) ≡ Good bytes}
+        (ran_none old) (through_sync to mid new j phase_syncs told) (w.landed j k bytes (all j k bytes is_to is) (λ was. fine (inl was)) is);
+    written = written_then;
+    rest = rest_then;
+  }
+    where
+      told : WasAnswered j (Sync reply.Done) mid new
+      told = s.told j (enough j is_to (λ was. fine (inl was))) (λ is. fine (inr is))
+
+      now : List Happening
+      now = told.earlier ++ mid
+
+      next : List Happening
+      next = Called j (Sync reply.Done) ∷ (told.earlier ++ mid)
+
+      unpulled : ¬ WasPulled old now j
+      unpulled =
+          ready_unpulled {allowed = λ i c. IsBesideAttach c} j (λ c beside. beside)
+          (ran_join (ran_weakened {allowed = IsWriteOf what to} {more = λ i c. IsBesideAttach c} (beside_writes what to) w.ran)
+          (ran_weakened {allowed = IsSyncOf to} {more = λ i c. IsBesideAttach c} (beside_syncs to) (up_to_sync to mid new j phase_syncs told)))
+          (ready_then to mid new j phase_syncs told)
+
+      -- what the syncs keep, up to this one, and what it settles
+      settles : (k : ℕ) (P Q : Sector → Type 0) → ((x : Sector) → P x → P (synced x)) → ((x : Sector) → P x → Q (synced x))
+          → ButForOutside old mid j k P → ButForOutside old next j k Q
+      settles k P Q keeps settled_so at_mid =
+          let pulls = (slot_state old j).pulls in
+          let before : IsKept pulls k P (slot_state now j) =
+          kept {allowed = IsSyncOf to} {P = λ h. IsKept pulls k P (slot_state h j)}
+          (keeps_sector {allowed = IsSyncOf to} {j = j} {k = k} {P = P} pulls (record {
+            write = λ bytes x may before. let same : Write k bytes reply.Done ≡ Sync may.answer = may.is in absurd (cc);
+            sync = λ x may before. keeps x before;
+          })) (up_to_sync to mid new j phase_syncs told) at_mid in
+          subst (IsKept pulls k Q) (sym (slot_after_call now j (Sync reply.Done)))
+          (kept_synced {P = P} {Q = Q} (slot_state now j) settled_so before)
+
+      written_then : (k : ℕ) (bytes : List ℕ) → what j k ≡ Some bytes
+          → ButForOutside old next j k (λ x. x ≡ settled (Good bytes))
+      written_then k bytes is =
+          settles k (λ x. content x ≡ Good bytes) (λ x. x ≡ settled (Good bytes)) (λ x holds. holds) (λ x holds. ap settled holds)
+          (w.done j k bytes (all j k bytes is_to is) (λ was. fine (inl was)) is)
+
+      rest_then : (k : ℕ) → IsSome (slot_state old j).size → what j k ≡ None
+          → ButForOutside old next j k (λ x. x ≡ synced ((slot_state old j).sector k))
+      rest_then k some none =
+          let was = (slot_state old j).sector k in
+          settles k (λ x. (x ≡ was) ⊎ (x ≡ synced was)) (λ x. x ≡ synced was)
+          (λ x holds. elim holds [ inl is ↦ inr (ap synced is) | inr is ↦ inr (ap synced is) ])
+          (λ x holds. elim holds [ inl is ↦ ap synced is | inr is ↦ ap synced is ])
+          (IsKept-mapped {P = λ x. x ≡ was} {Q = λ x. (x ≡ was) ⊎ (x ≡ synced was)} (λ x is. inl is) (phase_half j k some (λ on. none)))
+
   phase_others : (j k : ℕ) → IsSome (slot_state old j).size → (¬ to j) → ButForOutside old new j k (λ x. x ≡ (slot_state old j).sector k)
   phase_others j k some off =
       let P : Sector → Type 0 = λ x. x ≡ (slot_state old j).sector k in
@@ -475,6 +572,7 @@ module _ (what : Writes) (to gone on gone' : ℕ → Type 0) (so_far : ℕ → �
             ];
         answered = λ j is_gone. elim is_gone [ inl was ↦ w.answered j was | inr is ↦ within j (s.answered j is) ];
         landed = phase_landed;
+        did = phase_did;
         done = phase_done;
         rest = phase_rest;
         unwritten = λ j k some is_gone none. phase_unwritten j k some none;
@@ -502,6 +600,7 @@ Placed-same same p = record {
   known = λ j. elim (p.known j) [ inl was ↦ inl ((same j).0 was) | inr fine ↦ inr (λ is. fine ((same j).1 is)) ];
   answered = λ j is. p.answered j ((same j).1 is);
   landed = λ j k bytes on fine is. p.landed j k bytes on (λ was. fine ((same j).0 was)) is;
+  did = λ j on fine. p.did j on (λ was. fine ((same j).0 was));
   done = λ j k bytes on fine is. p.done j k bytes on (λ was. fine ((same j).0 was)) is;
   rest = λ j k some on fine none. p.rest j k some on (λ was. fine ((same j).0 was)) none;
   unwritten = λ j k some is none. p.unwritten j k some ((same j).1 is) none;
@@ -529,6 +628,16 @@ Placed-agrees {what} {what'} {to} {gone} {old} {new} same p = record {
   known = p.known;
   answered = p.answered;
   landed = λ j k bytes on fine is. p.landed j k bytes on fine (same j k on ∙ is);
+  did = λ j on fine.
+      let was = p.did j on fine in
+      record {
+        moment = was.moment;
+        is_one = was.is_one;
+        there = was.there;
+        landed = λ k bytes is. was.landed k bytes (same j k on ∙ is);
+        written = λ k bytes is. was.written k bytes (same j k on ∙ is);
+        rest = λ k some none. was.rest k some (same j k on ∙ none);
+      };
   done = λ j k bytes on fine is. p.done j k bytes on fine (same j k on ∙ is);
   rest = λ j k some on fine none. p.rest j k some on fine (same j k on ∙ none);
   unwritten = λ j k some is_gone none. p.unwritten j k some is_gone (same j k (p.answered j is_gone) ∙ none);

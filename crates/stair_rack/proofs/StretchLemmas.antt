@@ -10,6 +10,7 @@ use Rattle.stair_rack.specs.Answers.{IsAnswered, IsCall, Runs, Ran, Calls, Told,
 use Rattle.stair_rack.specs.Moments.{IsMoment, Throughout, AtEveryMoment}
 use Rattle.stair_rack.specs.Stretch.{EachOf, EachHappening, IsNoWrite, IsNoWriteTo, NoneWritten, WasAnswered, DamagesNothing, NothingDamaged}
 use Rattle.stair_rack.specs.declared.rack.Reply.TheVariants as reply
+use Rattle.stair_rack.proofs.MomentLemmas.{runs_before}
 use Rattle.stair_rack.proofs.StepLemmas.{throughout_end, slot_act_cases, slot_call_cases}
 use Rattle.stair_rack.proofs.OfflineLemmas.{IsRefused, refused}
 use Rattle.stair_rack.proofs.KeptLemmas.{not_none, with_old_cases, with_sector_cases}
@@ -248,6 +249,20 @@ call_answered old new j c (Untold acts runs answered is_stopped nothing is) = in
 pub call_told : (old new : List Happening) (j : ℕ) (c : SlotCall) → (¬ IsRefused j c) → Calls old new j c → WasAnswered j c old new
 call_told old new j c does (Told acts runs answered is) = record { earlier = acts; later = []; is = is }
 call_told old new j c does (Untold acts runs answered is_stopped nothing is) = absurd (does (refused (acts ++ old) j c is_stopped answered))
+
+-- it is one of those that were allowed in the stretch, and so are those before it
+pub answered_runs : {allowed : ℕ → SlotCall → Type 0} {j : ℕ} {c : SlotCall} {old new : List Happening} → Ran allowed old new
+    → (told : WasAnswered j c old new) → Runs allowed (Called j c ∷ told.earlier) old
+answered_runs {allowed} {j} {c} {old} {new} ran told =
+    let called : List Happening = Called j c ∷ told.earlier in
+    let same : ran.more ≡ told.later ++ called =
+    append_cancel_right ran.more (told.later ++ called) old (sym ran.is ∙ told.is ∙ sym (append_assoc told.later called old)) in
+    runs_before allowed told.later called old (subst (λ m. Runs allowed m old) same ran.runs)
+
+pub answered_allowed : {allowed : ℕ → SlotCall → Type 0} {j : ℕ} {c : SlotCall} {old new : List Happening} → Ran allowed old new
+    → WasAnswered j c old new → allowed j c
+answered_allowed {allowed} {j} {c} {old} {new} ran told =
+    elim (answered_runs {allowed = allowed} {j = j} {c = c} ran told).1 [ inl act ↦ absurd act | inr call ↦ call.0 ]
 
 -- and in each longer stretch
 pub answered_wider : {a b : ℕ → SlotCall → Type 0} {j : ℕ} {c : SlotCall} {old mid new later : List Happening} → Ran a old mid → Ran b new later

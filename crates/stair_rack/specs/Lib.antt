@@ -22,3 +22,4 @@ pub mod Reading
 pub mod EachMedium
 pub mod PlacedInTurn
 pub mod Telling
+pub mod Watching

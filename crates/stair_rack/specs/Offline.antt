@@ -3,6 +3,10 @@ use Rattle.std.specs.Prelude.{◌≡◌, ◌⊎◌, ℕ, ◌<◌, ◌≤◌, tru
 use Rattle.stair_rack.specs.Sector.{Sector, damaged}
 use Rattle.stair_rack.specs.History.{Happening, SlotState, slot_state, stopped}
 
+-- the slot is attached: the last attach found the medium that it holds
+abbrev pub IsAttached : List Happening → ℕ → Type 0
+IsAttached h j = (slot_state h j).attached ≡ true
+
 -- a medium of the slot was pulled between the two moments
 abbrev pub WasPulled : List Happening → List Happening → ℕ → Type 0
 WasPulled before h j = (slot_state before j).pulls < (slot_state h j).pulls

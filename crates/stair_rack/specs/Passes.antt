@@ -7,7 +7,9 @@ use Rattle.stair_rack.specs.History.{Happening, SlotCall, Write, Sync, SlotState
 use Rattle.stair_rack.specs.Answers.{Calls, Ran, reply_if}
 use Rattle.stair_rack.specs.Moments.{AtSomeMoment, AtEveryMoment}
 use Rattle.stair_rack.specs.Offline.{IsHeld, IsOfflineUntilAttached, ButForOutside}
+use Rattle.stair_rack.specs.Stretch.{WasAnswered}
 use Rattle.stair_rack.specs.declared.rack.Reply.{Reply}
+use Rattle.stair_rack.specs.declared.rack.Reply.TheVariants as reply
 use Rattle.stair_rack.specs.declared.pass.Pass.{Pass}
 use Rattle.stair_rack.specs.declared.pass.Pass.TheVariants as pass
 
@@ -93,8 +95,9 @@ pub record Settled (to gone : Slots) (old new : List Happening) : Type 0 where
   -- one on each slot of `to`, in rising order
   pub turns : Turns Sync to gone 32 old new
   pub answered : (j : ℕ) → HasSlot gone j → HasSlot to j
-  -- each slot that isn't answered had nothing unsynced in the pass
+  -- each slot that isn't answered had nothing unsynced in the pass, since its sync was answered so
   pub landed : (j : ℕ) → IsDone to gone j → WasSynced old new j
+  pub was_synced : (j : ℕ) → IsDone to gone j → WasAnswered j (Sync reply.Done) old new
   -- but for the outside: it has nothing unsynced, and reads as it did
   pub settled : (j k : ℕ) → IsDone to gone j → IsSome (slot_state old j).size
       → ButForOutside old new j k (λ s. s ≡ synced ((slot_state old j).sector k))

@@ -5,8 +5,8 @@ use Rattle.stair_rack.specs.Sector.{Cell, Good, Damaged, Sector, settled, conten
 use Rattle.stair_rack.specs.Media.{has_sector}
 use Rattle.stair_rack.specs.History.{Happening, SlotCall, Write, Sync, slot_state}
 use Rattle.stair_rack.specs.Answers.{Ran}
-use Rattle.stair_rack.specs.Moments.{AtEveryMoment}
-use Rattle.stair_rack.specs.Offline.{IsHeld, IsOfflineUntilAttached, ButForOutside}
+use Rattle.stair_rack.specs.Moments.{AtEveryMoment, IsMoment}
+use Rattle.stair_rack.specs.Offline.{IsHeld, IsOfflineUntilAttached, ButForOutside, WasPulled}
 use Rattle.stair_rack.specs.Passes.{Landed, Settled}
 use Rattle.stair_rack.specs.declared.rack.Reply.{Reply}
 use Rattle.stair_rack.specs.declared.rack.Reply.TheVariants as reply
@@ -67,6 +67,19 @@ pub data MayBeUnder (what : Writes) (to : ℕ → Type 0) (j k : ℕ) (was : Sec
   New : (bytes : List ℕ) → to j → what j k ≡ Some bytes → cell ≡ Good bytes →
       MayBeUnder what to j k was cell
 
+-- Slot j did the whole phase, on the medium that it had at first: at a moment of the syncs, which began at `mid`, that one
+-- hadn't been pulled, each sector that is written had read as its bytes, and but for damage each sector of it was settled,
+-- with its bytes or as it read.
+pub record DidPhase (what : Writes) (old mid new : List Happening) (j : ℕ) : Type 0 where
+  pub moment : List Happening
+  pub is_one : IsMoment mid moment new
+  pub there : ¬ WasPulled old moment j
+  pub landed : (k : ℕ) (bytes : List ℕ) → what j k ≡ Some bytes → Landed old moment j k bytes
+  pub written : (k : ℕ) (bytes : List ℕ) → what j k ≡ Some bytes
+      → ButForOutside old moment j k (λ s. s ≡ settled (Good bytes))
+  pub rest : (k : ℕ) → IsSome (slot_state old j).size → what j k ≡ None
+      → ButForOutside old moment j k (λ s. s ≡ synced ((slot_state old j).sector k))
+
 -- The phase, in two stretches: first these writes alone, then syncs of these slots alone.
 pub record Placed (what : Writes) (to gone : ℕ → Type 0) (old new : List Happening) : Type 0 where
   pub mid : List Happening
@@ -77,6 +90,8 @@ pub record Placed (what : Writes) (to gone : ℕ → Type 0) (old new : List Hap
   -- each slot that wasn't gone got its bytes in the phase
   pub landed : (j k : ℕ) (bytes : List ℕ) → to j → (¬ gone j) → what j k ≡ Some bytes
       → Landed old new j k bytes
+  -- and did the whole phase before its medium was pulled, if it was pulled at all
+  pub did : (j : ℕ) → to j → (¬ gone j) → DidPhase what old mid new j
   -- but for the outside: it has them on the disk
   pub done : (j k : ℕ) (bytes : List ℕ) → to j → (¬ gone j) → what j k ≡ Some bytes
       → ButForOutside old new j k (λ s. s ≡ settled (Good bytes))

@@ -1,4 +1,5 @@
-//! Where bytes come from and go to: racks of devices, sources and sinks, each of which may fail.
+//! Where bytes come from and go to: racks of devices, sources and sinks, each of which may fail; and who is told of what
+//! happens to an array.
 #![tactic(auto)]
 
 mod count;
@@ -17,6 +18,7 @@ mod sync;
 #[cfg(test)]
 mod tests;
 mod through;
+mod watcher;
 mod write;
 
 pub use from_read::FromRead;
@@ -30,4 +32,5 @@ pub use sink::{Put, Sink};
 pub use source::{Source, Taken};
 pub use sync::sync_all;
 pub use through::write_through;
+pub use watcher::{Counts, Event, EventKind, Next, Watcher};
 pub use write::write_all;

@@ -4,7 +4,7 @@ use Rattle.std.specs.Prelude.{◌⊎◌, ◌↔◌}
 use Rattle.std.proofs.lemmas.Bool.{cases_eq}
 use Rattle.stair_model.specs.CellSet.{CellSet, HasCell, IsCellSet, IsInStripe}
 use Rattle.stair_model.specs.Geometry.{Geometry}
-use Rattle.stair_stripes.specs.SoFar.{ErasesChunk}
+use Rattle.stair_stripes.specs.GatheringSteps.{ErasesChunk}
 
 -- ROWS
 

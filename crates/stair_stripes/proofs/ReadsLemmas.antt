@@ -12,7 +12,7 @@ use Rattle.stair_rack.specs.declared.rack.Got.TheVariants as got
 use Rattle.stair_rack.specs.Reading.{EachBelow}
 use Rattle.stair_journal.proofs.TurnLemmas.{each_mapped, each_more}
 use Rattle.stair_stripes.specs.Reads.{ReadsCell, Unwanted, There, ReadsChunk, NotLive, Whole, UpTo, ReadsInTurn}
-use Rattle.stair_stripes.specs.SoFar.{ReadsBefore}
+use Rattle.stair_stripes.specs.GatheringSteps.{ReadsBefore}
 
 -- THE SAME CELLS, AND THE SAME GONE SLOTS
 

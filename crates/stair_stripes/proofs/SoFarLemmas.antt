@@ -18,7 +18,7 @@ use Rattle.stair_rack.proofs.PassCounts.{NoneFalls-same}
 use Rattle.stair_rack.proofs.TellingLemmas.{later_none}
 use Rattle.stair_stripes.specs.Gathering.{Gathers, IsCellOf, IsReadOfCell}
 use Rattle.stair_stripes.specs.Reads.{ReadsInTurn}
-use Rattle.stair_stripes.specs.SoFar.{ErasesChunk, GathersBefore, GoesOn, IsWantedBefore}
+use Rattle.stair_stripes.specs.GatheringSteps.{ErasesChunk, GathersBefore, GoesOn, IsWantedBefore}
 use Rattle.stair_stripes.specs.declared.gathering.Gathered.{Gathered}
 use Rattle.stair_stripes.proofs.GatheringLemmas.{gathers_bad, gathers_erased, gathers_good, gathers_same}
 use Rattle.stair_stripes.proofs.ReadsLemmas.{reads_all, reads_cell, reads_dead, reads_ended, reads_lost, reads_none, reads_skipped}

@@ -2,4 +2,4 @@
 pub mod Gathering
 pub mod Placing
 pub mod Reads
-pub mod SoFar
+pub mod GatheringSteps

@@ -7,7 +7,7 @@ ghost use Rattle.stair_rack.specs.RackCounts.{RisesAtMost};
 ghost use Rattle.stair_rack.specs.Telling.{telling};
 ghost use Rattle.stair_stripes.specs.Gathering.{Gathers, IsCellOf};
 ghost use Rattle.stair_stripes.specs.Reads.{ReadsInTurn};
-ghost use Rattle.stair_stripes.specs.SoFar.{ErasesChunk, GoesOn};
+ghost use Rattle.stair_stripes.specs.GatheringSteps.{ErasesChunk, GoesOn};
 
 use stair_base::{CellSet, Geometry, Slots, Stripe};
 use stair_rack::{Got, Rack};

@@ -9,4 +9,4 @@ mod placing;
 mod tests;
 
 pub use gathering::{Gathered, gather, gather_cells};
-pub use placing::place;
+pub use placing::{place, write_chunk};

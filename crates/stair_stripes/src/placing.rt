@@ -34,15 +34,19 @@ pub fn place<R: Rack>(
 {
     let mut gone = Slots::empty();
     for slot in 0..geometry.n() {
-        if to.has(slot) && place_chunk(rack, geometry, slot, redo, stripe) == Reply::Gone {
+        if to.has(slot) && write_chunk(rack, geometry, slot, redo, stripe) == Reply::Gone {
             gone.add(slot);
         }
     }
     sync_rest(rack, to, gone)
 }
 
-// Writes the redo's cells of one slot's chunk, up to the first that is gone.
-fn place_chunk<R: Rack>(
+/// Writes the redo's cells of `stripe` that lie on this slot, row after row, up to the first that is gone, and syncs
+/// nothing.
+///
+/// - `Done`: its sectors read as these cells, which are safe from a crash once the slot was synced.
+/// - `Gone`: each of them may be left as it was, or written.
+pub fn write_chunk<R: Rack>(
     rack: &mut R,
     geometry: &Geometry,
     slot: u8,

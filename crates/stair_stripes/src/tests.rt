@@ -1,15 +1,16 @@
 //! Cells of stripe 2 on a rack of four devices with one row parity, two rows, one global parity and three stripes. Cell
 //! (i, j) has number 4·i + j, and lies on slot j in sector 15 + i.
 
-ghost use Rattle.std.specs.Prelude.{◌<◌, ℕ, IfOk};
+ghost use Rattle.std.specs.Prelude.{◌≡◌, ◌<◌, ℕ, IfOk};
+ghost use Rattle.stair_journal.specs.Redo.{IsRedo};
 ghost use Rattle.stair_model.specs.CellSet.{HasCell, IsCellSet};
 ghost use Rattle.stair_model.specs.Stripe.{IsStripeOf};
 
-use crate::{gather, gather_cells, place};
+use crate::{gather, gather_cells, place, write_chunk};
 use stair_base::{CellSet, Geometry, Slots, Stripe};
 use stair_journal::Redo;
 use stair_memrack::{Act, MemRack, What};
-use stair_rack::{Got, Rack};
+use stair_rack::{Got, Rack, Reply};
 use std::alloc::{AllocError, Global};
 use std::test::Fail;
 
@@ -25,6 +26,21 @@ fn cells(bits: u8) -> CellSet
         }
     }
     cells
+}
+
+// A redo of stripe 2 with cell 0 and the cells whose bits are set.
+fn redo_of(geometry: &Geometry, bits: u8) -> Redo
+    requires slots { geometry.now.n ≡ 4 }
+    requires rows { geometry.now.r ≡ 2 }
+    requires stripes { geometry.now.stripes ≡ 3 }
+    ensures { IsRedo geometry.now result }
+{
+    let mut redone = cells(bits);
+    redone.add(0, 0);
+    Redo {
+        stripe: 2,
+        cells: redone,
+    }
 }
 
 // A stripe whose cells are each filled with their number, from `first` on.
@@ -68,12 +84,7 @@ fn cells_are_placed_and_gathered(rt: HostRuntime) -> Result<(), Fail> {
                 live.add(slot);
             }
         }
-        let mut redone = cells(placed);
-        redone.add(0, 0);
-        let redo = Redo {
-            stripe: 2,
-            cells: redone,
-        };
+        let redo = redo_of(&geometry, placed);
         let unplaced = place(&mut rack, &geometry, live, &redo, &stripe);
         assert_eq!(rt; unplaced, Slots::empty());
         for number in 0..8u8 {
@@ -113,5 +124,29 @@ fn cells_are_placed_and_gathered(rt: HostRuntime) -> Result<(), Fail> {
         let all = gather(&mut rack, &geometry, live, 2, &mut into);
         assert!(rt; wanted < 255 || all.erased == found.erased);
     }
+    Ok(())
+}
+
+// Of chunk 1 the redo has both cells. Each is written, and nothing is synced: a crash may leave neither.
+#[test]
+fn a_chunk_is_written_and_not_synced(rt: HostRuntime) -> Result<(), Fail> {
+    let geometry = Geometry::new(4, 1, 2, &[1], 3, [0; 16])?;
+    let stripe = numbered(rt.alloc(), &geometry, 1)?;
+    let redo = redo_of(&geometry, 0b0010_0110);
+    let mut rack = MemRack::new(rt.alloc(), 4, 17, &[], 99)?;
+    let early = write_chunk(&mut rack, &geometry, 1, &redo, &stripe);
+    assert_eq!(rt; (early, rack.made()), (Reply::Gone, 1));
+    rack.attach(1);
+    let written = write_chunk(&mut rack, &geometry, 1, &redo, &stripe);
+    assert_eq!(rt; (written, rack.made()), (Reply::Done, 4));
+    let mut into = [0; 512];
+    for (sector, byte) in [(15, 2), (16, 6)] {
+        assert_eq!(rt; rack.read(1, sector, &mut into), Got::Good);
+        assert_eq!(rt; into, [byte; 512]);
+    }
+    let mut rack = rack.after_crash(rt.alloc(), &[], &[], 99)?;
+    rack.attach(1);
+    assert_eq!(rt; rack.read(1, 15, &mut into), Got::Bad);
+    assert_eq!(rt; rack.read(1, 16, &mut into), Got::Bad);
     Ok(())
 }

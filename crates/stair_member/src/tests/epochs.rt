@@ -7,7 +7,7 @@ use crate::{AdmitFault, FenceFault, Member, Why, admit, fence, promote, stamp, s
 use stair_base::Slots;
 use stair_memrack::{Act, MemRack, What};
 use stair_rack::{Got, Rack};
-use stair_super::{Label, Mark, read_super};
+use stair_super::{Label, Mark, Super, read_super};
 use std::alloc::{AllocError, Global};
 use std::test::Fail;
 
@@ -218,6 +218,38 @@ fn a_slot_is_admitted_and_promoted(rt: HostRuntime) -> Result<(), Fail> {
     assert_eq!(rt; (member.marks()[2], member.joins()[2]), (Mark::Live, 3));
     let found = survey(&mut rack).ok().expect(&rt, "four slots");
     assert_eq!(rt; (found.here(), found.epoch()), (slots_of(&[0, 1, 2, 3]), 4));
+    Ok(())
+}
+
+// What lies in the places of the slot is seen, if it is Down.
+fn see_it(member: &mut Member, first: Option<Super>, second: Option<Super>) {
+    if SLOT < member.geometry().n() && member.marks()[usize::from(SLOT)] == Mark::Down {
+        member.see(SLOT, first, second);
+    }
+}
+
+// Its draw is the greatest one seen from then on, if it is, and the next superblock goes to the other place.
+#[test]
+fn what_a_medium_holds_is_seen(rt: HostRuntime) -> Result<(), Fail> {
+    let (_, found) = down_and_blank(rt.alloc(), &[])?;
+    let mut member = found.expect(&rt, "three slots");
+    assert_eq!(rt; member.drawn(), 2);
+    for (draw, is_first, seen, next) in [(9, false, 9, 0), (7, true, 9, 1)] {
+        let other = Block {
+            id: 5,
+            slot: SLOT,
+            draw,
+            ..NEW
+        };
+        let held = read_super(&bytes_of(other));
+        assert!(rt; held.is_some());
+        if is_first {
+            see_it(&mut member, held, None);
+        } else {
+            see_it(&mut member, None, held);
+        }
+        assert_eq!(rt; (member.drawn(), member.next_place(SLOT)), (seen, next));
+    }
     Ok(())
 }
 

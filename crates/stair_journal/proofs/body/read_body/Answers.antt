@@ -1,7 +1,7 @@
 -- Each turn reads the next row.
 use Rattle.std.proofs.Common.{◌≡◌, None, refl, arith}
 use Rattle.stair_rack.specs.Telling.{telling}
-use Rattle.stair_journal.specs.Bodied.{standing}
+use Rattle.stair_journal.specs.BodySteps.{standing}
 use Rattle.stair_journal.proofs.BodyLemmas.{all_in_turn, all_read, all_reads, none_read}
 use Rattle.stair_journal.proofs.body.read_body.Goals as goal
 

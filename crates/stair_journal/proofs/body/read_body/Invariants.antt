@@ -1,6 +1,6 @@
 -- the redo's cells of the rows before this one were read
 use Rattle.stair_rack.specs.Telling.{telling}
-use Rattle.stair_journal.specs.Bodied.{IsReadTo, standing}
+use Rattle.stair_journal.specs.BodySteps.{IsReadTo, standing}
 use Rattle.stair_journal.proofs.body.read_body.Given as goal
 
 abbrev pub invariant-loop-row : goal.invariant-loop-row

@@ -2,7 +2,7 @@
 use Rattle.std.proofs.Common.{◌≡◌, ◌<◌, sym, ◌∙◌, arith}
 use Rattle.std.proofs.lemmas.Bool.{false≢true}
 use Rattle.stair_rack.specs.Telling.{telling}
-use Rattle.stair_journal.specs.Bodied.{standing}
+use Rattle.stair_journal.specs.BodySteps.{standing}
 use Rattle.stair_journal.proofs.BodyLemmas.{cell_more, cell_skipped, row_done}
 use Rattle.stair_journal.proofs.body.read_row.Goals as goal
 use Rattle.stair_journal.proofs.body.read_row.Goals.{then-has, else-has}

@@ -1,7 +1,7 @@
 -- the redo's cells of this row before this one were read
 use Rattle.stair_model.specs.Stripe.{IsStripeOf}
 use Rattle.stair_rack.specs.Telling.{telling}
-use Rattle.stair_journal.specs.Bodied.{IsReadTo, Standing, standing}
+use Rattle.stair_journal.specs.BodySteps.{IsReadTo, Standing, standing}
 use Rattle.stair_journal.proofs.body.read_row.Given as goal
 
 abbrev pub invariant-loop-chunk : goal.invariant-loop-chunk

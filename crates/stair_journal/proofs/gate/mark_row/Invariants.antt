@@ -2,7 +2,7 @@
 use Rattle.std.proofs.Common.{◌≡◌, ℕ, ◌<◌}
 use Rattle.std.specs.Prelude.{◌⊎◌, ◌↔◌}
 use Rattle.stair_model.specs.CellSet.{HasCell, IsCellSet}
-use Rattle.stair_journal.specs.Marks.{IsMarkedIn}
+use Rattle.stair_journal.specs.GateSteps.{IsMarkedIn}
 use Rattle.stair_journal.proofs.gate.mark_row.Given as goal
 
 abbrev pub invariant-loop-slot : goal.invariant-loop-slot

@@ -2,7 +2,7 @@
 use Rattle.std.proofs.Common.{ℕ, ◌<◌}
 use Rattle.std.specs.Prelude.{◌↔◌}
 use Rattle.stair_model.specs.CellSet.{HasCell, IsCellSet}
-use Rattle.stair_journal.specs.Marks.{IsMarkedIn}
+use Rattle.stair_journal.specs.GateSteps.{IsMarkedIn}
 use Rattle.stair_journal.proofs.gate.marked_cells.Given as goal
 
 abbrev pub invariant-loop-row : goal.invariant-loop-row

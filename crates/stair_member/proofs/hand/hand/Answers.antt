@@ -10,7 +10,7 @@ use Rattle.stair_member.proofs.hand.hand.Goals as goal
 
 pub returns-then-not-both-clause-told : goal.returns-then-not-both-clause-told
 returns-then-not-both-clause-told g c honest =
-    subst (λ (b : Bool). Handed c.args.member.now c.args.slot b c.put-reply.result
+    subst (λ (b : Bool). Handed c.args.member.now c.put-reply.new.member c.args.slot b c.put-reply.result
     (g.R.Rack.history c.args.rack.now) (g.R.Rack.history c.put-reply.new.rack)) (sym c.if-not-both.true) (c.put-reply.ensures.told honest)
 
 pub returns-then-not-both-clause-places : goal.returns-then-not-both-clause-places
@@ -24,9 +24,9 @@ returns-then-not-both-clause-places g c =
 pub returns-then-eq-clause-told : goal.returns-then-eq-clause-told
 returns-then-eq-clause-told g c honest =
     let gone = Gone-compared c.put-reply.result (sym c.eq.ensures ∙ c.if-eq.true) in
-    subst (λ (b : Bool). Handed c.args.member.now c.args.slot b reply.Gone (g.R.Rack.history c.args.rack.now)
+    subst (λ (b : Bool). Handed c.args.member.now c.put-reply.new.member c.args.slot b reply.Gone (g.R.Rack.history c.args.rack.now)
     (g.R.Rack.history c.put-reply.new.rack)) (sym c.if-not-both.false)
-    (handed_neither c.args.member.now c.args.slot _ _ (rw gone at (c.put-reply.ensures.told honest)))
+    (handed_neither c.args.member.now c.put-reply.new.member c.args.slot _ _ (rw gone at (c.put-reply.ensures.told honest)))
 
 pub returns-then-eq-clause-places : goal.returns-then-eq-clause-places
 returns-then-eq-clause-places g c =
@@ -40,13 +40,12 @@ returns-clause-told g c honest =
     let below : c.args.slot < c.args.member.now.array.geometry.n = c.requires.below in
     let done = Done-compared c.put-reply.result (sym c.eq.ensures ∙ c.if-eq.false) in
     let is = c.put-reply.ensures.done done in
-    let zero = c.requires.first c.if-not-both.false in
-    let one : place_of (turned c.args.member.now c.args.slot) c.args.slot ≡ 1 =
-    place_turned c.args.member.now c.args.slot (omega arith) c.put-reply.ensures.was.sizes.places ∙ ap (λ (x : ℕ). 1 - x) zero in
-    subst (λ (b : Bool). Handed c.args.member.now c.args.slot b c.put.result (g.R.Rack.history c.args.rack.now)
+    subst (λ (b : Bool). Handed c.args.member.now c.put.new.member c.args.slot b c.put.result (g.R.Rack.history c.args.rack.now)
     (g.R.Rack.history c.put.new.rack)) (sym c.if-not-both.false)
-    (handed_twice c.args.member.now c.args.slot c.put.result _ _ _ zero one (rw done at (c.put-reply.ensures.told honest))
-    (subst (λ (m : Membership). Handed m c.args.slot false c.put.result
+    (handed_twice c.args.member.now c.put-reply.new.member c.put.new.member c.args.slot c.put.result _ _ _
+    (c.put-reply.ensures.was.places c.args.slot (omega arith))
+    (place_turned c.args.member.now c.args.slot (omega arith) c.put-reply.ensures.was.sizes.places) (rw done at (c.put-reply.ensures.told honest))
+    (subst (λ (m : Membership). Handed m c.put.new.member c.args.slot false c.put.result
     (g.R.Rack.history c.put-reply.new.rack) (g.R.Rack.history c.put.new.rack)) is (c.put.ensures.told honest)))
 
 pub returns-clause-places : goal.returns-clause-places
@@ -57,4 +56,4 @@ returns-clause-places g c =
     subst (λ (b : Bool). PlacesHanded c.args.member.now c.put.new.member c.args.slot b c.put.result) (sym c.if-not-both.false)
     (places_twice c.args.member.now c.put-reply.new.member c.put.new.member c.args.slot c.put.result (omega arith)
     c.put-reply.ensures.was.sizes.places
-    c.put.ensures.was.sizes.places (c.requires.first c.if-not-both.false) (c.put-reply.ensures.done done) c.put.ensures.done c.put.ensures.unturned)
+    c.put.ensures.was.sizes.places (c.put-reply.ensures.was.places c.args.slot (omega arith)) (c.put-reply.ensures.done done) c.put.ensures.done c.put.ensures.unturned)

@@ -32,4 +32,4 @@ returns-clause-told g c honest =
     let synced = Done-compared c.sync.result (sym c.eq-2.ensures ∙ c.if-eq-2.false) in
     handed_once c.args.member.now c.args.slot small _ _ _
     (write_told c.args.member.now c.args.slot _ _ _ _ c.block-block.result _ _ (c.write.ensures.told honest) c.next_place.ensures.value
-    c.write_super-bytes.ensures.text c.block-block.ensures.value done) (rw synced at (c.sync.ensures.told honest))
+    c.write_super-bytes.ensures.text c.block-block.ensures.value done) _ (rw synced at (c.sync.ensures.told honest))

@@ -4,7 +4,7 @@ use Rattle.std.proofs.lemmas.Bool.{false≢true}
 use Rattle.stair_rack.proofs.PassCounts.{Done-compared, Gone-compared, NoneFalls-same, NoneFalls-then}
 use Rattle.stair_super.specs.Superblock.{mark_in}
 use Rattle.stair_member.specs.Membership.{Membership}
-use Rattle.stair_member.proofs.SpreadLemmas.{places_all, places_gone, spread_all, spread_gone, spread_more, spread_skipped, spread_start, twice_is}
+use Rattle.stair_member.proofs.SpreadLemmas.{places_all, places_gone, spread_all, spread_gone, spread_more, spread_skipped, spread_start}
 use Rattle.stair_member.proofs.hand.spread.Goals as goal
 use Rattle.stair_member.proofs.hand.spread.Goals.{else-has-via-then-has+else-eq, else-has-via-else-has}
 
@@ -46,24 +46,20 @@ loop-slot-preserved g c =
 pub hand-requires-clause-below : goal.hand-requires-clause-below
 hand-requires-clause-below g c =
     subst (λ (m : Membership). c.loop-slot.slot < m.array.geometry.n) (sym c.loop-slot.invariant.far.rest)
-    (c.requires.slots c.loop-slot.slot (c.has.ensures.member.0 c.if-has.true)).0
+    (c.requires c.loop-slot.slot (c.has.ensures.member.0 c.if-has.true)).0
 
 pub hand-requires-clause-up : goal.hand-requires-clause-up
 hand-requires-clause-up g c down =
-    (c.requires.slots c.loop-slot.slot (c.has.ensures.member.0 c.if-has.true)).1
+    (c.requires c.loop-slot.slot (c.has.ensures.member.0 c.if-has.true)).1
     (ap (λ (m : Membership). mark_in m.array c.loop-slot.slot) (sym c.loop-slot.invariant.far.rest) ∙ down)
-
-pub hand-requires-clause-first : goal.hand-requires-clause-first
-hand-requires-clause-first g c both =
-    c.loop-slot.invariant.far.later c.loop-slot.slot (omega arith)
-    ∙ c.requires.first c.loop-slot.slot (twice_is c.args.twice c.loop-slot.slot (sym c.is_this.ensures ∙ both))
 
 pub returns-then-eq-clause-told : goal.returns-then-eq-clause-told
 returns-then-eq-clause-told g c =
     let gone = Gone-compared c.hand.result (sym c.eq.ensures ∙ c.if-eq.true) in
     spread_gone c.args.member.now c.loop-slot.member c.hand.new.member c.args.to c.args.twice c.loop-slot.slot g.R.Rack.is_honest
     (g.R.Rack.history c.args.rack.now) (g.R.Rack.history c.loop-slot.rack) (g.R.Rack.history c.hand.new.rack) c.loop-slot.invariant.far
-    (c.has.ensures.member.0 c.if-has.true) (λ honest. rw (c.is_this.ensures, gone) at (c.hand.ensures.told honest))
+    (c.has.ensures.member.0 c.if-has.true) (rw (c.is_this.ensures, gone) at c.hand.ensures.places)
+    (λ honest. rw (c.is_this.ensures, gone) at (c.hand.ensures.told honest))
 
 pub returns-then-eq-clause-places : goal.returns-then-eq-clause-places
 returns-then-eq-clause-places g c =

@@ -8,4 +8,4 @@ returns-clause-newest c =
 
 pub returns-clause-next : goal.returns-clause-next
 returns-clause-next c =
-    rw (← c.block_of-one.ensures, ← c.block_of-other.ensures) (λ cell first second. c.next_place.ensures cell first second)
+    rw (← c.block_of-one.ensures, ← c.block_of-other.ensures) (λ cell first second. c.next_place.ensures.place cell first second)

@@ -3,7 +3,7 @@ use Rattle.stair_model.specs.CellSet.{count_in_slot}
 use Rattle.stair_model.specs.Sum.{sum_below}
 use Rattle.stair_rack.specs.RackCounts.{RisesAtMost}
 use Rattle.stair_rack.specs.Telling.{telling}
-use Rattle.stair_stripes.specs.SoFar.{GathersBefore}
+use Rattle.stair_stripes.specs.GatheringSteps.{GathersBefore}
 use Rattle.stair_stripes.proofs.gathering.gather_cells.Given as goal
 
 abbrev pub invariant-loop-slot : goal.invariant-loop-slot

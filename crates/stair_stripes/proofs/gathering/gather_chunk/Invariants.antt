@@ -3,7 +3,7 @@ use Rattle.stair_model.specs.CellSet.{IsCellSet}
 use Rattle.stair_model.specs.Stripe.{IsStripeOf}
 use Rattle.stair_rack.specs.RackCounts.{RisesAtMost}
 use Rattle.stair_rack.specs.Telling.{telling}
-use Rattle.stair_stripes.specs.SoFar.{GoesOn}
+use Rattle.stair_stripes.specs.GatheringSteps.{GoesOn}
 use Rattle.stair_stripes.proofs.ReadCounts.{wanted_below}
 use Rattle.stair_stripes.proofs.gathering.gather_chunk.Given as goal
 

@@ -12,28 +12,28 @@ pub loop-slot-preserved : goal.loop-slot-preserved
 loop-slot-preserved g c =
     elim c.if-has.branch [
       | then-has+then-eq w ↦
-          let gone = Gone-compared w.place_chunk.result (sym w.eq.ensures ∙ w.if-eq.true) in
+          let gone = Gone-compared w.write_chunk.result (sym w.eq.ensures ∙ w.if-eq.true) in
           let on = (c.has.ensures.member).0 w.if-has.true in
           rw (w.gone-is, w.rack-is)
           (phase_gone _ _ _ _ _ _ _ _ c.has.ensures.well_formed c.loop-slot.invariant _ w.add.ensures.well_formed w.add.ensures.members on
           (record {
-            told = λ honest. rw gone at (w.place_chunk.ensures.told honest);
-            gone = λ is. w.place_chunk.ensures.gone gone;
-            counts = w.place_chunk.ensures.counts;
-            reads = w.place_chunk.ensures.reads;
+            told = λ honest. rw gone at (w.write_chunk.ensures.told honest);
+            gone = λ is. w.write_chunk.ensures.gone gone;
+            counts = w.write_chunk.ensures.counts;
+            reads = w.write_chunk.ensures.reads;
           }) (λ k bytes is. refl))
       | else-has w ↦
           elim w.else-has.branch [
             | else-has-via-then-has+else-eq v ↦
-                let done = Done-compared v.place_chunk.result (sym v.eq.ensures ∙ v.if-eq.false) in
+                let done = Done-compared v.write_chunk.result (sym v.eq.ensures ∙ v.if-eq.false) in
                 let on = (c.has.ensures.member).0 v.if-has.true in
                 rw (w.gone-is, w.rack-is, v.rack-is)
                 (phase_done _ _ _ _ _ _ _ _ c.has.ensures.well_formed c.loop-slot.invariant on
                 (record {
-                  told = λ honest. rw done at (v.place_chunk.ensures.told honest);
-                  gone = λ is. v.place_chunk.ensures.gone (done ∙ is);
-                  counts = v.place_chunk.ensures.counts;
-                  reads = v.place_chunk.ensures.reads;
+                  told = λ honest. rw done at (v.write_chunk.ensures.told honest);
+                  gone = λ is. v.write_chunk.ensures.gone (done ∙ is);
+                  counts = v.write_chunk.ensures.counts;
+                  reads = v.write_chunk.ensures.reads;
                 }) (λ k bytes is. refl))
             | else-has-via-else-has v ↦
                 let off = false_from_ne_true _ (λ has. false≢true (sym v.if-has.false ∙ (c.has.ensures.member).1 has)) in

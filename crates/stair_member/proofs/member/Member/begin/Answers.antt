@@ -7,7 +7,6 @@ use Rattle.stair_member.proofs.member.Member.begin.Goals as goal
 
 pub new-requires : goal.new-requires
 new-requires c =
-    begun_rules c.args.aim.now (shown c.self.inside) c.begun_array-array.result c.aimed_whys-whys.result c.places_of-places.result c.self.invariant
+    begun_rules c.args.aim.now (shown c.self.inside) c.begun_array-array.result c.aimed_whys-whys.result c.self.invariant
     (subst (MayBegin c.args.aim.now) (sym c.self.view_is) c.requires)
-    c.begun_array-array.ensures.names c.aimed_whys-whys.ensures.each c.places_of-places.ensures.each c.aimed_whys-whys.ensures.size
-    c.places_of-places.ensures.size c.begun_array-array.ensures.label
+    c.begun_array-array.ensures.names c.aimed_whys-whys.ensures.each c.aimed_whys-whys.ensures.size c.begun_array-array.ensures.label

@@ -13,4 +13,5 @@ loop-sector-preserved c =
     let i = c.loop-sector.sector-index in
     let items = c.loop-sector.sector-items in
     let at : StoredSector = get_or items i none in
-    map_over_more settle _ _ _ at (omega arith) c.loop-sector.invariant (get_or_default items i none at (omega arith))
+    rw c.kept_cell-cell.ensures
+    (map_over_more (settle c.args.how) _ _ _ at (omega arith) c.loop-sector.invariant (get_or_default items i none at (omega arith)))

@@ -3,7 +3,7 @@ use Rattle.stair_rack.specs.declared.rack.Reply.TheVariants as reply
 use Rattle.stair_rack.proofs.PhaseCounts.{WritesSlot}
 use Rattle.stair_stripes.specs.Placing.{cell_writes}
 use Rattle.stair_stripes.proofs.PlacingLemmas.{IsInChunkTo}
-use Rattle.stair_stripes.proofs.placing.place_chunk.Given as goal
+use Rattle.stair_stripes.proofs.placing.write_chunk.Given as goal
 
 abbrev pub invariant-loop-row : goal.invariant-loop-row
 invariant-loop-row g l =

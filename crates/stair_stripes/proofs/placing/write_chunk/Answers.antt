@@ -5,8 +5,8 @@ use Rattle.stair_rack.specs.declared.rack.Reply.TheVariants as reply
 use Rattle.stair_rack.proofs.PassCounts.{Done-compared, Gone-compared}
 use Rattle.stair_rack.proofs.PhaseCounts.{slot_asked, slot_stopped}
 use Rattle.stair_stripes.proofs.PlacingLemmas.{chunk_end, chunk_more, chunk_skipped, chunk_start}
-use Rattle.stair_stripes.proofs.placing.place_chunk.Goals as goal
-use Rattle.stair_stripes.proofs.placing.place_chunk.Goals.{else-has-via-then-has+else-eq, else-has-via-else-has}
+use Rattle.stair_stripes.proofs.placing.write_chunk.Goals as goal
+use Rattle.stair_stripes.proofs.placing.write_chunk.Goals.{else-has-via-then-has+else-eq, else-has-via-else-has}
 
 pub loop-row-init : goal.loop-row-init
 loop-row-init g c = chunk_start c.args.geometry.now c.args.redo.now c.args.stripe.now c.args.slot _ _

@@ -1,20 +1,68 @@
--- How far reading the body of a redo has come.
-use Rattle.std.specs.Prelude.{◌≡◌, ◌⊎◌, ◌+◌, ◌*◌, ◌<◌, ℕ, IsTrue, Option, None, Some, if◌then◌else◌}
+-- How the body of a redo is read: what asking live slots for sectors finds, and how far the reading has come.
+use Rattle.std.specs.Prelude.{◌≡◌, ◌⊎◌, ◌+◌, ◌*◌, ◌<◌, ℕ, IsTrue, Option, None, Some, if◌then◌else◌, List}
 use Rattle.std.specs.Option.{unwrap_or}
 use Rattle.stair_model.specs.CellSet.{CellSet, HasCell, count_in_row, has_cell}
 use Rattle.stair_model.specs.Device.{body_sector}
 use Rattle.stair_model.specs.Geometry.{Geometry}
-use Rattle.stair_model.specs.Slots.{Slots, slot_count}
+use Rattle.stair_model.specs.Slots.{Slots, slot_count, HasSlot, IsSlotSet}
 use Rattle.stair_model.specs.Stripe.{Stripe, IsStripeOf, cell}
 use Rattle.stair_model.specs.Sum.{sum_below}
 use Rattle.stair_rack.specs.RackCounts.{RisesAtMost}
-use Rattle.stair_rack.specs.Reading.{EachBelow}
-use Rattle.stair_rack.specs.Telling.{Telling}
-use Rattle.stair_journal.specs.Asked.{Asks}
+use Rattle.stair_rack.specs.Reading.{EachBelow, IsReadOf}
+use Rattle.stair_rack.specs.Telling.{Telling, IsGone, IsLater, IsReading}
 use Rattle.stair_journal.specs.Bodies.{IsBodySector, IsGiven, IsUngiven}
-use Rattle.stair_journal.specs.Reads.{Asking, asking, PassesAll, AsksCell, AsksRow, AsksUpTo}
+use Rattle.stair_journal.specs.Reads.{Asking, asking, PassesAll, AsksCell, AsksRow, AsksUpTo, AnswersGood, PassesSlot}
 use Rattle.stair_journal.specs.declared.body.Body.{Body}
 use Rattle.stair_journal.specs.declared.redo.Redo.{Redo}
+use Rattle.stair_rack.specs.Answers.{Ran}
+use Rattle.stair_rack.specs.Sector.{Good, Damaged}
+use Rattle.stair_journal.specs.declared.body.Found.{Found}
+use Rattle.stair_journal.specs.declared.body.Found.TheVariants.{Here, Nowhere}
+
+-- ASKING
+
+-- Live slots were asked for some of these sectors, and the set of the slots that were gone grew.
+pub record Asks (live : Slots) (sectors : ℕ → Type 0) (gone gone' : Slots) (old new : Telling)
+    : Type 0 where
+  pub more : (j : ℕ) → HasSlot gone j → HasSlot gone' j
+  pub newly : (j : ℕ) → HasSlot gone' j → HasSlot gone j ⊎ (HasSlot live j × IsGone j old new)
+  pub formed : IsSlotSet gone → IsSlotSet gone'
+  pub later : IsLater old new
+  pub ran : IsTrue new.honest → Ran (IsReadOf (HasSlot live) sectors) old.history new.history
+
+-- slot j doesn't give this sector: it was gone, or the sector read as bad
+abbrev pub Fails : Slots → Telling → Telling → ℕ → ℕ → Type 0
+Fails gone old new j k = HasSlot gone j ⊎ IsReading j k old new Damaged
+
+-- what slot j, where it is live, was found to have of this sector
+abbrev pub IsAnswer : Slots → ℕ → ℕ → Slots → List ℕ → Telling → Telling → Found → Type 0
+IsAnswer live j k gone bytes old new Here = HasSlot live j × IsReading j k old new (Good bytes)
+IsAnswer live j k gone bytes old new Nowhere = HasSlot live j → Fails gone old new j k
+
+-- the lowest live slot that gives this sector gave these bytes
+pub record Gives (live : Slots) (k : ℕ) (gone : Slots) (bytes : List ℕ) (old new : Telling)
+    : Type 0 where
+  pub slot : ℕ
+  pub live_slot : HasSlot live slot
+  pub read : IsReading slot k old new (Good bytes)
+  pub lower : (j : ℕ) → j < slot → HasSlot live j → Fails gone old new j k
+
+-- where this sector was found in the live slots
+abbrev pub IsFound : Slots → ℕ → Slots → List ℕ → Telling → Telling → Found → Type 0
+IsFound live k gone bytes old new Here = Gives live k gone bytes old new
+IsFound live k gone bytes old new Nowhere = (j : ℕ) → HasSlot live j → Fails gone old new j k
+
+-- what is called as slot j is asked for this sector
+abbrev pub AsksSlot : Slots → ℕ → ℕ → List ℕ → Asking → Asking → Found → Type 0
+AsksSlot live j k bytes old new Here = AnswersGood live k bytes j old new
+AsksSlot live j k bytes old new Nowhere = PassesSlot live k j old new
+
+-- what is called as the live slots are asked for it
+abbrev pub AsksSlots : Slots → ℕ → List ℕ → Asking → Asking → Found → Type 0
+AsksSlots live k bytes old new Here = AsksUpTo live k bytes old new
+AsksSlots live k bytes old new Nowhere = PassesAll live k old new
+
+-- READING
 
 -- what the reading has at a moment
 pub record Standing : Type 0 where

@@ -1,0 +1,89 @@
+-- Watchers: what each is told, and when it leaves.
+use Rattle.std.specs.Prelude.{◌≡◌, ◌+◌, ◌-◌, ◌<◌, ◌↔◌, ℕ, Bool, true, false, List, [], ◌∷◌, ◌++◌, Option, None, Some, length, slice_get, IfSome, if◌then◌else◌}
+use Rattle.std.specs.Option.{option_map, option_and_then}
+use Rattle.stair_rack.specs.declared.watcher.Counts.{Counts}
+use Rattle.stair_rack.specs.declared.watcher.Event.{Event}
+use Rattle.stair_rack.specs.declared.watcher.Event.TheVariants as event
+use Rattle.stair_rack.specs.declared.watcher.EventKind.{EventKind}
+use Rattle.stair_rack.specs.declared.watcher.EventKind.TheVariants.{Fenced, Repaired, Admitted, Promoted}
+
+abbrev pub kind_of : Event → EventKind
+kind_of (event.Fenced slot) = Fenced
+kind_of (event.Repaired stripe cells) = Repaired
+kind_of (event.Admitted slot) = Admitted
+kind_of (event.Promoted slot) = Promoted
+
+-- the event is of this kind
+abbrev pub is_of : EventKind → Event → Bool
+is_of Fenced (event.Fenced slot) = true
+is_of Repaired (event.Repaired stripe cells) = true
+is_of Admitted (event.Admitted slot) = true
+is_of Promoted (event.Promoted slot) = true
+is_of kind other = false
+
+-- how many of these events are of this kind
+abbrev pub count_of : EventKind → List Event → ℕ
+count_of kind [] = 0
+count_of kind (one ∷ events) =
+    if is_of kind one then count_of kind events + 1 else count_of kind events
+
+-- the counts of all kinds
+abbrev pub counts_of : (EventKind → ℕ) → Counts
+counts_of count = record {
+  fenced = count Fenced;
+  repaired = count Repaired;
+  admitted = count Admitted;
+  promoted = count Promoted;
+}
+
+abbrev pub sum_of_counts : (EventKind → ℕ) → ℕ
+sum_of_counts count = count Fenced + count Repaired + count Admitted + count Promoted
+
+-- event number `at` of a list that is told
+abbrev pub event_at : Option (List Event) → ℕ → Option Event
+event_at told at = option_and_then (λ events. slice_get events at) told
+
+-- how many events more a watcher waits for: of all kinds, and of one kind where it waits for one besides
+pub record Patience : Type 0 where
+  pub all : ℕ
+  pub kind : Option (EventKind × ℕ)
+
+-- what a watcher tells: whether it has left, its counts, its list and its patience
+pub record WatcherView (W : Type 0) : Type 0 where
+  pub told : W → Option (List Event)
+  pub count : W → EventKind → ℕ
+  pub left : W → Bool
+  pub patience : W → Option Patience
+
+abbrev pub watcher_view : {W : Type 0} → (W → Option (List Event)) → (W → EventKind → ℕ) →
+    (W → Bool) → (W → Option Patience) → WatcherView W
+watcher_view told count left patience =
+    record { told = told; count = count; left = left; patience = patience }
+
+-- so many of a kind less
+abbrev pub less_of : List Event → EventKind × ℕ → EventKind × ℕ
+less_of events waits = (waits.0, waits.1 - count_of waits.0 events)
+
+-- the patience of a watcher that was told these events
+abbrev pub less : List Event → Patience → Patience
+less events patience = record {
+  all = patience.all - length events;
+  kind = option_map (less_of events) patience.kind;
+}
+
+-- a watcher waits for more than these events, in all and of its kind
+abbrev pub IsPatient : List Event → Patience → Type 0
+IsPatient events patience = (length events < patience.all)
+    × IfSome patience.kind (λ waits. count_of waits.0 events < waits.1)
+
+-- A watcher was told these events: its list grows by them, each count by those of its kind, and it waits for so many less.
+pub record Hears {W : Type 0} (view : WatcherView W) (events : List Event) (old new : W) : Type 0 where
+  pub list : view.told new ≡ option_map (λ told. told ++ events) (view.told old)
+  pub counts : (kind : EventKind) → view.count new kind ≡ view.count old kind + count_of kind events
+  pub waits : view.patience new ≡ option_map (less events) (view.patience old)
+
+-- A watcher that tells its patience left at this event exactly where it was the last that it waited for.
+pub record HearsOne {W : Type 0} (view : WatcherView W) (one : Event) (old new : W) : Type 0 where
+  pub hears : Hears view (one ∷ []) old new
+  pub leaves : IfSome (view.patience old) (λ patience.
+      (view.left new ≡ false) ↔ IsPatient (one ∷ []) patience)
