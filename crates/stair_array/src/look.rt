@@ -13,7 +13,7 @@ ghost use Rattle.stair_array.specs.Look.{
   IsTaken,
   WasGoneToRead,
 };
-ghost use Rattle.stair_rack.specs.Telling.{telling};
+ghost use Rattle.stair_rack.specs.Told.{told};
 ghost use Rattle.stair_array.specs.Looking.{AllPassed, IsRefused, Passed};
 
 use crate::fault::CreateFault;
@@ -35,12 +35,10 @@ enum Found {
 
 // Looks at all slots in rising order, up to the first that is refused.
 pub(crate) fn look_at_all<R: Rack>(rack: &mut R, geometry: &Geometry) -> Result<(), CreateFault>
-    ensures refused { IfErr result (λ fault. IsRefused geometry.now fault
-        (telling R.is_honest (R.history rack.old) (R.bads rack.old) (R.gones rack.old))
-        (telling R.is_honest (R.history rack.new) (R.bads rack.new) (R.gones rack.new))) }
-    ensures passed { OnOk result (AllPassed geometry.now
-        (telling R.is_honest (R.history rack.old) (R.bads rack.old) (R.gones rack.old))
-        (telling R.is_honest (R.history rack.new) (R.bads rack.new) (R.gones rack.new))) }
+    ensures refused { IfErr result (λ fault. IsRefused geometry.now fault (told R.Rack rack.old)
+        (told R.Rack rack.new)) }
+    ensures passed { OnOk result (AllPassed geometry.now (told R.Rack rack.old)
+        (told R.Rack rack.new)) }
     ensures taken { IsTrue R.is_honest → OnOk result ((j : ℕ) → j < 32 → j < geometry.now.n →
         IsTaken geometry.now j (R.history rack.old) (R.history rack.new)) }
     ensures ran { IsTrue R.is_honest →
@@ -58,11 +56,9 @@ pub(crate) fn look_at_all<R: Rack>(rack: &mut R, geometry: &Geometry) -> Result<
 fn look_at<R: Rack>(rack: &mut R, geometry: &Geometry, slot: u8) -> Result<(), CreateFault>
     requires { slot < 32 }
     ensures refused { IfErr result (λ fault. IsRefusedAt geometry.now fault slot
-        (telling R.is_honest (R.history rack.old) (R.bads rack.old) (R.gones rack.old))
-        (telling R.is_honest (R.history rack.new) (R.bads rack.new) (R.gones rack.new))) }
-    ensures passed { OnOk result (Passed geometry.now slot
-        (telling R.is_honest (R.history rack.old) (R.bads rack.old) (R.gones rack.old))
-        (telling R.is_honest (R.history rack.new) (R.bads rack.new) (R.gones rack.new))) }
+        (told R.Rack rack.old) (told R.Rack rack.new)) }
+    ensures passed { OnOk result (Passed geometry.now slot (told R.Rack rack.old)
+        (told R.Rack rack.new)) }
     ensures taken { IsTrue R.is_honest → OnOk result (slot < geometry.now.n →
         IsTaken geometry.now slot (R.history rack.old) (R.history rack.new)) }
     ensures ran { IsTrue R.is_honest →
@@ -86,9 +82,7 @@ fn look_at<R: Rack>(rack: &mut R, geometry: &Geometry, slot: u8) -> Result<(), C
 // A slot of the array is synced and measured too, since it is to be written.
 fn find<R: Rack>(rack: &mut R, geometry: &Geometry, slot: u8) -> Found
     requires { slot < 32 }
-    ensures told { IsFoundAs geometry.now slot
-        (telling R.is_honest (R.history rack.old) (R.bads rack.old) (R.gones rack.old))
-        (telling R.is_honest (R.history rack.new) (R.bads rack.new) (R.gones rack.new))
+    ensures told { IsFoundAs geometry.now slot (told R.Rack rack.old) (told R.Rack rack.new)
         result }
     ensures taken { IsTrue R.is_honest → result ≡ Found.Bare → slot < geometry.now.n →
         IsTaken geometry.now slot (R.history rack.old) (R.history rack.new) }
@@ -116,10 +110,7 @@ fn find<R: Rack>(rack: &mut R, geometry: &Geometry, slot: u8) -> Found
 // Looks for a superblock in the two superblock places of a slot that was attached. Both are read unless the slot is gone.
 fn find_super<R: Rack>(rack: &mut R, slot: u8) -> Found
     requires { slot < 32 }
-    ensures told { IsSearched slot
-        (telling R.is_honest (R.history rack.old) (R.bads rack.old) (R.gones rack.old))
-        (telling R.is_honest (R.history rack.new) (R.bads rack.new) (R.gones rack.new))
-        result }
+    ensures told { IsSearched slot (told R.Rack rack.old) (told R.Rack rack.new) result }
     ensures ran { IsTrue R.is_honest →
         Ran (IsReadOf slot) (R.history rack.old) (R.history rack.new) }
     ensures counts { NoneFalls (R.bads rack.old) (R.bads rack.new) (R.gones rack.old)
@@ -143,13 +134,8 @@ fn holds_super<R: Rack>(rack: &mut R, slot: u8, sector: u32) -> Option<bool>
     requires { slot < 32 }
     ensures began { IsTrue R.is_honest → IsHistory (R.history rack.old) }
     ensures told { MatchOption result
-        (WasGoneToRead slot
-        (telling R.is_honest (R.history rack.old) (R.bads rack.old) (R.gones rack.old))
-        (telling R.is_honest (R.history rack.new) (R.bads rack.new) (R.gones rack.new)))
-        (λ has. IsJudged slot sector
-        (telling R.is_honest (R.history rack.old) (R.bads rack.old) (R.gones rack.old))
-        (telling R.is_honest (R.history rack.new) (R.bads rack.new) (R.gones rack.new))
-        has) }
+        (WasGoneToRead slot (told R.Rack rack.old) (told R.Rack rack.new))
+        (λ has. IsJudged slot sector (told R.Rack rack.old) (told R.Rack rack.new) has) }
     ensures ran { IsTrue R.is_honest →
         Ran (IsReadOf slot) (R.history rack.old) (R.history rack.new) }
     ensures counts { NoneFalls (R.bads rack.old) (R.bads rack.new) (R.gones rack.old)

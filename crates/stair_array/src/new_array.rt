@@ -1,5 +1,5 @@
 ghost use Rattle.stair_array.specs.Creates.{Creates};
-ghost use Rattle.stair_rack.specs.Telling.{telling};
+ghost use Rattle.stair_rack.specs.Told.{told};
 
 use crate::fault::CreateFault;
 use crate::look::look_at_all;
@@ -22,9 +22,7 @@ use stair_rack::Rack;
 ///
 /// It takes no memory.
 pub fn create<R: Rack>(rack: &mut R, geometry: &Geometry) -> Result<(), CreateFault>
-    ensures { Creates geometry.now result
-        (telling R.is_honest (R.history rack.old) (R.bads rack.old) (R.gones rack.old))
-        (telling R.is_honest (R.history rack.new) (R.bads rack.new) (R.gones rack.new)) }
+    ensures { Creates geometry.now result (told R.Rack rack.old) (told R.Rack rack.new) }
 {
     look_at_all(rack, geometry)?;
     lay_out_all(rack, geometry)?;

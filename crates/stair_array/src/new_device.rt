@@ -5,7 +5,7 @@ ghost use Rattle.stair_rack.specs.Answers.{Ran};
 ghost use Rattle.stair_rack.specs.Placed.{IsSlot};
 ghost use Rattle.stair_rack.specs.RackCounts.{NoneFalls};
 ghost use Rattle.stair_array.specs.Created.{first_configuration as first};
-ghost use Rattle.stair_rack.specs.Telling.{telling};
+ghost use Rattle.stair_rack.specs.Told.{told};
 ghost use Rattle.stair_array.specs.Making.{
   AreMade,
   IsBehind,
@@ -27,9 +27,8 @@ pub(crate) fn lay_out_all<R: Rack>(rack: &mut R, geometry: &Geometry) -> Result<
     ensures made { IsTrue R.is_honest → OnOk result ((j : ℕ) → j < geometry.now.n →
         AreMade geometry.now (IsBehind geometry.now) j (R.history rack.old)
         (R.history rack.new)) }
-    ensures gone { IfErr result (λ fault. IsStoppedBy geometry.now fault
-        (telling R.is_honest (R.history rack.old) (R.bads rack.old) (R.gones rack.old))
-        (telling R.is_honest (R.history rack.new) (R.bads rack.new) (R.gones rack.new))) }
+    ensures gone { IfErr result (λ fault. IsStoppedBy geometry.now fault (told R.Rack rack.old)
+        (told R.Rack rack.new)) }
     ensures ran { IsTrue R.is_honest →
         Ran (IsMaking (IsSlotOf geometry.now) (IsBehind geometry.now)) (R.history rack.old)
         (R.history rack.new) }
@@ -51,9 +50,8 @@ fn lay_out<R: Rack>(rack: &mut R, geometry: &Geometry, slot: u8) -> Reply
     ensures made { IsTrue R.is_honest → result ≡ Reply.Done →
         AreMade geometry.now (IsBehind geometry.now) slot (R.history rack.old)
         (R.history rack.new) }
-    ensures gone { result ≡ Reply.Gone → IsStoppedAt geometry.now slot
-        (telling R.is_honest (R.history rack.old) (R.bads rack.old) (R.gones rack.old))
-        (telling R.is_honest (R.history rack.new) (R.bads rack.new) (R.gones rack.new)) }
+    ensures gone { result ≡ Reply.Gone → IsStoppedAt geometry.now slot (told R.Rack rack.old)
+        (told R.Rack rack.new) }
     ensures ran { IsTrue R.is_honest → Ran (IsMaking (IsSlot slot) (IsBehind geometry.now))
         (R.history rack.old) (R.history rack.new) }
     ensures counts { NoneFalls (R.bads rack.old) (R.bads rack.new) (R.gones rack.old)
@@ -75,9 +73,8 @@ fn lay_out<R: Rack>(rack: &mut R, geometry: &Geometry, slot: u8) -> Reply
 pub(crate) fn enrol_all<R: Rack>(rack: &mut R, geometry: &Geometry) -> Result<(), CreateFault>
     ensures made { IsTrue R.is_honest → OnOk result ((j : ℕ) → j < geometry.now.n →
         AreMade geometry.now IsPlace j (R.history rack.old) (R.history rack.new)) }
-    ensures gone { IfErr result (λ fault. IsStoppedBy geometry.now fault
-        (telling R.is_honest (R.history rack.old) (R.bads rack.old) (R.gones rack.old))
-        (telling R.is_honest (R.history rack.new) (R.bads rack.new) (R.gones rack.new))) }
+    ensures gone { IfErr result (λ fault. IsStoppedBy geometry.now fault (told R.Rack rack.old)
+        (told R.Rack rack.new)) }
     ensures ran { IsTrue R.is_honest → Ran (IsMaking (IsSlotOf geometry.now) IsPlace)
         (R.history rack.old) (R.history rack.new) }
     ensures counts { NoneFalls (R.bads rack.old) (R.bads rack.new) (R.gones rack.old)
@@ -100,9 +97,8 @@ fn enrol<R: Rack>(rack: &mut R, array: &Configuration, slot: u8) -> Reply
     requires limits { IsWithinLimits array.now.geometry }
     ensures made { IsTrue R.is_honest → result ≡ Reply.Done →
         AreMade array.now.geometry IsPlace slot (R.history rack.old) (R.history rack.new) }
-    ensures gone { result ≡ Reply.Gone → IsStoppedAt array.now.geometry slot
-        (telling R.is_honest (R.history rack.old) (R.bads rack.old) (R.gones rack.old))
-        (telling R.is_honest (R.history rack.new) (R.bads rack.new) (R.gones rack.new)) }
+    ensures gone { result ≡ Reply.Gone → IsStoppedAt array.now.geometry slot (told R.Rack rack.old)
+        (told R.Rack rack.new) }
     ensures ran { IsTrue R.is_honest → Ran (IsMaking (IsSlot slot) IsPlace)
         (R.history rack.old) (R.history rack.new) }
     ensures counts { NoneFalls (R.bads rack.old) (R.bads rack.new) (R.gones rack.old)

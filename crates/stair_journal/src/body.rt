@@ -4,7 +4,7 @@ ghost use Rattle.stair_model.specs.CellSet.{cell_count};
 ghost use Rattle.stair_model.specs.Slots.{IsSlotSet, has_slot, no_slots, slot_count};
 ghost use Rattle.stair_model.specs.Stripe.{IsStripeOf};
 ghost use Rattle.stair_rack.specs.RackCounts.{RisesAtMost};
-ghost use Rattle.stair_rack.specs.Telling.{telling};
+ghost use Rattle.stair_rack.specs.Told.{told};
 ghost use Rattle.stair_journal.specs.BodySteps.{Asks, AsksSlot, AsksSlots, IsAnswer, IsFound, IsReadTo, ReadsCell, Standing, standing};
 ghost use Rattle.stair_journal.specs.Bodies.{ReadsBody};
 ghost use Rattle.stair_journal.specs.Reads.{AsksInTurn, asking};
@@ -37,8 +37,7 @@ pub fn read_body<R: Rack>(
     requires redo { IsRedo geometry.now redo.now }
     requires stripe { IsStripeOf geometry.now into.old }
     ensures told { ReadsBody geometry.now live redo.now result into.old into.new
-        (telling R.is_honest (R.history rack.old) (R.bads rack.old) (R.gones rack.old))
-        (telling R.is_honest (R.history rack.new) (R.bads rack.new) (R.gones rack.new)) }
+        (told R.Rack rack.old) (told R.Rack rack.new) }
     ensures in_turn { IsTrue R.is_honest →
         AsksInTurn geometry.now live redo.now result.unread into.old into.new
         (asking no_slots (R.history rack.old)) (asking result.gone (R.history rack.new)) }
@@ -69,11 +68,10 @@ fn read_row<R: Rack>(
     requires redo { IsRedo geometry.now redo.now }
     requires stripe { IsStripeOf geometry.now into.old }
     ensures { (start : Standing) → IsReadTo geometry.now live redo.now row 0 start
-        (standing body.old into.old
-        (telling R.is_honest (R.history rack.old) (R.bads rack.old) (R.gones rack.old))
+        (standing body.old into.old (told R.Rack rack.old)
         (R.reads rack.old)) →
         IsReadTo geometry.now live redo.now (row + 1) 0 start (standing body.new into.new
-        (telling R.is_honest (R.history rack.new) (R.bads rack.new) (R.gones rack.new))
+        (told R.Rack rack.new)
         (R.reads rack.new)) }
 {
     for chunk in 0..geometry.n() {
@@ -97,11 +95,9 @@ fn read_cell<R: Rack>(
     requires chunk { chunk < geometry.now.n }
     requires stripe { IsStripeOf geometry.now into.old }
     ensures { ReadsCell geometry.now live row chunk
-        (standing body.old into.old
-        (telling R.is_honest (R.history rack.old) (R.bads rack.old) (R.gones rack.old))
+        (standing body.old into.old (told R.Rack rack.old)
         (R.reads rack.old))
-        (standing body.new into.new
-        (telling R.is_honest (R.history rack.new) (R.bads rack.new) (R.gones rack.new))
+        (standing body.new into.new (told R.Rack rack.new)
         (R.reads rack.new)) }
 {
     let sector = geometry.body_sector(row, chunk);
@@ -127,13 +123,10 @@ fn find<R: Rack>(
     gone: &mut Slots,
     bytes: &mut [u8; 512],
 ) -> Found
-    ensures asks { Asks live (λ k. k ≡ sector) gone.old gone.new
-        (telling R.is_honest (R.history rack.old) (R.bads rack.old) (R.gones rack.old))
-        (telling R.is_honest (R.history rack.new) (R.bads rack.new) (R.gones rack.new)) }
-    ensures told { IsFound live sector gone.new bytes.new
-        (telling R.is_honest (R.history rack.old) (R.bads rack.old) (R.gones rack.old))
-        (telling R.is_honest (R.history rack.new) (R.bads rack.new) (R.gones rack.new))
-        result }
+    ensures asks { Asks live (λ k. k ≡ sector) gone.old gone.new (told R.Rack rack.old)
+        (told R.Rack rack.new) }
+    ensures told { IsFound live sector gone.new bytes.new (told R.Rack rack.old)
+        (told R.Rack rack.new) result }
     ensures in_turn { IsTrue R.is_honest → AsksSlots live sector bytes.new
         (asking gone.old (R.history rack.old)) (asking gone.new (R.history rack.new)) result }
     ensures reads { RisesAtMost (slot_count live) (R.reads rack.old) (R.reads rack.new) }
@@ -157,13 +150,10 @@ fn ask<R: Rack>(
     bytes: &mut [u8; 512],
 ) -> Found
     requires { slot < 32 }
-    ensures asks { Asks live (λ k. k ≡ sector) gone.old gone.new
-        (telling R.is_honest (R.history rack.old) (R.bads rack.old) (R.gones rack.old))
-        (telling R.is_honest (R.history rack.new) (R.bads rack.new) (R.gones rack.new)) }
-    ensures told { IsAnswer live slot sector gone.new bytes.new
-        (telling R.is_honest (R.history rack.old) (R.bads rack.old) (R.gones rack.old))
-        (telling R.is_honest (R.history rack.new) (R.bads rack.new) (R.gones rack.new))
-        result }
+    ensures asks { Asks live (λ k. k ≡ sector) gone.old gone.new (told R.Rack rack.old)
+        (told R.Rack rack.new) }
+    ensures told { IsAnswer live slot sector gone.new bytes.new (told R.Rack rack.old)
+        (told R.Rack rack.new) result }
     ensures in_turn { IsTrue R.is_honest → AsksSlot live slot sector bytes.new
         (asking gone.old (R.history rack.old)) (asking gone.new (R.history rack.new)) result }
     ensures reads { RisesAtMost (if has_slot live slot then 1 else 0)

@@ -2,7 +2,7 @@
 ghost use Rattle.std.specs.Prelude.{◌<◌, IsTrue};
 ghost use Rattle.stair_model.specs.Slots.{slot_count};
 ghost use Rattle.stair_rack.specs.RackCounts.{NoneFalls, RisesAtMost};
-ghost use Rattle.stair_rack.specs.Telling.{telling};
+ghost use Rattle.stair_rack.specs.Told.{told};
 ghost use Rattle.stair_journal.specs.GatesSteps.{IsNoted, IsReadOnce, IsSeen};
 ghost use Rattle.stair_journal.specs.Gates.{ReadsGates};
 ghost use Rattle.stair_journal.specs.Reads.{ReadsGatesInTurn};
@@ -38,9 +38,8 @@ enum Seen {
 ///
 /// A gate that can't be read reads as closed.
 pub fn read_gates<R: Rack>(rack: &mut R, geometry: &Geometry, live: Slots) -> Gates
-    ensures told { ReadsGates geometry.now live result
-        (telling R.is_honest (R.history rack.old) (R.bads rack.old) (R.gones rack.old))
-        (telling R.is_honest (R.history rack.new) (R.bads rack.new) (R.gones rack.new)) }
+    ensures told { ReadsGates geometry.now live result (told R.Rack rack.old)
+        (told R.Rack rack.new) }
     ensures in_turn { IsTrue R.is_honest →
         ReadsGatesInTurn live result.gone (R.history rack.old) (R.history rack.new) }
     ensures reads { RisesAtMost (slot_count live) (R.reads rack.old) (R.reads rack.new) }
@@ -64,10 +63,7 @@ pub fn read_gates<R: Rack>(rack: &mut R, geometry: &Geometry, live: Slots) -> Ga
 // Reads the gate of one slot.
 fn look_at<R: Rack>(rack: &mut R, geometry: &Geometry, slot: u8) -> Seen
     requires { slot < 32 }
-    ensures told { IsSeen geometry.now slot
-        (telling R.is_honest (R.history rack.old) (R.bads rack.old) (R.gones rack.old))
-        (telling R.is_honest (R.history rack.new) (R.bads rack.new) (R.gones rack.new))
-        result }
+    ensures told { IsSeen geometry.now slot (told R.Rack rack.old) (told R.Rack rack.new) result }
     ensures once { IsTrue R.is_honest →
         IsReadOnce slot result (R.history rack.old) (R.history rack.new) }
     ensures counts { NoneFalls (R.bads rack.old) (R.bads rack.new) (R.gones rack.old)

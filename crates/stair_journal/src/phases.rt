@@ -4,7 +4,7 @@ ghost use Rattle.stair_model.specs.Stripe.{IsStripeOf};
 ghost use Rattle.stair_rack.specs.Count.{Rose};
 ghost use Rattle.stair_rack.specs.Placed.{IsGoneSlot, IsSlot};
 ghost use Rattle.stair_rack.specs.RackCounts.{NoneFalls};
-ghost use Rattle.stair_rack.specs.Telling.{telling};
+ghost use Rattle.stair_rack.specs.Told.{told};
 ghost use Rattle.stair_rack.specs.Writing.{IsOnSlot, Writing};
 ghost use Rattle.stair_journal.specs.Gate.{closed_gate as closed, open_gate as opened};
 ghost use Rattle.stair_journal.specs.Journalling.{body_writes, gate_writes};
@@ -31,8 +31,7 @@ pub fn write_body<R: Rack>(
     requires redo { IsRedo geometry.now redo.now }
     requires stripe { IsStripeOf geometry.now stripe.now }
     ensures told { DoesPhase (body_writes geometry.now redo.now stripe.now) live result
-        (telling R.is_honest (R.history rack.old) (R.bads rack.old) (R.gones rack.old))
-        (telling R.is_honest (R.history rack.new) (R.bads rack.new) (R.gones rack.new)) }
+        (told R.Rack rack.old) (told R.Rack rack.new) }
     ensures reads { R.reads rack.new ≡ R.reads rack.old }
 {
     let mut gone = Slots::empty();
@@ -114,8 +113,7 @@ fn write_row<R: Rack>(
 pub fn open_gates<R: Rack>(rack: &mut R, live: Slots, geometry: &Geometry, redo: &Redo) -> Slots
     requires { IsRedo geometry.now redo.now }
     ensures told { DoesPhase (gate_writes (opened geometry.now redo.now)) live result
-        (telling R.is_honest (R.history rack.old) (R.bads rack.old) (R.gones rack.old))
-        (telling R.is_honest (R.history rack.new) (R.bads rack.new) (R.gones rack.new)) }
+        (told R.Rack rack.old) (told R.Rack rack.new) }
     ensures reads { R.reads rack.new ≡ R.reads rack.old }
 {
     write_gates(rack, live, &open_gate(geometry, redo))
@@ -125,18 +123,16 @@ pub fn open_gates<R: Rack>(rack: &mut R, live: Slots, geometry: &Geometry, redo:
 ///
 /// On a slot that isn't answered the gate is safe from a crash. On one that is, it may be left as it was, closed or torn.
 pub fn close_gates<R: Rack>(rack: &mut R, live: Slots) -> Slots
-    ensures told { DoesPhase (gate_writes closed) live result
-        (telling R.is_honest (R.history rack.old) (R.bads rack.old) (R.gones rack.old))
-        (telling R.is_honest (R.history rack.new) (R.bads rack.new) (R.gones rack.new)) }
+    ensures told { DoesPhase (gate_writes closed) live result (told R.Rack rack.old)
+        (told R.Rack rack.new) }
     ensures reads { R.reads rack.new ≡ R.reads rack.old }
 {
     write_gates(rack, live, &closed_gate())
 }
 
 fn write_gates<R: Rack>(rack: &mut R, live: Slots, gate: &[u8; 512]) -> Slots
-    ensures told { DoesPhase (gate_writes gate.now) live result
-        (telling R.is_honest (R.history rack.old) (R.bads rack.old) (R.gones rack.old))
-        (telling R.is_honest (R.history rack.new) (R.bads rack.new) (R.gones rack.new)) }
+    ensures told { DoesPhase (gate_writes gate.now) live result (told R.Rack rack.old)
+        (told R.Rack rack.new) }
     ensures reads { R.reads rack.new ≡ R.reads rack.old }
 {
     let unwritten = write_all(rack, live, GATE_SECTOR, gate);

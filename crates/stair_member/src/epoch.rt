@@ -6,7 +6,7 @@ ghost use Rattle.stair_member.specs.Changes.{MayBegin};
 ghost use Rattle.stair_member.specs.Aims.{admitted};
 ghost use Rattle.stair_member.specs.Establishing.{Fences, Joins, Stamps};
 ghost use Rattle.stair_member.specs.Membership.{IsMembership, why_of};
-ghost use Rattle.stair_rack.specs.Telling.{telling};
+ghost use Rattle.stair_rack.specs.Told.{told};
 ghost use Rattle.stair_member.specs.declared.aim.Aim.TheVariants.{Admit, Promote};
 ghost use Rattle.stair_member.specs.declared.why.Why.TheVariants as why;
 
@@ -35,9 +35,8 @@ pub fn fence<R: Rack>(
     leaving: Slots,
 ) -> Result<Slots, FenceFault>
     requires { (j : ℕ) → HasSlot leaving j → j < member.old.array.geometry.n }
-    ensures told { Fences leaving member.old member.new result
-        (telling R.is_honest (R.history rack.old) (R.bads rack.old) (R.gones rack.old))
-        (telling R.is_honest (R.history rack.new) (R.bads rack.new) (R.gones rack.new)) }
+    ensures told { Fences leaving member.old member.new result (told R.Rack rack.old)
+        (told R.Rack rack.new) }
     ensures rules { IsMembership member.new }
     ensures reads { R.reads rack.new ≡ R.reads rack.old }
 {
@@ -57,9 +56,8 @@ pub fn stamp<R: Rack>(
     frozen: bool,
     label: Label,
 ) -> Result<Slots, FenceFault>
-    ensures told { Stamps frozen label member.old member.new result
-        (telling R.is_honest (R.history rack.old) (R.bads rack.old) (R.gones rack.old))
-        (telling R.is_honest (R.history rack.new) (R.bads rack.new) (R.gones rack.new)) }
+    ensures told { Stamps frozen label member.old member.new result (told R.Rack rack.old)
+        (told R.Rack rack.new) }
     ensures rules { IsMembership member.new }
     ensures reads { R.reads rack.new ≡ R.reads rack.old }
 {
@@ -82,9 +80,8 @@ pub fn stamp<R: Rack>(
 pub fn admit<R: Rack>(rack: &mut R, member: &mut Member, slot: u8) -> Result<Slots, AdmitFault>
     requires below { slot < member.old.array.geometry.n }
     requires down { mark_in member.old.array slot ≡ mark.Down }
-    ensures told { Joins (Admit slot) slot member.old member.new result
-        (telling R.is_honest (R.history rack.old) (R.bads rack.old) (R.gones rack.old))
-        (telling R.is_honest (R.history rack.new) (R.bads rack.new) (R.gones rack.new)) }
+    ensures told { Joins (Admit slot) slot member.old member.new result (told R.Rack rack.old)
+        (told R.Rack rack.new) }
     ensures rules { IsMembership member.new }
     ensures reads { R.reads rack.new ≡ R.reads rack.old }
 {
@@ -98,9 +95,8 @@ pub fn admit<R: Rack>(rack: &mut R, member: &mut Member, slot: u8) -> Result<Slo
 pub fn promote<R: Rack>(rack: &mut R, member: &mut Member, slot: u8) -> Result<Slots, AdmitFault>
     requires below { slot < member.old.array.geometry.n }
     requires rebuilding { why_of member.old slot ≡ why.Rebuilding }
-    ensures told { Joins (Promote slot) slot member.old member.new result
-        (telling R.is_honest (R.history rack.old) (R.bads rack.old) (R.gones rack.old))
-        (telling R.is_honest (R.history rack.new) (R.bads rack.new) (R.gones rack.new)) }
+    ensures told { Joins (Promote slot) slot member.old member.new result (told R.Rack rack.old)
+        (told R.Rack rack.new) }
     ensures rules { IsMembership member.new }
     ensures reads { R.reads rack.new ≡ R.reads rack.old }
 {
@@ -112,9 +108,8 @@ fn join<R: Rack>(rack: &mut R, member: &mut Member, slot: u8, aim: Aim) -> Resul
     requires below { slot < member.old.array.geometry.n }
     requires may { MayBegin aim member.old }
     requires down { (j : ℕ) → admitted aim ≡ Some j → why_of member.old j ≢ why.Here }
-    ensures told { Joins aim slot member.old member.new result
-        (telling R.is_honest (R.history rack.old) (R.bads rack.old) (R.gones rack.old))
-        (telling R.is_honest (R.history rack.new) (R.bads rack.new) (R.gones rack.new)) }
+    ensures told { Joins aim slot member.old member.new result (told R.Rack rack.old)
+        (told R.Rack rack.new) }
     ensures rules { IsMembership member.new }
     ensures reads { R.reads rack.new ≡ R.reads rack.old }
 {

@@ -4,7 +4,7 @@ ghost use Rattle.stair_member.specs.Changes.{MayBegin};
 ghost use Rattle.stair_member.specs.Aims.{admitted};
 ghost use Rattle.stair_member.specs.Membership.{IsMembership, why_of};
 ghost use Rattle.stair_member.specs.Rounds.{HasEstablished, left_after};
-ghost use Rattle.stair_rack.specs.Telling.{telling};
+ghost use Rattle.stair_rack.specs.Told.{told};
 ghost use Rattle.stair_member.specs.declared.why.Why.TheVariants as why;
 
 use crate::aim::Aim;
@@ -46,9 +46,8 @@ pub(crate) fn establish<R: Rack>(
 ) -> Result<Slots, FenceFault>
     requires may { MayBegin aim member.old }
     requires down { (j : ℕ) → admitted aim ≡ Some j → why_of member.old j ≢ why.Here }
-    ensures told { HasEstablished aim member.old member.new result
-        (telling R.is_honest (R.history rack.old) (R.bads rack.old) (R.gones rack.old))
-        (telling R.is_honest (R.history rack.new) (R.bads rack.new) (R.gones rack.new)) }
+    ensures told { HasEstablished aim member.old member.new result (told R.Rack rack.old)
+        (told R.Rack rack.new) }
     ensures reads { R.reads rack.new ≡ R.reads rack.old }
     ensures rules { IsMembership member.new }
 {

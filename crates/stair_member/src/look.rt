@@ -9,7 +9,7 @@ ghost use Rattle.stair_member.specs.Asked.{AsksSlot};
 ghost use Rattle.stair_member.specs.Shows.{IsNewest, IsSeen, IsSight, block_in};
 ghost use Rattle.stair_member.specs.Superblocks.{HoldsThis};
 ghost use Rattle.stair_member.specs.Survey.{IsNextPlace};
-ghost use Rattle.stair_rack.specs.Telling.{telling};
+ghost use Rattle.stair_rack.specs.Told.{told};
 
 use stair_rack::{Got, Rack, Reply};
 use stair_super::{Super, is_older, newer_of, read_super};
@@ -39,9 +39,7 @@ pub(crate) fn look_at<R: Rack>(rack: &mut R, slot: u8) -> Sight
     ensures began { IsTrue R.is_honest → IsHistory (R.history rack.old) }
     ensures asked { IsTrue R.is_honest →
         AsksSlot slot (R.history rack.old) (R.history rack.new) }
-    ensures told { IsSight slot
-        (telling R.is_honest (R.history rack.old) (R.bads rack.old) (R.gones rack.old))
-        (telling R.is_honest (R.history rack.new) (R.bads rack.new) (R.gones rack.new))
+    ensures told { IsSight slot (told R.Rack rack.old) (told R.Rack rack.new)
         result.newest result.next result.gone }
     ensures counts { NoneFalls (R.bads rack.old) (R.bads rack.new) (R.gones rack.old)
         (R.gones rack.new) }
@@ -63,10 +61,7 @@ fn read_place<R: Rack>(rack: &mut R, slot: u8, place: u32) -> Seen
     requires { slot < 32 }
     ensures asked { (answer : Answer) × (IsTrue R.is_honest →
         Calls (R.history rack.old) (R.history rack.new) slot (Read place answer)) }
-    ensures told { IsSeen slot place
-        (telling R.is_honest (R.history rack.old) (R.bads rack.old) (R.gones rack.old))
-        (telling R.is_honest (R.history rack.new) (R.bads rack.new) (R.gones rack.new))
-        result }
+    ensures told { IsSeen slot place (told R.Rack rack.old) (told R.Rack rack.new) result }
     ensures counts { NoneFalls (R.bads rack.old) (R.bads rack.new) (R.gones rack.old)
         (R.gones rack.new) }
     ensures reads { RisesAtMost 1 (R.reads rack.old) (R.reads rack.new) }

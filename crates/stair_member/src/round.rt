@@ -5,7 +5,7 @@ ghost use Rattle.stair_member.specs.Changes.{MayBegin};
 ghost use Rattle.stair_member.specs.Aims.{admitted};
 ghost use Rattle.stair_member.specs.Membership.{IsMembership, place_of};
 ghost use Rattle.stair_member.specs.Rounds.{BeganOut, Draws, IsRound};
-ghost use Rattle.stair_rack.specs.Telling.{telling};
+ghost use Rattle.stair_rack.specs.Told.{told};
 
 use crate::aim::Aim;
 use crate::fault::FenceFault;
@@ -15,9 +15,8 @@ use stair_rack::Rack;
 
 // Each live slot gets a superblock with the next draw. A slot that was gone is answered.
 fn draw_out<R: Rack>(rack: &mut R, member: &mut Member) -> Result<Option<u8>, FenceFault>
-    ensures told { Draws member.old member.new result
-        (telling R.is_honest (R.history rack.old) (R.bads rack.old) (R.gones rack.old))
-        (telling R.is_honest (R.history rack.new) (R.bads rack.new) (R.gones rack.new)) }
+    ensures told { Draws member.old member.new result (told R.Rack rack.old)
+        (told R.Rack rack.new) }
     ensures reads { R.reads rack.new ≡ R.reads rack.old }
     ensures rules { IsMembership member.new }
 {
@@ -45,9 +44,8 @@ fn admitted_by(aim: &Aim) -> Option<u8>
 // The epoch begins, and each slot that is here gets its superblock. A slot that was gone is answered.
 fn begin_out<R: Rack>(rack: &mut R, member: &mut Member, aim: &Aim) -> Option<u8>
     requires { MayBegin aim.now member.old }
-    ensures told { BeganOut aim.now member.old member.new result
-        (telling R.is_honest (R.history rack.old) (R.bads rack.old) (R.gones rack.old))
-        (telling R.is_honest (R.history rack.new) (R.bads rack.new) (R.gones rack.new)) }
+    ensures told { BeganOut aim.now member.old member.new result (told R.Rack rack.old)
+        (told R.Rack rack.new) }
     ensures reads { R.reads rack.new ≡ R.reads rack.old }
     ensures rules { IsMembership member.new }
 {
@@ -63,9 +61,8 @@ pub(crate) fn round<R: Rack>(
     aim: &Aim,
 ) -> Result<Option<u8>, FenceFault>
     requires { MayBegin aim.now member.old }
-    ensures told { IsRound aim.now member.old member.new result
-        (telling R.is_honest (R.history rack.old) (R.bads rack.old) (R.gones rack.old))
-        (telling R.is_honest (R.history rack.new) (R.bads rack.new) (R.gones rack.new)) }
+    ensures told { IsRound aim.now member.old member.new result (told R.Rack rack.old)
+        (told R.Rack rack.new) }
     ensures reads { R.reads rack.new ≡ R.reads rack.old }
     ensures rules { IsMembership member.new }
 {

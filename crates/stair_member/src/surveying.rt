@@ -6,7 +6,7 @@ ghost use Rattle.stair_member.specs.Findings.{Findings};
 ghost use Rattle.stair_member.specs.Membership.{IsMembership};
 ghost use Rattle.stair_member.specs.Shows.{AreSights, Tells};
 ghost use Rattle.stair_member.specs.Survey.{IsAnswer, Surveys};
-ghost use Rattle.stair_rack.specs.Telling.{telling};
+ghost use Rattle.stair_rack.specs.Told.{told};
 
 use crate::fault::SurveyFault;
 use crate::judge::{Found, current_of, first_standing, greatest_draw, missing, reasons_of};
@@ -32,9 +32,7 @@ struct Sights {
 ///
 /// Nothing is written, and no memory is taken.
 pub fn survey<R: Rack>(rack: &mut R) -> Result<Member, SurveyFault>
-    ensures told { Surveys result
-        (telling R.is_honest (R.history rack.old) (R.bads rack.old) (R.gones rack.old))
-        (telling R.is_honest (R.history rack.new) (R.bads rack.new) (R.gones rack.new)) }
+    ensures told { Surveys result (told R.Rack rack.old) (told R.Rack rack.new) }
     ensures rules { IfOk result IsMembership }
     ensures reads { RisesAtMost 64 (R.reads rack.old) (R.reads rack.new) }
 {
@@ -46,9 +44,7 @@ fn find_all<R: Rack>(rack: &mut R) -> Sights
     ensures began { IsTrue R.is_honest → IsHistory (R.history rack.old) }
     ensures asked { IsTrue R.is_honest →
         AsksBelow 32 (R.history rack.old) (R.history rack.new) }
-    ensures told { AreSights result
-        (telling R.is_honest (R.history rack.old) (R.bads rack.old) (R.gones rack.old))
-        (telling R.is_honest (R.history rack.new) (R.bads rack.new) (R.gones rack.new)) }
+    ensures told { AreSights result (told R.Rack rack.old) (told R.Rack rack.new) }
     ensures counts { NoneFalls (R.bads rack.old) (R.bads rack.new) (R.gones rack.old)
         (R.gones rack.new) }
     ensures reads { RisesAtMost 64 (R.reads rack.old) (R.reads rack.new) }

@@ -22,4 +22,5 @@ pub mod Reading
 pub mod EachMedium
 pub mod PlacedInTurn
 pub mod Telling
+pub mod Told
 pub mod Watching

@@ -4,7 +4,7 @@ ghost use Rattle.stair_model.specs.CellSet.{HasCell, IsCellSet, IsInStripe, cell
 ghost use Rattle.stair_model.specs.Slots.{HasSlot, IsSlotSet};
 ghost use Rattle.stair_model.specs.Stripe.{IsStripeOf};
 ghost use Rattle.stair_rack.specs.RackCounts.{RisesAtMost};
-ghost use Rattle.stair_rack.specs.Telling.{telling};
+ghost use Rattle.stair_rack.specs.Told.{told};
 ghost use Rattle.stair_stripes.specs.Gathering.{Gathers, IsCellOf};
 ghost use Rattle.stair_stripes.specs.Reads.{ReadsInTurn};
 ghost use Rattle.stair_stripes.specs.GatheringSteps.{ErasesChunk, GoesOn};
@@ -37,8 +37,7 @@ pub fn gather<R: Rack>(
     requires number { stripe < geometry.now.stripes }
     requires stripe { IsStripeOf geometry.now into.old }
     ensures told { Gathers geometry.now live stripe (IsCellOf geometry.now) result into.old into.new
-        (telling R.is_honest (R.history rack.old) (R.bads rack.old) (R.gones rack.old))
-        (telling R.is_honest (R.history rack.new) (R.bads rack.new) (R.gones rack.new)) }
+        (told R.Rack rack.old) (told R.Rack rack.new) }
     ensures in_turn { IsTrue R.is_honest →
         ReadsInTurn geometry.now live stripe (IsCellOf geometry.now) result.gone
         (R.history rack.old) (R.history rack.new) }
@@ -88,8 +87,7 @@ pub fn gather_cells<R: Rack>(
     requires stripe { IsStripeOf geometry.now into.old }
     requires wanted { IsInStripe geometry.now wanted.now }
     ensures told { Gathers geometry.now live stripe (HasCell wanted.now) result into.old into.new
-        (telling R.is_honest (R.history rack.old) (R.bads rack.old) (R.gones rack.old))
-        (telling R.is_honest (R.history rack.new) (R.bads rack.new) (R.gones rack.new)) }
+        (told R.Rack rack.old) (told R.Rack rack.new) }
     ensures in_turn { IsTrue R.is_honest →
         ReadsInTurn geometry.now live stripe (HasCell wanted.now) result.gone
         (R.history rack.old) (R.history rack.new) }
@@ -125,9 +123,7 @@ fn gather_chunk<R: Rack>(
     requires wanted { IsInStripe geometry.now wanted.now }
     requires erased { IsCellSet gathered.old.erased }
     ensures gathered { GoesOn geometry.now stripe wanted.now slot (slot + 1) 0
-        gathered.old gathered.new into.old into.new
-        (telling R.is_honest (R.history rack.old) (R.bads rack.old) (R.gones rack.old))
-        (telling R.is_honest (R.history rack.new) (R.bads rack.new) (R.gones rack.new)) }
+        gathered.old gathered.new into.old into.new (told R.Rack rack.old) (told R.Rack rack.new) }
     ensures reads { RisesAtMost (count_in_slot wanted.now slot) (R.reads rack.old)
         (R.reads rack.new) }
 {

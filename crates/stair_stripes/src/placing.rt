@@ -4,7 +4,7 @@ ghost use Rattle.stair_model.specs.Stripe.{IsStripeOf};
 ghost use Rattle.stair_rack.specs.Count.{Rose};
 ghost use Rattle.stair_rack.specs.Placed.{IsGoneSlot, IsSlot};
 ghost use Rattle.stair_rack.specs.RackCounts.{NoneFalls};
-ghost use Rattle.stair_rack.specs.Telling.{telling};
+ghost use Rattle.stair_rack.specs.Told.{told};
 ghost use Rattle.stair_rack.specs.Writing.{IsOnSlot, Writing};
 ghost use Rattle.stair_journal.specs.Phases.{DoesPhase};
 ghost use Rattle.stair_journal.specs.Redo.{IsRedo};
@@ -28,8 +28,7 @@ pub fn place<R: Rack>(
     requires redo { IsRedo geometry.now redo.now }
     requires stripe { IsStripeOf geometry.now stripe.now }
     ensures told { DoesPhase (cell_writes geometry.now redo.now stripe.now) to result
-        (telling R.is_honest (R.history rack.old) (R.bads rack.old) (R.gones rack.old))
-        (telling R.is_honest (R.history rack.new) (R.bads rack.new) (R.gones rack.new)) }
+        (told R.Rack rack.old) (told R.Rack rack.new) }
     ensures reads { R.reads rack.new ≡ R.reads rack.old }
 {
     let mut gone = Slots::empty();

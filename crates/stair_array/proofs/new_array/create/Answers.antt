@@ -3,7 +3,8 @@ use Rattle.std.proofs.Common.{inl, refl, arith}
 use Rattle.std.proofs.lemmas.Result.{err_from_is_err_and, on_ok_weaker}
 use Rattle.stair_rack.proofs.MomentLemmas.{ran_any}
 use Rattle.stair_rack.proofs.StretchLemmas.{each_join}
-use Rattle.stair_rack.specs.Telling.{IsLater, Telling, telling}
+use Rattle.stair_rack.specs.Telling.{IsLater, Telling}
+use Rattle.stair_rack.specs.Told.{told}
 use Rattle.stair_array.specs.Looking.{IsNotCreated}
 use Rattle.stair_array.specs.Making.{IsBehind, IsPlace, IsStoppedBy, NoneCame}
 use Rattle.stair_array.proofs.CreateLemmas.{all_finished, came_after, enrolling_within, given_up, laying_no_place, laying_within, looks_no_place, looks_spare, looks_within, making_spares, on_err}
@@ -17,7 +18,7 @@ use Rattle.stair_array.proofs.new_array.create.Goals as goal
 pub returns-in_err-look_at_all : goal.returns-in_err-look_at_all
 returns-in_err-look_at_all g c =
     let tell : g.row.R.Denot → Telling =
-    λ rack. telling g.R.Rack.is_honest (g.R.Rack.history rack) (g.R.Rack.bads rack) (g.R.Rack.gones rack) in
+    λ rack. told g.R.Rack rack in
     let of = c.args.geometry.now in
     let later : IsLater (tell c.args.rack.now) (tell c.look_at_all.new.rack) =
     record { counts = c.look_at_all.ensures.counts; honest = refl; ran = λ honest. ran_any (c.look_at_all.ensures.ran honest) } in
@@ -31,7 +32,7 @@ returns-in_err-look_at_all g c =
 pub returns-in_err-lay_out_all : goal.returns-in_err-lay_out_all
 returns-in_err-lay_out_all g c =
     let tell : g.row.R.Denot → Telling =
-    λ rack. telling g.R.Rack.is_honest (g.R.Rack.history rack) (g.R.Rack.bads rack) (g.R.Rack.gones rack) in
+    λ rack. told g.R.Rack rack in
     let of = c.args.geometry.now in
     let old = tell c.args.rack.now in
     let looked = tell c.look_at_all.new.rack in
@@ -53,7 +54,7 @@ returns-in_err-lay_out_all g c =
 pub returns : goal.returns
 returns g c =
     let tell : g.row.R.Denot → Telling =
-    λ rack. telling g.R.Rack.is_honest (g.R.Rack.history rack) (g.R.Rack.bads rack) (g.R.Rack.gones rack) in
+    λ rack. told g.R.Rack rack in
     let of = c.args.geometry.now in
     let old = tell c.args.rack.now in
     let looked = tell c.look_at_all.new.rack in

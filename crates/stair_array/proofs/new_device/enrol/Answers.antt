@@ -7,7 +7,7 @@ use Rattle.stair_super.specs.Spelling.{spelled}
 use Rattle.stair_super.specs.Superblock.{IsWellFormed, superblock_of}
 use Rattle.stair_super.specs.declared.configuration.Configuration.{Configuration}
 use Rattle.stair_array.specs.Created.{first_super}
-use Rattle.stair_rack.specs.Telling.{telling}
+use Rattle.stair_rack.specs.Told.{told}
 use Rattle.stair_array.proofs.CreatedLemmas.{first_formed}
 use Rattle.stair_array.proofs.DeviceLemmas.{place_gone, place_ran, places_made}
 use Rattle.stair_array.proofs.new_device.enrol.Goals as goal
@@ -20,9 +20,9 @@ new-requires g c =
 pub returns-then-eq-clause-gone : goal.returns-then-eq-clause-gone
 returns-then-eq-clause-gone g c is =
     let gone : c.write_through.result ≡ reply.Gone = Gone-compared c.write_through.result (sym c.eq.ensures ∙ c.if-eq.true) in
-    place_gone c.args.array.now.geometry c.args.slot 0 c.write_super-block.result c.write_through.result (telling g.R.Rack.is_honest (g.R.Rack.history c.args.rack.now) (g.R.Rack.bads c.args.rack.now) (g.R.Rack.gones c.args.rack.now))
-    (telling g.R.Rack.is_honest (g.R.Rack.history c.args.rack.now) (g.R.Rack.bads c.args.rack.now) (g.R.Rack.gones c.args.rack.now))
-    (telling g.R.Rack.is_honest (g.R.Rack.history c.write_through.new.rack) (g.R.Rack.bads c.write_through.new.rack) (g.R.Rack.gones c.write_through.new.rack)) (omega arith) gone (NoneFalls-same _ _) c.write_through.ensures.counts (c.write_through.ensures.gone gone)
+    place_gone c.args.array.now.geometry c.args.slot 0 c.write_super-block.result c.write_through.result (told g.R.Rack c.args.rack.now)
+    (told g.R.Rack c.args.rack.now)
+    (told g.R.Rack c.write_through.new.rack) (omega arith) gone (NoneFalls-same _ _) c.write_through.ensures.counts (c.write_through.ensures.gone gone)
     (λ honest. ran_none _) c.write_through.ensures.told
 
 pub returns-then-eq-clause-ran : goal.returns-then-eq-clause-ran
@@ -41,9 +41,9 @@ returns-clause-made g c honest done' =
 
 pub returns-clause-gone : goal.returns-clause-gone
 returns-clause-gone g c gone =
-    place_gone c.args.array.now.geometry c.args.slot 1 c.write_super-block.result c.write_through-2.result (telling g.R.Rack.is_honest (g.R.Rack.history c.args.rack.now) (g.R.Rack.bads c.args.rack.now) (g.R.Rack.gones c.args.rack.now))
-    (telling g.R.Rack.is_honest (g.R.Rack.history c.write_through.new.rack) (g.R.Rack.bads c.write_through.new.rack) (g.R.Rack.gones c.write_through.new.rack))
-    (telling g.R.Rack.is_honest (g.R.Rack.history c.write_through-2.new.rack) (g.R.Rack.bads c.write_through-2.new.rack) (g.R.Rack.gones c.write_through-2.new.rack)) (omega arith) gone c.write_through.ensures.counts c.write_through-2.ensures.counts (c.write_through-2.ensures.gone gone)
+    place_gone c.args.array.now.geometry c.args.slot 1 c.write_super-block.result c.write_through-2.result (told g.R.Rack c.args.rack.now)
+    (told g.R.Rack c.write_through.new.rack)
+    (told g.R.Rack c.write_through-2.new.rack) (omega arith) gone c.write_through.ensures.counts c.write_through-2.ensures.counts (c.write_through-2.ensures.gone gone)
     (λ honest. place_ran c.args.slot 0 c.write_super-block.result c.write_through.result (omega arith) (c.write_through.ensures.told honest))
     c.write_through-2.ensures.told
 

@@ -4,7 +4,7 @@ use Rattle.stair_model.specs.Geometry.{Geometry}
 use Rattle.stair_rack.specs.declared.rack.Reply.TheVariants as reply
 use Rattle.stair_rack.proofs.PassCounts.{Done-compared, Gone-compared, NoneFalls-then}
 use Rattle.stair_super.specs.declared.configuration.Configuration.{Configuration}
-use Rattle.stair_rack.specs.Telling.{telling}
+use Rattle.stair_rack.specs.Told.{told}
 use Rattle.stair_array.specs.Making.{AreMade, IsPlace, IsStoppedAt}
 use Rattle.stair_array.proofs.DeviceLemmas.{made_more, made_none, made_ran, made_stopped}
 use Rattle.stair_array.proofs.new_device.enrol_all.Goals as goal
@@ -19,9 +19,9 @@ loop-slot-preserved g c =
     let done : c.enrol.result ≡ reply.Done = Done-compared c.enrol.result (sym c.eq.ensures ∙ c.if-eq.false) in
     record {
       made =
-          made_more c.args.geometry.now IsPlace c.loop-slot.slot (telling g.R.Rack.is_honest (g.R.Rack.history c.args.rack.now) (g.R.Rack.bads c.args.rack.now) (g.R.Rack.gones c.args.rack.now))
-          (telling g.R.Rack.is_honest (g.R.Rack.history c.loop-slot.rack) (g.R.Rack.bads c.loop-slot.rack) (g.R.Rack.gones c.loop-slot.rack))
-          (telling g.R.Rack.is_honest (g.R.Rack.history c.enrol.new.rack) (g.R.Rack.bads c.enrol.new.rack) (g.R.Rack.gones c.enrol.new.rack)) c.loop-slot.invariant.made refl
+          made_more c.args.geometry.now IsPlace c.loop-slot.slot (told g.R.Rack c.args.rack.now)
+          (told g.R.Rack c.loop-slot.rack)
+          (told g.R.Rack c.enrol.new.rack) c.loop-slot.invariant.made refl
           (rw c.n-slot-end.ensures.value at c.loop-slot-test.true) c.enrol.ensures.ran c.enrol.ensures.counts
           (λ honest.
           subst (λ (x : Geometry). AreMade x IsPlace c.loop-slot.slot (g.R.Rack.history c.loop-slot.rack) (g.R.Rack.history c.enrol.new.rack)) same
@@ -34,18 +34,18 @@ returns-then-eq-clause-gone g c =
     let same : c.first_configuration-array.result.geometry ≡ c.args.geometry.now =
     ap (λ (array : Configuration). array.geometry) c.first_configuration-array.ensures.value in
     let gone : c.enrol.result ≡ reply.Gone = Gone-compared c.enrol.result (sym c.eq.ensures ∙ c.if-eq.true) in
-    made_stopped c.args.geometry.now IsPlace c.loop-slot.slot (telling g.R.Rack.is_honest (g.R.Rack.history c.args.rack.now) (g.R.Rack.bads c.args.rack.now) (g.R.Rack.gones c.args.rack.now))
-    (telling g.R.Rack.is_honest (g.R.Rack.history c.loop-slot.rack) (g.R.Rack.bads c.loop-slot.rack) (g.R.Rack.gones c.loop-slot.rack))
-    (telling g.R.Rack.is_honest (g.R.Rack.history c.enrol.new.rack) (g.R.Rack.bads c.enrol.new.rack) (g.R.Rack.gones c.enrol.new.rack)) c.loop-slot.invariant.made refl
+    made_stopped c.args.geometry.now IsPlace c.loop-slot.slot (told g.R.Rack c.args.rack.now)
+    (told g.R.Rack c.loop-slot.rack)
+    (told g.R.Rack c.enrol.new.rack) c.loop-slot.invariant.made refl
     (rw c.n-slot-end.ensures.value at c.loop-slot-test.true) c.enrol.ensures.ran c.enrol.ensures.counts
-    (subst (λ (x : Geometry). IsStoppedAt x c.loop-slot.slot (telling g.R.Rack.is_honest (g.R.Rack.history c.loop-slot.rack) (g.R.Rack.bads c.loop-slot.rack) (g.R.Rack.gones c.loop-slot.rack))
-    (telling g.R.Rack.is_honest (g.R.Rack.history c.enrol.new.rack) (g.R.Rack.bads c.enrol.new.rack) (g.R.Rack.gones c.enrol.new.rack))) same (c.enrol.ensures.gone gone))
+    (subst (λ (x : Geometry). IsStoppedAt x c.loop-slot.slot (told g.R.Rack c.loop-slot.rack)
+    (told g.R.Rack c.enrol.new.rack)) same (c.enrol.ensures.gone gone))
 
 pub returns-then-eq-clause-ran : goal.returns-then-eq-clause-ran
 returns-then-eq-clause-ran g c honest =
-    made_ran c.args.geometry.now IsPlace c.loop-slot.slot (telling g.R.Rack.is_honest (g.R.Rack.history c.args.rack.now) (g.R.Rack.bads c.args.rack.now) (g.R.Rack.gones c.args.rack.now))
-    (telling g.R.Rack.is_honest (g.R.Rack.history c.loop-slot.rack) (g.R.Rack.bads c.loop-slot.rack) (g.R.Rack.gones c.loop-slot.rack))
-    (telling g.R.Rack.is_honest (g.R.Rack.history c.enrol.new.rack) (g.R.Rack.bads c.enrol.new.rack) (g.R.Rack.gones c.enrol.new.rack)) c.loop-slot.invariant.made refl
+    made_ran c.args.geometry.now IsPlace c.loop-slot.slot (told g.R.Rack c.args.rack.now)
+    (told g.R.Rack c.loop-slot.rack)
+    (told g.R.Rack c.enrol.new.rack) c.loop-slot.invariant.made refl
     (rw c.n-slot-end.ensures.value at c.loop-slot-test.true) c.enrol.ensures.ran c.enrol.ensures.counts
     honest
 

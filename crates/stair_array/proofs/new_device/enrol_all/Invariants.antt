@@ -1,6 +1,6 @@
 -- the slots below this one have their superblocks
 use Rattle.std.proofs.Common.{◌≡◌, ◌<◌, length}
-use Rattle.stair_rack.specs.Telling.{telling}
+use Rattle.stair_rack.specs.Told.{told}
 use Rattle.stair_array.specs.Making.{IsPlace}
 use Rattle.stair_array.proofs.DeviceLemmas.{MadeSoFar}
 use Rattle.stair_array.proofs.new_device.enrol_all.Given as goal
@@ -9,7 +9,7 @@ abbrev pub invariant-loop-slot : goal.invariant-loop-slot
 invariant-loop-slot g l = record {
   made :
       MadeSoFar l.fn.geometry IsPlace l.slot
-      (telling g.R.Rack.is_honest (g.R.Rack.history l.initial.rack) (g.R.Rack.bads l.initial.rack) (g.R.Rack.gones l.initial.rack))
-      (telling g.R.Rack.is_honest (g.R.Rack.history l.rack) (g.R.Rack.bads l.rack) (g.R.Rack.gones l.rack));
+      (told g.R.Rack l.initial.rack)
+      (told g.R.Rack l.rack);
   id : 0 < l.slot → length l.fn.geometry.id ≡ 16;
 }

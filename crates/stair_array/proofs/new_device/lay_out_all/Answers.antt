@@ -2,7 +2,7 @@
 use Rattle.std.proofs.Common.{◌≡◌, refl, sym, ◌∙◌, arith}
 use Rattle.stair_rack.specs.declared.rack.Reply.TheVariants as reply
 use Rattle.stair_rack.proofs.PassCounts.{Done-compared, Gone-compared, NoneFalls-then}
-use Rattle.stair_rack.specs.Telling.{telling}
+use Rattle.stair_rack.specs.Told.{told}
 use Rattle.stair_array.specs.Making.{IsBehind}
 use Rattle.stair_array.proofs.DeviceLemmas.{made_more, made_none, made_ran, made_stopped}
 use Rattle.stair_array.proofs.new_device.lay_out_all.Goals as goal
@@ -13,26 +13,26 @@ loop-slot-init g c = made_none _ _ _
 pub loop-slot-preserved : goal.loop-slot-preserved
 loop-slot-preserved g c =
     let done : c.lay_out.result ≡ reply.Done = Done-compared c.lay_out.result (sym c.eq.ensures ∙ c.if-eq.false) in
-    made_more c.args.geometry.now (IsBehind c.args.geometry.now) c.loop-slot.slot (telling g.R.Rack.is_honest (g.R.Rack.history c.args.rack.now) (g.R.Rack.bads c.args.rack.now) (g.R.Rack.gones c.args.rack.now))
-    (telling g.R.Rack.is_honest (g.R.Rack.history c.loop-slot.rack) (g.R.Rack.bads c.loop-slot.rack) (g.R.Rack.gones c.loop-slot.rack))
-    (telling g.R.Rack.is_honest (g.R.Rack.history c.lay_out.new.rack) (g.R.Rack.bads c.lay_out.new.rack) (g.R.Rack.gones c.lay_out.new.rack)) c.loop-slot.invariant refl
+    made_more c.args.geometry.now (IsBehind c.args.geometry.now) c.loop-slot.slot (told g.R.Rack c.args.rack.now)
+    (told g.R.Rack c.loop-slot.rack)
+    (told g.R.Rack c.lay_out.new.rack) c.loop-slot.invariant refl
     (rw c.n-slot-end.ensures.value at c.loop-slot-test.true) c.lay_out.ensures.ran c.lay_out.ensures.counts
     (λ honest. c.lay_out.ensures.made honest done)
 
 pub returns-then-eq-clause-gone : goal.returns-then-eq-clause-gone
 returns-then-eq-clause-gone g c =
     let gone : c.lay_out.result ≡ reply.Gone = Gone-compared c.lay_out.result (sym c.eq.ensures ∙ c.if-eq.true) in
-    made_stopped c.args.geometry.now (IsBehind c.args.geometry.now) c.loop-slot.slot (telling g.R.Rack.is_honest (g.R.Rack.history c.args.rack.now) (g.R.Rack.bads c.args.rack.now) (g.R.Rack.gones c.args.rack.now))
-    (telling g.R.Rack.is_honest (g.R.Rack.history c.loop-slot.rack) (g.R.Rack.bads c.loop-slot.rack) (g.R.Rack.gones c.loop-slot.rack))
-    (telling g.R.Rack.is_honest (g.R.Rack.history c.lay_out.new.rack) (g.R.Rack.bads c.lay_out.new.rack) (g.R.Rack.gones c.lay_out.new.rack)) c.loop-slot.invariant refl
+    made_stopped c.args.geometry.now (IsBehind c.args.geometry.now) c.loop-slot.slot (told g.R.Rack c.args.rack.now)
+    (told g.R.Rack c.loop-slot.rack)
+    (told g.R.Rack c.lay_out.new.rack) c.loop-slot.invariant refl
     (rw c.n-slot-end.ensures.value at c.loop-slot-test.true) c.lay_out.ensures.ran c.lay_out.ensures.counts
     (c.lay_out.ensures.gone gone)
 
 pub returns-then-eq-clause-ran : goal.returns-then-eq-clause-ran
 returns-then-eq-clause-ran g c honest =
-    made_ran c.args.geometry.now (IsBehind c.args.geometry.now) c.loop-slot.slot (telling g.R.Rack.is_honest (g.R.Rack.history c.args.rack.now) (g.R.Rack.bads c.args.rack.now) (g.R.Rack.gones c.args.rack.now))
-    (telling g.R.Rack.is_honest (g.R.Rack.history c.loop-slot.rack) (g.R.Rack.bads c.loop-slot.rack) (g.R.Rack.gones c.loop-slot.rack))
-    (telling g.R.Rack.is_honest (g.R.Rack.history c.lay_out.new.rack) (g.R.Rack.bads c.lay_out.new.rack) (g.R.Rack.gones c.lay_out.new.rack)) c.loop-slot.invariant refl
+    made_ran c.args.geometry.now (IsBehind c.args.geometry.now) c.loop-slot.slot (told g.R.Rack c.args.rack.now)
+    (told g.R.Rack c.loop-slot.rack)
+    (told g.R.Rack c.lay_out.new.rack) c.loop-slot.invariant refl
     (rw c.n-slot-end.ensures.value at c.loop-slot-test.true) c.lay_out.ensures.ran c.lay_out.ensures.counts
     honest
 

@@ -1,6 +1,6 @@
 -- Each turn reads the next row.
 use Rattle.std.proofs.Common.{◌≡◌, None, refl, arith}
-use Rattle.stair_rack.specs.Telling.{telling}
+use Rattle.stair_rack.specs.Told.{told}
 use Rattle.stair_journal.specs.BodySteps.{standing}
 use Rattle.stair_journal.proofs.BodyLemmas.{all_in_turn, all_read, all_reads, none_read}
 use Rattle.stair_journal.proofs.body.read_body.Goals as goal
@@ -16,10 +16,10 @@ returns-clause-told g c =
     let all : c.loop-row.row ≡ c.args.geometry.now.r = omega arith in
     all_read c.args.geometry.now c.args.live c.args.redo.now
     (standing (record { unread = None; gone = c.empty.result }) c.args.into.now
-    (telling g.R.Rack.is_honest (g.R.Rack.history c.args.rack.now) (g.R.Rack.bads c.args.rack.now) (g.R.Rack.gones c.args.rack.now))
+    (told g.R.Rack c.args.rack.now)
     (g.R.Rack.reads c.args.rack.now))
     (standing c.loop-row.body c.loop-row.into
-    (telling g.R.Rack.is_honest (g.R.Rack.history c.loop-row.rack) (g.R.Rack.bads c.loop-row.rack) (g.R.Rack.gones c.loop-row.rack))
+    (told g.R.Rack c.loop-row.rack)
     (g.R.Rack.reads c.loop-row.rack)) c.requires.redo c.r-row-end.ensures.limits (rw all at c.loop-row.invariant) c.empty.ensures.none
     c.empty.ensures.well_formed
 
@@ -28,10 +28,10 @@ returns-clause-reads g c =
     let all : c.loop-row.row ≡ c.args.geometry.now.r = omega arith in
     all_reads c.args.geometry.now c.args.live c.args.redo.now
     (standing (record { unread = None; gone = c.empty.result }) c.args.into.now
-    (telling g.R.Rack.is_honest (g.R.Rack.history c.args.rack.now) (g.R.Rack.bads c.args.rack.now) (g.R.Rack.gones c.args.rack.now))
+    (told g.R.Rack c.args.rack.now)
     (g.R.Rack.reads c.args.rack.now))
     (standing c.loop-row.body c.loop-row.into
-    (telling g.R.Rack.is_honest (g.R.Rack.history c.loop-row.rack) (g.R.Rack.bads c.loop-row.rack) (g.R.Rack.gones c.loop-row.rack))
+    (told g.R.Rack c.loop-row.rack)
     (g.R.Rack.reads c.loop-row.rack)) c.requires.redo c.r-row-end.ensures.limits (rw all at c.loop-row.invariant)
 
 pub returns-clause-in_turn : goal.returns-clause-in_turn
@@ -39,9 +39,9 @@ returns-clause-in_turn g c =
     let all : c.loop-row.row ≡ c.args.geometry.now.r = omega arith in
     all_in_turn c.args.geometry.now c.args.live c.args.redo.now
     (standing (record { unread = None; gone = c.empty.result }) c.args.into.now
-    (telling g.R.Rack.is_honest (g.R.Rack.history c.args.rack.now) (g.R.Rack.bads c.args.rack.now) (g.R.Rack.gones c.args.rack.now))
+    (told g.R.Rack c.args.rack.now)
     (g.R.Rack.reads c.args.rack.now))
     (standing c.loop-row.body c.loop-row.into
-    (telling g.R.Rack.is_honest (g.R.Rack.history c.loop-row.rack) (g.R.Rack.bads c.loop-row.rack) (g.R.Rack.gones c.loop-row.rack))
+    (told g.R.Rack c.loop-row.rack)
     (g.R.Rack.reads c.loop-row.rack)) c.requires.redo c.r-row-end.ensures.limits (rw all at c.loop-row.invariant) c.empty.ensures.none
     c.empty.ensures.well_formed

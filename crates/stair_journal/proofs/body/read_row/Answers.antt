@@ -1,7 +1,7 @@
 -- Each turn reads the next cell of the row, where it is one of the redo's.
 use Rattle.std.proofs.Common.{◌≡◌, ◌<◌, sym, ◌∙◌, arith}
 use Rattle.std.proofs.lemmas.Bool.{false≢true}
-use Rattle.stair_rack.specs.Telling.{telling}
+use Rattle.stair_rack.specs.Told.{told}
 use Rattle.stair_journal.specs.BodySteps.{standing}
 use Rattle.stair_journal.proofs.BodyLemmas.{cell_more, cell_skipped, row_done}
 use Rattle.stair_journal.proofs.body.read_row.Goals as goal
@@ -12,14 +12,13 @@ loop-chunk-preserved g c =
     let chunk_in : c.loop-chunk.chunk < c.args.geometry.now.n = omega arith in
     let old =
     standing c.loop-chunk.body c.loop-chunk.into
-    (telling g.R.Rack.is_honest (g.R.Rack.history c.loop-chunk.rack) (g.R.Rack.bads c.loop-chunk.rack) (g.R.Rack.gones c.loop-chunk.rack))
+    (told g.R.Rack c.loop-chunk.rack)
     (g.R.Rack.reads c.loop-chunk.rack) in
     elim c.if-has.branch [
       | then-has w ↦
           let new =
           standing w.read_cell.new.body w.read_cell.new.into
-          (telling g.R.Rack.is_honest (g.R.Rack.history w.read_cell.new.rack) (g.R.Rack.bads w.read_cell.new.rack)
-          (g.R.Rack.gones w.read_cell.new.rack)) (g.R.Rack.reads w.read_cell.new.rack) in
+          (told g.R.Rack w.read_cell.new.rack) (g.R.Rack.reads w.read_cell.new.rack) in
           rw (w.rack-is, w.into-is, w.body-is)
           (record {
             shape = w.read_cell.ensures.shape;
@@ -42,6 +41,6 @@ returns g c start before =
     let all : c.loop-chunk.chunk ≡ c.args.geometry.now.n = omega arith in
     row_done c.args.geometry.now c.args.live c.args.redo.now c.args.row start
     (standing c.loop-chunk.body c.loop-chunk.into
-    (telling g.R.Rack.is_honest (g.R.Rack.history c.loop-chunk.rack) (g.R.Rack.bads c.loop-chunk.rack) (g.R.Rack.gones c.loop-chunk.rack))
+    (told g.R.Rack c.loop-chunk.rack)
     (g.R.Rack.reads c.loop-chunk.rack)) c.requires.redo c.n-chunk-end.ensures.limits
     (rw all at (c.loop-chunk.invariant.so_far start before))

@@ -1,6 +1,6 @@
 -- the redo's cells of this row before this one were read
 use Rattle.stair_model.specs.Stripe.{IsStripeOf}
-use Rattle.stair_rack.specs.Telling.{telling}
+use Rattle.stair_rack.specs.Told.{told}
 use Rattle.stair_journal.specs.BodySteps.{IsReadTo, Standing, standing}
 use Rattle.stair_journal.proofs.body.read_row.Given as goal
 
@@ -11,9 +11,9 @@ invariant-loop-chunk g l = record {
       (start : Standing) →
       IsReadTo l.geometry l.live l.redo l.row 0 start
       (standing l.initial.body l.initial.into
-      (telling g.R.Rack.is_honest (g.R.Rack.history l.initial.rack) (g.R.Rack.bads l.initial.rack) (g.R.Rack.gones l.initial.rack))
+      (told g.R.Rack l.initial.rack)
       (g.R.Rack.reads l.initial.rack)) →
       IsReadTo l.geometry l.live l.redo l.row l.chunk start
-      (standing l.body l.into (telling g.R.Rack.is_honest (g.R.Rack.history l.rack) (g.R.Rack.bads l.rack) (g.R.Rack.gones l.rack))
+      (standing l.body l.into (told g.R.Rack l.rack)
       (g.R.Rack.reads l.rack));
 }

@@ -2,7 +2,7 @@
 use Rattle.std.proofs.Common.{◌≡◌, ◌∙◌, refl, sym, arith}
 use Rattle.stair_model.specs.Slots.{has_slot}
 use Rattle.stair_model.proofs.SetLaws.{same_test}
-use Rattle.stair_rack.specs.Telling.{telling}
+use Rattle.stair_rack.specs.Told.{told}
 use Rattle.stair_journal.proofs.GatesLemmas.{gates_all, gates_more, gates_none, gates_skipped}
 use Rattle.stair_journal.proofs.gates.read_gates.Goals as goal
 use Rattle.stair_journal.proofs.gates.read_gates.Goals.{then-has, else-has}
@@ -14,13 +14,12 @@ loop-slot-init g c =
 
 pub loop-slot-preserved : goal.loop-slot-preserved
 loop-slot-preserved g c =
-    let old = telling g.R.Rack.is_honest (g.R.Rack.history c.args.rack.now) (g.R.Rack.bads c.args.rack.now) (g.R.Rack.gones c.args.rack.now) in
-    let now = telling g.R.Rack.is_honest (g.R.Rack.history c.loop-slot.rack) (g.R.Rack.bads c.loop-slot.rack) (g.R.Rack.gones c.loop-slot.rack) in
+    let old = told g.R.Rack c.args.rack.now in
+    let now = told g.R.Rack c.loop-slot.rack in
     elim c.if-has.branch [
       | then-has w ↦
           let new =
-          telling g.R.Rack.is_honest (g.R.Rack.history w.look_at-seen.new.rack) (g.R.Rack.bads w.look_at-seen.new.rack)
-          (g.R.Rack.gones w.look_at-seen.new.rack) in
+          told g.R.Rack w.look_at-seen.new.rack in
           rw (w.gates-is, w.rack-is)
           (gates_more c.args.geometry.now c.n.ensures.limits c.args.live c.loop-slot.slot c.loop-slot.gates w.note.new.gates old now new
           (g.R.Rack.reads c.args.rack.now) (g.R.Rack.reads c.loop-slot.rack) (g.R.Rack.reads w.look_at-seen.new.rack) c.loop-slot.invariant
@@ -37,8 +36,8 @@ pub returns-clause-told : goal.returns-clause-told
 returns-clause-told g c =
     let all : c.loop-slot.slot ≡ 32 = omega arith in
     gates_all c.args.geometry.now c.args.live c.loop-slot.gates
-    (telling g.R.Rack.is_honest (g.R.Rack.history c.args.rack.now) (g.R.Rack.bads c.args.rack.now) (g.R.Rack.gones c.args.rack.now))
-    (telling g.R.Rack.is_honest (g.R.Rack.history c.loop-slot.rack) (g.R.Rack.bads c.loop-slot.rack) (g.R.Rack.gones c.loop-slot.rack)) (g.R.Rack.reads c.args.rack.now) (g.R.Rack.reads c.loop-slot.rack)
+    (told g.R.Rack c.args.rack.now)
+    (told g.R.Rack c.loop-slot.rack) (g.R.Rack.reads c.args.rack.now) (g.R.Rack.reads c.loop-slot.rack)
     (rw all at c.loop-slot.invariant)
 
 pub returns-clause-in_turn : goal.returns-clause-in_turn

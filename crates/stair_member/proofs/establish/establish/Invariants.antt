@@ -1,15 +1,15 @@
 -- how far it has come, and the slots that may still be gone
 use Rattle.std.proofs.Common.{◌≡◌, ◌-◌}
 use Rattle.stair_model.specs.Slots.{slot_count}
-use Rattle.stair_rack.specs.Telling.{telling}
+use Rattle.stair_rack.specs.Told.{told}
 use Rattle.stair_member.proofs.EstablishLemmas.{Attempt}
 use Rattle.stair_member.proofs.establish.establish.Given as goal
 
 abbrev pub invariant-loop-fault : goal.invariant-loop-fault
 invariant-loop-fault g l = record {
   far : Attempt l.fn.aim l.left l.initial.member l.member l.gone
-      (telling g.R.Rack.is_honest (g.R.Rack.history l.initial.rack) (g.R.Rack.bads l.initial.rack) (g.R.Rack.gones l.initial.rack))
-      (telling g.R.Rack.is_honest (g.R.Rack.history l.rack) (g.R.Rack.bads l.rack) (g.R.Rack.gones l.rack));
+      (told g.R.Rack l.initial.rack)
+      (told g.R.Rack l.rack);
   reads : g.R.Rack.reads l.rack ≡ g.R.Rack.reads l.initial.rack;
 }
 

@@ -1,18 +1,18 @@
 -- Each turn looks at the next slot.
 use Rattle.std.proofs.Common.{◌≡◌, ℕ, refl, subst, arith}
 use Rattle.stair_member.specs.Asked.{AsksBelow}
-use Rattle.stair_rack.specs.Telling.{IsLater, telling}
+use Rattle.stair_rack.specs.Telling.{IsLater}
+use Rattle.stair_rack.specs.Told.{told}
 use Rattle.stair_member.proofs.SightLemmas.{added_lost, added_none, asks_ran, sights_all, sights_more}
 use Rattle.stair_member.proofs.surveying.find_all.Goals as goal
 use Rattle.stair_member.proofs.surveying.find_all.Goals.{then-sight, else-sight}
 
 pub loop-slot-preserved : goal.loop-slot-preserved
 loop-slot-preserved g c =
-    let old = telling g.R.Rack.is_honest (g.R.Rack.history c.args.rack.now) (g.R.Rack.bads c.args.rack.now) (g.R.Rack.gones c.args.rack.now) in
-    let now = telling g.R.Rack.is_honest (g.R.Rack.history c.loop-slot.rack) (g.R.Rack.bads c.loop-slot.rack) (g.R.Rack.gones c.loop-slot.rack) in
+    let old = told g.R.Rack c.args.rack.now in
+    let now = told g.R.Rack c.loop-slot.rack in
     let new =
-    telling g.R.Rack.is_honest (g.R.Rack.history c.look_at-sight.new.rack) (g.R.Rack.bads c.look_at-sight.new.rack)
-    (g.R.Rack.gones c.look_at-sight.new.rack) in
+    told g.R.Rack c.look_at-sight.new.rack in
     let later : IsLater now new =
     record { counts = c.look_at-sight.ensures.counts; honest = refl; ran = λ honest. asks_ran (c.look_at-sight.ensures.asked honest) } in
     let sight = c.look_at-sight.result in
@@ -42,6 +42,6 @@ pub returns-clause-told : goal.returns-clause-told
 returns-clause-told g c =
     let all : c.loop-slot.slot ≡ 32 = omega arith in
     sights_all c.loop-slot.sights
-    (telling g.R.Rack.is_honest (g.R.Rack.history c.args.rack.now) (g.R.Rack.bads c.args.rack.now) (g.R.Rack.gones c.args.rack.now))
-    (telling g.R.Rack.is_honest (g.R.Rack.history c.loop-slot.rack) (g.R.Rack.bads c.loop-slot.rack) (g.R.Rack.gones c.loop-slot.rack))
+    (told g.R.Rack c.args.rack.now)
+    (told g.R.Rack c.loop-slot.rack)
     (g.R.Rack.reads c.args.rack.now) (g.R.Rack.reads c.loop-slot.rack) (rw all at c.loop-slot.invariant)

@@ -1,7 +1,7 @@
 -- All cells of the stripe are gathered.
 use Rattle.std.proofs.Common.{◌*◌}
 use Rattle.stair_model.specs.CellSet.{HasCell, cell_count}
-use Rattle.stair_rack.specs.Telling.{telling}
+use Rattle.stair_rack.specs.Told.{told}
 use Rattle.stair_stripes.specs.Gathering.{IsCellOf}
 use Rattle.stair_stripes.proofs.GatheringLemmas.{gathers_same}
 use Rattle.stair_rack.proofs.PassCounts.{rises_within}
@@ -12,9 +12,8 @@ pub returns-clause-told : goal.returns-clause-told
 returns-clause-told g c =
     gathers_same c.args.geometry.now c.args.live c.args.stripe (HasCell c.all_cells.result) (IsCellOf c.args.geometry.now) c.gather_cells.result
     c.args.into.now c.gather_cells.new.into
-    (telling g.R.Rack.is_honest (g.R.Rack.history c.args.rack.now) (g.R.Rack.bads c.args.rack.now) (g.R.Rack.gones c.args.rack.now))
-    (telling g.R.Rack.is_honest (g.R.Rack.history c.gather_cells.new.rack) (g.R.Rack.bads c.gather_cells.new.rack)
-    (g.R.Rack.gones c.gather_cells.new.rack))
+    (told g.R.Rack c.args.rack.now)
+    (told g.R.Rack c.gather_cells.new.rack)
     c.all_cells.ensures.members c.gather_cells.ensures.told
 
 pub returns-clause-reads : goal.returns-clause-reads

@@ -4,7 +4,7 @@ use Rattle.std.proofs.lemmas.Bool.{false≢true}
 use Rattle.stair_model.specs.CellSet.{count_in_slot}
 use Rattle.stair_model.proofs.CountLaws.{sum_below_none}
 use Rattle.stair_rack.specs.RackCounts.{RisesAtMost}
-use Rattle.stair_rack.specs.Telling.{telling}
+use Rattle.stair_rack.specs.Told.{told}
 use Rattle.stair_rack.proofs.PassCounts.{rises_none}
 use Rattle.stair_stripes.proofs.ReadCounts.{slot_more, slot_no_more, slots_all}
 use Rattle.stair_stripes.proofs.SoFarLemmas.{before_all, before_dead, before_none, in_turn_all}
@@ -50,16 +50,16 @@ pub returns-clause-told : goal.returns-clause-told
 returns-clause-told g c =
     let all : c.loop-slot.slot ≡ c.args.geometry.now.n = omega arith in
     before_all c.args.geometry.now c.args.live c.args.stripe c.args.wanted.now c.loop-slot.gathered c.args.into.now c.loop-slot.into
-    (telling g.R.Rack.is_honest (g.R.Rack.history c.args.rack.now) (g.R.Rack.bads c.args.rack.now) (g.R.Rack.gones c.args.rack.now))
-    (telling g.R.Rack.is_honest (g.R.Rack.history c.loop-slot.rack) (g.R.Rack.bads c.loop-slot.rack) (g.R.Rack.gones c.loop-slot.rack))
+    (told g.R.Rack c.args.rack.now)
+    (told g.R.Rack c.loop-slot.rack)
     c.requires.wanted (rw all at c.loop-slot.invariant.before)
 
 pub returns-clause-in_turn : goal.returns-clause-in_turn
 returns-clause-in_turn g c =
     let all : c.loop-slot.slot ≡ c.args.geometry.now.n = omega arith in
     in_turn_all c.args.geometry.now c.args.live c.args.stripe c.args.wanted.now c.loop-slot.gathered c.args.into.now c.loop-slot.into
-    (telling g.R.Rack.is_honest (g.R.Rack.history c.args.rack.now) (g.R.Rack.bads c.args.rack.now) (g.R.Rack.gones c.args.rack.now))
-    (telling g.R.Rack.is_honest (g.R.Rack.history c.loop-slot.rack) (g.R.Rack.bads c.loop-slot.rack) (g.R.Rack.gones c.loop-slot.rack))
+    (told g.R.Rack c.args.rack.now)
+    (told g.R.Rack c.loop-slot.rack)
     (rw all at c.loop-slot.invariant.before)
 
 pub returns-clause-reads : goal.returns-clause-reads

@@ -2,14 +2,14 @@
 use Rattle.stair_model.specs.CellSet.{count_in_slot}
 use Rattle.stair_model.specs.Sum.{sum_below}
 use Rattle.stair_rack.specs.RackCounts.{RisesAtMost}
-use Rattle.stair_rack.specs.Telling.{telling}
+use Rattle.stair_rack.specs.Told.{told}
 use Rattle.stair_stripes.specs.GatheringSteps.{GathersBefore}
 use Rattle.stair_stripes.proofs.gathering.gather_cells.Given as goal
 
 abbrev pub invariant-loop-slot : goal.invariant-loop-slot
 invariant-loop-slot g l = record {
   before : GathersBefore l.geometry l.live l.stripe l.wanted l.slot 0 l.gathered l.fn.into l.into
-      (telling g.R.Rack.is_honest (g.R.Rack.history l.fn.rack) (g.R.Rack.bads l.fn.rack) (g.R.Rack.gones l.fn.rack))
-      (telling g.R.Rack.is_honest (g.R.Rack.history l.rack) (g.R.Rack.bads l.rack) (g.R.Rack.gones l.rack));
+      (told g.R.Rack l.fn.rack)
+      (told g.R.Rack l.rack);
   reads : RisesAtMost (sum_below l.slot (count_in_slot l.wanted)) (g.R.Rack.reads l.fn.rack) (g.R.Rack.reads l.rack);
 }
