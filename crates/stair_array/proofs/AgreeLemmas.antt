@@ -11,7 +11,7 @@ use Rattle.stair_super.specs.declared.mark.Mark.TheVariants as mark
 use Rattle.stair_member.specs.Current.{IsCurrent, IsLive}
 use Rattle.stair_member.specs.Reasons.{IsReason, rank}
 use Rattle.stair_member.specs.Reserve.{Bears, IsOrderly}
-use Rattle.stair_member.specs.Superblocks.{Counts, CountsFor, HoldsSuper, Identifies, IsSuperOf}
+use Rattle.stair_member.specs.Superblocks.{Counts, CountsFor, HoldsSuper, Identifies}
 use Rattle.stair_member.specs.declared.why.Why.{Why}
 use Rattle.stair_member.specs.declared.why.Why.TheVariants.{Here, Gone, NoSuper, OtherArray, OtherSlot, MarkedDown, OtherJoined, Rebuilding}
 use Rattle.stair_member.proofs.CountingLemmas.{more_mapped}

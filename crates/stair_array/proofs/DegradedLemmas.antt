@@ -10,7 +10,7 @@ use Rattle.stair_member.specs.Current.{IsLost}
 use Rattle.stair_member.specs.Reserve.{Bears, HasReached, HasReserved, HidesNoOther, IsOrderly}
 use Rattle.stair_member.specs.Superblocks.{Counts, HoldsSuper, IsSuperOf}
 use Rattle.stair_member.proofs.CountingLemmas.{all_but_mapped}
-use Rattle.stair_member.proofs.SuperLemmas.{holds_once, super_at, super_cells}
+use Rattle.stair_member.proofs.SuperLemmas.{hidden_same, holds_once, super_at, super_cells}
 use Rattle.stair_array.specs.Degraded.{AreAllDamaged, AreDamagedCopies, IsDegraded, IsDegradedSlot, Taken, Blank, Stays}
 use Rattle.stair_array.proofs.FormLemmas.{good_before, good_kept, same_kept}
 
@@ -129,15 +129,7 @@ module _ (g : Geometry) (more less : Image) (copies : (j : ℕ) → AreDamagedCo
       → Counts g less j newest × (s.array.epoch ≤ newest.array.epoch)
   hidden_before j s newest bears super =
       elim (super_before j s newest bears super) [
-        | inl same ↦
-            let epoch : newest.array.epoch ≡ s.array.epoch = ap (λ (t : Superblock). t.array.epoch) same in (
-              record {
-                super = super;
-                slot = ap (λ (t : Superblock). t.slot) same ∙ bears.slot;
-                identity = ap (λ (t : Superblock). t.array.geometry) same ∙ bears.identity;
-              },
-              omega arith,
-            )
+        | inl same ↦ hidden_same g less j s newest bears super same
         | inr was ↦
             let before = orderly.hidden j s newest (bears_before (copies j) bears) was in
             (record { super = super; slot = before.0.slot; identity = before.0.identity }, before.1)

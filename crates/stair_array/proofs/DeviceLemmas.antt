@@ -20,7 +20,9 @@ use Rattle.stair_rack.proofs.MomentLemmas.{at_some_wider, ran_any, ran_join, ran
 use Rattle.stair_rack.proofs.KeptLemmas.{IsKept-onward, IsKept-since}
 use Rattle.stair_rack.proofs.OfflineLemmas.{held_on, offline_now, pulls_on}
 use Rattle.stair_rack.proofs.PassCounts.{NoneFalls-same, NoneFalls-then}
-use Rattle.stair_rack.proofs.PlacedLemmas.{Placed-from, Reach, SyncStep-call, WriteStep-call, Writing-same, phase_ran, reach_on, writing_more, writing_none}
+use Rattle.stair_rack.proofs.WritingLemmas.{Reach, SyncStep-call, WriteStep-call, Writing-same, reach_on, writing_more, writing_none}
+use Rattle.stair_rack.proofs.PlacedLemmas.{Placed-from}
+use Rattle.stair_rack.proofs.KeepingLemmas.{phase_ran}
 use Rattle.stair_rack.specs.Writing.{Writing}
 use Rattle.stair_rack.proofs.StandingLemmas.{Spares, standing_on}
 use Rattle.stair_super.specs.Spelling.{spelled}

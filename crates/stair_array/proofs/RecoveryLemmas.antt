@@ -17,7 +17,7 @@ use Rattle.stair_rack.proofs.CrashLemmas.{Leaves-mapped, Leaves-settled, leaves_
 use Rattle.stair_rack.proofs.KeptLemmas.{IsKept-mapped, IsKept-onward, SectorKeeps, keeps_sector}
 use Rattle.stair_rack.proofs.MomentLemmas.{at_every_from, at_every_join, at_every_mapped, at_last, ran_before}
 use Rattle.stair_rack.proofs.OfflineLemmas.{WasPulled-later, and-true_left, offline_from_unready, pulls_on, unready_when_stopped}
-use Rattle.stair_rack.proofs.PlacedLemmas.{PhaseKeeps, phase_leaves, phase_ran}
+use Rattle.stair_rack.proofs.KeepingLemmas.{PhaseKeeps, phase_leaves, phase_ran}
 use Rattle.stair_rack.proofs.StepLemmas.{kept}
 use Rattle.stair_member.specs.Current.{ByOutside, IsLost, Worn}
 use Rattle.stair_member.proofs.CountingLemmas.{has_or_not}

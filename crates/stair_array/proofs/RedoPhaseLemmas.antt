@@ -16,7 +16,7 @@ use Rattle.stair_rack.proofs.CrashLemmas.{KeepsLeaving, Leaves-mapped, Leaves-se
 use Rattle.stair_rack.proofs.KeptLemmas.{IsKept-mapped, IsKept-since, with_old_cases}
 use Rattle.stair_rack.proofs.MomentLemmas.{at_every_from, at_last, at_moment}
 use Rattle.stair_rack.proofs.OfflineLemmas.{WasPulled-later, held_on, pulls_on}
-use Rattle.stair_rack.proofs.PlacedLemmas.{PhaseKeeps, phase_ends, phase_leaves, phase_ran}
+use Rattle.stair_rack.proofs.KeepingLemmas.{PhaseKeeps, phase_ends, phase_leaves, phase_ran}
 use Rattle.stair_rack.proofs.StepLemmas.{kept, keeps_slot}
 use Rattle.stair_rack.proofs.TidyLemmas.{HasSize, size_on}
 use Rattle.stair_array.specs.Redoing.{AttachesNone, IsRedoing, Redoing, Stage, WritesNone, next, writes_in}

@@ -11,7 +11,8 @@ use Rattle.stair_rack.specs.Offline.{IsHeld, WasPulled}
 use Rattle.stair_rack.specs.Placed.{IsSyncOf, IsWriteOf, Placed, Writes}
 use Rattle.stair_rack.proofs.MomentLemmas.{at_every_from, at_every_join, at_every_mapped, at_last, at_moment, ran_any, ran_join, ran_weakened}
 use Rattle.stair_rack.proofs.OfflineLemmas.{pulls_on, stopped_on}
-use Rattle.stair_rack.proofs.PlacedLemmas.{beside_writes, phase_ran}
+use Rattle.stair_rack.proofs.WritingLemmas.{beside_writes}
+use Rattle.stair_rack.proofs.KeepingLemmas.{phase_ran}
 use Rattle.stair_array.specs.Redoing.{AreHeld, AttachesNone, Begins, Goes, IsApart, IsIn, IsInSome, IsPhase, IsReached, IsRedoing, IsStopped, Leads, Reaches, Redoing, RunsTo, Stage, WritesNone, next, writes_in}
 use Rattle.stair_array.specs.Represents.{IsLargeEnough}
 use Rattle.stair_array.proofs.DeviceLemmas.{large_some}

@@ -17,7 +17,7 @@ ghost use Rattle.stair_rack.specs.Told.{told};
 ghost use Rattle.stair_array.specs.Looking.{AllPassed, IsRefused, Passed};
 
 use crate::fault::CreateFault;
-use stair_base::Geometry;
+use stair_base::{FIRST_PLACE, Geometry, SECOND_PLACE};
 use stair_rack::{Got, Rack, Reply};
 use stair_super::read_super;
 
@@ -116,10 +116,10 @@ fn find_super<R: Rack>(rack: &mut R, slot: u8) -> Found
     ensures counts { NoneFalls (R.bads rack.old) (R.bads rack.new) (R.gones rack.old)
         (R.gones rack.new) }
 {
-    let Some(first) = holds_super(rack, slot, 0) else {
+    let Some(first) = holds_super(rack, slot, FIRST_PLACE) else {
         return Found::Gone;
     };
-    let Some(second) = holds_super(rack, slot, 1) else {
+    let Some(second) = holds_super(rack, slot, SECOND_PLACE) else {
         return Found::Gone;
     };
     if first || second {

@@ -17,7 +17,7 @@ ghost use Rattle.stair_array.specs.Making.{
 };
 
 use crate::fault::CreateFault;
-use stair_base::Geometry;
+use stair_base::{BODY_START, FIRST_PLACE, GATE_SECTOR, Geometry, SECOND_PLACE};
 use stair_journal::closed_gate;
 use stair_rack::{Rack, Reply, write_through};
 use stair_super::{Configuration, Label, Mark, Super, write_super};
@@ -57,11 +57,11 @@ fn lay_out<R: Rack>(rack: &mut R, geometry: &Geometry, slot: u8) -> Reply
     ensures counts { NoneFalls (R.bads rack.old) (R.bads rack.new) (R.gones rack.old)
         (R.gones rack.new) }
 {
-    if rack.write(slot, 2, &closed_gate()) == Reply::Gone {
+    if rack.write(slot, GATE_SECTOR, &closed_gate()) == Reply::Gone {
         return Reply::Gone;
     }
     let zeros = [0; 512];
-    for sector in 3..geometry.need() {
+    for sector in BODY_START..geometry.need() {
         if rack.write(slot, sector, &zeros) == Reply::Gone {
             return Reply::Gone;
         }
@@ -106,10 +106,10 @@ fn enrol<R: Rack>(rack: &mut R, array: &Configuration, slot: u8) -> Reply
     ensures id { length array.now.geometry.id ≡ 16 }
 {
     let block = write_super(&Super::new(*array, slot, 1, 1));
-    if write_through(rack, slot, 0, &block) == Reply::Gone {
+    if write_through(rack, slot, FIRST_PLACE, &block) == Reply::Gone {
         return Reply::Gone;
     }
-    write_through(rack, slot, 1, &block)
+    write_through(rack, slot, SECOND_PLACE, &block)
 }
 
 // What epoch 1 names.

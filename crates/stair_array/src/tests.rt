@@ -4,7 +4,7 @@ ghost use Rattle.stair_model.specs.Stripe.{IsStripeOf};
 ghost use Rattle.stair_journal.specs.Redo.{IsRedo};
 
 use crate::{CreateFault, create};
-use stair_base::{CellSet, Geometry, Slots, Stripe};
+use stair_base::{BODY_START, CellSet, FIRST_PLACE, Geometry, SECOND_PLACE, Slots, Stripe};
 use stair_journal::{Redo, close_gates, open_gates, read_gates, write_body};
 use stair_memrack::{Act, MemRack, What};
 use stair_rack::{Got, Rack, Reply};
@@ -114,22 +114,24 @@ fn what_is_refused_before_anything_is_written(rt: HostRuntime) -> Result<(), Fai
         has: 290,
         needs: 291,
     };
+    let in_first = |slot: u8| Some((slot, FIRST_PLACE));
+    let in_second = |slot: u8| Some((slot, SECOND_PLACE));
     let rows: [(Geometry, &[Act], Option<(u8, u32)>, CreateFault); 9] = [
         (four, &[pull(1, 0)], None, CreateFault::Gone(1)),
         (eight, &[pull(5, 0), blank(5, 290)], None, small),
-        (eight, &[pull(5, 0), blank(5, 290)], Some((6, 0)), small),
-        (four, &[], Some((0, 0)), CreateFault::AlreadyArray(0)),
-        (four, &[], Some((3, 1)), CreateFault::AlreadyArray(3)),
-        (four, &[], Some((5, 0)), CreateFault::AlreadyArray(5)),
+        (eight, &[pull(5, 0), blank(5, 290)], in_first(6), small),
+        (four, &[], in_first(0), CreateFault::AlreadyArray(0)),
+        (four, &[], in_second(3), CreateFault::AlreadyArray(3)),
+        (four, &[], in_first(5), CreateFault::AlreadyArray(5)),
         (
             four,
             &[blank(31, 2)],
-            Some((31, 1)),
+            in_second(31),
             CreateFault::AlreadyArray(31),
         ),
         // it is pulled after it was attached: at its sync, and at its second read, though the first found a superblock
         (four, &[pull(0, 1)], None, CreateFault::Gone(0)),
-        (four, &[pull(2, 17)], Some((2, 0)), CreateFault::Gone(2)),
+        (four, &[pull(2, 17)], in_first(2), CreateFault::Gone(2)),
     ];
     for (geometry, acts, other, fault) in rows {
         let mut rack = rack_over(rt.alloc(), 8, 291, acts, other)?;
@@ -256,7 +258,7 @@ fn has_body(rack: &mut MemRack, slot: u8) -> bool
 {
     for number in 0..8u8 {
         let at = usize::from(number);
-        let body = read(rack, slot, 3 + u32::from(number)).1;
+        let body = read(rack, slot, BODY_START + u32::from(number)).1;
         if OLD[at] != NEW[at] && body != [NEW[at]; 512] {
             return false;
         }

@@ -5,7 +5,7 @@ use Rattle.stair_model.specs.Geometry.{Geometry, IsWithinLimits, data_chunks, da
 use Rattle.stair_model.specs.Cell.{Data, is_global, cell_at, data_before, data_in_row}
 use Rattle.stair_model.proofs.CountLaws.{sum_below_none, sum_below_more, sum_below_same, sum_below_constant, sum_below_tail}
 use Rattle.stair_model.proofs.CellLaws.{data_mark, data_in_rows, data_in_all, cell_at_data}
-use Rattle.stair_base.specs.Rows.{HasBlocksFirst}
+use Rattle.stair_base.specs.PlaceSteps.{HasBlocksFirst}
 
 -- along its blocks, a row has counted each
 blocks_along : (g : Geometry) (i count j : ℕ) → HasBlocksFirst g i count → j ≤ count → data_in_row g i j ≡ j

@@ -4,7 +4,7 @@ pub mod Stored
 pub mod Kinds
 pub mod Globals
 pub mod Equations
-pub mod Rows
+pub mod PlaceSteps
 pub use Rattle.stair_model.specs.Geometry
 pub use Rattle.stair_model.specs.Cell
 pub use Rattle.stair_model.specs.Device

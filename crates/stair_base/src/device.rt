@@ -3,8 +3,17 @@ ghost use Rattle.stair_model.specs.Device.{body_sector, cell_sector};
 
 use crate::geometry::Geometry;
 
-/// The first sector of the journal's body: two superblock places and the gate stand before it.
-const BODY_START: u32 = 3;
+/// The sector of a device that is the first of its two superblock places.
+pub const FIRST_PLACE: u32 = 0;
+
+/// The sector of a device that is the second of its two superblock places.
+pub const SECOND_PLACE: u32 = 1;
+
+/// The sector of a device in which its gate lies, behind the two superblock places.
+pub const GATE_SECTOR: u32 = 2;
+
+/// The first sector of the journal's body, behind the gate.
+pub const BODY_START: u32 = 3;
 
 impl Geometry {
     /// The sector of a device in which this row of its chunk of this stripe lies: 3 + n·r + stripe·r + row. The stripe

@@ -2,6 +2,7 @@ ghost use Rattle.std.specs.Prelude.{◌≡◌, ◌+◌, ◌-◌, ◌*◌, ◌<�
 ghost use Rattle.stair_model.specs.Geometry.{IsCoverageVector};
 ghost use Rattle.stair_base.specs.Padding.{padded};
 
+use crate::device::BODY_START;
 use std::marker::Model;
 
 /// What [`Geometry::new`] refuses: the number of the first limit that is broken, 1 to 8.
@@ -260,7 +261,7 @@ impl Geometry {
         ensures limits { IsWithinLimits self.now }
     {
         let rows = u32::from(self.r);
-        3 + u32::from(self.n) * rows + self.stripes * rows
+        BODY_START + u32::from(self.n) * rows + self.stripes * rows
     }
 
     /// The array's identity, sixteen bytes as they were handed in.

@@ -5,6 +5,7 @@
 
 pub use code::StripeCode;
 pub use coverage::{NotCovered, covered};
+pub use device::{BODY_START, FIRST_PLACE, GATE_SECTOR, SECOND_PLACE};
 pub use equations::{Broken, first_broken};
 pub use geometry::{Geometry, GeometryFault};
 pub use kind::Kind;

@@ -1,7 +1,7 @@
 ghost use Rattle.std.specs.Prelude.{◌<◌};
 ghost use Rattle.stair_model.specs.Cell.{IsPlaceOf};
 ghost use Rattle.stair_model.specs.Geometry.{block_count};
-ghost use Rattle.stair_base.specs.Rows.{HasBlocksFirst};
+ghost use Rattle.stair_base.specs.PlaceSteps.{HasBlocksFirst};
 
 use crate::geometry::Geometry;
 

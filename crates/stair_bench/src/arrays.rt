@@ -1,7 +1,7 @@
 use crate::check::check_of_blocks;
 use crate::fault::Fault;
 use stair_array::create;
-use stair_base::{Geometry, SECTOR};
+use stair_base::{GATE_SECTOR, Geometry, SECTOR};
 use stair_filerack::{Access, FileRack, Lock};
 use stair_rack::{Got, Rack};
 use std::alloc::Global;
@@ -32,7 +32,7 @@ where
         return Err(Fault::Image);
     }
     let mut sectors = [[0xA5; SECTOR]; 2];
-    for (sector, number) in sectors.iter_mut().zip([2, geometry.need() - 1]) {
+    for (sector, number) in sectors.iter_mut().zip([GATE_SECTOR, geometry.need() - 1]) {
         if rack.read(7, number, sector) != Got::Good {
             return Err(Fault::Image);
         }

@@ -16,9 +16,6 @@ use std::process::ExitCode;
 use std::sync::ledger::{Blank, Ledger};
 use std::{env, fs, io};
 
-// The exit status where another program has the folder: that of a device that is gone.
-const IN_USE: u8 = 15;
-
 /// Takes the numbers of those standard streams that are closed, so that no image is opened on one of them and written to as
 /// output. Reads and writes of a directory fail, so a closed stream stays one that fails.
 fn hold_streams(rt: &HostRuntime) -> io::Result<[File; 3]> {
@@ -141,6 +138,7 @@ fn main(rt: HostRuntime) -> ExitCode {
     }
     match run::<Brand>(&rt, Blank::new(1)) {
         Ok(status) | Err(Refusal::Status(status)) => end(&rt, status),
-        Err(Refusal::InUse) => ExitCode::from(IN_USE),
+        // Where another program has the folder, as where a device is gone.
+        Err(Refusal::InUse) => ExitCode::from(Status::Gone(0).code()),
     }
 }

@@ -9,7 +9,7 @@ use Rattle.stair_model.proofs.CanonicalLaws.{coverage_le_greatest}
 use Rattle.stair_mds.specs.Solving.{AreWantedPlaces}
 use Rattle.stair_canon.specs.Canonical.{CanonicalStripe, byte_at}
 use Rattle.stair_canon.specs.Solving.{column_shape, SolvesChunk}
-use Rattle.stair_down.specs.Completing.{CompletesChunk}
+use Rattle.stair_down.specs.DownstairsSteps.{CompletesChunk}
 use Rattle.stair_down.specs.Places.{ArePlacesOfChunk}
 use Rattle.stair_mds.proofs.Stretches.{Contains-first, All-first, known_places, wanted_places}
 use Rattle.stair_down.proofs.Lists.{solved_at}

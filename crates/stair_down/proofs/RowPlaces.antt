@@ -12,7 +12,7 @@ use Rattle.stair_model.proofs.CellLaws.{is_global_tells}
 use Rattle.stair_mds.specs.Solving.{AreWantedPlaces}
 use Rattle.stair_canon.specs.Canonical.{CanonicalStripe, byte_at}
 use Rattle.stair_canon.specs.Solving.{row_shape, SolvesRow}
-use Rattle.stair_down.specs.Completing.{CompletesRow}
+use Rattle.stair_down.specs.DownstairsSteps.{CompletesRow}
 use Rattle.stair_down.specs.Places.{IsPairOfClass, ArePlacesOfRow}
 use Rattle.stair_mds.proofs.Stretches.{Contains-first, All-first, known_places, wanted_places}
 use Rattle.stair_down.proofs.Lists.{solved_at}

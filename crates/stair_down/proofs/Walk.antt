@@ -10,7 +10,7 @@ use Rattle.stair_model.specs.Stripe.{Stripe, SECTOR, byte_of}
 use Rattle.stair_model.proofs.CanonicalLaws.{coverage_le_greatest}
 use Rattle.stair_canon.specs.Canonical.{CanonicalStripe, byte_at}
 use Rattle.stair_canon.specs.Solving.{Loads}
-use Rattle.stair_down.specs.Completing.{CompletesRow, CompletesChunk}
+use Rattle.stair_down.specs.DownstairsSteps.{CompletesRow, CompletesChunk}
 
 -- at each byte position, a canonical codeword that has the data cells of the stripe
 pub record IsTarget (g : Geometry) (stripe : Stripe) (x : ℕ → Word) : Type 0 where

@@ -1,3 +1,3 @@
 -- By which symbols a canonical stripe is solved downwards, and what is solved.
 pub mod Places
-pub mod Completing
+pub mod DownstairsSteps

@@ -3,7 +3,7 @@ ghost use Rattle.stair_model.specs.Costs.{downstairs_cost};
 ghost use Rattle.stair_model.specs.Encoding.{IsEncodedFrom};
 ghost use Rattle.stair_model.specs.Geometry.{classes, coverage, data_chunks};
 ghost use Rattle.stair_model.specs.Stripe.{IsStripeOf};
-ghost use Rattle.stair_down.specs.Completing.{CompletesChunk, CompletesRow};
+ghost use Rattle.stair_down.specs.DownstairsSteps.{CompletesChunk, CompletesRow};
 
 use crate::places::{chunk_places, row_places};
 use stair_base::Stripe;

@@ -5,13 +5,12 @@ use lib.Seq.{drop-append_seam, take-append_seam}
 use Rattle.std.proofs.lemmas.List.Elements.{All-head, All-tail}
 use Rattle.stair_model.specs.CellSet.{CellSet, HasCell}
 use Rattle.stair_model.specs.Codeword.{IsCodeword}
-use Rattle.stair_model.specs.Equation.{Equation, HoldsIn, IsEquationOf}
-use Rattle.stair_model.specs.Equation.Equation.{RowEquation, GlobalEquation}
 use Rattle.stair_model.specs.Geometry.{Geometry}
 use Rattle.stair_model.specs.Stripe.{Stripe, IsSector}
 use Rattle.stair_model.proofs.LimitLaws.{none_broken}
 use Rattle.stair_model.proofs.RestLaws.{subset_covered}
 use Rattle.stair_base.specs.Equations.{equation_of}
+use Rattle.stair_base.proofs.EquationLaws.{not_codeword}
 use Rattle.stair_array.specs.Creates.{CanBeMade, Creates}
 use Rattle.stair_array.proofs.SurveyedLemmas.{finds_array}
 use Rattle.stair_conf.specs.Config.{TextReadsAs}
@@ -68,11 +67,6 @@ stripe_once g a b bytes x y =
 
 -- ---- what is judged Done
 
--- a codeword breaks no equation
-none_breaks : (g : Geometry) (stripe : Stripe) (equation : Equation) → IsCodeword g stripe → IsEquationOf g equation → HoldsIn g stripe equation
-none_breaks g stripe (RowEquation i k p) codeword of = (codeword.words p of.2).rows i k of.0 of.1
-none_breaks g stripe (GlobalEquation l h p) codeword of = (codeword.words p of.2).globals l h of.0 of.1
-
 -- a map erases the same cells, whichever set says so
 same_erased : (g : Geometry) (map : List ℕ) (a b : CellSet) → IsErasedBy g map a → IsErasedBy g map b → (i j : ℕ) → HasCell a i j → HasCell b i j
 same_erased g map a b x y i j has =
@@ -94,7 +88,7 @@ no_equation : (command : StripeCommand) (g : Geometry) (input output : List ℕ)
 no_equation Check g input output b valid judged =
     let same = stripe_once g judged.judged.0 valid.fits.0 input judged.judged.1 valid.fits.1 in
     let broken = judged.judged.2.0 in
-    broken.broken (none_breaks g judged.judged.0 (equation_of b) (subst (λ (s : Stripe). IsCodeword g s) (sym same) valid.fits.2) broken.of)
+    not_codeword g judged.judged.0 (equation_of b) broken (subst (λ (s : Stripe). IsCodeword g s) (sym same) valid.fits.2)
 no_equation (Encode method) g input output b valid judged = judged.judged.2
 no_equation Restore g input output b valid judged = judged.judged.4
 

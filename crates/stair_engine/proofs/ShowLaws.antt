@@ -12,7 +12,7 @@ use Rattle.stair_engine.specs.Outside.{Outside, SinkView, Views, outside}
 use Rattle.stair_engine.specs.Plan.{Over, show_plan, showing_plan}
 use Rattle.stair_engine.specs.Rack.{MeansOver, RackView, Works}
 use Rattle.stair_engine.specs.Show.{show_text}
-use Rattle.stair_engine.specs.Showing.{PutsFound}
+use Rattle.stair_engine.specs.ShowSteps.{PutsFound}
 use Rattle.stair_engine.specs.Streams.{PutsAll}
 use Rattle.stair_engine.specs.Story.{Deed, HasPut, PutFailed, Did, IsPart, Leads, Moves, after}
 use Rattle.stair_engine.specs.declared.fault.Fault.{Fault}

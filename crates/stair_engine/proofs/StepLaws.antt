@@ -18,7 +18,7 @@ use Rattle.stair_engine.specs.Question.{Text}
 use Rattle.stair_engine.specs.Rack.{MeansOver, RackView, Works}
 use Rattle.stair_engine.specs.Story.{Found, Took, TookLast, TakeFailed, HasPut, PutFailed, Grew, RanOut, Did, IsPart, after}
 use Rattle.stair_engine.specs.Show.{show_text}
-use Rattle.stair_engine.specs.Showing.{PutsFound, Shows}
+use Rattle.stair_engine.specs.ShowSteps.{PutsFound, Shows}
 use Rattle.stair_engine.specs.Taking.{TakesText}
 use Rattle.stair_engine.proofs.RackLaws.{over_one, over_then}
 

@@ -17,7 +17,7 @@ pub mod Show
 pub mod Stands
 pub mod Complete
 pub mod Streams
-pub mod Showing
+pub mod ShowSteps
 pub mod Taking
 pub mod Cause
 pub mod Does

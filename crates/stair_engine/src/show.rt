@@ -14,7 +14,7 @@ ghost use Rattle.stair_engine.specs.Show.{
   slot_line as line_of_slot,
   spaced,
 };
-ghost use Rattle.stair_engine.specs.Showing.{Shows};
+ghost use Rattle.stair_engine.specs.ShowSteps.{Shows};
 ghost use Rattle.stair_engine.specs.Streams.{PutsAll};
 ghost use Rattle.stair_engine.specs.declared.line.TheConstants.{LINE_LIMIT};
 

@@ -40,12 +40,26 @@ gones_kept {File} slots i was slot within is later j =
           (sym (get_or-set_other slots i j slot none other)) (same_count (get_or slots j none).gones)
     ]
 
+-- a rack for this, with this count of bad sectors and these slots
+abbrev pub rack_of : {File : Type 0} → Access → ℕ → List (FileSlot File) → FileRackState File
+rack_of access bads slots = record { access = access; bads = bads; slots = slots }
+
 -- Slot `i` of the rack, which was `was`, is `slot` afterwards.
 pub record Changes {File : Type 0} (old : FileRackState File) (slots : List (FileSlot File)) (i j : ℕ) (was slot : FileSlot File) : Type 0 where
   pub its_slots : old.slots ≡ slots
   pub within : i < length slots
   pub same : i ≡ j
   pub is : was ≡ get_or slots i was
+
+-- what the parts of a rack say of its slot that was taken out and put back
+pub changed_slot : {File : Type 0} (old : FileRackState File) (access : Access) (bads : ℕ) (slots : List (FileSlot File)) (i j : ℕ) (was slot : FileSlot File)
+    → rack_of access bads slots ≡ old → i ≡ j → was ≡ get_or slots i was → i < length slots → Changes old slots i j was slot
+changed_slot {File} old access bads slots i j was slot parts same is within = record {
+  its_slots = ap (λ (r : FileRackState File). r.slots) (sym parts);
+  within = within;
+  same = same;
+  is = is;
+}
 
 pub slot_was : {File : Type 0} (old : FileRackState File) (slots : List (FileSlot File)) (i j : ℕ) (was slot : FileSlot File)
     → Changes old slots i j was slot → was ≡ slot_at old j
@@ -62,6 +76,14 @@ counts_kept old bads slots i j was slot c bad later = record {
       (sym c.its_slots) (gones_kept slots i was slot c.within c.is later n);
 }
 
+-- no count falls where that of the changed slot doesn't and no bad sector is counted
+pub gones_alone : {File : Type 0} (old : FileRackState File) (access : Access) (bads : ℕ) (slots : List (FileSlot File)) (i j : ℕ) (was slot : FileSlot File)
+    → rack_of access bads slots ≡ old → Changes old slots i j was slot → IsLaterCount was.gones slot.gones
+    → NoneFalls old.bads bads (gones_of old) (λ n. (get_or (set slots i slot) n (untouched [])).gones)
+gones_alone {File} old access bads slots i j was slot parts c later =
+    counts_kept old bads slots i j was slot c
+    (subst (λ (r : FileRackState File). IsLaterCount r.bads bads) parts (same_count bads)) later
+
 pub gone_rose : {File : Type 0} (old : FileRackState File) (slots : List (FileSlot File)) (i j : ℕ) (was slot : FileSlot File)
     → Changes old slots i j was slot → Rose was.gones slot.gones → Rose (gones_of old j) (get_or (set slots i slot) j (untouched [])).gones
 gone_rose {File} old slots i j was slot c rose =
@@ -77,15 +99,19 @@ set_changed {File} old slots i j was slot change c is =
     ∙ ap (λ (n : ℕ). set slots n (change (slot_at old j))) c.same
     ∙ ap (λ (l : List (FileSlot File)). set l j (change (slot_at old j))) (sym c.its_slots)
 
--- a rack for this, with this count of bad sectors and these slots
-abbrev pub rack_of : {File : Type 0} → Access → ℕ → List (FileSlot File) → FileRackState File
-rack_of access bads slots = record { access = access; bads = bads; slots = slots }
-
 -- the rack afterwards, which differs in its slots alone
 pub with_slots : {File : Type 0} (old : FileRackState File) (access : Access) (bads : ℕ) (slots new later : List (FileSlot File))
     → rack_of access bads slots ≡ old → new ≡ later → rack_of access bads new ≡ record old { slots = later }
 with_slots {File} old access bads slots new later parts is =
     subst (λ (r : FileRackState File). rack_of access bads new ≡ record r { slots = later }) parts (ap (rack_of access bads) is)
+
+-- the rack afterwards, where that slot changed so
+pub rack_changed : {File : Type 0} (old : FileRackState File) (access : Access) (bads : ℕ) (slots : List (FileSlot File)) (i j : ℕ) (was slot : FileSlot File)
+    (change : FileSlot File → FileSlot File) → rack_of access bads slots ≡ old → Changes old slots i j was slot → slot ≡ change was
+    → rack_of access bads (set slots i slot) ≡ record old { slots = set old.slots j (change (slot_at old j)) }
+rack_changed old access bads slots i j was slot change parts c is =
+    with_slots old access bads slots (set slots i slot) (set old.slots j (change (slot_at old j))) parts
+    (set_changed old slots i j was slot change c is)
 
 -- the slots afterwards, where that one is as it was
 pub set_same : {File : Type 0} (old : FileRackState File) (slots : List (FileSlot File)) (i j : ℕ) (was slot : FileSlot File)

@@ -9,7 +9,7 @@ use Rattle.stair_rack.specs.declared.rack.Reply.TheVariants as reply
 use Rattle.stair_rack.specs.declared.rack.Got.{Got}
 use Rattle.stair_rack.specs.declared.rack.Got.TheVariants as got
 use Rattle.stair_image.specs.Seal.{sealed, IsSealed}
-use Rattle.stair_filerack.specs.Reason.{HasNumber}
+use Rattle.stair_filerack.specs.Reason.{IsBadSector}
 use Rattle.stair_filerack.specs.Slot.{OpenFile}
 
 -- the byte at which a sector begins
@@ -61,14 +61,14 @@ ReadsNoSector {T} place left sector old new =
 abbrev pub IsCutShort : Option (List ℕ) → Option (List ℕ) → Type 0
 IsCutShort left left' = (bytes : List ℕ) × Consumes left left' bytes × (length bytes < 544)
 
--- the seek failed, or what came after it before 544 bytes were read
+-- as a failed read leaves the file: where it was, by a seek that failed, or at the sector and fewer than 544 bytes on
 abbrev pub FailsToRead : {T : Type 0} → (T → Option ℕ) → (T → Option (List ℕ)) → ℕ →
     OpenFile T → OpenFile T → Type 0
 FailsToRead {T} place left sector old new =
     ((old.next ≢ Some sector) × StaysAt (place old.file) (place new.file))
     ⊎ ((found : T) × FindsSector place sector old found × IsCutShort (left found) (left new.file))
 
--- what a bad sector was: none that is sealed, or one that a call failed on; and the next one is sought
+-- what a bad sector was: none that is sealed, or one whose read failed; and the next one is sought
 abbrev pub ReadsBadSector : {T : Type 0} → (T → Option ℕ) → (T → Option (List ℕ)) → ℕ →
     OpenFile T → OpenFile T → Type 0
 ReadsBadSector place left sector old new =
@@ -89,12 +89,12 @@ GoesOn How (Some old) None = ⊥
 GoesOn How (Some old) (Some new) = How old new
 
 -- What a read answers for its outcome: a payload, none, or an error of the file. A sector that the system can't read any
--- more (EIO) is bad; by every other error the slot is gone.
+-- more is bad; by every other error the slot is gone.
 abbrev pub IsGotOf : Result (Option (List ℕ)) Error → Got → Type 0
 IsGotOf (Ok (Some payload)) answer = answer ≡ got.Good
 IsGotOf (Ok None) answer = answer ≡ got.Bad
 IsGotOf (Err error) answer =
-    (HasNumber error 5 → answer ≡ got.Bad) × ((¬ HasNumber error 5) → answer ≡ got.Gone)
+    (IsBadSector error → answer ≡ got.Bad) × ((¬ IsBadSector error) → answer ≡ got.Gone)
 
 -- what the buffer holds then
 abbrev pub buffer_after : {E : Type 0} → Result (Option (List ℕ)) E → List ℕ → List ℕ
@@ -102,7 +102,7 @@ buffer_after (Ok (Some payload)) buffer = payload
 buffer_after (Ok None) buffer = buffer
 buffer_after (Err error) buffer = buffer
 
--- what an attach, a write or a sync answers for its outcome
+-- what a write or a sync answers for its outcome
 abbrev pub reply_of : {T E : Type 0} → Result T E → Reply
 reply_of (Ok done) = reply.Done
 reply_of (Err error) = reply.Gone

@@ -34,6 +34,10 @@ IsNoFile NoDevice = ⊥
 IsNoFile OpenForReading = ⊥
 IsNoFile (Failed error) = HasNumber error 2
 
+-- the sector that was read can't be read any more: EIO
+abbrev pub IsBadSector : Error → Type 0
+IsBadSector error = HasNumber error 5
+
 -- the reason that is kept where one more comes: the first
 abbrev pub first_reason : Option Reason → Reason → Option Reason
 first_reason None reason = Some reason

@@ -1,10 +1,10 @@
 // An image file, which may be open.
-ghost use Rattle.std.specs.Prelude.{◌≡◌, ◌≢◌, ◌≤◌, ◌<◌, true, false, take, IsTrue, IsSome, None, Some, IfOk, OnErr, MatchOption, MatchResult, OnOk};
+ghost use Rattle.std.specs.Prelude.{◌≡◌, ◌≢◌, ◌≤◌, ◌<◌, true, false, take, IsTrue, IsSome, None, Some, IfOk, IfErr, OnErr, MatchOption, MatchResult, OnOk};
 ghost use Rattle.std.specs.Fs.{asks_read, asks_write, asks_append, asks_truncate, asks_create, asks_create_new};
 ghost use Rattle.std.specs.Io.KnownBytes.{Consumes, Appends, IsAtEnd};
 ghost use Rattle.std.specs.Io.Seek.{StaysAt};
 ghost use Rattle.stair_image.specs.Seal.{sealed};
-ghost use Rattle.stair_filerack.specs.Reason.{KeepsReason, had_of};
+ghost use Rattle.stair_filerack.specs.Reason.{IsBadSector, KeepsReason, first_reason, had_of};
 ghost use Rattle.stair_filerack.specs.Files.{CountsSectors, SeeksSector, FindsSector, ReadsSector, IsNoSector, ReadsNoSector, ReadsBadSector, IsCutShort, FailsToRead, WritesSector, GoesOn, IsGotOf, buffer_after, reply_of, sectors_in};
 ghost use Rattle.stair_filerack.specs.Slot.{opened, file_after_write};
 
@@ -44,12 +44,22 @@ impl<T> Opened<T> {
     }
 }
 
+/// An image file that was found, and the number of its sectors.
+#[derive(Drop)]
+pub(crate) struct Found<T> {
+    pub(crate) file: T,
+    pub(crate) sectors: u32,
+}
+
 /// Opens an image file, with its lock where it is to be written, and counts its sectors.
 pub(crate) fn open<T: OpenFile + Seek + Lock + Drop, F: Files<File = T>>(
     runtime: &F,
     access: Access,
     path: &str,
-) -> Result<(T, u32), Reason> {
+) -> Result<Found<T>, Reason>
+    ensures { IfOk result (λ found. (before : T)
+        × CountsSectors T.stream_position T.stream_bytes before found.file found.sectors) }
+{
     // A pipe is told before it is opened, since that may wait for another program.
     if !is_device(&fs::metadata(runtime, path)?) {
         return Err(Reason::NoDevice);
@@ -92,12 +102,13 @@ fn image_options(access: Access) -> OpenOptions
 }
 
 /// The file with the number of its sectors, by its end as a seek finds it.
-pub(crate) fn counted<T: Seek + Drop>(mut file: T) -> io::Result<(T, u32)>
+pub(crate) fn counted<T: Seek + Drop>(mut file: T) -> io::Result<Found<T>>
     ensures { IfOk result (λ found.
-        CountsSectors T.stream_position T.stream_bytes file found.0 found.1) }
+        CountsSectors T.stream_position T.stream_bytes file found.file found.sectors) }
 {
     let end = file.seek(SeekFrom::End(0))?;
-    Ok((file, sectors_of(end)))
+    let sectors = sectors_of(end);
+    Ok(Found { file, sectors })
 }
 
 // The number of sectors of a file of so many bytes.
@@ -151,6 +162,8 @@ fn got_of(
     ensures buffer { into.new ≡ buffer_after outcome into.old }
     ensures kept { KeepsReason reason.old reason.new }
     ensures told { result ≡ Got.Gone → IsSome reason.new }
+    ensures first { IfErr outcome (λ error. (¬ IsBadSector error) →
+        reason.new ≡ first_reason reason.old (Reason.Failed error)) }
     ensures untold { result ≢ Got.Gone → reason.new ≡ reason.old }
 {
     match outcome {
@@ -229,6 +242,7 @@ fn reply_of(outcome: Result<(), Reason>, reason: &mut Option<Reason>) -> Reply
     ensures reply { result ≡ reply_of outcome }
     ensures kept { KeepsReason reason.old reason.new }
     ensures told { result ≡ Reply.Gone → IsSome reason.new }
+    ensures first { IfErr outcome (λ error. reason.new ≡ first_reason reason.old error) }
     ensures untold { result ≡ Reply.Done → reason.new ≡ reason.old }
 {
     match outcome {
@@ -250,12 +264,15 @@ fn sync_data<T: OpenFile>(image: &Opened<T>, access: Access) -> Result<(), Reaso
     Ok(image.file.sync_data()?)
 }
 
-// Reads a sector's payload: `None` exactly where the file ends within the sector, or where the sector isn't sealed.
+// Reads a sector's payload: `None` where the file ends within the sector, or what is there isn't sealed.
 fn read_sector<T: Read + Seek>(image: &mut Opened<T>, sector: u32) -> io::Result<Option<[u8; 512]>>
     ensures found { IfOk result (λ found. MatchOption found
-        (ReadsBadSector T.stream_position T.remaining sector image.old image.new)
+        (ReadsNoSector T.stream_position T.remaining sector image.old image.new
+        × (image.new.next ≡ None))
         (λ payload. ReadsSector T.stream_position T.remaining sector payload image.old image.new)) }
-    ensures failed { OnErr result (ReadsBadSector T.stream_position T.remaining sector image.old image.new) }
+    ensures failed { OnErr result (
+        FailsToRead T.stream_position T.remaining sector image.old image.new
+        × (image.new.next ≡ None)) }
 {
     find_sector(image, sector)?;
     match read_here(&mut image.file, sector)? {

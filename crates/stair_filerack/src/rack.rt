@@ -3,7 +3,7 @@ ghost use Rattle.std.specs.Prelude.{◌≡◌, ◌≢◌, ◌≤◌, ◌<◌, �
 ghost use Rattle.stair_rack.specs.Count.{Rose};
 ghost use Rattle.stair_rack.specs.RackCounts.{IsLaterCount, NoneFalls};
 ghost use Rattle.stair_filerack.specs.Reason.{IsCallers, KeepsReason};
-ghost use Rattle.stair_filerack.specs.Files.{ReadsSector, ReadsBadSector, WritesSector, GoesOn};
+ghost use Rattle.stair_filerack.specs.Files.{CountsSectors, ReadsSector, ReadsBadSector, WritesSector, GoesOn};
 ghost use Rattle.stair_filerack.specs.Slot.{untouched, detached, path_of, attached_as, gone_once_more, read_as, written_as, synced_as};
 ghost use Rattle.stair_filerack.specs.FileRack.{slot_at, gones_of, with_slot, bads_after, IsDetached};
 
@@ -171,9 +171,13 @@ where
             (gones_of self.new slot) }
 
         // What the rack is afterwards: the slot holds some file open where it is attached, which wasn't read or written
-        // yet, and let go of the earlier one. How many sectors were found isn't said.
+        // yet, and let go of the earlier one. It has as many sectors as that file has up to its end.
         ensures attached { result ≡ Reply.Done →
             IsSomeAnd (slot_at self.new slot).file (λ held. held.next ≡ None) }
+        ensures counted { result ≡ Reply.Done →
+            IsSomeAnd (slot_at self.new slot).file (λ held. (before : F.File)
+            × CountsSectors F.File.stream_position F.File.stream_bytes before held.file
+            (slot_at self.new slot).sectors) }
         ensures after { self.new ≡
             with_slot slot (attached_as result (slot_at self.new slot).file
             (slot_at self.new slot).sectors (slot_at self.new slot).reason (slot_at self.old slot))

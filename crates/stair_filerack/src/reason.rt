@@ -1,7 +1,7 @@
 // Why a device was gone, or can't be had.
 ghost use Rattle.std.specs.Prelude.{◌≡◌, ◌↔◌, Any, IsTrue, Some};
 ghost use Rattle.std.specs.IoError.{raw_os_error};
-ghost use Rattle.stair_filerack.specs.Reason.{HasNumber, IsCallers, IsNoFile, first_reason, numbers_of_permissions, numbers_of_shortages};
+ghost use Rattle.stair_filerack.specs.Reason.{HasNumber, IsBadSector, IsCallers, IsNoFile, first_reason, numbers_of_permissions, numbers_of_shortages};
 
 use std::io::{Cursor, Write};
 use std::{fmt, io, str};
@@ -86,7 +86,7 @@ fn has_number(error: &io::Error, number: i32) -> bool
 
 /// Whether a read failed since its sector can't be read any more, as a disk says it.
 pub(crate) fn is_bad_sector(error: &io::Error) -> bool
-    ensures { IsTrue result ↔ HasNumber error.now 5 }
+    ensures { IsTrue result ↔ IsBadSector error.now }
 {
     has_number(error, EIO)
 }

@@ -1,14 +1,14 @@
 // A slot of the rack.
-ghost use Rattle.std.specs.Prelude.{◌≡◌, ◌≢◌, ◌≤◌, ◌<◌, None, Some, IfOk, IfErr, IsSome, IsSomeAnd, string_bytes};
+ghost use Rattle.std.specs.Prelude.{◌≡◌, ◌≢◌, ◌≤◌, ◌<◌, None, Some, IfOk, IfErr, OnOk, IsSome, IsSomeAnd, SomeIff, string_bytes};
 ghost use Rattle.stair_rack.specs.Count.{Rose};
 ghost use Rattle.stair_rack.specs.RackCounts.{IsLaterCount};
 ghost use Rattle.stair_filerack.specs.Reason.{IsCallers, IsNoFile, KeepsReason, first_reason};
-ghost use Rattle.stair_filerack.specs.Files.{ReadsSector, ReadsBadSector, WritesSector, GoesOn};
+ghost use Rattle.stair_filerack.specs.Files.{CountsSectors, ReadsSector, ReadsBadSector, WritesSector, GoesOn};
 ghost use Rattle.stair_filerack.specs.Slot.{untouched, detached, opened, holding, attached_as, gone_once_more, read_as, written_as, synced_as};
 
 use crate::access::Access;
 use crate::file;
-use crate::file::Opened;
+use crate::file::{Found, Opened};
 use crate::lock::Lock;
 use crate::reason::{Reason, keep_first};
 use stair_image::Sealed;
@@ -82,14 +82,12 @@ impl<T: Read + Write + Seek + OpenFile + Lock + Drop> Slot<T> {
         ensures after { detached self.new ≡ detached self.old }
     {
         self.detach();
-        match file::open(runtime, access, self.path.as_str()) {
-            Ok((file, _)) => {
-                self.file = Some(Opened::new(file));
-                Ok(())
-            }
-            Err(reason) if reason.is_callers() => Err(reason),
-            Err(_) => Ok(()),
+        let found = file::open(runtime, access, self.path.as_str());
+        if let Some(reason) = refusal(&found) {
+            return Err(reason);
         }
+        self.file = found.ok().map(|found| Opened::new(found.file));
+        Ok(())
     }
 
     /// Lets go of the file, and forgets what the last attach found.
@@ -106,6 +104,8 @@ impl<T: Read + Write + Seek + OpenFile + Lock + Drop> Slot<T> {
             attached_as result self.new.file self.new.sectors self.new.reason self.old }
         ensures attached { result ≡ Reply.Done →
             IsSomeAnd self.new.file (λ held. held.next ≡ None) }
+        ensures counted { result ≡ Reply.Done → IsSomeAnd self.new.file (λ held. (before : T)
+            × CountsSectors T.stream_position T.stream_bytes before held.file self.new.sectors) }
         ensures kept { KeepsReason self.old.reason self.new.reason }
         ensures count { IsLaterCount self.old.gones self.new.gones }
         ensures gone { result ≡ Reply.Gone → Rose self.old.gones self.new.gones }
@@ -117,9 +117,9 @@ impl<T: Read + Write + Seek + OpenFile + Lock + Drop> Slot<T> {
     }
 
     /// Holds the file that was opened, and so many sectors; where none was, the slot is gone.
-    pub(crate) fn hold(&mut self, found: Result<(T, u32), Reason>) -> Reply
+    pub(crate) fn hold(&mut self, found: Result<Found<T>, Reason>) -> Reply
         ensures done { IfOk found (λ found. (result ≡ Reply.Done)
-            × (self.new ≡ holding (Some (opened found.0)) found.1 self.old)) }
+            × (self.new ≡ holding (Some (opened found.file)) found.sectors self.old)) }
         ensures failed { IfErr found (λ _. (result ≡ Reply.Gone)
             × (self.new ≡ attached_as Reply.Gone None 0 self.new.reason self.old)) }
         ensures told { IfErr found (λ reason. (¬ IsNoFile reason) →
@@ -131,7 +131,7 @@ impl<T: Read + Write + Seek + OpenFile + Lock + Drop> Slot<T> {
         ensures gone { result ≡ Reply.Gone → Rose self.old.gones self.new.gones }
     {
         match found {
-            Ok((file, sectors)) => {
+            Ok(Found { file, sectors }) => {
                 self.file = Some(Opened::new(file));
                 self.sectors = sectors;
                 Reply::Done
@@ -221,5 +221,16 @@ impl<T: Read + Write + Seek + OpenFile + Lock + Drop> Slot<T> {
             self.gones = self.gones.saturating_add(1);
         }
         reply
+    }
+}
+
+// Why a device is refused whose file was asked for with this outcome: for a reason of the caller's.
+fn refusal<T>(found: &Result<Found<T>, Reason>) -> Option<Reason>
+    ensures opened { OnOk found.now (result ≡ None) }
+    ensures failed { IfErr found.now (λ reason. SomeIff result (IsCallers reason) reason) }
+{
+    match found {
+        Err(reason) if reason.is_callers() => Some(*reason),
+        Ok(_) | Err(_) => None,
     }
 }

@@ -139,7 +139,7 @@ fn files_with_a_fault(rt: HostRuntime) -> Result<(), Fail> {
         ),
     ] {
         fs::write(&rt, path, &[0; 544])?;
-        let (inner, _) = open(&rt, Access::Writing, path)?;
+        let inner = open(&rt, Access::Writing, path)?.file;
         let mut slot = Slot::new(String::from_str(rt.alloc(), path)?);
         let mut last = Sealed::new();
         let file = FaultyFile {

@@ -21,9 +21,6 @@ use crate::redo::Redo;
 use byteorder::{BigEndian, ByteOrder};
 use stair_base::{CellSet, Geometry};
 
-/// The sector of a device in which its gate lies, behind the two superblock places.
-pub(crate) const GATE_SECTOR: u32 = 2;
-
 /// The bytes of a closed gate: `STAIRGT1`, and zeros behind it.
 pub fn closed_gate() -> [u8; 512]
     ensures { result ≡ closed }

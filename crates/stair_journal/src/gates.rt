@@ -7,9 +7,9 @@ ghost use Rattle.stair_journal.specs.GatesSteps.{IsNoted, IsReadOnce, IsSeen};
 ghost use Rattle.stair_journal.specs.Gates.{ReadsGates};
 ghost use Rattle.stair_journal.specs.Reads.{ReadsGatesInTurn};
 
-use crate::gate::{GATE_SECTOR, read_gate};
+use crate::gate::read_gate;
 use crate::redo::Redo;
-use stair_base::{Geometry, Slots};
+use stair_base::{GATE_SECTOR, Geometry, Slots};
 use stair_rack::{Got, Rack};
 
 /// What the live gates were found to say.

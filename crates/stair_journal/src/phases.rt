@@ -12,9 +12,9 @@ ghost use Rattle.stair_journal.specs.Phases.{DoesPhase};
 ghost use Rattle.stair_journal.specs.PhaseSteps.{IsInRow};
 ghost use Rattle.stair_journal.specs.Redo.{IsRedo};
 
-use crate::gate::{GATE_SECTOR, closed_gate, open_gate};
+use crate::gate::{closed_gate, open_gate};
 use crate::redo::Redo;
-use stair_base::{Geometry, Slots, Stripe};
+use stair_base::{GATE_SECTOR, Geometry, Slots, Stripe};
 use stair_rack::{Rack, Reply, sync_rest, write_all};
 
 /// Writes the body of this redo, its cells of `stripe`, to every live slot, syncs them, and answers those that were gone.

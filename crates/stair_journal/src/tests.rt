@@ -5,13 +5,11 @@ ghost use Rattle.stair_model.specs.Stripe.{IsStripeOf};
 
 use crate::gate::read_gate;
 use crate::{close_gates, closed_gate, open_gates, read_body, read_gates};
-use stair_base::{CellSet, Geometry, Slots, Stripe};
+use stair_base::{BODY_START, CellSet, GATE_SECTOR, Geometry, Slots, Stripe};
 use stair_memrack::{Act, MemRack, What};
 use stair_rack::Rack;
 use std::alloc::{AllocError, Global};
 use std::test::Fail;
-
-const GATE: u32 = 2;
 
 // Whether the redo has cell number 4·row + chunk, whose sector of the body is 3 + number.
 const REDONE: [bool; 8] = [true, false, false, true, false, false, true, true];
@@ -88,17 +86,17 @@ fn gates_byte_for_byte(rt: HostRuntime) -> Result<(), Fail> {
     cells.add(1, 3);
     assert_eq!(rt; (redo.stripe, redo.cells), (2, cells));
     assert!(rt; closed_gate() == gate_of(0));
-    let (slot, sector) = (3, GATE);
+    let (slot, sector) = (3, GATE_SECTOR);
     let damage = act(26, What::Damage { slot, sector });
     let mut rack = MemRack::new(rt.alloc(), 4, 17, &[damage], 99)?;
     attach(&mut rack, NONE);
     let gone = open_gates(&mut rack, slots(0b1111), &geometry, &redo);
     assert_eq!(rt; gone, slots(0));
     for slot in 0..4u8 {
-        assert!(rt; read(&mut rack, slot, GATE) == gate_of(2));
+        assert!(rt; read(&mut rack, slot, GATE_SECTOR) == gate_of(2));
     }
     assert_eq!(rt; close_gates(&mut rack, slots(0b0111)), slots(0));
-    assert!(rt; read(&mut rack, 2, GATE) == gate_of(0));
+    assert!(rt; read(&mut rack, 2, GATE_SECTOR) == gate_of(0));
     let gates = read_gates(&mut rack, &geometry, slots(0b1011));
     assert_eq!(rt; (gates.redo, gates.opened), (Some(redo), slots(0b1000)));
     assert_eq!(rt; rack.made(), 26);
@@ -143,7 +141,7 @@ fn the_lowest_open_gate_counts(rt: HostRuntime) -> Result<(), Fail> {
         let mut rack = MemRack::new(rt.alloc(), 4, 17, &[], 99)?;
         attach(&mut rack, NONE);
         for slot in 0..4u8 {
-            rack.write(slot, GATE, &gate_of(gates[usize::from(slot)]));
+            rack.write(slot, GATE_SECTOR, &gate_of(gates[usize::from(slot)]));
         }
         let mut rack = rack.after_crash(rt.alloc(), &picks, &[], 99)?;
         attach(&mut rack, away);
@@ -180,7 +178,7 @@ fn each_cell_comes_from_the_lowest_slot_that_reads_it(rt: HostRuntime) -> Result
                 for slot in 0..4u8 {
                     let copy = 16 * (1 + slot) + number;
                     if (bad ^ number) >> slot & 1 == 0 {
-                        rack.write(slot, 3 + u32::from(number), &[copy; 512]);
+                        rack.write(slot, BODY_START + u32::from(number), &[copy; 512]);
                         if !given && slot != away && live >> slot & 1 == 1 {
                             want[usize::from(number)] = copy;
                             given = true;
@@ -188,7 +186,7 @@ fn each_cell_comes_from_the_lowest_slot_that_reads_it(rt: HostRuntime) -> Result
                     }
                 }
                 if !given && unread.is_none() {
-                    unread = Some(3 + u32::from(number));
+                    unread = Some(BODY_START + u32::from(number));
                 }
             }
             let mut into = numbered(rt.alloc(), &geometry)?;

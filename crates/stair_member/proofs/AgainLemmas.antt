@@ -122,9 +122,6 @@ module _ (aim : Aim) (gone : Slots) (m last : Membership) (old new : List Happen
   -- IMAGES
 
   module _ (image : Image) (left : CrashMayLeave new image) (r : AreReserved (admitted aim) st.fencing.issued.slots st.fencing.issued.editions m old new) where
-    of : IsKnownTo (admitted aim) m (IsAttached old) (image_now old)
-    of = known aim gone m last old new st.fencing new end image left r
-
     to_m : (j : ℕ) (s : Superblock) → Bears last.array.geometry j ((image j).cell) s → Bears m.array.geometry j ((image j).cell) s
     to_m j s bears = subst (λ g. Bears g j ((image j).cell) s) st.established.stands.geometry bears
 
@@ -154,11 +151,24 @@ module _ (aim : Aim) (gone : Slots) (m last : Membership) (old new : List Happen
         let most : e.array.epoch ≤ last.array.epoch = edition_most e among in
         st.fencing.issued.one_list e (edition_of last) (r.within e among) st.among (omega arith)
 
+    -- so a copy that is no older than the last one is that one
+    last_copy : (j : ℕ) (s : Superblock) → IsNoOlder s (copy_of (edition_of last) j) → (e : Edition) → Contains r.editions e → s ≡ copy_of e j
+        → s ≡ copy_of (edition_of last) j
+    last_copy j s newer e among is =
+        let at_least : last.drawn ≤ s.draw = newer.draws in
+        let draw : s.draw ≡ e.draw = ap (λ (t : Superblock). t.draw) is in
+        let most : e.draw ≤ last.drawn = (st.fencing.issued.each e (r.within e among)).most in
+        let from_last : last.array.epoch ≤ s.array.epoch = newer.epochs (omega arith) in
+        let epoch : s.array.epoch ≡ e.array.epoch = ap (λ (t : Superblock). t.array.epoch) is in
+        let array : e.array ≡ last.array = edition_last e among (omega arith) in
+        let draws : e.draw ≡ last.drawn = omega arith in
+        is ∙ ap (λ (x : Edition). copy_of x j) (λ i. record { array = array i; draw = draws i })
+
     latest : (j : ℕ) (s : Superblock) → Bears last.array.geometry j ((image j).cell) s → s.array.epoch ≤ last.array.epoch
     latest j s bears =
         elim (origin j s (to_m j s bears)) [
           | Entry was ↦
-              let most : s.array.epoch ≤ m.array.epoch = of.latest j s (entry j s (to_m j s bears) was) in
+              let most : s.array.epoch ≤ m.array.epoch = (known st.fencing).latest j s (entry j s (to_m j s bears) was) in
               let within : m.array.epoch ≤ m.drawn = st.fencing.begun.member.known in
               let above : m.drawn < last.array.epoch = st.established.stands.above in
               omega arith
@@ -183,7 +193,7 @@ module _ (aim : Aim) (gone : Slots) (m last : Membership) (old new : List Happen
     drawn_at : (j k : ℕ) (s : Superblock) → k < 2 → IsTaken (admitted aim) m j → IsAttached old j → HoldsSuper ((image j).cell k) s
         → IsOf (IsWritable st.fencing.issued.slots old) r.editions j ((image_now old j).cell k) s → s.draw ≤ last.drawn
     drawn_at j k s lt taken on holds (Entry was) =
-        let most : s.draw ≤ m.drawn = of.drawn j k s taken on lt was in
+        let most : s.draw ≤ m.drawn = (known st.fencing).drawn j k s taken on lt was in
         let above : m.drawn < last.array.epoch = st.established.stands.above in
         let drawn : last.array.epoch ≡ last.drawn = st.established.stands.epoch in
         omega arith
@@ -221,16 +231,8 @@ module _ (aim : Aim) (gone : Slots) (m last : Membership) (old new : List Happen
           (no_entry aim gone m last old new st.fencing st.member st.established.stands image left r s j
           (entry j s (counts_bears m.array.geometry image j s (counts_m j s counts)) was) least)
       super_last (Issue e has among formed is) =
-          let newer : IsNoOlder s (copy_of (edition_of last) j) =
-          super_no_older ((image j).cell) s (copy_of (edition_of last) j) (1 - place_of last j) (omega arith) counts.super holds_last in
-          let at_least : last.drawn ≤ s.draw = newer.draws in
-          let draw : s.draw ≡ e.draw = ap (λ (t : Superblock). t.draw) is in
-          let most : e.draw ≤ last.drawn = (st.fencing.issued.each e (r.within e among)).most in
-          let from_last : last.array.epoch ≤ s.array.epoch = least in
-          let epoch : s.array.epoch ≡ e.array.epoch = ap (λ (t : Superblock). t.array.epoch) is in
-          let array : e.array ≡ last.array = edition_last e among (omega arith) in
-          let draws : e.draw ≡ last.drawn = omega arith in
-          is ∙ ap (λ (x : Edition). copy_of x j) (λ i. record { array = array i; draw = draws i })
+          last_copy j s
+          (super_no_older ((image j).cell) s (copy_of (edition_of last) j) (1 - place_of last j) (omega arith) counts.super holds_last) e among is
 
       aside : HoldsSuper ((image j).cell (1 - place_of last j)) s
       aside =
@@ -306,20 +308,12 @@ module _ (aim : Aim) (gone : Slots) (m last : Membership) (old new : List Happen
         same_of : (s : Superblock) → IsNoOlder s (copy_of (edition_of last) j) → (k : ℕ) → k < 2
             → IsOf (IsWritable st.fencing.issued.slots old) r.editions j ((image_now old j).cell k) s → s ≡ copy_of (edition_of last) j
         same_of s newer k lt (Entry was) =
-            let most : s.draw ≤ m.drawn = of.drawn j k s (stayed j here) (was_attached j here) lt was in
+            let most : s.draw ≤ m.drawn = (known st.fencing).drawn j k s (stayed j here) (was_attached j here) lt was in
             let above : m.drawn < last.array.epoch = st.established.stands.above in
             let drawn : last.array.epoch ≡ last.drawn = st.established.stands.epoch in
             let at_least : last.drawn ≤ s.draw = newer.draws in
             absurd (omega arith)
-        same_of s newer k lt (Issue e has among formed is) =
-            let at_least : last.drawn ≤ s.draw = newer.draws in
-            let draw : s.draw ≡ e.draw = ap (λ (t : Superblock). t.draw) is in
-            let most : e.draw ≤ last.drawn = (st.fencing.issued.each e (r.within e among)).most in
-            let from_last : last.array.epoch ≤ s.array.epoch = newer.epochs (omega arith) in
-            let epoch : s.array.epoch ≡ e.array.epoch = ap (λ (t : Superblock). t.array.epoch) is in
-            let array : e.array ≡ last.array = edition_last e among (omega arith) in
-            let draws : e.draw ≡ last.drawn = omega arith in
-            is ∙ ap (λ (x : Edition). copy_of x j) (λ i. record { array = array i; draw = draws i })
+        same_of s newer k lt (Issue e has among formed is) = last_copy j s newer e among is
 
         super : IsSuperOf ((image j).cell) (copy_of (edition_of last) j)
         super =
@@ -399,12 +393,12 @@ module _ (aim : Aim) (gone : Slots) (m last : Membership) (old new : List Happen
           elim
           (number_from aim gone m last old new st.fencing.begun.member st.fencing.issued (edition_of last) st.among last_is j up') [
             | inl before ↦
-                let first : joined_at s j ≤ joined_in m.array j = of.joined i j s borne up before.0 in
+                let first : joined_at s j ≤ joined_in m.array j = (known st.fencing).joined i j s borne up before.0 in
                 let second : joined_in m.array j ≤ joined_in last.array j = before.1 in
                 omega arith
             | inr above ↦
                 let first : joined_at s j ≤ s.array.epoch = joined_most s.array j (block_named s bears.holds.spells.block) up in
-                let most : s.array.epoch ≤ m.array.epoch = of.latest i s borne in
+                let most : s.array.epoch ≤ m.array.epoch = (known st.fencing).latest i s borne in
                 let within : m.array.epoch ≤ m.drawn = st.fencing.begun.member.known in
                 omega arith
           ]

@@ -15,7 +15,7 @@ use Rattle.stair_rack.proofs.OfflineLemmas.{IsRefused, keeps_stopped, refused, s
 use Rattle.stair_rack.proofs.StandingLemmas.{Spares, settled_throughout}
 use Rattle.stair_rack.proofs.StepLemmas.{Keeps, kept_throughout}
 use Rattle.stair_member.specs.Epochs.{IsPlaceSettled}
-use Rattle.stair_member.specs.Handings.{AreApart, GoesOnApart, IsGiving, IsHanding, SpreadBelow, StaysApart, StaysSettled, Syncs, Writes}
+use Rattle.stair_member.specs.HandSteps.{AreApart, GoesOnApart, IsGiving, IsHanding, SpreadBelow, StaysApart, StaysSettled, Syncs, Writes}
 use Rattle.stair_member.specs.Membership.{Membership, place_of}
 
 abbrev IsUnchanged : Sector → Type 0

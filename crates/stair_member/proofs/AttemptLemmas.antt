@@ -8,11 +8,11 @@ use Rattle.stair_super.specs.Superblock.{joined_in, mark_in}
 use Rattle.stair_super.specs.declared.configuration.Configuration.{Configuration}
 use Rattle.stair_super.specs.declared.mark.Mark.{Mark}
 use Rattle.stair_super.specs.declared.mark.Mark.TheVariants as mark
-use Rattle.stair_member.specs.Changes.{MayBegin, joined_then, joined_up}
+use Rattle.stair_member.specs.ChangesSteps.{MayBegin, joined_then, joined_up}
 use Rattle.stair_member.specs.Aims.{admitted, aimed, frozen_then, label_then, mark_for}
 use Rattle.stair_member.specs.Counting.{AtMost}
 use Rattle.stair_member.specs.Membership.{Membership, IsMissing, why_of}
-use Rattle.stair_member.specs.Rounds.{BeganOut, BrokeOff, DrewOut, Round, WentOn}
+use Rattle.stair_member.specs.RoundSteps.{BeganOut, BrokeOff, DrewOut, Round, WentOn}
 use Rattle.stair_rack.specs.Telling.{Telling}
 use Rattle.stair_member.specs.declared.aim.Aim.{Aim}
 use Rattle.stair_member.specs.declared.aim.Aim.TheVariants as aims

@@ -1,6 +1,6 @@
 -- How a member changes while an epoch is established.
 use Rattle.std.proofs.Common.{◌≡◌, ◌≢◌, ℕ, ◌+◌, ◌<◌, ◌≤◌, List, length, inl, inr, refl, sym, ap, ◌∙◌, subst, arith, Some, replicate}
-use Rattle.std.specs.Prelude.{◌⊎◌, slice_index, slice_index_or, slice_set}
+use Rattle.std.specs.Prelude.{◌⊎◌, slice_index_or, slice_set}
 use Rattle.std.proofs.lemmas.Bool.{cases_lt, cases_eq, cond-true, cond-false, eq-eqb, ne_eqb}
 use Rattle.std.proofs.lemmas.List.{get_or_past, get_or-replicate, get_or-set_other, get_or-set_same, length-replicate, length-set}
 use Rattle.stair_model.specs.Geometry.{Geometry}
@@ -10,9 +10,9 @@ use Rattle.stair_super.specs.Superblock.{IsConfiguration, IsJoined, joined_in, m
 use Rattle.stair_super.specs.declared.configuration.Configuration.{Configuration}
 use Rattle.stair_super.specs.declared.mark.Mark.{Mark}
 use Rattle.stair_super.specs.declared.mark.Mark.TheVariants.{Live, Rebuilding, Down}
-use Rattle.stair_member.specs.Changes.{MayBegin, Names, joined_then, joined_up, without}
+use Rattle.stair_member.specs.ChangesSteps.{MayBegin, Names, joined_then, joined_up, without}
 use Rattle.stair_member.specs.Aims.{admitted, aimed, mark_for}
-use Rattle.stair_member.specs.Membership.{Membership, IsMarkedFor, IsMembership, member_of, place_of, why_of}
+use Rattle.stair_member.specs.Membership.{Membership, IsMarkedFor, IsMembership, member_of, why_of}
 use Rattle.stair_member.specs.declared.aim.Aim.{Aim}
 use Rattle.stair_member.specs.declared.aim.Aim.TheVariants as aims
 use Rattle.stair_member.specs.declared.why.Why.{Why}

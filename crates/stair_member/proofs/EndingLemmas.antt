@@ -1,7 +1,6 @@
 -- How the establishing of an epoch ends.
-use Rattle.std.proofs.Common.{◌≡◌, ◌≢◌, ℕ, ◌+◌, ◌<◌, ◌≤◌, false, [], ◌⊎◌, inl, inr, refl, sym, ap, ◌∙◌, subst, arith, Option, None, Some}
+use Rattle.std.proofs.Common.{◌≡◌, ◌≢◌, ℕ, ◌+◌, ◌<◌, ◌≤◌, [], ◌⊎◌, inl, inr, refl, sym, ap, ◌∙◌, subst, arith, Option, None, Some}
 use Rattle.std.specs.Prelude.{IsTrue, IsSome}
-use Rattle.std.proofs.lemmas.Bool.{cases_Bool}
 use Rattle.stair_model.specs.Geometry.{Geometry}
 use Rattle.stair_model.specs.Slots.{Slots, HasSlot, IsSlotSet, slot_count}
 use Rattle.stair_rack.specs.Count.{Rose}
@@ -17,9 +16,8 @@ use Rattle.stair_super.specs.declared.mark.Mark.TheVariants as mark
 use Rattle.stair_member.specs.Aims.{admitted, aimed}
 use Rattle.stair_member.specs.Epochs.{IsGoneOf, IsRefusedBy, IsStanding, StandsOnDisk}
 use Rattle.stair_member.specs.Establishing.{Establishes, HasBegun, IsEstablished}
-use Rattle.stair_member.specs.Handings.{is_twice}
 use Rattle.stair_member.specs.Membership.{Membership, IsHere, IsMembership, why_of}
-use Rattle.stair_member.specs.Rounds.{BeganOut, BrokeOff, DrewOut, IsRefused, Round, StandsWithout, WentOn}
+use Rattle.stair_member.specs.RoundSteps.{BeganOut, BrokeOff, DrewOut, IsRefused, Round, StandsWithout, WentOn}
 use Rattle.stair_rack.specs.Telling.{Telling}
 use Rattle.stair_member.specs.declared.aim.Aim.{Aim}
 use Rattle.stair_member.specs.declared.fault.FenceFault.{FenceFault}
@@ -29,7 +27,7 @@ use Rattle.stair_member.proofs.AttemptLemmas.{Moved, Whole, aimed_here, gone_dow
 use Rattle.stair_member.proofs.ChangeLemmas.{IsUp}
 use Rattle.stair_member.proofs.RoundLemmas.{HasCome, come_like, drew_of, stands_then}
 use Rattle.stair_member.proofs.SafeLemmas.{AreStanding}
-use Rattle.stair_member.proofs.SpreadLemmas.{no_slot, twice_is}
+use Rattle.stair_member.proofs.SpreadLemmas.{no_slot}
 use Rattle.stair_member.proofs.TakingLemmas.{IsNamedFor, named_of, taking, taking_only}
 use Rattle.stair_member.proofs.EstablishLemmas.{Attempt, admits_less, aimed_after, aimed_taken, began_after, come_after, dropped_gone, fell_after, gone_after, live_taken, named_after, now_aimed, only, rose_after, single}
 

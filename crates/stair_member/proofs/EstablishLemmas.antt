@@ -11,13 +11,13 @@ use Rattle.stair_rack.proofs.PassCounts.{NoneFalls-same}
 use Rattle.stair_super.specs.Superblock.{joined_in, mark_in}
 use Rattle.stair_super.specs.declared.mark.Mark.TheVariants as mark
 use Rattle.stair_super.specs.declared.configuration.Configuration.{Configuration}
-use Rattle.stair_member.specs.Changes.{IsLiveSlot, MayBegin}
+use Rattle.stair_member.specs.ChangesSteps.{IsLiveSlot, MayBegin}
 use Rattle.stair_member.specs.Epochs.{IsDropped, IsTaken}
 use Rattle.stair_member.specs.Aims.{IsAimed, admitted, aimed, frozen_then, label_then, mark_for}
 use Rattle.stair_member.specs.Establishing.{Did, HasBegun, NotYet}
-use Rattle.stair_member.specs.Handings.{is_twice}
+use Rattle.stair_member.specs.HandSteps.{is_twice}
 use Rattle.stair_member.specs.Membership.{Membership, IsHere, IsMembership, why_of}
-use Rattle.stair_member.specs.Rounds.{BeganOut, BrokeOff, DrewOut, Round, WentOn}
+use Rattle.stair_member.specs.RoundSteps.{BeganOut, BrokeOff, DrewOut, Round, WentOn}
 use Rattle.stair_rack.specs.Telling.{Telling}
 use Rattle.stair_member.specs.declared.aim.Aim.{Aim}
 use Rattle.stair_member.specs.declared.aim.Aim.TheVariants as aims

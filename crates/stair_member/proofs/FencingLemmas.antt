@@ -2,7 +2,7 @@
 use Rattle.std.proofs.Common.{◌≡◌, ℕ, ◌<◌, ◌≤◌, List, inl, inr, refl, ap, subst, arith}
 use Rattle.std.specs.Prelude.{Contains}
 use Rattle.std.proofs.lemmas.Bool.{cases_lt}
-use Rattle.stair_model.specs.Slots.{Slots, HasSlot}
+use Rattle.stair_model.specs.Slots.{Slots}
 use Rattle.stair_rack.specs.Crash.{CrashMayLeave, image_now}
 use Rattle.stair_rack.specs.History.{Happening, SlotState, slot_state}
 use Rattle.stair_rack.specs.Media.{Image}
@@ -25,7 +25,7 @@ use Rattle.stair_member.specs.Membership.{Membership}
 use Rattle.stair_member.specs.Reserve.{Bears}
 use Rattle.stair_member.specs.Superblocks.{HoldsSuper, IsSuperOf, Counts}
 use Rattle.stair_member.specs.declared.aim.Aim.{Aim}
-use Rattle.stair_member.proofs.CountingLemmas.{common, has_or_not}
+use Rattle.stair_member.proofs.CountingLemmas.{common}
 use Rattle.stair_member.proofs.EditionLemmas.{Comes, Stayed, Harmed, Cut, Wrote, IsOf, Entry, Issue, IsWritable, SlotComes, SameMedium, NothingThere, bears_below, bears_of, held_of, holds_copy, slot_comes, writable_or_not}
 use Rattle.stair_member.proofs.NewestLemmas.{IsNoOlder, super_no_older}
 use Rattle.stair_member.proofs.StandingLemmas.{others}
@@ -48,12 +48,14 @@ pub record Reaches (m : Membership) (draw epoch : ℕ) (s : Superblock) : Type 0
   pub draws : draw ≤ s.draw
   pub epochs : m.drawn < draw → epoch ≤ s.array.epoch
 
+-- what the member knew when the call began
+pub known : {aim : Aim} {gone : Slots} {m last : Membership} {old new : List Happening} → IsFencing aim gone m last old new
+    → IsKnownTo (admitted aim) m (IsAttached old) (image_now old)
+known {old = old} f = f.begun.known (image_now old) (CrashMayLeave-now old)
+
 module _ (aim : Aim) (gone : Slots) (m last : Membership) (old new : List Happening) (f : IsFencing aim gone m last old new) (h : List Happening)
     (at : IsMoment old h new) (image : Image) (left : CrashMayLeave h image)
     (r : AreReserved (admitted aim) f.issued.slots f.issued.editions m old h) where
-  pub known : IsKnownTo (admitted aim) m (IsAttached old) (image_now old)
-  known = f.begun.known (image_now old) (CrashMayLeave-now old)
-
   pub comes : (j : ℕ) → j < m.array.geometry.n
       → SlotComes (IsWritable f.issued.slots old) r.editions j (slot_state old j).pulls (slot_state h j) ((image_now old j).cell) ((image j).cell)
   comes j below =
@@ -97,13 +99,13 @@ module _ (aim : Aim) (gone : Slots) (m last : Membership) (old new : List Happen
         → IsOf (IsWritable f.issued.slots old) r.editions j ((image_now old j).cell p) s → e.array.epoch ≤ s.array.epoch
     two p p_in (Entry was) (Entry was') =
         elim (writable_or_not f.issued.slots old j) [
-          | inl has ↦ let most : e.draw ≤ m.drawn = known.drawn j k (copy_of e j) (f.issued.taking j has.0) has.1 k_in was in absurd (omega arith)
+          | inl has ↦ let most : e.draw ≤ m.drawn = (known f).drawn j k (copy_of e j) (f.issued.taking j has.0) has.1 k_in was in absurd (omega arith)
           | inr not_in ↦
               let is = there j below whole in
               let super : IsSuperOf ((image_now old j).cell) s =
               super_cells ((image j).cell) ((image_now old j).cell) s (stayed j 0 (omega arith) whole not_in (is.each 0 (omega arith)))
               (stayed j 1 (omega arith) whole not_in (is.each 1 (omega arith))) counts.super in
-              (known.orderly.hidden j (copy_of e j) s (record {
+              ((known f).orderly.hidden j (copy_of e j) s (record {
                 place = k;
                 place_in = k_in;
                 holds = was;
@@ -112,9 +114,9 @@ module _ (aim : Aim) (gone : Slots) (m last : Membership) (old new : List Happen
               }) super).1
         ]
     two p p_in (Entry was) (Issue b has among formed is) =
-        let most : e.draw ≤ m.drawn = known.drawn j k (copy_of e j) (f.issued.taking j has.0) has.1 k_in was in absurd (omega arith)
+        let most : e.draw ≤ m.drawn = (known f).drawn j k (copy_of e j) (f.issued.taking j has.0) has.1 k_in was in absurd (omega arith)
     two p p_in (Issue a has among formed is) (Entry was') =
-        let most : s.draw ≤ m.drawn = known.drawn j p s (f.issued.taking j has.0) has.1 p_in was' in absurd (omega arith)
+        let most : s.draw ≤ m.drawn = (known f).drawn j p s (f.issued.taking j has.0) has.1 p_in was' in absurd (omega arith)
     two p p_in (Issue a has among formed is) (Issue b has' among' formed' is') =
         let draw : s.draw ≡ b.draw = ap (λ (t : Superblock). t.draw) is' in
         let epoch : s.array.epoch ≡ b.array.epoch = ap (λ (t : Superblock). t.array.epoch) is' in

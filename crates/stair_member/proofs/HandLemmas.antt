@@ -17,14 +17,14 @@ use Rattle.stair_rack.proofs.CallLemmas.{sync_done, sync_gone, write_done, write
 use Rattle.stair_rack.proofs.KeptLemmas.{IsKept-mapped, IsKept-onward, IsKept-since, keeps_sector}
 use Rattle.stair_rack.proofs.MomentLemmas.{IsThis, at_every_join, at_every_none, at_last, at_every_from, at_every_mapped, at_some_wider, calls_ran, moment_last, moment_wider, ran_acts, ran_before, ran_join, ran_none, ran_weakened}
 use Rattle.stair_rack.proofs.OfflineLemmas.{and-true_left, and-true_right, held_on, pulls_on, refused, reply_if-Done, stopped_on}
-use Rattle.stair_rack.proofs.PlacedLemmas.{reach_on}
-use Rattle.stair_rack.proofs.StandingLemmas.{has_lower, medium_on, settled_on, standing_on, standing_throughout}
+use Rattle.stair_rack.proofs.WritingLemmas.{reach_on}
+use Rattle.stair_rack.proofs.StandingLemmas.{has_lower, medium_on, settled_on, standing_throughout}
 use Rattle.stair_rack.proofs.StepLemmas.{kept, slot_after_call}
 use Rattle.stair_super.specs.Spelling.{spelled}
 use Rattle.stair_super.specs.Superblock.{Superblock}
-use Rattle.stair_member.specs.Changes.{issue, turned}
+use Rattle.stair_member.specs.ChangesSteps.{issue, turned}
 use Rattle.stair_member.specs.Epochs.{HasGot, IsGoneCall, IsGoneOf, IsOnDisk}
-use Rattle.stair_member.specs.Handings.{HasPlaces, Handed, IsGiven, IsGivenOrNot, IsGiving, IsHanding, IsSpreading, IsUnsynced, PlacesHanded, Stands, StaysSettled, Syncs, Unsynced, Writes, is_twice, place_after, with_places}
+use Rattle.stair_member.specs.HandSteps.{HasPlaces, Handed, IsGiven, IsGivenOrNot, IsGiving, IsHanding, IsSpreading, IsUnsynced, PlacesHanded, Stands, StaysSettled, Syncs, Unsynced, Writes, is_twice, place_after, with_places}
 use Rattle.stair_member.specs.Membership.{Membership, place_of}
 use Rattle.stair_member.proofs.ApartLemmas.{apart_join, apart_once}
 

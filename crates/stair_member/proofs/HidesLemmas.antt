@@ -3,14 +3,12 @@ use Rattle.std.proofs.Common.{◌≡◌, ◌≢◌, ℕ, ◌-◌, ◌<◌, ◌�
 use Rattle.std.specs.Prelude.{◌⊎◌, Contains, IsSome, Option, None}
 use Rattle.std.proofs.lemmas.Bool.{cases_eq, cases_lt, cond-true, eq-eqb}
 use Rattle.stair_model.specs.Geometry.{Geometry}
-use Rattle.stair_model.specs.Slots.{Slots, HasSlot}
+use Rattle.stair_model.specs.Slots.{Slots}
 use Rattle.stair_rack.specs.Crash.{CrashMayLeave, image_now}
 use Rattle.stair_rack.specs.History.{Happening, slot_state}
 use Rattle.stair_rack.specs.Media.{Image, has_sector}
 use Rattle.stair_rack.specs.Moments.{IsMoment}
-use Rattle.stair_rack.specs.Offline.{IsAttached}
 use Rattle.stair_rack.specs.Sector.{content}
-use Rattle.stair_rack.proofs.MomentLemmas.{at_moment}
 use Rattle.stair_rack.proofs.TidyLemmas.{history_tidy}
 use Rattle.stair_super.specs.Newer.{IsOlder}
 use Rattle.stair_super.specs.Superblock.{Superblock, joined_in, mark_at, mark_in}
@@ -20,7 +18,7 @@ use Rattle.stair_super.specs.declared.mark.Mark.TheVariants as mark
 use Rattle.stair_member.specs.Aims.{admitted, aimed, mark_for}
 use Rattle.stair_member.specs.Editions.{Edition, copy_of}
 use Rattle.stair_member.specs.Epochs.{AreReserved, IsTaken}
-use Rattle.stair_member.specs.Fencing.{IsFencing, IsKnownTo}
+use Rattle.stair_member.specs.Fencing.{IsFencing}
 use Rattle.stair_member.specs.Membership.{IsHere, Membership, place_of, why_of}
 use Rattle.stair_member.specs.Reserve.{Bears, HidesNoOther}
 use Rattle.stair_member.specs.Superblocks.{Counts, First, HoldsSuper, IsSuperOf, Second}
@@ -50,9 +48,6 @@ module _ (aim : Aim) (gone : Slots) (m last : Membership) (old new : List Happen
     → Counts m.array.geometry image j newest × (s.array.epoch ≤ newest.array.epoch)) where
   abbrev g : Geometry
   g = m.array.geometry
-
-  knows : IsKnownTo (admitted aim) m (IsAttached old) (image_now old)
-  knows = known aim gone m last old new f h at image left r
 
   among_all : (e : Edition) → Contains r.editions e → Contains f.issued.editions e
   among_all e among = r.within e among
@@ -116,23 +111,21 @@ module _ (aim : Aim) (gone : Slots) (m last : Membership) (old new : List Happen
             differ : newest ≡ s → ⊥
             differ same = let draws : newest.draw ≡ s.draw = ap (λ (t : Superblock). t.draw) same in omega (arith, draws, less)
 
+            -- the hidden one lies beside it
+            beside : (k : ℕ) → k < 2 → HoldsSuper ((image j).cell k) newest → HoldsSuper ((image j).cell (1 - k)) s
+            beside k lt here =
+                elim (other_or (1 - k) (omega arith)) [
+                  | inl is ↦
+                      absurd
+                      (differ
+                      (holds_once ((image j).cell k) newest s here
+                      (subst (λ (l : ℕ). HoldsSuper ((image j).cell l) s) (omega (arith, is, lt, q_in)) in_s)))
+                  | inr is ↦ subst (λ (l : ℕ). HoldsSuper ((image j).cell l) s) (sym is) in_s
+                ]
+
             by_super : IsSuperOf ((image j).cell) newest → ⊥
-            by_super (First here rest) =
-                elim (other_or 1 (omega arith)) [
-                  | inl one ↦
-                      differ
-                      (holds_once ((image j).cell 0) newest s here
-                      (subst (λ (k : ℕ). HoldsSuper ((image j).cell k) s) (omega (arith, one)) in_s))
-                  | inr two ↦ rest s (subst (λ (k : ℕ). HoldsSuper ((image j).cell k) s) (sym two) in_s) (inl less)
-                ]
-            by_super (Second here rest) =
-                elim (other_or 0 (omega arith)) [
-                  | inl one ↦
-                      differ
-                      (holds_once ((image j).cell 1) newest s here
-                      (subst (λ (k : ℕ). HoldsSuper ((image j).cell k) s) (omega (arith, one)) in_s))
-                  | inr two ↦ back (rest s (subst (λ (k : ℕ). HoldsSuper ((image j).cell k) s) (sym two) in_s))
-                ]
+            by_super (First here rest) = rest s (beside 0 (omega arith) here) (inl less)
+            by_super (Second here rest) = back (rest s (beside 1 (omega arith) here))
               where
                 back : IsOlder s newest → ⊥
                 back (inl more) = omega (arith, more, less)
@@ -155,7 +148,7 @@ module _ (aim : Aim) (gone : Slots) (m last : Membership) (old new : List Happen
         up = subst (λ (i : ℕ). mark_at s i ≢ Down) bears.slot in_s.spells.block.rules.here
 
         most : (t : Superblock) → IsWritable f.issued.slots old j → (k : ℕ) → k < 2 → HoldsSuper ((image_now old j).cell k) t → t.draw ≤ m.drawn
-        most t has k lt holds = knows.drawn j k t (f.issued.taking j has.0) has.1 lt holds
+        most t has k lt holds = (known f).drawn j k t (f.issued.taking j has.0) has.1 lt holds
 
         -- a slot of which a superblock could be read had a medium
         medium_there : (k : ℕ) → HoldsSuper ((image_now old j).cell k) s → IsSome (slot_state old j).size
@@ -201,7 +194,7 @@ module _ (aim : Aim) (gone : Slots) (m last : Membership) (old new : List Happen
         by : IsOf (IsWritable f.issued.slots old) r.editions j ((image_now old j).cell q) newest → IsOf (IsWritable f.issued.slots old) r.editions j ((image_now old j).cell (1 - q)) s
             → s.joined ≡ newest.joined
         by (Entry was_new) (Entry was_s) =
-            knows.orderly.hides j s newest (record { place = 1 - q; place_in = omega arith; holds = was_s; slot = bears.slot; identity = bears.identity })
+            (known f).orderly.hides j s newest (record { place = 1 - q; place_in = omega arith; holds = was_s; slot = bears.slot; identity = bears.identity })
             (old_super was_new was_s) live
         by (Entry was_new) (Issue e has among formed is) =
             let above : m.drawn < e.draw = (f.issued.each e (among_all e among)).above in
@@ -211,7 +204,7 @@ module _ (aim : Aim) (gone : Slots) (m last : Membership) (old new : List Happen
         by (Issue e has among formed is) (Entry was_s) =
             elim (cases_eq q (place_of m j)) [
               | inl at_next ↦
-                  knows.own j s (is_here j (none_of e among is) has) has.1 (subst (λ (l : ℕ). HoldsSuper ((image_now old j).cell (1 - l)) s) at_next was_s) ∙ sym (joined_new e among is)
+                  (known f).own j s (is_here j (none_of e among is) has) has.1 (subst (λ (l : ℕ). HoldsSuper ((image_now old j).cell (1 - l)) s) at_next was_s) ∙ sym (joined_new e among is)
               | inr apart ↦
                   let p_less : place_of m j < 2 = p_in has in
                   let other : 1 - q ≡ place_of m j = omega (arith, apart, q_in, p_less) in

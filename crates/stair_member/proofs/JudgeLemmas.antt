@@ -12,7 +12,7 @@ use Rattle.stair_model.specs.Slots.{Slots, HasSlot, IsSlotSet, slot_count}
 use Rattle.stair_model.proofs.SetLaws.{slot_count-subset, slot_count_member}
 use Rattle.stair_rack.specs.Media.{Image}
 use Rattle.stair_super.specs.Superblock.{Superblock}
-use Rattle.stair_member.specs.Shows.{IsCounting, IsCountingFor, IsCurrentOf, IsFirst, IsNewest, Shows, StandsAt, later_super, newest_at}
+use Rattle.stair_member.specs.JudgeSteps.{IsCounting, IsCountingFor, IsCurrentOf, IsFirst, IsNewest, Shows, StandsAt, later_super, newest_at}
 use Rattle.stair_member.specs.Superblocks.{HasSuper, IsSuperOf, Counts, CountsFor, Identifies, IsOnlyIdentity}
 use Rattle.stair_member.specs.Survey.{AreFirstTwo, IsGreatestDraw, IsLowestOf}
 use Rattle.stair_member.proofs.StandingLemmas.{IsBest, best_first, best_kept, best_newer, best_without, none_more}
@@ -29,6 +29,11 @@ set_none P set none = record { members = λ j. (λ has. absurd (none j has), λ 
 
 pub below_or_last : (i j : ℕ) → j < i + 1 → (j < i) ⊎ (j ≡ i)
 below_or_last i j below = elim (cases_lt j i) [ inl less ↦ inl less | inr more ↦ inr (omega arith) ]
+
+-- so what holds below i and at i holds below i + 1
+pub below_and_last : (P : ℕ → Type 0) (i : ℕ) → ((j : ℕ) → j < i → P j) → P i → (j : ℕ) → j < i + 1 → P j
+below_and_last P i less last j below =
+    elim (below_or_last i j below) [ inl under ↦ less j under | inr same ↦ subst P (sym same) last ]
 
 pub set_added : (P : ℕ → Type 0) (i : ℕ) (set more : Slots) → IsSetBelow P i set → P i → ((j : ℕ) → HasSlot more j ↔ (HasSlot set j ⊎ (j ≡ i)))
     → IsSetBelow P (i + 1) more
@@ -214,16 +219,9 @@ drawn_kept g image i draw before none = record { above = above; one = one before
           | inr same ↦ absurd (none (record { super = s; counts = subst (λ (k : ℕ). Counts g image k s) same counts }))
         ]
 
-    none_yet : ((j : ℕ) → j < i → ¬ CountsFor g image j) → (j : ℕ) → j < i + 1 → ¬ CountsFor g image j
-    none_yet not_one j below =
-        elim (below_or_last i j below) [
-          | inl less ↦ not_one j less
-          | inr same ↦ subst (λ (k : ℕ). ¬ CountsFor g image k) (sym same) none
-        ]
-
     one : ((draw ≡ 0) × ((j : ℕ) → j < i → ¬ CountsFor g image j)) ⊎ IsDrawn g image draw
         → ((draw ≡ 0) × ((j : ℕ) → j < i + 1 → ¬ CountsFor g image j)) ⊎ IsDrawn g image draw
-    one (inl not_one) = inl (not_one.0, none_yet not_one.1)
+    one (inl not_one) = inl (not_one.0, below_and_last (λ j. ¬ CountsFor g image j) i not_one.1 none)
     one (inr some) = inr some
 
 pub drawn_more : (g : Geometry) (image : Image) (i draw more : ℕ) (s : Superblock) → IsDrawnBelow g image i draw → Counts g image i s
@@ -283,11 +281,8 @@ IsNoneBelow but image i = (j : ℕ) → j < i → StandsAt but image j None
 pub none_below_more : (but : Option Geometry) (image : Image) (i : ℕ) (o : Option Geometry) → IsNoneBelow but image i → StandsAt but image i o
     → o ≡ None
     → IsNoneBelow but image (i + 1)
-none_below_more but image i o before here is j below =
-    elim (below_or_last i j below) [
-      | inl less ↦ before j less
-      | inr same ↦ subst (λ (k : ℕ). StandsAt but image k None) (sym same) (subst (λ (p : Option Geometry). StandsAt but image i p) is here)
-    ]
+none_below_more but image i o before here is =
+    below_and_last (λ j. StandsAt but image j None) i before (subst (λ (p : Option Geometry). StandsAt but image i p) is here)
 
 pub none_if : (o : Option Geometry) → is_some o ≡ false → o ≡ None
 none_if None is = refl

@@ -25,6 +25,7 @@ pub mod HidesLemmas
 pub mod OrderLemmas
 pub mod AgainLemmas
 pub mod AttemptLemmas
+pub mod LikewiseLemmas
 pub mod LeavingLemmas
 pub mod SeeingLemmas
 pub mod TakingLemmas

@@ -29,14 +29,14 @@ use Rattle.stair_member.specs.Membership.{Membership, IsHere, place_of}
 use Rattle.stair_member.specs.Reserve.{Bears, HasReached, HasReserved, IsOrderly, NoEpochAbove}
 use Rattle.stair_member.specs.Superblocks.{HoldsSuper, IsSuperOf, First, Second, Counts}
 use Rattle.stair_member.specs.declared.aim.Aim.{Aim}
-use Rattle.stair_member.proofs.CountingLemmas.{all_but_mapped, has_or_not}
+use Rattle.stair_member.proofs.CountingLemmas.{all_but_mapped}
 use Rattle.stair_member.proofs.DecisionLemmas.{no_super, super_decided}
 use Rattle.stair_member.proofs.EditionLemmas.{Comes, Stayed, Harmed, Cut, Wrote, IsOf, Entry, Issue, IsWritable, SlotComes, SameMedium, NothingThere, bears_below, held_of, holds_copy, none_held_there, writable_or_not}
 use Rattle.stair_member.proofs.FencingLemmas.{IsThere, IsWhole, Reaches, comes, from, known, on_disk, reaches, stayed, there}
 use Rattle.stair_member.proofs.HidesLemmas.{hides_kept}
 use Rattle.stair_member.proofs.NewestLemmas.{IsNoOlder, places_whole, super_no_older}
 use Rattle.stair_member.proofs.NumberLemmas.{block_named, joined_most, number_from, number_rises}
-use Rattle.stair_member.proofs.SuperLemmas.{counts_bears, holds_once, slot_below, super_cells}
+use Rattle.stair_member.proofs.SuperLemmas.{counts_bears, hidden_same, holds_once, slot_below, super_cells}
 
 -- ---- cells
 
@@ -139,7 +139,7 @@ module _ (aim : Aim) (gone : Slots) (m last : Membership) (old new : List Happen
   was_borne j s bears was = entry_bears j bears.place s bears.place_in was bears.slot bears.identity
 
   entry_epoch : (j : ℕ) (s : Superblock) → Bears m.array.geometry j ((image_now old j).cell) s → s.array.epoch ≤ m.array.epoch
-  entry_epoch j s bears = (known aim gone m last old new f h at image left r).latest j s bears
+  entry_epoch j s bears = (known f).latest j s bears
 
   -- an edition of the call is of the member's epoch, and names what it has, or of a new one
   edition_epoch : (e : Edition) → Contains f.issued.editions e → m.array.epoch ≤ e.array.epoch
@@ -171,7 +171,7 @@ module _ (aim : Aim) (gone : Slots) (m last : Membership) (old new : List Happen
       → p < 2 → q < 2 → IsOf (IsWritable f.issued.slots old) r.editions i ((image_now old i).cell p) a
       → IsOf (IsWritable f.issued.slots old) r.editions j ((image_now old j).cell q) b → a.array.epoch ≡ b.array.epoch → a.array ≡ b.array
   one_list_of i j p q a b of_a of_b p_in q_in (Entry was) (Entry was') same =
-      (known aim gone m last old new f h at image left r).orderly.one_list i j a b (entry_bears i p a p_in was of_a.slot of_a.identity)
+      (known f).orderly.one_list i j a b (entry_bears i p a p_in was of_a.slot of_a.identity)
       (entry_bears j q b q_in was' of_b.slot of_b.identity) same
   one_list_of i j p q a b of_a of_b p_in q_in (Entry was) (Issue e has among formed is) same =
       let borne = entry_bears i p a p_in was of_a.slot of_a.identity in
@@ -179,7 +179,7 @@ module _ (aim : Aim) (gone : Slots) (m last : Membership) (old new : List Happen
       let array : b.array ≡ e.array = ap (λ (s : Superblock). s.array) is in
       let epoch : b.array.epoch ≡ e.array.epoch = ap (λ (c : Configuration). c.epoch) array in
       let least : m.array.epoch ≤ e.array.epoch = edition_epoch e (r.within e among) in
-      (known aim gone m last old new f h at image left r).named i a borne (omega arith)
+      (known f).named i a borne (omega arith)
       ∙ sym (edition_old e (r.within e among) (omega arith))
       ∙ sym array
   one_list_of i j p q a b of_a of_b p_in q_in (Issue e has among formed is) (Entry was) same =
@@ -190,7 +190,7 @@ module _ (aim : Aim) (gone : Slots) (m last : Membership) (old new : List Happen
       let least : m.array.epoch ≤ e.array.epoch = edition_epoch e (r.within e among) in
       array
       ∙ edition_old e (r.within e among) (omega arith)
-      ∙ sym ((known aim gone m last old new f h at image left r).named j b borne (omega arith))
+      ∙ sym ((known f).named j b borne (omega arith))
   one_list_of i j p q a b of_a of_b p_in q_in (Issue d has among formed is) (Issue e has' among' formed' is') same =
       let of_d : a.array ≡ d.array = ap (λ (s : Superblock). s.array) is in
       let of_e : b.array ≡ e.array = ap (λ (s : Superblock). s.array) is' in
@@ -240,21 +240,13 @@ module _ (aim : Aim) (gone : Slots) (m last : Membership) (old new : List Happen
     hides stood (Entry was) (Entry was') =
         elim (stood was was') [
           | inl before ↦
-              let hidden = (known aim gone m last old new f h at image left r).orderly.hidden j s newest (was_borne j s bears was') before in
+              let hidden = (known f).orderly.hidden j s newest (was_borne j s bears was') before in
               (record { super = super; slot = hidden.0.slot; identity = hidden.0.identity }, hidden.1)
-          | inr same ↦
-              let epoch : newest.array.epoch ≡ s.array.epoch = ap (λ (t : Superblock). t.array.epoch) same in (
-                record {
-                  super = super;
-                  slot = ap (λ (t : Superblock). t.slot) same ∙ bears.slot;
-                  identity = ap (λ (t : Superblock). t.array.geometry) same ∙ bears.identity;
-                },
-                omega arith,
-              )
+          | inr same ↦ hidden_same m.array.geometry image j s newest bears super same
         ]
     hides stood (Entry was) (Issue d has among formed is) =
         let most : newest.draw ≤ m.drawn =
-        (known aim gone m last old new f h at image left r).drawn j p newest (f.issued.taking j has.0) has.1 p_in was in
+        (known f).drawn j p newest (f.issued.taking j has.0) has.1 p_in was in
         let above : m.drawn < d.draw = (f.issued.each d (r.within d among)).above in
         let draw : s.draw ≡ d.draw = ap (λ (t : Superblock). t.draw) is in
         let least : s.draw ≤ newest.draw = newer.draws in
@@ -360,7 +352,7 @@ module _ (aim : Aim) (gone : Slots) (m last : Membership) (old new : List Happen
     module _ (has : IsWritable f.issued.slots old j) (was : HoldsSuper ((image_now old j).cell borne.place) s) where
       most : s.draw ≤ m.drawn
       most =
-          (known aim gone m last old new f h at image left r).drawn j borne.place s (f.issued.taking j has.0) has.1 borne.place_in was
+          (known f).drawn j borne.place s (f.issued.taking j has.0) has.1 borne.place_in was
 
       is_here : IsHere m j
       is_here = elim (f.issued.taking j has.0) [ inl is ↦ is | inr joins ↦ absurd (other joins.0) ]
@@ -423,7 +415,7 @@ module _ (aim : Aim) (gone : Slots) (m last : Membership) (old new : List Happen
           elim (super_decided ((image_now old j).cell)) [
             | inl some ↦
                 let t : Superblock = some.0 in
-                let k = known aim gone m last old new f h at image left r in
+                let k = known f in
                 let of_t : Counts m.array.geometry (image_now old) j t =
                 let c = (k.orderly.hidden j s t bore some.1).0 in
                 record { super = some.1; slot = c.slot; identity = c.identity } in
@@ -545,7 +537,7 @@ module _ (aim : Aim) (gone : Slots) (m last : Membership) (old new : List Happen
             {Q = HasReserved m.array.geometry image}
             (λ j below before s counts first second.
             above_from m.array.epoch s.draw (has_drawn j before.0 before.1 s counts first second) (no_later m.array.epoch (omega arith) none))
-            (known aim gone m last old new f h at image left r).reserved
+            (known f).reserved
         | inr found ↦
             let e : Edition = found.0 in
             let above : m.array.epoch < e.array.epoch = found.2 in
@@ -581,7 +573,7 @@ module _ (aim : Aim) (gone : Slots) (m last : Membership) (old new : List Happen
       all_but_mapped {P = λ j. (admitted aim ≢ Some j) × HasReached m.array.geometry (image_now old) a.array.epoch j}
       {Q = HasReached m.array.geometry image a.array.epoch}
       (λ j below before. has_reached j a.array.epoch (omega arith) before.0 before.1)
-      ((known aim gone m last old new f h at image left r).reached i a bears less)
+      ((known f).reached i a bears less)
 
   reached_of : (i j p q : ℕ) (a b : Superblock) → Bears m.array.geometry i ((image i).cell) a → Bears m.array.geometry j ((image j).cell) b
       → p < 2 → q < 2 → IsOf (IsWritable f.issued.slots old) r.editions i ((image_now old i).cell p) a
@@ -618,7 +610,7 @@ module _ (aim : Aim) (gone : Slots) (m last : Membership) (old new : List Happen
       → IsOf (IsWritable f.issued.slots old) r.editions k ((image_now old k).cell q) b → a.array.epoch ≤ b.array.epoch
       → mark_at a j ≢ Down → mark_at b j ≢ Down → joined_at a j ≤ joined_at b j
   joined_of i k j p q a b of_a of_b p_in q_in (Entry was) (Entry was') le up up' =
-      (known aim gone m last old new f h at image left r).orderly.joined i k j a b (entry_bears i p a p_in was of_a.slot of_a.identity)
+      (known f).orderly.joined i k j a b (entry_bears i p a p_in was of_a.slot of_a.identity)
       (entry_bears k q b q_in was' of_b.slot of_b.identity) le up up'
   joined_of i k j p q a b of_a of_b p_in q_in (Entry was) (Issue e has among formed is) le up up' =
       let borne = entry_bears i p a p_in was of_a.slot of_a.identity in
@@ -629,7 +621,7 @@ module _ (aim : Aim) (gone : Slots) (m last : Membership) (old new : List Happen
       (number_from aim gone m last old new f.begun.member f.issued e (r.within e among) (block_named (copy_of e k) formed) j up_e) [
         | inl before ↦
             let first : joined_at a j ≤ joined_in m.array j =
-            (known aim gone m last old new f h at image left r).joined i j a borne up before.0 in
+            (known f).joined i j a borne up before.0 in
             let second : joined_in m.array j ≤ joined_in e.array j = before.1 in
             omega arith
         | inr above ↦
@@ -647,7 +639,7 @@ module _ (aim : Aim) (gone : Slots) (m last : Membership) (old new : List Happen
       let same : a.array ≡ b.array =
       array
       ∙ edition_old d (r.within d among) (omega arith)
-      ∙ sym ((known aim gone m last old new f h at image left r).named k b borne (omega arith)) in
+      ∙ sym ((known f).named k b borne (omega arith)) in
       let joins : joined_at a j ≡ joined_at b j = ap (λ (c : Configuration). joined_in c j) same in
       omega arith
   joined_of i k j p q a b of_a of_b p_in q_in (Issue d has among formed is) (Issue e has' among' formed' is') le up up' =

@@ -12,7 +12,7 @@ use Rattle.stair_super.specs.declared.mark.Mark.TheVariants as mark
 use Rattle.stair_member.specs.Counting.{AtMost, MoreThan}
 use Rattle.stair_member.specs.Membership.{IsMarkedFor, IsMissing, Membership, why_of}
 use Rattle.stair_member.specs.Reasons.{Applies, IsReason, rank}
-use Rattle.stair_member.specs.Shows.{IsReasonByMark, Shows}
+use Rattle.stair_member.specs.JudgeSteps.{IsReasonByMark, Shows}
 use Rattle.stair_member.specs.Superblocks.{HasSuper, IsSuperOf}
 use Rattle.stair_member.specs.declared.why.Why.{Why}
 use Rattle.stair_member.specs.declared.why.Why.TheVariants.{Here, Gone, NoSuper, OtherArray, OtherSlot, MarkedDown, OtherJoined, Rebuilding}

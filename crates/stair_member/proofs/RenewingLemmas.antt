@@ -9,10 +9,10 @@ use Rattle.stair_model.proofs.SetLaws.{slot_count_more, slot_count_most}
 use Rattle.stair_rack.specs.Count.{Rose, kept-Rose}
 use Rattle.stair_rack.proofs.PassCounts.{NoneFalls-then}
 use Rattle.stair_super.specs.declared.configuration.Configuration.{Configuration}
-use Rattle.stair_member.specs.Changes.{MayBegin, without}
+use Rattle.stair_member.specs.ChangesSteps.{MayBegin, without}
 use Rattle.stair_member.specs.Aims.{admitted, aimed, frozen_then, label_then}
 use Rattle.stair_member.specs.Membership.{Membership, IsMembership, why_of}
-use Rattle.stair_member.specs.Rounds.{Round, left_after}
+use Rattle.stair_member.specs.RoundSteps.{Round, left_after}
 use Rattle.stair_rack.specs.Telling.{Telling}
 use Rattle.stair_member.specs.declared.aim.Aim.{Aim}
 use Rattle.stair_member.specs.declared.aim.Aim.TheVariants as aims

@@ -1,7 +1,7 @@
 -- What was written up to the end of a round, and what stands then.
-use Rattle.std.proofs.Common.{◌≡◌, ◌≢◌, ℕ, ◌+◌, ◌-◌, ◌^◌, ◌<◌, ◌≤◌, Bool, true, false, List, [], ◌∷◌, ◌⊎◌, inl, inr, refl, sym, ap, ◌∙◌, subst, arith, Option, None, Some}
+use Rattle.std.proofs.Common.{◌≡◌, ◌≢◌, ℕ, ◌+◌, ◌-◌, ◌^◌, ◌<◌, ◌≤◌, true, false, List, [], ◌∷◌, ◌⊎◌, inl, inr, refl, sym, ap, ◌∙◌, subst, arith, Option, None, Some}
 use Rattle.std.specs.Prelude.{⊤, Contains, ◌↔◌, unwrap_or, slice_index}
-use Rattle.std.proofs.lemmas.Bool.{cases_Bool, false≢true, cond-false, ne_eqb, eq-eqb}
+use Rattle.std.proofs.lemmas.Bool.{eq-eqb}
 use Rattle.std.proofs.lemmas.List.Elements.{Contains-append_left, Contains-push, Contains-push_cases}
 use Rattle.stair_model.specs.Geometry.{Geometry}
 use Rattle.stair_model.specs.Slots.{Slots, HasSlot}
@@ -11,19 +11,18 @@ use Rattle.stair_rack.specs.Offline.{IsHeld, IsOfflineUntilAttached}
 use Rattle.stair_rack.proofs.KeptLemmas.{IsKept-onward, IsKept-since}
 use Rattle.stair_rack.proofs.MomentLemmas.{ran_join, ran_none, ran_weakened}
 use Rattle.stair_rack.proofs.OfflineLemmas.{held_on, offline_on, pulls_on}
-use Rattle.stair_rack.proofs.PlacedLemmas.{reach_on}
+use Rattle.stair_rack.proofs.WritingLemmas.{reach_on}
 use Rattle.stair_rack.proofs.StandingLemmas.{medium_on}
 use Rattle.stair_super.specs.Superblock.{IsSuperblock, mark_in}
 use Rattle.stair_super.specs.declared.configuration.Configuration.{Configuration}
-use Rattle.stair_member.specs.Changes.{Begins, IsLiveSlot, issue, with_draw}
+use Rattle.stair_member.specs.ChangesSteps.{Begins, IsLiveSlot, issue, with_draw}
 use Rattle.stair_member.specs.Counting.{AllBut, AtMost}
 use Rattle.stair_member.specs.Editions.{Edition, copy_of, edition_of}
 use Rattle.stair_member.specs.Epochs.{ASync, AWrite, HasGot, IsDropped, IsGoneOf, IsIssuing, IsOnDisk, StandsOnDisk, WasGiven}
 use Rattle.stair_member.specs.Aims.{admitted}
-use Rattle.stair_member.specs.Handings.{HasPlaces, IsGiven, IsSpreading, PlacesBelow, Spread, SpreadBelow, is_twice, place_after}
+use Rattle.stair_member.specs.HandSteps.{HasPlaces, IsGiven, IsSpreading, PlacesBelow, Spread, SpreadBelow, is_twice}
 use Rattle.stair_member.specs.Membership.{Membership, IsHere, IsMembership, IsMissing, place_of, why_of}
 use Rattle.stair_member.specs.declared.aim.Aim.{Aim}
-use Rattle.stair_member.specs.declared.aim.Aim.TheVariants as aims
 use Rattle.stair_member.specs.declared.why.Why.{Why}
 use Rattle.stair_member.specs.declared.why.Why.TheVariants as why
 use Rattle.stair_member.proofs.ChangeLemmas.{up_here}

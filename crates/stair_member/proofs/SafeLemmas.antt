@@ -1,5 +1,5 @@
 -- What a slot has at every moment of a call: its superblock of before, or one of the call.
-use Rattle.std.proofs.Common.{◌≡◌, ℕ, ◌+◌, ◌-◌, ◌<◌, ◌≤◌, false, List, [], ◌⊎◌, inl, inr, refl, sym, ap, ◌∙◌, subst, arith, Option}
+use Rattle.std.proofs.Common.{◌≡◌, ℕ, ◌+◌, ◌-◌, ◌<◌, ◌≤◌, false, List, [], ◌⊎◌, inl, inr, refl, sym, ap, ◌∙◌, subst, arith}
 use Rattle.std.specs.Prelude.{IsSome, Contains}
 use Rattle.std.proofs.lemmas.Bool.{false≢true}
 use Rattle.stair_model.specs.Slots.{Slots, HasSlot}
@@ -13,7 +13,7 @@ use Rattle.stair_rack.proofs.StepLemmas.{kept}
 use Rattle.stair_super.specs.Superblock.{IsSuperblock}
 use Rattle.stair_member.specs.Editions.{Edition, copy_of}
 use Rattle.stair_member.specs.Epochs.{AsWas, Given, HasGot, IsOnDisk, IsStanding}
-use Rattle.stair_member.specs.Handings.{IsGiving, IsUnsynced, Syncs, Writes}
+use Rattle.stair_member.specs.HandSteps.{IsGiving, IsUnsynced, Syncs, Writes}
 use Rattle.stair_member.specs.Membership.{Membership, place_of}
 
 -- ---- the newest superblock of a slot

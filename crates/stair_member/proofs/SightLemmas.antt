@@ -25,7 +25,7 @@ use Rattle.stair_super.proofs.Order.{older_is}
 use Rattle.stair_super.specs.Superblock.{Superblock}
 use Rattle.stair_member.specs.Asked.{AsksBelow, AsksSlot, FindsWithin, IsWhatWasRead, FoundBoth, FoundNone}
 use Rattle.stair_member.specs.Findings.{Findings, IsPlaceFound}
-use Rattle.stair_member.specs.Shows.{AreSights, IsNewest, IsSeen, IsSight, block_in, newest_at}
+use Rattle.stair_member.specs.JudgeSteps.{AreSights, IsNewest, IsSeen, IsSight, block_in, newest_at}
 use Rattle.stair_member.specs.Superblocks.{HoldsThis, HasSuper, IsSuperOf, First, Second}
 use Rattle.stair_member.specs.Survey.{IsNextPlace, IsPlaceOf, InFirst, InSecond}
 use Rattle.stair_rack.specs.Telling.{IsFoundGone, IsLater, IsReading, Telling, telling}

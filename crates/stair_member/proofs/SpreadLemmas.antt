@@ -13,16 +13,16 @@ use Rattle.stair_rack.specs.declared.rack.Reply.TheVariants as reply
 use Rattle.stair_rack.proofs.KeptLemmas.{IsKept-onward, IsKept-since}
 use Rattle.stair_rack.proofs.MomentLemmas.{at_every_from, at_every_join, at_every_mapped, at_every_none, at_last, ran_before, ran_join, ran_none, ran_weakened}
 use Rattle.stair_rack.proofs.OfflineLemmas.{held_on, pulls_on}
-use Rattle.stair_rack.proofs.PlacedLemmas.{reach_on}
+use Rattle.stair_rack.proofs.WritingLemmas.{reach_on}
 use Rattle.stair_rack.proofs.StandingLemmas.{medium_on, settled_on, standing_on}
 use Rattle.stair_super.specs.Spelling.{spelled}
-use Rattle.stair_member.specs.Changes.{issue}
+use Rattle.stair_member.specs.ChangesSteps.{issue}
 use Rattle.stair_member.specs.Epochs.{HasGot, IsGoneOf, IsOnDisk, IsPlaceSettled}
-use Rattle.stair_member.specs.Handings.{Handed, HasPlaces, IsGiven, IsGivenOrNot, IsGiving, IsHanding, IsLeft, IsSpreading, IsUnsynced, PlacesBelow, PlacesHanded, Spread, SpreadBelow, Stands, Unsynced, is_twice, place_after, with_places}
+use Rattle.stair_member.specs.HandSteps.{Handed, HasPlaces, IsGiven, IsGivenOrNot, IsGiving, IsHanding, IsLeft, IsSpreading, IsUnsynced, PlacesBelow, PlacesHanded, Spread, SpreadBelow, Stands, Unsynced, is_twice, place_after, with_places}
 use Rattle.stair_member.specs.Membership.{Membership, IsMembership, place_of}
 use Rattle.stair_member.proofs.ApartLemmas.{apart_join, apart_none}
 use Rattle.stair_member.proofs.HandLemmas.{gone_wider, got_later, got_sooner, handed_back, spreading_beside, stays_join, stays_none}
-use Rattle.stair_member.proofs.JudgeLemmas.{below_or_last}
+use Rattle.stair_member.proofs.JudgeLemmas.{below_and_last}
 
 -- the slots below i were handed their superblocks, and the next places of the others are as they were
 pub record SpreadSoFar (m last : Membership) (to : Slots) (twice : Option ℕ) (i : ℕ) (honest : Bool) (old now : List Happening) : Type 0 where
@@ -66,31 +66,23 @@ spread_skipped m last to twice i honest old now before skipped = record {
   was = before.was;
   rules = before.rules;
   rest = before.rest;
-  done = λ j below has.
-      elim (below_or_last i j below) [
-        | inl less ↦ before.done j less has
-        | inr same ↦ absurd (skipped (subst (HasSlot to) same has))
-      ];
+  done =
+      below_and_last (λ j. HasSlot to j → place_of last j ≡ place_after (is_twice twice j) (place_of m j)) i before.done
+      (λ has. absurd (skipped has));
   out = before.out;
   later = λ j least. before.later j (omega arith);
   told = λ is.
       let told = before.told is in record {
         ran = told.ran;
-        got = λ j k below has given.
-            elim (below_or_last i j below) [
-              | inl less ↦ told.got j k less has given
-              | inr same ↦ absurd (skipped (subst (HasSlot to) same has))
-            ];
-        stands = λ j k below has given.
-            elim (below_or_last i j below) [
-              | inl less ↦ told.stands j k less has given
-              | inr same ↦ absurd (skipped (subst (HasSlot to) same has))
-            ];
-        synced = λ j k below has some.
-            elim (below_or_last i j below) [
-              | inl less ↦ told.synced j k less has some
-              | inr same ↦ absurd (skipped (subst (HasSlot to) same has))
-            ];
+        got = λ j k.
+            below_and_last (λ x. HasSlot to x → IsGiven m (is_twice twice x) x k → HasGot old now x k (issue m x)) i (λ x. told.got x k)
+            (λ has. absurd (skipped has)) j;
+        stands = λ j k.
+            below_and_last (λ x. HasSlot to x → IsGiven m (is_twice twice x) x k → IsOnDisk old now x k (issue m x)) i (λ x. told.stands x k)
+            (λ has. absurd (skipped has)) j;
+        synced = λ j k.
+            below_and_last (λ x. HasSlot to x → IsSome (slot_state old x).size → IsPlaceSettled old now x k) i (λ x. told.synced x k)
+            (λ has. absurd (skipped has)) j;
         steady = told.steady;
         apart = told.apart;
         between = told.between;
@@ -179,29 +171,15 @@ module _ (m last : Membership) (to : Slots) (twice : Option ℕ) (i : ℕ) (old 
   below_more : Handed m last i (is_twice twice i) reply.Done now new → SpreadBelow m to twice (i + 1) old new
   below_more handed = record {
     ran = ran_join before.ran (spreading handed);
-    got = λ j k below has given.
-        elim (below_or_last i j below) [
-          | inl less ↦ earlier_got handed j k less has given
-          | inr same ↦
-              let here : IsGiven m (is_twice twice i) i k = subst (λ x. IsGiven m (is_twice twice x) x k) same given in
-              subst (λ x. HasGot old new x k (issue m x)) (sym same)
-              (got_sooner {a = IsSpreading m to twice} before.ran (handed.got refl k here))
-        ];
-    stands = λ j k below has given.
-        elim (below_or_last i j below) [
-          | inl less ↦ earlier_stands handed j k less has given
-          | inr same ↦
-              let here : IsGiven m (is_twice twice i) i k = subst (λ x. IsGiven m (is_twice twice x) x k) same given in
-              subst (λ x. IsOnDisk old new x k (issue m x)) (sym same)
-              (IsKept-since (pulls_on {allowed = IsSpreading m to twice} i before.ran) (handed.stands refl k here))
-        ];
-    synced = λ j k below has some.
-        elim (below_or_last i j below) [
-          | inl less ↦ earlier_synced handed j k less has some
-          | inr same ↦
-              subst (λ x. IsPlaceSettled old new x k) (sym same)
-              (last_synced handed k (subst (λ x. IsSome (slot_state old x).size) same some))
-        ];
+    got = λ j k.
+        below_and_last (λ x. HasSlot to x → IsGiven m (is_twice twice x) x k → HasGot old new x k (issue m x)) i (λ x. earlier_got handed x k)
+        (λ has given. got_sooner {a = IsSpreading m to twice} before.ran (handed.got refl k given)) j;
+    stands = λ j k.
+        below_and_last (λ x. HasSlot to x → IsGiven m (is_twice twice x) x k → IsOnDisk old new x k (issue m x)) i (λ x. earlier_stands handed x k)
+        (λ has given. IsKept-since (pulls_on {allowed = IsSpreading m to twice} i before.ran) (handed.stands refl k given)) j;
+    synced = λ j k.
+        below_and_last (λ x. HasSlot to x → IsSome (slot_state old x).size → IsPlaceSettled old new x k) i (λ x. earlier_synced handed x k)
+        (λ has some. last_synced handed k some) j;
     steady = stays_join {allowed = IsSpreading m to twice} before.steady (spreading handed) handed.steady;
     apart = apart_join before.apart handed.apart;
     between = between_after handed;

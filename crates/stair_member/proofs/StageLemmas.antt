@@ -18,11 +18,11 @@ use Rattle.stair_rack.proofs.StandingLemmas.{standing_on}
 use Rattle.stair_super.specs.Spelling.{spelled}
 use Rattle.stair_super.specs.Superblock.{IsSuperblock}
 use Rattle.stair_super.specs.declared.configuration.Configuration.{Configuration}
-use Rattle.stair_member.specs.Changes.{issue}
+use Rattle.stair_member.specs.ChangesSteps.{issue}
 use Rattle.stair_member.specs.Counting.{AllBut}
 use Rattle.stair_member.specs.Editions.{Edition, copy_of, edition_of}
 use Rattle.stair_member.specs.Epochs.{AreReserved, AWrite, ASync, AsWas, Given, HasGot, IsDropped, IsIssuing, IsOnDisk, IsStanding, WasGiven}
-use Rattle.stair_member.specs.Handings.{HasPlaces, IsGiven, IsGivenOrNot, IsGiving, IsLeft, IsSpreading, IsUnsynced, PlacesBelow, SpreadBelow, Stands, StaysApart, StaysSettled, Syncs, Unsynced, Writes, is_twice, place_after}
+use Rattle.stair_member.specs.HandSteps.{HasPlaces, IsGiven, IsGivenOrNot, IsGiving, IsLeft, IsSpreading, IsUnsynced, PlacesBelow, SpreadBelow, Stands, StaysApart, StaysSettled, Syncs, Unsynced, Writes, is_twice, place_after}
 use Rattle.stair_member.specs.Membership.{Membership, IsMembership, place_of}
 use Rattle.stair_member.proofs.ApartLemmas.{apart_after, apart_none}
 use Rattle.stair_member.proofs.CountingLemmas.{all_but_mapped, has_or_not}

@@ -101,7 +101,7 @@ module _ (aim : Aim) (gone : Slots) (m last : Membership) (old new : List Happen
   -- no medium bore so late an epoch when the call began
   pub no_entry : (s : Superblock) (j : ℕ) → Bears m.array.geometry j ((image_now old j).cell) s → last.array.epoch ≤ s.array.epoch → ⊥
   no_entry s j bears least =
-      let most : s.array.epoch ≤ m.array.epoch = (known aim gone m last old new f new end image left r).latest j s bears in
+      let most : s.array.epoch ≤ m.array.epoch = (known f).latest j s bears in
       let within : m.array.epoch ≤ m.drawn = f.begun.member.known in
       let above : m.drawn < last.array.epoch = stands.above in
       omega arith

@@ -80,6 +80,19 @@ counts_bears g image j s counts =
       | Second a _ ↦ record { place = 1; place_in = omega arith; holds = a; slot = counts.slot; identity = counts.identity }
     ]
 
+-- what a medium bears is hidden by nothing where it is the medium's superblock: that one counts
+pub hidden_same : (g : Geometry) (image : Image) (j : ℕ) (s newest : Superblock) → Bears g j ((image j).cell) s → IsSuperOf ((image j).cell) newest
+    → newest ≡ s → Counts g image j newest × (s.array.epoch ≤ newest.array.epoch)
+hidden_same g image j s newest bears super same =
+    let epoch : newest.array.epoch ≡ s.array.epoch = ap (λ (t : Superblock). t.array.epoch) same in (
+      record {
+        super = super;
+        slot = ap (λ (t : Superblock). t.slot) same ∙ bears.slot;
+        identity = ap (λ (t : Superblock). t.array.geometry) same ∙ bears.identity;
+      },
+      omega arith,
+    )
+
 same_slot : (a b i j : ℕ) → (a < b) ⊎ ((a ≡ b) × (j ≤ i)) → (b < a) ⊎ ((b ≡ a) × (i ≤ j)) → i ≡ j
 same_slot a b i j (inl less) (inl more) = absurd (omega arith)
 same_slot a b i j (inl less) (inr more) = absurd (let e = more.0 in omega arith)

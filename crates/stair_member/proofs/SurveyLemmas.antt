@@ -10,7 +10,7 @@ use Rattle.stair_member.specs.Current.{IsCurrent}
 use Rattle.stair_member.specs.Findings.{Findings}
 use Rattle.stair_member.specs.Membership.{IsMembership, IsMissing, member_of}
 use Rattle.stair_member.specs.Reasons.{IsReason}
-use Rattle.stair_member.specs.Shows.{IsCurrentOf, IsFirst, Shows, Tells}
+use Rattle.stair_member.specs.JudgeSteps.{IsCurrentOf, IsFirst, Shows, Tells}
 use Rattle.stair_member.specs.Superblocks.{Identifies, IsOnlyIdentity}
 use Rattle.stair_member.specs.Survey.{IsGreatestDraw, IsSurveyed}
 use Rattle.stair_member.specs.declared.surveying.Sights.{Sights}

@@ -4,10 +4,10 @@ use Rattle.std.specs.Prelude.{◌||◌, nat_lt}
 use Rattle.std.proofs.lemmas.Bool.{and_from, and_parts, cond-true, eq-eqb, false≢true, lt-ltb, ltb-true}
 use Rattle.stair_model.specs.Slots.{Slots, HasSlot}
 use Rattle.stair_super.specs.declared.configuration.Configuration.{Configuration}
-use Rattle.stair_member.specs.Changes.{MayBegin}
+use Rattle.stair_member.specs.ChangesSteps.{MayBegin}
 use Rattle.stair_member.specs.Aims.{IsAimed, admitted, aimed, frozen_then, label_then}
 use Rattle.stair_member.specs.Establishing.{Did, HasBegun, NotYet}
-use Rattle.stair_member.specs.Handings.{is_twice}
+use Rattle.stair_member.specs.HandSteps.{is_twice}
 use Rattle.stair_member.specs.Membership.{Membership, IsHere, why_of}
 use Rattle.stair_member.specs.declared.aim.Aim.{Aim}
 use Rattle.stair_member.specs.declared.aim.Aim.TheVariants as aims

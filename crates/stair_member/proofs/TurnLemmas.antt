@@ -1,10 +1,10 @@
 -- While an epoch is established the places of a slot are written in turn: the other place only once the next one holds nothing
 -- of before.
-use Rattle.std.proofs.Common.{◌≡◌, ◌≢◌, ℕ, ◌+◌, ◌-◌, ◌<◌, ◌≤◌, List, [], ◌∷◌, ◌++◌, inl, inr, refl, sym, ap, ◌∙◌, subst, arith, None, Some}
+use Rattle.std.proofs.Common.{◌≡◌, ℕ, ◌-◌, ◌<◌, ◌≤◌, List, [], ◌∷◌, inl, inr, refl, sym, ap, ◌∙◌, subst, arith}
 use Rattle.std.specs.Prelude.{◌⊎◌, true, false, Contains, IsSome, slice_get, ⊤}
 use Rattle.std.proofs.lemmas.Bool.{cases_eq}
 use Rattle.stair_model.specs.Slots.{Slots, HasSlot}
-use Rattle.stair_rack.specs.Answers.{IsAnswered, Ran, is_good}
+use Rattle.stair_rack.specs.Answers.{Ran, is_good}
 use Rattle.stair_rack.specs.Crash.{CrashMayLeave, image_now}
 use Rattle.stair_rack.specs.History.{Happening, Made, Stopped, Acted, Called, SlotAct, Pulled, InsertedBlank, InsertedOld, SectorDamaged, SlotCall, SlotState, Attach, Sectors, Read, Write, Sync, after_act, after_call, slot_state}
 use Rattle.stair_rack.specs.Media.{Image}
@@ -22,10 +22,9 @@ use Rattle.stair_rack.proofs.StretchLemmas.{each_before, kept_where}
 use Rattle.stair_rack.proofs.TidyLemmas.{history_tidy}
 use Rattle.stair_super.specs.Spelling.{spelled}
 use Rattle.stair_super.specs.Superblock.{Superblock, IsSuperblock}
-use Rattle.stair_member.specs.Aims.{admitted}
 use Rattle.stair_member.specs.Editions.{Edition, copy_of}
 use Rattle.stair_member.specs.Epochs.{AsWas, Given, IsIssuing, IsStanding}
-use Rattle.stair_member.specs.Fencing.{IsFencing, IsKnownTo}
+use Rattle.stair_member.specs.Fencing.{IsFencing}
 use Rattle.stair_member.specs.Membership.{IsHere, Membership, place_of}
 use Rattle.stair_member.specs.Superblocks.{HoldsSuper}
 use Rattle.stair_member.specs.declared.aim.Aim.{Aim}

@@ -1,5 +1,6 @@
 -- The calls of a survey.
 use Rattle.std.specs.Prelude.{◌≡◌, ◌⊎◌, ℕ, zero, suc, List, ⊤}
+use Rattle.stair_model.specs.Device.{first_place, second_place}
 use Rattle.stair_rack.specs.Answers.{Calls, Ran, any_call}
 use Rattle.stair_rack.specs.History.{Happening, SlotCall, Attach, Sectors, Read, Write, Sync, slot_state}
 use Rattle.stair_rack.specs.Sector.{Cell, Damaged, content}
@@ -11,8 +12,8 @@ use Rattle.stair_rack.specs.declared.rack.Reply.TheVariants.{Done, Gone}
 pub data AsksSlot (j : ℕ) (old new : List Happening) : Type 0 where
   NotThere : Calls old new j (Attach Gone) → AsksSlot j old new
   There : (attached between : List Happening) (first second : Got)
-      → Calls old attached j (Attach Done) → Calls attached between j (Read 0 first)
-      → Calls between new j (Read 1 second) → AsksSlot j old new
+      → Calls old attached j (Attach Done) → Calls attached between j (Read first_place first)
+      → Calls between new j (Read second_place second) → AsksSlot j old new
 
 -- What a read that was answered so found in sector k of slot j, as it stands at h: its content, or nothing that can be read;
 -- and the slot counts as gone where it was gone to the read.
@@ -25,12 +26,13 @@ IsWhatWasRead gone got.Gone h j k cell = (cell ≡ Damaged) × gone
 -- The slot counts as gone where it was so to one of them, and nowhere else.
 pub data FindsSlot (gone : Type 0) (j : ℕ) (cell : ℕ → Cell) (old new : List Happening)
     : Type 0 where
-  FoundNone : Calls old new j (Attach Gone) → cell 0 ≡ Damaged → cell 1 ≡ Damaged → gone
-      → FindsSlot gone j cell old new
+  FoundNone : Calls old new j (Attach Gone) → cell first_place ≡ Damaged
+      → cell second_place ≡ Damaged → gone → FindsSlot gone j cell old new
   FoundBoth : (attached between : List Happening) (first second : Got)
-      → Calls old attached j (Attach Done) → Calls attached between j (Read 0 first)
-      → Calls between new j (Read 1 second) → IsWhatWasRead gone first between j 0 (cell 0)
-      → IsWhatWasRead gone second new j 1 (cell 1)
+      → Calls old attached j (Attach Done) → Calls attached between j (Read first_place first)
+      → Calls between new j (Read second_place second)
+      → IsWhatWasRead gone first between j first_place (cell first_place)
+      → IsWhatWasRead gone second new j second_place (cell second_place)
       → (gone → (first ≡ got.Gone) ⊎ (second ≡ got.Gone)) → FindsSlot gone j cell old new
 
 -- in a part of a stretch

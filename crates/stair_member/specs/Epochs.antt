@@ -1,5 +1,5 @@
 -- What establishing an epoch means: which superblocks are written, when an epoch stands, and why none does.
-use Rattle.std.specs.Prelude.{◌≡◌, ◌≢◌, ◌⊎◌, ℕ, ◌+◌, ◌-◌, ◌^◌, ◌<◌, ◌≤◌, true, IsTrue, List, [], Contains, Option, Some, IsSome}
+use Rattle.std.specs.Prelude.{◌≡◌, ◌⊎◌, ℕ, ◌+◌, ◌-◌, ◌^◌, ◌<◌, ◌≤◌, true, IsTrue, List, [], Contains, Option, Some, IsSome}
 use Rattle.stair_model.specs.Slots.{Slots, HasSlot, IsSlotSet}
 use Rattle.stair_rack.specs.Answers.{Ran, is_ready}
 use Rattle.stair_rack.specs.Count.{Rose}

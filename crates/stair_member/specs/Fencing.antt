@@ -1,5 +1,6 @@
 -- What the laws of epochs ask of the rack when a call begins, and of what the call writes.
 use Rattle.std.specs.Prelude.{◌≡◌, ◌≢◌, ℕ, ◌-◌, ◌<◌, ◌≤◌, List, [], Contains, Option, Some}
+use Rattle.stair_model.specs.Device.{first_place, second_place}
 use Rattle.stair_model.specs.Geometry.{Geometry}
 use Rattle.stair_model.specs.Slots.{Slots, HasSlot}
 use Rattle.stair_rack.specs.Answers.{IsHistory}
@@ -40,7 +41,8 @@ pub record IsCopy (slots : Slots) (editions : List Edition) (j : ℕ) (s : Super
 -- where slot j counts and no place of it is lost, it has drawn this epoch
 abbrev pub HasDrawn : Geometry → Image → ℕ → ℕ → Type 0
 HasDrawn g image epoch j = (s : Superblock) → Counts g image j s
-    → ¬ IsLost ((image j).cell 0) → ¬ IsLost ((image j).cell 1) → epoch ≤ s.draw
+    → ¬ IsLost ((image j).cell first_place) → ¬ IsLost ((image j).cell second_place)
+    → epoch ≤ s.draw
 
 -- what lies aside of a slot that takes part and is attached has the joined number that the member means
 abbrev pub HaveOwnNumbers : Membership → (ℕ → Type 0) → Image → Type 0
@@ -63,7 +65,7 @@ pub record IsKnownTo (joining : Option ℕ) (m : Membership) (attached : ℕ →
       → HoldsSuper ((image j).cell k) s → s.draw ≤ m.drawn
   -- the superblock of a slot that is here doesn't lie in the place that is written next, unless a place of it is lost
   pub aside : (j : ℕ) (s : Superblock) → IsHere m j → Counts m.array.geometry image j s
-      → ¬ IsLost ((image j).cell 0) → ¬ IsLost ((image j).cell 1)
+      → ¬ IsLost ((image j).cell first_place) → ¬ IsLost ((image j).cell second_place)
       → HoldsSuper ((image j).cell (1 - place_of m j)) s
   -- and whatever lies in the other place is of the admission that the member means
   pub own : HaveOwnNumbers m attached image

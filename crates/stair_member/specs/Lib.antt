@@ -11,12 +11,12 @@ pub mod Membership
 pub mod StoredMember
 pub mod Survey
 pub mod Seeing
-pub mod Shows
+pub mod JudgeSteps
 pub mod Aims
 pub mod Editions
 pub mod Epochs
 pub mod Fencing
 pub mod Establishing
-pub mod Changes
-pub mod Handings
-pub mod Rounds
+pub mod ChangesSteps
+pub mod HandSteps
+pub mod RoundSteps

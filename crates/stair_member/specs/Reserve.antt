@@ -1,5 +1,6 @@
 -- The order of an array's superblocks, of those too that a newer one hides.
 use Rattle.std.specs.Prelude.{◌≡◌, ◌≢◌, ◌<◌, ◌≤◌, ◌⊎◌, ℕ}
+use Rattle.stair_model.specs.Device.{first_place, second_place}
 use Rattle.stair_model.specs.Geometry.{Geometry}
 use Rattle.stair_rack.specs.Media.{Image}
 use Rattle.stair_rack.specs.Sector.{Cell}
@@ -26,12 +27,14 @@ NoEpochAbove g image draw = (j : ℕ) (s : Superblock) → Bears g j ((image j).
 -- where slot j counts and no place of it is lost, its draw is at least every epoch that a medium bears
 abbrev pub HasReserved : Geometry → Image → ℕ → Type 0
 HasReserved g image j = (s : Superblock) → Counts g image j s
-    → ¬ IsLost ((image j).cell 0) → ¬ IsLost ((image j).cell 1) → NoEpochAbove g image s.draw
+    → ¬ IsLost ((image j).cell first_place) → ¬ IsLost ((image j).cell second_place)
+    → NoEpochAbove g image s.draw
 
 -- where slot j counts and no place of it is lost, its superblock names this epoch or a later one
 abbrev pub HasReached : Geometry → Image → ℕ → ℕ → Type 0
 HasReached g image epoch j = (s : Superblock) → Counts g image j s
-    → ¬ IsLost ((image j).cell 0) → ¬ IsLost ((image j).cell 1) → epoch ≤ s.array.epoch
+    → ¬ IsLost ((image j).cell first_place) → ¬ IsLost ((image j).cell second_place)
+    → epoch ≤ s.array.epoch
 
 -- a medium whose superblock marks its slot Live hides none with another joined number
 abbrev pub HidesNoOther : Geometry → Image → Type 0

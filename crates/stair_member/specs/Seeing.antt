@@ -1,5 +1,6 @@
 -- What a look at a medium that is to be admitted tells a member.
 use Rattle.std.specs.Prelude.{◌≡◌, ◌≢◌, ℕ, Option, None, Some, max}
+use Rattle.stair_model.specs.Device.{first_place, second_place}
 use Rattle.stair_rack.specs.Sector.{Cell}
 use Rattle.stair_super.specs.Superblock.{Superblock}
 use Rattle.stair_member.specs.Membership.{Membership, place_of}
@@ -16,6 +17,6 @@ pub record Sees (j : ℕ) (first second : Option Superblock) (m seen : Membershi
   pub array : seen.array ≡ m.array
   pub whys : seen.whys ≡ m.whys
   pub drawn : seen.drawn ≡ max (max m.drawn (draw_in first)) (draw_in second)
-  pub next : (cell : ℕ → Cell) → HoldsThis (cell 0) first → HoldsThis (cell 1) second
-      → IsNextPlace cell (place_of seen j)
+  pub next : (cell : ℕ → Cell) → HoldsThis (cell first_place) first
+      → HoldsThis (cell second_place) second → IsNextPlace cell (place_of seen j)
   pub others : (i : ℕ) → i ≢ j → place_of seen i ≡ place_of m i

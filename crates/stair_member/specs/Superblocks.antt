@@ -1,5 +1,6 @@
 -- The superblocks of media, and which array stands by them.
 use Rattle.std.specs.Prelude.{◌≡◌, ◌<◌, ℕ, List, Option, None, Some}
+use Rattle.stair_model.specs.Device.{first_place, second_place}
 use Rattle.stair_model.specs.Geometry.{Geometry}
 use Rattle.stair_rack.specs.Media.{Image}
 use Rattle.stair_rack.specs.Sector.{Cell, Good}
@@ -28,11 +29,11 @@ pub record HasSuper (cell : ℕ → Cell) : Type 0 where
 
 -- The superblock of a medium with these cells: of those in its two places the newer one, and the first at a tie.
 pub data IsSuperOf (cell : ℕ → Cell) (s : Superblock) : Type 0 where
-  First : HoldsSuper (cell 0) s
-      → ((other : Superblock) → HoldsSuper (cell 1) other → ¬ IsOlder s other)
+  First : HoldsSuper (cell first_place) s
+      → ((other : Superblock) → HoldsSuper (cell second_place) other → ¬ IsOlder s other)
       → IsSuperOf cell s
-  Second : HoldsSuper (cell 1) s
-      → ((other : Superblock) → HoldsSuper (cell 0) other → IsOlder other s)
+  Second : HoldsSuper (cell second_place) s
+      → ((other : Superblock) → HoldsSuper (cell first_place) other → IsOlder other s)
       → IsSuperOf cell s
 
 -- It is the superblock of slot j's medium and counts for this array: it names the slot in which it lies.

@@ -1,5 +1,6 @@
 -- What a survey answers for what it found.
 use Rattle.std.specs.Prelude.{◌≡◌, ◌⊎◌, ℕ, ◌-◌, ◌<◌, ◌≤◌, IsTrue, Result, Ok, Err}
+use Rattle.stair_model.specs.Device.{first_place, second_place}
 use Rattle.stair_model.specs.Geometry.{Geometry}
 use Rattle.stair_model.specs.Slots.{HasSlot}
 use Rattle.stair_rack.specs.Answers.{IsHistory}
@@ -29,8 +30,9 @@ pub record IsGreatestDraw (g : Geometry) (image : Image) (draw : ℕ) : Type 0 w
 
 -- in which place of a medium with these cells its superblock lies: in the first where both hold it
 pub data IsPlaceOf (cell : ℕ → Cell) (s : Superblock) : ℕ → Type 0 where
-  InFirst : HoldsSuper (cell 0) s → IsPlaceOf cell s 0
-  InSecond : HoldsSuper (cell 1) s → ¬ HoldsSuper (cell 0) s → IsPlaceOf cell s 1
+  InFirst : HoldsSuper (cell first_place) s → IsPlaceOf cell s first_place
+  InSecond : HoldsSuper (cell second_place) s → ¬ HoldsSuper (cell first_place) s
+      → IsPlaceOf cell s second_place
 
 -- the place that doesn't hold the medium's superblock, where it has one
 pub record IsNextPlace (cell : ℕ → Cell) (next : ℕ) : Type 0 where

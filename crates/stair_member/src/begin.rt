@@ -2,7 +2,7 @@
 ghost use Rattle.std.specs.Prelude.{◌≡◌, ◌≢◌, ◌<◌, ◌≤◌, ◌⊎◌, ℕ, Some, length, slice_index, slice_index_or};
 ghost use Rattle.stair_super.specs.Label.{IsLabel};
 ghost use Rattle.stair_super.specs.declared.mark.Mark.TheVariants as mark;
-ghost use Rattle.stair_member.specs.Changes.{Names, joined_then};
+ghost use Rattle.stair_member.specs.ChangesSteps.{Names, joined_then};
 ghost use Rattle.stair_member.specs.Aims.{aimed, frozen_then, label_then, mark_for};
 ghost use Rattle.stair_member.specs.declared.aim.Aim.TheVariants as admit;
 ghost use Rattle.stair_member.specs.declared.why.Why.TheVariants as why;

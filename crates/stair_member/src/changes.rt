@@ -3,7 +3,7 @@ ghost use Rattle.std.specs.Prelude.{◌≡◌, ◌≢◌, ◌+◌, ◌-◌, ◌^
 ghost use Rattle.stair_model.specs.Slots.{HasSlot, IsSlotSet};
 ghost use Rattle.stair_super.specs.Superblock.{IsSuperblock, mark_in};
 ghost use Rattle.stair_super.specs.declared.mark.Mark.TheVariants as mark;
-ghost use Rattle.stair_member.specs.Changes.{
+ghost use Rattle.stair_member.specs.ChangesSteps.{
   Begins,
   IsLiveSlot,
   MayBegin,

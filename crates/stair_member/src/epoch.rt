@@ -2,7 +2,7 @@ ghost use Rattle.std.specs.Prelude.{◌≡◌, ◌≢◌, ◌<◌, ℕ, Some};
 ghost use Rattle.stair_model.specs.Slots.{HasSlot};
 ghost use Rattle.stair_super.specs.Superblock.{mark_in};
 ghost use Rattle.stair_super.specs.declared.mark.Mark.TheVariants as mark;
-ghost use Rattle.stair_member.specs.Changes.{MayBegin};
+ghost use Rattle.stair_member.specs.ChangesSteps.{MayBegin};
 ghost use Rattle.stair_member.specs.Aims.{admitted};
 ghost use Rattle.stair_member.specs.Establishing.{Fences, Joins, Stamps};
 ghost use Rattle.stair_member.specs.Membership.{IsMembership, why_of};

@@ -1,9 +1,9 @@
 // Establishing an epoch.
 ghost use Rattle.std.specs.Prelude.{◌≡◌, ◌≢◌, ℕ, Some};
-ghost use Rattle.stair_member.specs.Changes.{MayBegin};
+ghost use Rattle.stair_member.specs.ChangesSteps.{MayBegin};
 ghost use Rattle.stair_member.specs.Aims.{admitted};
 ghost use Rattle.stair_member.specs.Membership.{IsMembership, why_of};
-ghost use Rattle.stair_member.specs.Rounds.{HasEstablished, left_after};
+ghost use Rattle.stair_member.specs.RoundSteps.{HasEstablished, left_after};
 ghost use Rattle.stair_rack.specs.Told.{told};
 ghost use Rattle.stair_member.specs.declared.why.Why.TheVariants as why;
 

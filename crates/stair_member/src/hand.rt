@@ -5,8 +5,8 @@ ghost use Rattle.stair_rack.specs.Count.{Rose};
 ghost use Rattle.stair_rack.specs.RackCounts.{NoneFalls};
 ghost use Rattle.stair_super.specs.Superblock.{mark_in};
 ghost use Rattle.stair_super.specs.declared.mark.Mark.TheVariants as mark;
-ghost use Rattle.stair_member.specs.Changes.{turned};
-ghost use Rattle.stair_member.specs.Handings.{Handed, PlacesBelow, PlacesHanded, Spread, is_twice};
+ghost use Rattle.stair_member.specs.ChangesSteps.{turned};
+ghost use Rattle.stair_member.specs.HandSteps.{Handed, PlacesBelow, PlacesHanded, Spread, is_twice};
 ghost use Rattle.stair_member.specs.Membership.{IsMembership};
 
 use crate::member::Member;

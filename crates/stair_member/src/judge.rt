@@ -4,7 +4,7 @@ ghost use Rattle.stair_model.specs.Slots.{HasSlot, IsSlotSet};
 ghost use Rattle.stair_rack.specs.Media.{Image};
 ghost use Rattle.stair_super.specs.Superblock.{IsSuperblock};
 ghost use Rattle.stair_member.specs.Reasons.{IsReason};
-ghost use Rattle.stair_member.specs.Shows.{
+ghost use Rattle.stair_member.specs.JudgeSteps.{
   IsCounting,
   IsCountingFor,
   IsCurrentOf,

@@ -1,16 +1,18 @@
 // What is looked at in a slot.
 ghost use Rattle.std.specs.Prelude.{◌≡◌, ◌<◌, ◌⊎◌, ◌↔◌, ℕ, IsTrue};
+ghost use Rattle.stair_model.specs.Device.{first_place, second_place};
 ghost use Rattle.stair_rack.specs.Answers.{Calls, IsHistory};
 ghost use Rattle.stair_rack.specs.History.{Read};
 ghost use Rattle.stair_rack.specs.RackCounts.{NoneFalls, RisesAtMost};
 ghost use Rattle.stair_rack.specs.Sector.{Cell};
 ghost use Rattle.stair_rack.specs.declared.rack.Got.{Got as Answer};
 ghost use Rattle.stair_member.specs.Asked.{AsksSlot};
-ghost use Rattle.stair_member.specs.Shows.{IsNewest, IsSeen, IsSight, block_in};
+ghost use Rattle.stair_member.specs.JudgeSteps.{IsNewest, IsSeen, IsSight, block_in};
 ghost use Rattle.stair_member.specs.Superblocks.{HoldsThis};
 ghost use Rattle.stair_member.specs.Survey.{IsNextPlace};
 ghost use Rattle.stair_rack.specs.Told.{told};
 
+use stair_base::{FIRST_PLACE, SECOND_PLACE};
 use stair_rack::{Got, Rack, Reply};
 use stair_super::{Super, is_older, newer_of, read_super};
 
@@ -48,12 +50,12 @@ pub(crate) fn look_at<R: Rack>(rack: &mut R, slot: u8) -> Sight
     if rack.attach(slot) == Reply::Gone {
         return Sight {
             newest: None,
-            next: 0,
+            next: FIRST_PLACE,
             gone: true,
         };
     }
-    let first = read_place(rack, slot, 0);
-    let second = read_place(rack, slot, 1);
+    let first = read_place(rack, slot, FIRST_PLACE);
+    let second = read_place(rack, slot, SECOND_PLACE);
     sight_of(first, second)
 }
 
@@ -78,10 +80,10 @@ fn read_place<R: Rack>(rack: &mut R, slot: u8, place: u32) -> Seen
 }
 
 fn sight_of(first: Seen, second: Seen) -> Sight
-    ensures newest { (cell : ℕ → Cell) → HoldsThis (cell 0) (block_in first) →
-        HoldsThis (cell 1) (block_in second) → IsNewest cell result.newest }
-    ensures next { (cell : ℕ → Cell) → HoldsThis (cell 0) (block_in first) →
-        HoldsThis (cell 1) (block_in second) → IsNextPlace cell result.next }
+    ensures newest { (cell : ℕ → Cell) → HoldsThis (cell first_place) (block_in first) →
+        HoldsThis (cell second_place) (block_in second) → IsNewest cell result.newest }
+    ensures next { (cell : ℕ → Cell) → HoldsThis (cell first_place) (block_in first) →
+        HoldsThis (cell second_place) (block_in second) → IsNextPlace cell result.next }
     ensures gone { IsTrue result.gone ↔ ((first ≡ Seen.Gone) ⊎ (second ≡ Seen.Gone)) }
 {
     let one = block_of(first);
@@ -110,13 +112,19 @@ fn block_of(seen: Seen) -> Option<Super>
 
 // The place that doesn't hold the newer one of these; the second where both are equal.
 pub(crate) fn next_place(first: Option<Super>, second: Option<Super>) -> u32
-    ensures place { (cell : ℕ → Cell) → HoldsThis (cell 0) first → HoldsThis (cell 1) second →
-        IsNextPlace cell result }
+    ensures place { (cell : ℕ → Cell) → HoldsThis (cell first_place) first →
+        HoldsThis (cell second_place) second → IsNextPlace cell result }
     ensures below { result < 2 }
 {
     match (first, second) {
-        (Some(first), Some(second)) => { if is_older(&first, &second) { 0 } else { 1 } }
-        (Some(_), None) => 1,
-        (None, _) => 0,
+        (Some(first), Some(second)) => {
+            if is_older(&first, &second) {
+                FIRST_PLACE
+            } else {
+                SECOND_PLACE
+            }
+        }
+        (Some(_), None) => SECOND_PLACE,
+        (None, _) => FIRST_PLACE,
     }
 }

@@ -139,8 +139,8 @@ impl Member {
         self.whys[usize::from(slot)]
     }
 
-    /// The place, 0 or 1, that the next superblock of the slot, a number below 32, is written to: the one that doesn't
-    /// hold its newest.
+    /// The place, `FIRST_PLACE` or `SECOND_PLACE`, that the next superblock of the slot, a number below 32, is written to: the
+    /// one that doesn't hold its newest.
     pub fn next_place(&self, slot: u8) -> u32
         requires { slot < 32 }
         ensures value { result ≡ place_of self.now slot }

@@ -1,10 +1,10 @@
 // One round of establishing an epoch.
 ghost use Rattle.std.specs.Prelude.{◌≡◌, Ok, Err, Option};
 ghost use Rattle.stair_rack.specs.RackCounts.{NoneFalls};
-ghost use Rattle.stair_member.specs.Changes.{MayBegin};
+ghost use Rattle.stair_member.specs.ChangesSteps.{MayBegin};
 ghost use Rattle.stair_member.specs.Aims.{admitted};
 ghost use Rattle.stair_member.specs.Membership.{IsMembership, place_of};
-ghost use Rattle.stair_member.specs.Rounds.{BeganOut, Draws, IsRound};
+ghost use Rattle.stair_member.specs.RoundSteps.{BeganOut, Draws, IsRound};
 ghost use Rattle.stair_rack.specs.Told.{told};
 
 use crate::aim::Aim;

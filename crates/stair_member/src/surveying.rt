@@ -4,7 +4,7 @@ ghost use Rattle.stair_rack.specs.RackCounts.{NoneFalls, RisesAtMost};
 ghost use Rattle.stair_member.specs.Asked.{AsksBelow};
 ghost use Rattle.stair_member.specs.Findings.{Findings};
 ghost use Rattle.stair_member.specs.Membership.{IsMembership};
-ghost use Rattle.stair_member.specs.Shows.{AreSights, Tells};
+ghost use Rattle.stair_member.specs.JudgeSteps.{AreSights, Tells};
 ghost use Rattle.stair_member.specs.Survey.{IsAnswer, Surveys};
 ghost use Rattle.stair_rack.specs.Told.{told};
 

@@ -5,7 +5,7 @@ ghost use Rattle.std.specs.Prelude.{◌<◌};
 mod epochs;
 mod finding;
 
-use stair_base::Slots;
+use stair_base::{FIRST_PLACE, SECOND_PLACE, Slots};
 use stair_memrack::{Act, MemRack};
 use stair_rack::Rack;
 use std::alloc::{AllocError, Global};
@@ -72,7 +72,7 @@ fn rack_of(alloc: Global, block: Block, script: &[Act]) -> Result<MemRack, Alloc
     let mut rack = MemRack::new(alloc, 4, 3, script, 400)?;
     for slot in 0..4u8 {
         let joined = block.seats[usize::from(slot)].1;
-        for place in 0..2 {
+        for place in [FIRST_PLACE, SECOND_PLACE] {
             put(
                 &mut rack,
                 slot,

@@ -27,7 +27,7 @@ use Rattle.stair_memrack.specs.Script.{after_acts}
 use Rattle.stair_memrack.specs.Shelf.{Written, with_write, writes_in, IsPlaceOf, IsShelfOf, HasRoom, AreBlanks, acts_from, place_at}
 use Rattle.stair_memrack.specs.Record.{MemRackState, slot_call, recorded, after_late, stopped_by_record, history_of, has_room, moment, got_of, call_is_gone, call_is_bad, call_is_read, IsAnswerTo, counted, with_call, lets_go, without_room, after_call}
 use Rattle.stair_memrack.specs.Sound.{state_of, IsSoundRecord, IsSound}
-use Rattle.stair_memrack.specs.OneCall.{IsOneCall}
+use Rattle.stair_memrack.specs.RackSteps.{IsOneCall}
 use Rattle.stair_memrack.proofs.RunLemmas.{left_out, told_attach, record_stops, moment-spent, history-told, history-untold, history-with_room, calls_of}
 use Rattle.stair_memrack.proofs.WriteLemmas.{pending-within, moment-writes}
 use Rattle.stair_memrack.proofs.CallLemmas.{IsCalled, called}

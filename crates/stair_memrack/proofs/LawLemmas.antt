@@ -27,7 +27,9 @@ use Rattle.stair_rack.proofs.StretchLemmas.{IsUndamaged, Whole, answered_wider, 
 use Rattle.stair_rack.proofs.StandingLemmas.{has_lower, medium_on, settled_on, settled_or, settled_throughout, standing_on, standing_throughout, standing_while}
 use Rattle.stair_rack.proofs.ReadLemmas.{read_answered, ready_unpulled, was_read_bad, was_read_found, was_read_gone, was_read_good, was_read_mapped, was_read_wider}
 use Rattle.stair_rack.proofs.MediumLemmas.{EachMedium-mapped, MediumKeeps, media_left, media_made, media_throughout, media_while}
-use Rattle.stair_rack.proofs.PlacedLemmas.{Placed-agrees, Placed-from, Placed-same, SyncStep-call, WriteStep-call, phase_whole, writing_more, writing_none}
+use Rattle.stair_rack.proofs.WritingLemmas.{SyncStep-call, WriteStep-call, writing_more, writing_none}
+use Rattle.stair_rack.proofs.PlacedLemmas.{Placed-agrees, Placed-from, Placed-same}
+use Rattle.stair_rack.proofs.KeepingLemmas.{phase_whole}
 use Rattle.stair_rack.proofs.InTurnLemmas.{in_turn_more, in_turn_none, in_turn_same, in_turn_stop, in_turn_whole, phase_placing}
 use Rattle.stair_memrack.specs.Terms.{HoldsNot, IsBelow, any_cell, by_slot, copies, no_sync, no_write, no_write_of}
 

@@ -7,7 +7,7 @@ pub mod Shelf
 pub mod Picks
 pub mod Left
 pub mod Sound
-pub mod OneCall
+pub mod RackSteps
 pub mod Wild
 pub mod WildSound
 pub mod Terms

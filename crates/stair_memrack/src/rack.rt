@@ -8,7 +8,7 @@ ghost use Rattle.stair_rack.specs.RackCounts.{NoneFalls, CountsRead};
 ghost use Rattle.stair_memrack.specs.declared.record.Call.TheVariants as Call;
 ghost use Rattle.stair_memrack.specs.Shelf.{blank_for};
 ghost use Rattle.stair_memrack.specs.Record.{blank_image, new_rack, history_of, moment, call_is_gone, call_is_bad, call_is_read, IsAnswerTo, after_call};
-ghost use Rattle.stair_memrack.specs.OneCall.{IsOneCall};
+ghost use Rattle.stair_memrack.specs.RackSteps.{IsOneCall};
 ghost use Rattle.stair_memrack.specs.Picks.{crash_image, HasPicks};
 ghost use Rattle.stair_rack.specs.Crash.{CrashMayLeave};
 ghost use Rattle.stair_rack.specs.Media.{Image};

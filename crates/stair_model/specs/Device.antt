@@ -20,7 +20,14 @@ IsOnDevice g Gate = ⊤
 IsOnDevice g (Body row slot) = (row < g.r) × (slot < g.n)
 IsOnDevice g (Chunk stripe row) = (stripe < g.stripes) × (row < g.r)
 
--- the gate follows the two superblock places
+-- the two superblock places come first
+abbrev pub first_place : ℕ
+first_place = 0
+
+abbrev pub second_place : ℕ
+second_place = 1
+
+-- the gate follows them
 abbrev pub gate_sector : ℕ
 gate_sector = 2
 

@@ -17,7 +17,7 @@ use Rattle.stair_rack.proofs.MomentLemmas.{ran_none, ran_join, ran_weakened, ran
 use Rattle.stair_rack.proofs.KeptLemmas.{keeps_sector, IsKept-mapped, IsKept-now, IsKept-onward, IsKept-since}
 use Rattle.stair_rack.proofs.OfflineLemmas.{pulls_on, held_on}
 use Rattle.stair_rack.proofs.CrashLemmas.{Leaves-mapped}
-use Rattle.stair_rack.proofs.PlacedLemmas.{reach_on}
+use Rattle.stair_rack.proofs.WritingLemmas.{reach_on}
 
 -- what a crash may leave of a sector that is as it was, or that the outside damaged, and of more slots
 over_on : (x was : Sector) → (x ≡ damaged) ⊎ (x ≡ was) → (cell : Cell) → IsOver x cell → IsOver was cell

@@ -9,7 +9,9 @@ pub mod CrashLemmas
 pub mod CallLemmas
 pub mod PassLemmas
 pub mod PassCounts
+pub mod WritingLemmas
 pub mod PlacedLemmas
+pub mod KeepingLemmas
 pub mod PhaseLemmas
 pub mod PhaseCounts
 pub mod StretchLemmas

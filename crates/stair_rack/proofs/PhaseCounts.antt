@@ -12,7 +12,7 @@ use Rattle.stair_rack.specs.Writing.{Writing}
 use Rattle.stair_rack.specs.declared.rack.Reply.{Reply}
 use Rattle.stair_rack.specs.declared.rack.Reply.TheVariants as reply
 use Rattle.stair_rack.proofs.PassCounts.{Seen, NoneFalls-same, NoneFalls-then}
-use Rattle.stair_rack.proofs.PlacedLemmas.{writing_none, Writing-same}
+use Rattle.stair_rack.proofs.WritingLemmas.{writing_none, Writing-same}
 use Rattle.stair_rack.proofs.PhaseLemmas.{writing_one, Writing-asked, writing_then, Placed-ended}
 
 -- ONE SLOT

@@ -16,7 +16,8 @@ use Rattle.stair_rack.proofs.StepLemmas.{kept}
 use Rattle.stair_rack.proofs.MomentLemmas.{ran_none, ran_join, ran_weakened, at_some_wider}
 use Rattle.stair_rack.proofs.KeptLemmas.{keeps_sector, IsKept-since}
 use Rattle.stair_rack.proofs.OfflineLemmas.{pulls_on, held_on, offline_on}
-use Rattle.stair_rack.proofs.PlacedLemmas.{writing_none, writing_more, Writing-same, WriteStep, WriteStep-call, WriteStep-pass, SyncStep-pass, Placed-from, Placed-same, reach_on, beside_writes}
+use Rattle.stair_rack.proofs.WritingLemmas.{writing_none, writing_more, Writing-same, WriteStep, WriteStep-call, WriteStep-pass, SyncStep-pass, reach_on, beside_writes}
+use Rattle.stair_rack.proofs.PlacedLemmas.{Placed-from, Placed-same}
 
 -- ONE STEP ALONE
 

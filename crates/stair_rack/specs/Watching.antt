@@ -1,5 +1,5 @@
 -- Watchers: what each is told, and when it leaves.
-use Rattle.std.specs.Prelude.{◌≡◌, ◌+◌, ◌-◌, ◌<◌, ◌↔◌, ℕ, Bool, true, false, List, [], ◌∷◌, ◌++◌, Option, None, Some, length, slice_get, IfSome, if◌then◌else◌}
+use Rattle.std.specs.Prelude.{◌≡◌, ◌+◌, ◌-◌, ◌<◌, ◌↔◌, ℕ, Bool, true, false, List, [], ◌∷◌, ◌++◌, Option, length, slice_get, IfSome, if◌then◌else◌}
 use Rattle.std.specs.Option.{option_map, option_and_then}
 use Rattle.stair_rack.specs.declared.watcher.Counts.{Counts}
 use Rattle.stair_rack.specs.declared.watcher.Event.{Event}
@@ -13,19 +13,19 @@ kind_of (event.Repaired stripe cells) = Repaired
 kind_of (event.Admitted slot) = Admitted
 kind_of (event.Promoted slot) = Promoted
 
--- the event is of this kind
-abbrev pub is_of : EventKind → Event → Bool
-is_of Fenced (event.Fenced slot) = true
-is_of Repaired (event.Repaired stripe cells) = true
-is_of Admitted (event.Admitted slot) = true
-is_of Promoted (event.Promoted slot) = true
-is_of kind other = false
+-- both are one kind
+abbrev pub is_kind : EventKind → EventKind → Bool
+is_kind Fenced Fenced = true
+is_kind Repaired Repaired = true
+is_kind Admitted Admitted = true
+is_kind Promoted Promoted = true
+is_kind kind other = false
 
 -- how many of these events are of this kind
 abbrev pub count_of : EventKind → List Event → ℕ
 count_of kind [] = 0
 count_of kind (one ∷ events) =
-    if is_of kind one then count_of kind events + 1 else count_of kind events
+    if is_kind kind (kind_of one) then count_of kind events + 1 else count_of kind events
 
 -- the counts of all kinds
 abbrev pub counts_of : (EventKind → ℕ) → Counts

@@ -1,8 +1,8 @@
 // What is told of an array as it changes, and who is told.
-ghost use Rattle.std.specs.Prelude.{◌≡◌, ◌↔◌, ◌≤◌, ◌^◌, ◌-◌, ℕ, Bool, IsTrue, List, Option, true, false};
+ghost use Rattle.std.specs.Prelude.{◌≡◌, ◌↔◌, ◌≤◌, ◌^◌, ◌-◌, ℕ, Bool, IfSome, IsTrue, List, [], Option, true, false};
 ghost use Rattle.stair_rack.specs.declared.watcher.Event.{Event};
 ghost use Rattle.stair_rack.specs.declared.watcher.EventKind.{EventKind};
-ghost use Rattle.stair_rack.specs.Watching.{HearsOne, Patience, counts_of, event_at, sum_of_counts, watcher_view};
+ghost use Rattle.stair_rack.specs.Watching.{HearsOne, IsPatient, Patience, counts_of, event_at, sum_of_counts, watcher_view};
 
 /// What was done to the slots of an array, or to the cells of a stripe.
 #[derive(Clone, Copy, Debug, PartialEq, Eq, Drop)]
@@ -95,4 +95,7 @@ pub trait Watcher: Drop {
     /// Event number `at` of those that it tells, counted from 0, and `None` exactly where it tells none or has no such event.
     fn kept(&self, at: u64) -> Option<Event>
         ensures { result ≡ event_at (told self.now) at };
+
+    // One that hasn't left waits for an event more at least.
+    ghost waits: { (w : Self) → left w ≡ false → IfSome (patience w) (IsPatient []) };
 }

@@ -12,7 +12,7 @@ use Rattle.stair_model.proofs.StripeLaws.{number_in}
 use Rattle.stair_model.proofs.UnitLaws.{unit_encoding-data}
 use Rattle.stair_std.specs.Cells.{is_parity_number, parities_before, byte_of_number, IsPart}
 use Rattle.stair_std.specs.Coefficients.{IsGenerator, parity_cells, coefficient_number}
-use Rattle.stair_std.specs.Units.{AreUnits, HasColumnSet}
+use Rattle.stair_std.specs.UnitsSteps.{AreUnits, HasColumnSet}
 use Rattle.stair_std.specs.declared.cells.Part.TheVariants.{Parity}
 use Rattle.stair_std.proofs.Numbers.{bytes_at-number, cell_of-number, is_block, next_row, next_slot, parities_before-parity, parity_in, row_in, row_of_number, slot_in, slot_of_number}
 use Rattle.stair_std.proofs.UnitStripes.{units_agree}

@@ -11,7 +11,7 @@ use Rattle.stair_model.proofs.StripeLaws.{byte_of-lt, number_in}
 use Rattle.stair_model.proofs.LinearLaws.{words_agree}
 use Rattle.stair_model.proofs.UnitLaws.{unit_encoding-data}
 use Rattle.stair_std.specs.Cells.{cell_of_number, is_parity_number, blocks_before, byte_of_number}
-use Rattle.stair_std.specs.Units.{unit_byte, AreUnitBlocks, AreUnits}
+use Rattle.stair_std.specs.UnitsSteps.{unit_byte, AreUnitBlocks, AreUnits}
 use Rattle.stair_std.proofs.Numbers.{bytes_at-number, bytes_of-put, bytes_of-kept, bytes_of-number, cell_at-number, cell_of-number, block_number, block_cell, is_block, row_in, slot_in}
 
 -- ---- one block of the stripe

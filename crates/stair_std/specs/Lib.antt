@@ -4,4 +4,4 @@ pub mod Coefficients
 pub mod Kept
 pub mod KeptCoefficients
 pub mod Standard
-pub mod Units
+pub mod UnitsSteps

@@ -6,7 +6,7 @@ ghost use Rattle.stair_model.specs.Geometry.{IsWithinLimits, data_cells};
 ghost use Rattle.stair_model.specs.Stripe.{IsStripeOf, SECTOR};
 ghost use Rattle.stair_std.specs.Cells.{AreParts};
 ghost use Rattle.stair_std.specs.Coefficients.{parity_cells};
-ghost use Rattle.stair_std.specs.Units.{AreUnitBlocks, AreUnits, HasColumnSet, unit_byte};
+ghost use Rattle.stair_std.specs.UnitsSteps.{AreUnitBlocks, AreUnits, HasColumnSet, unit_byte};
 
 use crate::cells::{Part, block_at, cell_count, part_at, row_and_slot};
 use stair_base::{Geometry, SECTOR, Stripe};

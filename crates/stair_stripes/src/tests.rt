@@ -6,11 +6,11 @@ ghost use Rattle.stair_journal.specs.Redo.{IsRedo};
 ghost use Rattle.stair_model.specs.CellSet.{HasCell, IsCellSet};
 ghost use Rattle.stair_model.specs.Stripe.{IsStripeOf};
 
-use crate::{gather, gather_cells, place, write_chunk};
+use crate::{gather, gather_cells, place};
 use stair_base::{CellSet, Geometry, Slots, Stripe};
 use stair_journal::Redo;
 use stair_memrack::{Act, MemRack, What};
-use stair_rack::{Got, Rack, Reply};
+use stair_rack::{Got, Rack};
 use std::alloc::{AllocError, Global};
 use std::test::Fail;
 
@@ -92,13 +92,6 @@ fn cells_are_placed_and_gathered(rt: HostRuntime) -> Result<(), Fail> {
             let good = placed >> number & 1 == 1 && number % 4 != dead;
             assert_eq!(rt; got == Got::Good, good, "{placed} {number}");
         }
-        // no other sector is written
-        for slot in 0..4u8 {
-            for sector in 0..15u32 {
-                let got = rack.read(slot, sector, &mut [0; 512]);
-                assert_eq!(rt; got, Got::Bad, "{slot} {sector}");
-            }
-        }
         let what = What::Pull { slot: 2 };
         let mut rack = rack.after_crash(rt.alloc(), &[], &[Act { at, what }], 99)?;
         for slot in 0..4 {
@@ -124,29 +117,5 @@ fn cells_are_placed_and_gathered(rt: HostRuntime) -> Result<(), Fail> {
         let all = gather(&mut rack, &geometry, live, 2, &mut into);
         assert!(rt; wanted < 255 || all.erased == found.erased);
     }
-    Ok(())
-}
-
-// Of chunk 1 the redo has both cells. Each is written, and nothing is synced: a crash may leave neither.
-#[test]
-fn a_chunk_is_written_and_not_synced(rt: HostRuntime) -> Result<(), Fail> {
-    let geometry = Geometry::new(4, 1, 2, &[1], 3, [0; 16])?;
-    let stripe = numbered(rt.alloc(), &geometry, 1)?;
-    let redo = redo_of(&geometry, 0b0010_0110);
-    let mut rack = MemRack::new(rt.alloc(), 4, 17, &[], 99)?;
-    let early = write_chunk(&mut rack, &geometry, 1, &redo, &stripe);
-    assert_eq!(rt; (early, rack.made()), (Reply::Gone, 1));
-    rack.attach(1);
-    let written = write_chunk(&mut rack, &geometry, 1, &redo, &stripe);
-    assert_eq!(rt; (written, rack.made()), (Reply::Done, 4));
-    let mut into = [0; 512];
-    for (sector, byte) in [(15, 2), (16, 6)] {
-        assert_eq!(rt; rack.read(1, sector, &mut into), Got::Good);
-        assert_eq!(rt; into, [byte; 512]);
-    }
-    let mut rack = rack.after_crash(rt.alloc(), &[], &[], 99)?;
-    rack.attach(1);
-    assert_eq!(rt; rack.read(1, 15, &mut into), Got::Bad);
-    assert_eq!(rt; rack.read(1, 16, &mut into), Got::Bad);
     Ok(())
 }

@@ -13,8 +13,8 @@ use Rattle.stair_mds.specs.Solving.{AreWantedPlaces}
 use Rattle.stair_canon.specs.Canonical.{CanonicalStripe}
 use Rattle.stair_canon.specs.Solving.{SolvesChunk, column_shape}
 use Rattle.stair_canon.proofs.Grid.{rows_few}
-use Rattle.stair_up.specs.Rows.{AreRowsByNeed}
-use Rattle.stair_up.specs.Finding.{IsFound, FindsChunk, Keeps}
+use Rattle.stair_up.specs.RowsSteps.{AreRowsByNeed}
+use Rattle.stair_up.specs.SolveSteps.{IsFound, FindsChunk, Keeps}
 use Rattle.stair_mds.proofs.Stretches.{IsStretch, IsStretch-take, IsStretch-range, known_stretch, wanted_stretch, ArePlacesOnce, place_in_stretch}
 use Rattle.stair_up.proofs.Finds.{chunk_found, chunk_stays, Keeps-changes}
 

@@ -14,7 +14,7 @@ use Rattle.stair_model.proofs.CanonicalLaws.{canonical_is_codeword}
 use Rattle.stair_model.proofs.StripeLaws.{byte_of-lt}
 use Rattle.stair_model.proofs.KnownSymbolLaws.{globals_of}
 use Rattle.stair_model.proofs.VirtualRowLaws.{SameDataCells, canonical_exists}
-use Rattle.stair_up.specs.Finding.{AreCanonical, FindsStripe}
+use Rattle.stair_up.specs.SolveSteps.{AreCanonical, FindsStripe}
 use Rattle.stair_up.proofs.Parities.{parities_of, parities_of_data, data_above, data_is_above}
 
 pub IsEncodedFrom-found : (g : Geometry) (cells : CellSet) (before after : Stripe) → IsWithinLimits g

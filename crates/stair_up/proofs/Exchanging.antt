@@ -11,7 +11,7 @@ use Rattle.stair_model.specs.Sum.{sum_below}
 use Rattle.stair_model.specs.CellSet.{CellSet, has_cell, HasCell, count_in_slot}
 use Rattle.stair_model.proofs.CountLaws.{sum_below_none, sum_below_more, sum_below_tail}
 use Rattle.stair_model.proofs.SetLaws.{unmarked}
-use Rattle.stair_up.specs.Rows.{AreRowsByNeed}
+use Rattle.stair_up.specs.RowsSteps.{AreRowsByNeed}
 
 -- how many of the first rows are erased
 abbrev pub erased_before : CellSet → ℕ → ℕ → ℕ

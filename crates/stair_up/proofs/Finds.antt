@@ -10,7 +10,7 @@ use Rattle.stair_model.specs.Codeword.{Word}
 use Rattle.stair_model.specs.Geometry.{Geometry}
 use Rattle.stair_canon.specs.Canonical.{CanonicalStripe, byte_at}
 use Rattle.stair_canon.specs.Solving.{ChangesOnly, SolvesRow, SolvesRows, SolvesChunk}
-use Rattle.stair_up.specs.Finding.{AreCanonical, IsFound, HasGiven, StaysFound, Keeps}
+use Rattle.stair_up.specs.SolveSteps.{AreCanonical, IsFound, HasGiven, StaysFound, Keeps}
 use Rattle.stair_mds.proofs.Stretches.{IsStretch, All-stretch, stretch_each, place_in_stretch}
 
 -- where all that is solved is found, what was found stays so

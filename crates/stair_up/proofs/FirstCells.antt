@@ -11,7 +11,7 @@ use Rattle.stair_mds.specs.Solving.{AreWantedPlaces}
 use Rattle.stair_canon.specs.Canonical.{CanonicalStripe}
 use Rattle.stair_canon.specs.Solving.{SolvesRow, row_shape}
 use Rattle.stair_up.specs.Order.{AreInOrder}
-use Rattle.stair_up.specs.Finding.{AreCanonical, IsFound, HasGiven, StaysFound, FindsRow, Keeps}
+use Rattle.stair_up.specs.SolveSteps.{AreCanonical, IsFound, HasGiven, StaysFound, FindsRow, Keeps}
 use Rattle.stair_mds.proofs.Stretches.{IsStretch, IsStretch-range, wanted_stretch, place_in_stretch}
 use Rattle.stair_up.proofs.Finds.{row_found, row_stays, Keeps-changes}
 use Rattle.stair_up.proofs.Columns.{columns_once, chunk_at, last_chunks, last_chunks_known}

@@ -5,7 +5,7 @@ use Rattle.stair_model.specs.Geometry.{Geometry}
 use Rattle.stair_model.specs.CellSet.{CellSet, count_in_slot}
 use Rattle.stair_model.specs.Codeword.{Word}
 use Rattle.stair_canon.specs.Canonical.{CanonicalStripe}
-use Rattle.stair_up.specs.Finding.{AreCanonical, IsFound, HasGiven, StaysFound, FindsChunk, FindsVirtualRows, FindsLastChunks}
+use Rattle.stair_up.specs.SolveSteps.{AreCanonical, IsFound, HasGiven, StaysFound, FindsChunk, FindsVirtualRows, FindsLastChunks}
 use Rattle.stair_up.proofs.Finds.{HasGiven-stays}
 
 -- so many chunks from the end are found, and so many virtual symbols of each chunk from place m on

@@ -9,7 +9,7 @@ use Rattle.stair_model.specs.Restoring.{IsRestored}
 use Rattle.stair_model.proofs.CanonicalLaws.{extension_exists, codeword_is_canonical, canonical_is_codeword}
 use Rattle.stair_model.proofs.EncodingLaws.{codewords_agree}
 use Rattle.stair_model.proofs.StripeLaws.{same_cell}
-use Rattle.stair_up.specs.Finding.{AreCanonical, FindsStripe}
+use Rattle.stair_up.specs.SolveSteps.{AreCanonical, FindsStripe}
 
 pub IsRestored-from : (g : Geometry) (erased : CellSet) (before after : Stripe) → IsWithinLimits g → IsStripeOf g after → IsWellFormed after
     → FindsStripe g erased before after → IsRestored g erased before after

@@ -4,7 +4,7 @@ ghost use Rattle.stair_model.specs.Coverage.{IsCovered};
 ghost use Rattle.stair_model.specs.Geometry.{IsWithinLimits};
 ghost use Rattle.stair_model.specs.Restoring.{IsRestored, SameHeld};
 ghost use Rattle.stair_model.specs.Stripe.{IsStripeOf, IsWellFormed};
-ghost use Rattle.stair_up.specs.Finding.{FindsStripe};
+ghost use Rattle.stair_up.specs.SolveSteps.{FindsStripe};
 
 use crate::solve::solve_rows_and_rest;
 use stair_base::{CellSet, NotCovered, Stripe, covered};

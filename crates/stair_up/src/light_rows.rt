@@ -1,6 +1,6 @@
 ghost use Rattle.std.specs.Prelude.{◌≡◌, ℕ, ◌<◌, ◌≤◌, slice_index, if◌then◌else◌};
 ghost use Rattle.stair_model.specs.CellSet.{IsInStripe, count_in_row, has_cell};
-ghost use Rattle.stair_up.specs.Finding.{FindsLightRow, FindsLightRows, Keeps};
+ghost use Rattle.stair_up.specs.SolveSteps.{FindsLightRow, FindsLightRows, Keeps};
 
 use crate::order::columns_by_count;
 use stair_base::CellSet;

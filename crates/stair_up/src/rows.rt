@@ -1,6 +1,6 @@
 ghost use Rattle.std.specs.Prelude.{ℕ, ◌<◌, ◌≤◌};
 ghost use Rattle.stair_model.specs.CellSet.{HasCell};
-ghost use Rattle.stair_up.specs.Rows.{AreRowsByNeed};
+ghost use Rattle.stair_up.specs.RowsSteps.{AreRowsByNeed};
 
 use stair_base::CellSet;
 use stair_mds::{MAX_PLACES, numbers_from};

@@ -5,7 +5,7 @@ ghost use Rattle.stair_model.specs.Geometry.{IsWithinLimits, data_chunks, greate
 ghost use Rattle.stair_model.specs.Restoring.{SameHeld};
 ghost use Rattle.stair_model.specs.Stripe.{IsStripeOf, IsWellFormed};
 ghost use Rattle.stair_up.specs.Order.{IsOrderOf, count_at, erased_in_last, erased_in_row};
-ghost use Rattle.stair_up.specs.Finding.{FindsCells, FindsChunk, FindsLastChunks, FindsRow, FindsStripe, FindsVirtualRows, Keeps};
+ghost use Rattle.stair_up.specs.SolveSteps.{FindsCells, FindsChunk, FindsLastChunks, FindsRow, FindsStripe, FindsVirtualRows, Keeps};
 
 use crate::light_rows::solve_light_rows;
 use crate::order::Order;

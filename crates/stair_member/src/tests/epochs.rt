@@ -4,7 +4,7 @@ ghost use Rattle.std.specs.Prelude.{◌<◌};
 
 use super::{Block, DOWN, LIVE, NEW, REBUILDING, bytes_of, put, rack_of, slots_of};
 use crate::{AdmitFault, FenceFault, Member, Why, admit, fence, promote, stamp, survey};
-use stair_base::Slots;
+use stair_base::{FIRST_PLACE, SECOND_PLACE, Slots};
 use stair_memrack::{Act, MemRack, What};
 use stair_rack::{Got, Rack};
 use stair_super::{Label, Mark, Super, read_super};
@@ -89,9 +89,9 @@ fn a_fence_draws_before_it_begins(rt: HostRuntime) -> Result<(), Fail> {
     assert_eq!(rt; rack.made().wrapping_sub(BEFORE), CALLS);
     assert_eq!(rt; (member.epoch(), member.drawn()), (2, 2));
     for slot in 0..4u8 {
-        assert_eq!(rt; place_of(&mut rack, slot, 0), (2, 2), "{slot}");
-        assert_eq!(rt; place_of(&mut rack, slot, 1), (2, 1), "{slot}");
-        assert_eq!(rt; member.next_place(slot), 1);
+        assert_eq!(rt; place_of(&mut rack, slot, FIRST_PLACE), (2, 2), "{slot}");
+        assert_eq!(rt; place_of(&mut rack, slot, SECOND_PLACE), (2, 1), "{slot}");
+        assert_eq!(rt; member.next_place(slot), SECOND_PLACE);
     }
     Ok(())
 }
@@ -108,7 +108,7 @@ fn slots_leave(rt: HostRuntime) -> Result<(), Fail> {
         marks_of(&member),
         [Mark::Live, Mark::Down, Mark::Live, Mark::Live]
     );
-    assert_eq!(rt; place_of(&mut rack, 1, 0), (1, 1));
+    assert_eq!(rt; place_of(&mut rack, 1, FIRST_PLACE), (1, 1));
     let calls = rack.made();
     let mut whys = [Why::Here; 32];
     whys[1] = Why::Gone;
@@ -181,7 +181,7 @@ fn down_and_blank(alloc: Global, acts: &[Act]) -> Result<(MemRack, Option<Member
     };
     let mut rack = MemRack::new(alloc, 4, 3, acts, 400)?;
     for slot in [0, 1, 3] {
-        for place in 0..2 {
+        for place in [FIRST_PLACE, SECOND_PLACE] {
             let own = Block {
                 slot,
                 joined: 1,
@@ -204,14 +204,14 @@ fn a_slot_is_admitted_and_promoted(rt: HostRuntime) -> Result<(), Fail> {
     assert_eq!(rt; fallen, Some(Ok(Slots::empty())));
     assert_eq!(rt;
         (member.why(2), member.epoch(), member.next_place(2)),
-        (Why::Rebuilding, 3, 0)
+        (Why::Rebuilding, 3, FIRST_PLACE)
     );
     assert_eq!(rt;
         (member.marks()[2], member.joins()[2]),
         (Mark::Rebuilding, 3)
     );
-    assert_eq!(rt; place_of(&mut rack, 2, 0), (3, 3));
-    assert_eq!(rt; place_of(&mut rack, 2, 1), (3, 3));
+    assert_eq!(rt; place_of(&mut rack, 2, FIRST_PLACE), (3, 3));
+    assert_eq!(rt; place_of(&mut rack, 2, SECOND_PLACE), (3, 3));
     let fallen = promote_it(&mut rack, &mut member);
     assert_eq!(rt; fallen, Some(Ok(Slots::empty())));
     assert_eq!(rt; (member.why(2), member.epoch()), (Why::Here, 4));
@@ -234,7 +234,7 @@ fn what_a_medium_holds_is_seen(rt: HostRuntime) -> Result<(), Fail> {
     let (_, found) = down_and_blank(rt.alloc(), &[])?;
     let mut member = found.expect(&rt, "three slots");
     assert_eq!(rt; member.drawn(), 2);
-    for (draw, is_first, seen, next) in [(9, false, 9, 0), (7, true, 9, 1)] {
+    for (draw, is_first, seen, next) in [(9, false, 9, FIRST_PLACE), (7, true, 9, SECOND_PLACE)] {
         let other = Block {
             id: 5,
             slot: SLOT,
@@ -316,7 +316,7 @@ fn the_last_draw_is_the_end(rt: HostRuntime) -> Result<(), Fail> {
     let mut rack = rack_of(rt.alloc(), NEW, &[])?;
     let mut bytes = bytes_of(NEW);
     bytes[80..88].copy_from_slice(&[0xFF; 8]);
-    rack.write(0, 0, &bytes);
+    rack.write(0, FIRST_PLACE, &bytes);
     rack.sync(0);
     let mut member = survey(&mut rack).ok().expect(&rt, "four slots");
     let calls = rack.made();

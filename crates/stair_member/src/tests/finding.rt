@@ -1,6 +1,6 @@
 use super::{Block, DOWN, LIVE, NEW, put, rack_of, slots_of};
 use crate::{Member, SurveyFault, Why, survey};
-use stair_base::Geometry;
+use stair_base::{FIRST_PLACE, Geometry, SECOND_PLACE};
 use stair_memrack::{Act, MemRack, What};
 use stair_rack::Rack;
 use stair_super::{Label, Mark};
@@ -28,7 +28,7 @@ fn a_new_array_is_found(rt: HostRuntime) -> Result<(), Fail> {
             assert_eq!(rt; member.why(slot), Why::Here, "{slot}");
         }
         // both places hold the same
-        assert_eq!(rt; member.next_place(3), 1);
+        assert_eq!(rt; member.next_place(3), SECOND_PLACE);
     }
     Ok(())
 }
@@ -113,8 +113,8 @@ fn each_reason_is_told(rt: HostRuntime) -> Result<(), Fail> {
         ];
         let mut rack = rack_of(rt.alloc(), others, &script)?;
         let [first, second] = places;
-        put_own(&mut rack, 0, first);
-        put_own(&mut rack, 1, second);
+        put_own(&mut rack, FIRST_PLACE, first);
+        put_own(&mut rack, SECOND_PLACE, second);
         let member = survey(&mut rack).ok().expect(&rt, "three slots are live");
         assert_eq!(rt; member.why(2), why, "{places:?}");
         assert_eq!(rt;
@@ -128,7 +128,7 @@ fn each_reason_is_told(rt: HostRuntime) -> Result<(), Fail> {
 // The older one of two is overwritten next, and a slot that is gone to one read has its other superblock counted.
 #[test]
 fn the_newest_superblock_of_a_slot_counts(rt: HostRuntime) -> Result<(), Fail> {
-    for (place, next) in [(0, 1), (1, 0)] {
+    for (place, next) in [(FIRST_PLACE, SECOND_PLACE), (SECOND_PLACE, FIRST_PLACE)] {
         let mut rack = rack_of(rt.alloc(), NEW, &[])?;
         put(
             &mut rack,
@@ -152,7 +152,7 @@ fn the_newest_superblock_of_a_slot_counts(rt: HostRuntime) -> Result<(), Fail> {
     put(
         &mut rack,
         2,
-        0,
+        FIRST_PLACE,
         Block {
             slot: 2,
             draw: 9,

@@ -5,7 +5,7 @@ use Rattle.stair_model.specs.Geometry.{Geometry, IsWithinLimits, classes, covera
 use Rattle.stair_model.specs.Stripe.{IsStripeOf, cell}
 use Rattle.stair_canon.specs.Canonical.{symbol}
 use Rattle.stair_canon.specs.Parities.{AreParities}
-use Rattle.stair_down.specs.Completing.{CompletesChunk, CompletesRow}
+use Rattle.stair_down.specs.DownstairsSteps.{CompletesChunk, CompletesRow}
 use Rattle.stair_down.proofs.Counting.{steps_to-start, steps_to-chunk, steps_to-skip, steps_to-row, steps_to-end}
 use Rattle.stair_down.proofs.Target.{target_exists, encoded_at_end}
 use Rattle.stair_down.proofs.Walk.{HasReached-load, HasReached-skip, HasReached-chunk, HasReached-row}

@@ -1,7 +1,7 @@
 -- the joined numbers of the slots so far
 use Rattle.std.proofs.Common.{◌≡◌, ◌<◌, ℕ, length, slice_index, slice_index_or}
 use Rattle.stair_super.specs.declared.mark.Mark.TheVariants as mark
-use Rattle.stair_member.specs.Changes.{joined_then}
+use Rattle.stair_member.specs.ChangesSteps.{joined_then}
 use Rattle.stair_member.proofs.begin.joins_of.Given as goal
 
 abbrev pub invariant-loop-slot : goal.invariant-loop-slot

@@ -1,10 +1,9 @@
 -- Once, or in both places.
-use Rattle.std.proofs.Common.{◌≡◌, ◌-◌, ◌<◌, ◌≤◌, ℕ, Bool, false, ◌∙◌, sym, ap, subst, arith}
+use Rattle.std.proofs.Common.{◌<◌, ◌≤◌, Bool, false, ◌∙◌, sym, subst, arith}
 use Rattle.stair_rack.proofs.PassCounts.{Done-compared, Gone-compared}
 use Rattle.stair_rack.specs.declared.rack.Reply.TheVariants as reply
-use Rattle.stair_member.specs.Changes.{turned}
-use Rattle.stair_member.specs.Handings.{Handed, PlacesHanded}
-use Rattle.stair_member.specs.Membership.{Membership, place_of}
+use Rattle.stair_member.specs.HandSteps.{Handed, PlacesHanded}
+use Rattle.stair_member.specs.Membership.{Membership}
 use Rattle.stair_member.proofs.HandLemmas.{handed_neither, handed_twice, place_turned, places_neither, places_once, places_twice}
 use Rattle.stair_member.proofs.hand.hand.Goals as goal
 

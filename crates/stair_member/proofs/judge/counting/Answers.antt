@@ -1,6 +1,6 @@
 -- The superblock names the slot in which it lies, or doesn't.
 use Rattle.std.proofs.Common.{◌≡◌, Some, ◌∙◌, sym, arith}
-use Rattle.stair_member.specs.Shows.{newest_at}
+use Rattle.stair_member.specs.JudgeSteps.{newest_at}
 use Rattle.stair_member.proofs.JudgeLemmas.{counts_other, counts_some, newest_read}
 use Rattle.stair_member.proofs.judge.counting.Goals as goal
 

@@ -1,6 +1,6 @@
 -- the current one of the slots so far
 use Rattle.stair_rack.specs.Media.{Image}
-use Rattle.stair_member.specs.Shows.{Shows}
+use Rattle.stair_member.specs.JudgeSteps.{Shows}
 use Rattle.stair_member.proofs.JudgeLemmas.{IsCurrentBelow}
 use Rattle.stair_member.proofs.judge.current_of.Given as goal
 

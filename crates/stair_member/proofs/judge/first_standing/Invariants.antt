@@ -1,6 +1,6 @@
 -- none of the slots so far counts for an array that stands, but for this one
 use Rattle.stair_rack.specs.Media.{Image}
-use Rattle.stair_member.specs.Shows.{Shows}
+use Rattle.stair_member.specs.JudgeSteps.{Shows}
 use Rattle.stair_member.proofs.JudgeLemmas.{IsNoneBelow}
 use Rattle.stair_member.proofs.judge.first_standing.Given as goal
 

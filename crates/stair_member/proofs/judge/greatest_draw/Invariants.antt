@@ -1,6 +1,6 @@
 -- the greatest draw of the slots so far
 use Rattle.stair_rack.specs.Media.{Image}
-use Rattle.stair_member.specs.Shows.{Shows}
+use Rattle.stair_member.specs.JudgeSteps.{Shows}
 use Rattle.stair_member.proofs.JudgeLemmas.{IsDrawnBelow}
 use Rattle.stair_member.proofs.judge.greatest_draw.Given as goal
 

@@ -2,7 +2,7 @@
 use Rattle.std.proofs.Common.{◌≡◌, Some, sym, ◌∙◌, arith}
 use Rattle.std.proofs.lemmas.Bool.{false≢true}
 use Rattle.stair_model.specs.Slots.{HasSlot}
-use Rattle.stair_member.specs.Shows.{newest_at}
+use Rattle.stair_member.specs.JudgeSteps.{newest_at}
 use Rattle.stair_member.proofs.JudgeLemmas.{newest_read, shown_some}
 use Rattle.stair_member.proofs.ReasonLemmas.{reason_counting, reason_other_array, reason_other_slot}
 use Rattle.stair_member.proofs.judge.reason_of.Goals as goal

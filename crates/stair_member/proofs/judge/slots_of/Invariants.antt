@@ -1,7 +1,7 @@
 -- the slots so far
 use Rattle.stair_model.specs.Slots.{IsSlotSet}
 use Rattle.stair_rack.specs.Media.{Image}
-use Rattle.stair_member.specs.Shows.{Shows}
+use Rattle.stair_member.specs.JudgeSteps.{Shows}
 use Rattle.stair_member.specs.Superblocks.{CountsFor}
 use Rattle.stair_member.proofs.JudgeLemmas.{IsSetBelow}
 use Rattle.stair_member.proofs.judge.slots_of.Given as goal

@@ -1,6 +1,6 @@
 -- A slot was gone to the draws, or the epoch began.
 use Rattle.std.proofs.Common.{refl}
-use Rattle.stair_member.specs.Rounds.{BrokeOff, WentOn}
+use Rattle.stair_member.specs.RoundSteps.{BrokeOff, WentOn}
 use Rattle.stair_rack.specs.Told.{told}
 use Rattle.stair_member.proofs.round.round.Goals as goal
 

@@ -1,7 +1,7 @@
 -- The encoded stripe keeps the blocks.
 use Rattle.std.proofs.Common.{subst}
 use Rattle.stair_model.specs.Geometry.{IsWithinLimits}
-use Rattle.stair_std.specs.Units.{AreUnitBlocks}
+use Rattle.stair_std.specs.UnitsSteps.{AreUnitBlocks}
 use Rattle.stair_std.proofs.UnitStripes.{AreUnits-encoded}
 use Rattle.stair_std.proofs.units.encode_units.Goals as goal
 

@@ -1,5 +1,5 @@
 -- The rows so far are found.
-use Rattle.stair_up.specs.Finding.{Keeps}
+use Rattle.stair_up.specs.SolveSteps.{Keeps}
 use Rattle.stair_up.proofs.LightRows.{FindsLightRowsBefore}
 use Rattle.stair_up.proofs.light_rows.solve_light_rows.Given as goal
 

@@ -1,7 +1,7 @@
 -- The first r rows by need are known, and those behind them wanted.
 use Rattle.std.proofs.Common.{◌≡◌, ℕ, ap, subst, ◌∙◌}
 use Rattle.stair_model.specs.Geometry.{IsWithinLimits}
-use Rattle.stair_up.specs.Rows.{AreRowsByNeed}
+use Rattle.stair_up.specs.RowsSteps.{AreRowsByNeed}
 use Rattle.stair_up.proofs.Chunk.{may_know, may_want, finds_chunk, keeps_chunk}
 use Rattle.stair_up.proofs.solve.solve_chunk.Goals as goal
 

@@ -2,7 +2,7 @@
 use Rattle.std.proofs.Common.{◌≡◌, ◌+◌, ◌*◌}
 use Rattle.stair_model.specs.Geometry.{data_chunks}
 use Rattle.stair_up.specs.Order.{erased_in_row}
-use Rattle.stair_up.specs.Finding.{Keeps}
+use Rattle.stair_up.specs.SolveSteps.{Keeps}
 use Rattle.stair_up.proofs.FirstCells.{FindsBefore}
 use Rattle.stair_up.proofs.solve.solve_first_cells.Given as goal
 

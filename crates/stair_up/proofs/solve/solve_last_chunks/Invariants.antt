@@ -1,7 +1,7 @@
 -- So many chunks from the end are found, and no chunk before them has fewer erased cells than virtual symbols were solved.
 use Rattle.std.proofs.Common.{◌≡◌, ℕ, ◌+◌, ◌-◌, ◌*◌, ◌<◌, ◌≤◌}
 use Rattle.stair_model.specs.Geometry.{data_chunks}
-use Rattle.stair_up.specs.Finding.{Keeps}
+use Rattle.stair_up.specs.SolveSteps.{Keeps}
 use Rattle.stair_up.specs.Order.{count_at, erased_in_last}
 use Rattle.stair_up.proofs.LastChunks.{FindsFrom}
 use Rattle.stair_up.proofs.solve.solve_last_chunks.Given as goal

@@ -6,7 +6,7 @@ use Rattle.stair_model.specs.Geometry.{Geometry, IsWithinLimits, data_chunks}
 use Rattle.stair_model.specs.Sum.{sum_below}
 use Rattle.stair_model.proofs.CountLaws.{sum_below_none, sum_below_more}
 use Rattle.stair_up.specs.Order.{AreInOrder, IsOrderOf, count_at, erased_in_row, erased_in_last}
-use Rattle.stair_up.specs.Finding.{FindsCells, Keeps}
+use Rattle.stair_up.specs.SolveSteps.{FindsCells, Keeps}
 use Rattle.stair_up.proofs.Costs.{cell_start, row_more, all_steps, all_counted, count_at_is}
 use Rattle.stair_up.proofs.Finds.{Keeps-none, Keeps-both}
 use Rattle.stair_up.proofs.Stripes.{FindsRowsBefore-none, FindsRowsBefore-more, FindsCells-from}

@@ -1,5 +1,5 @@
 -- The rows so far are found.
-use Rattle.stair_up.specs.Finding.{Keeps}
+use Rattle.stair_up.specs.SolveSteps.{Keeps}
 use Rattle.std.proofs.Common.{◌≡◌, ◌+◌, ◌*◌}
 use Rattle.stair_model.specs.Geometry.{data_chunks}
 use Rattle.stair_model.specs.Sum.{sum_below}

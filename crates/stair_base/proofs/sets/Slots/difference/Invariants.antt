@@ -1,5 +1,5 @@
 -- The slots so far.
-use Rattle.std.proofs.Common.{ℕ, ◌<◌, ◌⊎◌, ◌↔◌}
+use Rattle.std.proofs.Common.{ℕ, ◌<◌, ◌↔◌}
 use Rattle.stair_model.specs.Slots.{HasSlot, IsSlotSet}
 use Rattle.stair_base.proofs.sets.Slots.difference.Given as goal
 

@@ -1,5 +1,5 @@
 -- Every slot of a set is below 32.
-use Rattle.std.proofs.Common.{◌<◌, inl, inr, sym, subst, arith}
+use Rattle.std.proofs.Common.{◌<◌, inl, inr, subst, arith}
 use Rattle.stair_model.specs.Slots.{IsSlotSet}
 use Rattle.stair_base.proofs.SlotLemmas.{HasSlot-below}
 use Rattle.stair_base.proofs.sets.Slots.union.Goals as goal

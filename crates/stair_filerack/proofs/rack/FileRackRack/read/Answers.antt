@@ -2,16 +2,13 @@ use Rattle.std.proofs.Common.{◌≡◌, ◌≤◌, ℕ, set, ap, sym, ◌∙◌
 use Rattle.std.specs.Prelude.{IsSome}
 use Rattle.stair_filerack.specs.Slot.{gone_once_more}
 use Rattle.stair_filerack.specs.FileRack.{bads_after}
-use Rattle.stair_filerack.proofs.RackLemmas.{Changes, slot_was, counts_kept, gone_rose, rack_of, set_changed, set_same, with_slots}
+use Rattle.stair_filerack.proofs.RackLemmas.{Changes, changed_slot, slot_was, counts_kept, gone_rose, rack_of, rack_changed, set_same}
 use Rattle.stair_filerack.proofs.rack.FileRackRack.read.Goals as goal
 
 changes : (g : _) (c : goal.After-self-2-1 g) → Changes c.args.self.now c.self.inside.slots.items c.from.result c.args.slot c.index_mut.result.now c.read-got.new.self
-changes g c = record {
-  its_slots = ap (λ s. s.slots) (sym c.self.view_is);
-  within = omega (arith, c.self.invariant, c.from.ensures, c.requires);
-  same = c.from.ensures;
-  is = c.index_mut.ensures.value;
-}
+changes g c =
+    changed_slot c.args.self.now _ _ _ _ _ _ _ c.self.view_is c.from.ensures c.index_mut.ensures.value
+    (omega (arith, c.self.invariant, c.from.ensures, c.requires))
 
 pub returns-clause-counts : goal.returns-clause-counts
 returns-clause-counts g c =
@@ -31,7 +28,7 @@ returns-clause-unattached g c none =
     c.bads_after-self-inside.ensures.after ∙ ap (λ got. bads_after got c.self.inside.bads) here.0 in (
       here.0,
       ap (λ (n : ℕ). rack_of c.self.inside.access n (set c.self.inside.slots.items c.from.result c.read-got.new.self)) bads
-          ∙ with_slots c.args.self.now _ _ _ _ _ c.self.view_is (set_changed c.args.self.now _ _ _ _ _ gone_once_more (changes g c) here.1),
+          ∙ rack_changed c.args.self.now _ _ _ _ _ _ _ gone_once_more c.self.view_is (changes g c) here.1,
     )
 
 pub returns-clause-past_end : goal.returns-clause-past_end

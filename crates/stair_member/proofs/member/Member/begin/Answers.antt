@@ -1,6 +1,6 @@
 -- The member keeps its rules.
 use Rattle.std.proofs.Common.{subst, sym}
-use Rattle.stair_member.specs.Changes.{MayBegin}
+use Rattle.stair_member.specs.ChangesSteps.{MayBegin}
 use Rattle.stair_member.specs.StoredMember.{shown}
 use Rattle.stair_member.proofs.ChangeLemmas.{begun_rules}
 use Rattle.stair_member.proofs.member.Member.begin.Goals as goal

@@ -1,6 +1,6 @@
 -- A data cell more; after the last of a pass the next one begins.
 use Rattle.std.proofs.Common.{◌≡◌, ℕ, ◌-◌, ◌%◌, List, ap, ◌∙◌, sym, subst, arith, length}
-use Rattle.stair_std.specs.Units.{AreUnits, HasColumnSet}
+use Rattle.stair_std.specs.UnitsSteps.{AreUnits, HasColumnSet}
 use Rattle.stair_std.proofs.Columns.{HasColumns, HasColumns-more, HasColumns-none, IsGenerator-all, same_pass, in_pass, whole_written}
 use Rattle.stair_std.proofs.coefficients.Coefficients.new.Goals as goal
 use Rattle.stair_std.proofs.coefficients.Coefficients.new.Goals.{then-from-eq0, else-from-eq0}

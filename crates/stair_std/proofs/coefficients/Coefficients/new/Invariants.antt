@@ -1,7 +1,7 @@
 -- The coefficients of the data cells so far, and the stripe of their pass.
 use Rattle.std.proofs.Common.{◌≡◌, ◌≢◌, ◌-◌, ◌%◌}
 use Rattle.stair_model.specs.Stripe.{IsStripeOf}
-use Rattle.stair_std.specs.Units.{AreUnits}
+use Rattle.stair_std.specs.UnitsSteps.{AreUnits}
 use Rattle.stair_std.proofs.Columns.{HasColumns}
 use Rattle.stair_std.proofs.coefficients.Coefficients.new.Given as goal
 

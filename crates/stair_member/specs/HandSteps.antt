@@ -9,7 +9,7 @@ use Rattle.stair_rack.specs.Offline.{IsHeld, IsKept, IsOfflineUntilAttached}
 use Rattle.stair_rack.specs.declared.rack.Reply.{Reply}
 use Rattle.stair_rack.specs.declared.rack.Reply.TheVariants as reply
 use Rattle.stair_super.specs.Spelling.{spelled}
-use Rattle.stair_member.specs.Changes.{issue}
+use Rattle.stair_member.specs.ChangesSteps.{issue}
 use Rattle.stair_member.specs.Epochs.{HasGot, IsGoneOf, IsOnDisk, IsPlaceSettled}
 use Rattle.stair_member.specs.Membership.{Membership, place_of}
 

@@ -3,12 +3,12 @@ use Rattle.std.specs.Prelude.{◌≡◌, ◌↔◌, ℕ, ◌-◌, ◌^◌, ◌<�
 use Rattle.stair_model.specs.Slots.{Slots, HasSlot}
 use Rattle.stair_rack.specs.Count.{Rose}
 use Rattle.stair_rack.specs.RackCounts.{NoneFalls}
-use Rattle.stair_member.specs.Changes.{Begins, IsLiveSlot, with_draw}
+use Rattle.stair_member.specs.ChangesSteps.{Begins, IsLiveSlot, with_draw}
 use Rattle.stair_member.specs.Counting.{AtMost}
 use Rattle.stair_member.specs.Epochs.{IsRefusedBy}
 use Rattle.stair_member.specs.Aims.{admitted}
 use Rattle.stair_member.specs.Establishing.{Establishes}
-use Rattle.stair_member.specs.Handings.{PlacesBelow, Spread}
+use Rattle.stair_member.specs.HandSteps.{PlacesBelow, Spread}
 use Rattle.stair_member.specs.Membership.{Membership, IsHere, IsMembership, IsMissing}
 use Rattle.stair_rack.specs.Telling.{Telling}
 use Rattle.stair_member.specs.declared.aim.Aim.{Aim}

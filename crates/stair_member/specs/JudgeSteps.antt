@@ -14,7 +14,7 @@ use Rattle.stair_rack.specs.declared.rack.Got.{Got}
 use Rattle.stair_rack.specs.declared.rack.Got.TheVariants as got
 use Rattle.stair_member.specs.Asked.{FindsWithin, IsWhatWasRead}
 use Rattle.stair_member.specs.Findings.{Findings, AreFound, IsPlaceFound}
-use Rattle.stair_member.specs.Superblocks.{HoldsSuper, HoldsThis, HasSuper, IsSuperOf, Counts, CountsFor, Identifies}
+use Rattle.stair_member.specs.Superblocks.{HoldsThis, HasSuper, IsSuperOf, Counts, CountsFor, Identifies}
 use Rattle.stair_member.specs.Survey.{IsNextPlace, IsLowestOf}
 use Rattle.stair_rack.specs.Telling.{Telling, IsFoundGone}
 use Rattle.stair_member.specs.declared.look.Seen.{Seen}
