@@ -30,10 +30,11 @@ use Rattle.stair_array.specs.Look.{IsLook, IsTaken}
 use Rattle.stair_rack.specs.Telling.{IsLater, IsReading, Telling}
 use Rattle.stair_array.specs.Looking.{Finding, WasGone, WasSmall, Holds, AllPassed, HadSectors, IsFound, IsGoneInWriting, IsNotCreated, IsRefusedFor, IsUnwritten, cells_at}
 use Rattle.stair_array.specs.Making.{AreMade, IsBehind, IsLaidOut, IsMaking, IsNoPlaceWrite, IsPlace, IsSlotOf, IsStoppedBy, IsWriteWithin, NoPlaceWritten, SuperblocksCameLast, CameAfter, WritesNoPlace, WritesWithin, WrittenWithin}
-use Rattle.stair_array.specs.Represents.{AreSteady, IsLargeEnough}
+use Rattle.stair_state.specs.Represents.{AreSteady, IsLargeEnough}
 use Rattle.stair_array.specs.declared.fault.CreateFault.{CreateFault}
 use Rattle.stair_array.specs.declared.fault.CreateFault.TheVariants.{Gone, SmallDevice, AlreadyArray}
-use Rattle.stair_array.proofs.DeviceLemmas.{large_some, made_on, made_sooner, making_no_attach}
+use Rattle.stair_state.proofs.RedoPhaseLemmas.{large_some}
+use Rattle.stair_array.proofs.DeviceLemmas.{made_on, made_sooner, making_no_attach}
 use Rattle.stair_array.proofs.PulledLemmas.{IsSameOrOther, ReturnsOnly, SameMedium, OtherMedium, BearsNot, any_cell, bears_none, lost_bears_not, returns_any, returns_none, same_or_other}
 
 -- WHY THERE IS NO ARRAY

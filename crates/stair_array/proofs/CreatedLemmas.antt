@@ -25,10 +25,10 @@ use Rattle.stair_member.proofs.SuperLemmas.{holds_once}
 use Rattle.stair_journal.specs.Gate.{closed_gate, open_gate}
 use Rattle.stair_journal.specs.declared.redo.Redo.{Redo}
 use Rattle.stair_member.proofs.EditionLemmas.{bears_below}
-use Rattle.stair_array.specs.Blocks.{AreEncodingsOf, zero_block, zero_blocks}
+use Rattle.stair_state.specs.Blocks.{AreEncodingsOf, zero_block, zero_blocks}
 use Rattle.stair_array.specs.Created.{IsNewDevice, IsNewSlot, Kept, Other, created_sector, first_configuration, first_super}
-use Rattle.stair_array.specs.State.{first_seats}
-use Rattle.stair_array.proofs.BlockLemmas.{encodes_blocks}
+use Rattle.stair_state.specs.State.{first_seats}
+use Rattle.stair_state.proofs.BlockLemmas.{encodes_blocks}
 
 -- ZEROS
 

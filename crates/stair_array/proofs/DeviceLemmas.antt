@@ -1,7 +1,7 @@
 -- What is written to the devices of a new array.
-use Rattle.std.proofs.Common.{◌≡◌, ◌≢◌, ℕ, suc, ◌+◌, ◌-◌, ◌<◌, ◌≤◌, below_more, false, List, [], ◌∷◌, ◌++◌, replicate, set, ◌⊎◌, inl, inr, refl, sym, ap, ◌∙◌, subst, arith, Option, None, Some, if◌then◌else◌, append_assoc}
-use Rattle.std.specs.Prelude.{◌&&◌, ◌==◌, ◌↔◌, IsSome, IsTrue, nat_lt}
-use Rattle.std.proofs.lemmas.Bool.{and_right, cases_eq, cases_lt, cond-true, cond-false, eq-eqb, false≢true, le-ltb, lt-ltb, ne_eqb}
+use Rattle.std.proofs.Common.{◌≡◌, ◌≢◌, ℕ, suc, ◌+◌, ◌-◌, ◌<◌, ◌≤◌, below_more, false, List, [], ◌∷◌, ◌++◌, replicate, set, ◌⊎◌, inl, inr, refl, sym, ap, ◌∙◌, subst, arith, None, Some, if◌then◌else◌, append_assoc}
+use Rattle.std.specs.Prelude.{◌&&◌, ◌==◌, ◌↔◌, IsTrue, nat_lt}
+use Rattle.std.proofs.lemmas.Bool.{and_right, cases_eq, cases_lt, cond-true, cond-false, eq-eqb, le-ltb, lt-ltb, ne_eqb}
 use Rattle.std.proofs.lemmas.List.{length-replicate, replicate-append-replicate}
 use Rattle.std.proofs.Math.Seq.{set-append_seam}
 use Rattle.stair_model.specs.Device.{gate_sector}
@@ -32,8 +32,8 @@ use Rattle.stair_array.specs.Created.{created_sector, first_configuration, first
 use Rattle.stair_array.specs.Look.{IsTaken}
 use Rattle.stair_rack.specs.Telling.{Telling}
 use Rattle.stair_array.specs.Making.{AreMade, IsBehind, IsMaking, IsPlace, IsSlotOf, IsStoppedAt, IsStoppedBy}
-use Rattle.stair_array.specs.Represents.{IsLargeEnough}
 use Rattle.stair_array.specs.declared.fault.CreateFault.TheVariants.{Gone}
+use Rattle.stair_state.proofs.RedoPhaseLemmas.{large_some}
 use Rattle.stair_array.proofs.CreatedLemmas.{created_place}
 use Rattle.stair_array.proofs.LookLemmas.{taken_on}
 
@@ -78,11 +78,6 @@ making_phase : (what : Writes) (to gone part : ℕ → Type 0) {old new : List H
 making_phase what to gone part within p = ran_join (making_writes what to part within p.writes) (making_syncs to part p.syncs)
 
 -- SLOTS THAT WERE TAKEN
-
--- where a medium is large enough there is one
-pub large_some : (g : Geometry) (size : Option ℕ) → IsLargeEnough g size → IsSome size
-large_some g None large = absurd (false≢true (large 0 (omega arith)))
-large_some g (Some n) large = refl
 
 -- the slot is held
 pub taken_held : {g : Geometry} {j : ℕ} {before now : List Happening} → IsTaken g j before now → IsHeld before now j

@@ -22,11 +22,11 @@ use Rattle.stair_member.specs.Superblocks.{Counts, CountsFor, IsOnlyIdentity}
 use Rattle.stair_member.proofs.CountingLemmas.{more_from_all_but}
 use Rattle.stair_member.proofs.SuperLemmas.{counts_bears, one_identity, super_held}
 use Rattle.stair_array.specs.Created.{AreNewMedia, BearNoneOutside, IsNewArray, IsNewDevice, Kept, created_sector, first_super}
-use Rattle.stair_array.specs.Represents.{Represents}
-use Rattle.stair_array.specs.Reassembly.{IsConsistentUnderReassembly}
-use Rattle.stair_array.specs.State.{created_state}
-use Rattle.stair_array.specs.Tolerance.{IsStripeCovered, IsTolerated, IsWithinTolerance}
-use Rattle.stair_array.proofs.AloneLemmas.{IsImageTidy, each_left, steady_made}
+use Rattle.stair_state.specs.Represents.{Represents}
+use Rattle.stair_state.specs.Reassembly.{IsConsistentUnderReassembly}
+use Rattle.stair_state.specs.State.{created_state}
+use Rattle.stair_state.specs.Tolerance.{IsStripeCovered, IsTolerated, IsWithinTolerance}
+use Rattle.stair_state.proofs.AloneLemmas.{IsImageTidy, each_left, steady_made}
 use Rattle.stair_array.proofs.CreatedLemmas.{created_place, first_held, held_first, place_needed}
 use Rattle.stair_array.proofs.NewArrayLemmas.{borne_is_first, counted_live, device_super, media_of_array, new_consistent, new_represents, none_is_few, not_in_none}
 

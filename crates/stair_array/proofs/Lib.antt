@@ -1,5 +1,4 @@
 -- Lemmas of this crate.
-pub mod BlockLemmas
 pub mod CreatedLemmas
 pub mod NewArrayLemmas
 pub mod ExampleLemmas
@@ -7,28 +6,4 @@ pub mod LookLemmas
 pub mod DeviceLemmas
 pub mod PulledLemmas
 pub mod CreateLemmas
-pub mod WordLemmas
-pub mod FormLemmas
-pub mod CommitLemmas
-pub mod CertainLemmas
-pub mod ToleranceLemmas
-pub mod DegradedLemmas
-pub mod IdentityLemmas
-pub mod DeterminedLemmas
-pub mod AloneLemmas
-pub mod OutsideLemmas
-pub mod ReturnLemmas
 pub mod CreatesLemmas
-pub mod StillLemmas
-pub mod AgreeLemmas
-pub mod SeenLemmas
-pub mod MixedLemmas
-pub mod SurveyedLemmas
-pub mod CoverLemmas
-pub mod BegunLemmas
-pub mod StageLemmas
-pub mod RedoPhaseLemmas
-pub mod RedoRunLemmas
-pub mod RedoFormLemmas
-pub mod RedoFoundLemmas
-pub mod RecoveryLemmas

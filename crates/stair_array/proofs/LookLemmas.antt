@@ -35,7 +35,7 @@ use Rattle.stair_member.proofs.SightLemmas.{both, place_cases}
 use Rattle.stair_rack.proofs.TellingLemmas.{attach_uses, gone_wider, honest_within, later_called, later_join, later_none, reading_wider, some_wider}
 use Rattle.stair_rack.specs.Telling.{IsLater, IsReading, Telling, telling}
 use Rattle.stair_array.specs.Looking.{Finding, WasGone, WasSmall, Holds, HadSectors, IsBare, IsFound, IsLarge, IsRefused, Passed, cells_at}
-use Rattle.stair_array.specs.Represents.{IsLargeEnough}
+use Rattle.stair_state.specs.Represents.{IsLargeEnough}
 
 -- CALLS
 

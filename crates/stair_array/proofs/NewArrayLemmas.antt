@@ -26,12 +26,12 @@ use Rattle.stair_journal.specs.Body.{Harmed, Holds}
 use Rattle.stair_journal.specs.Gate.{closed_gate, open_gate}
 use Rattle.stair_journal.specs.declared.redo.Redo.{Redo}
 use Rattle.stair_array.specs.Created.{AreNewMedia, BearNoneOutside, IsNewArray, IsNewDevice, IsNewSlot, Kept, Other, first_configuration, first_super, in_slot}
-use Rattle.stair_array.specs.Degraded.{AreAllDamaged, AreDamagedCopies, Blank, IsDegraded, IsDegradedSlot, Stays, Taken}
-use Rattle.stair_array.specs.Forms.{Encodes, IdleOld, IsOpen, RepresentsBy}
-use Rattle.stair_array.specs.Reassembly.{Empty, HasDrawAbove, InSlot, IsBorne, IsConsistent, IsConsistentUnderReassembly, IsMediumOf, IsReassembledSlot, IsReassembly, Location, OneOf, Outside, Unwritten}
-use Rattle.stair_array.specs.Represents.{AreSteady, Encodings, HaveSeats, ImageRepresents, IsImageOf, IsLargeEnough, Left, Lesser, Represents, Shrinks}
-use Rattle.stair_array.specs.State.{created_state, first_seats}
-use Rattle.stair_array.specs.Tolerance.{IsTolerated, IsWithinTolerance}
+use Rattle.stair_state.specs.Degraded.{AreAllDamaged, AreDamagedCopies, Blank, IsDegraded, IsDegradedSlot, Stays, Taken}
+use Rattle.stair_state.specs.Forms.{Encodes, IdleOld, IsOpen, RepresentsBy}
+use Rattle.stair_state.specs.Reassembly.{Empty, HasDrawAbove, InSlot, IsBorne, IsConsistent, IsConsistentUnderReassembly, IsMediumOf, IsReassembledSlot, IsReassembly, Location, OneOf, Outside, Unwritten}
+use Rattle.stair_state.specs.Represents.{AreSteady, Encodings, HaveSeats, ImageRepresents, IsImageOf, IsLargeEnough, Left, Lesser, Represents, Shrinks}
+use Rattle.stair_state.specs.State.{created_state, first_seats}
+use Rattle.stair_state.specs.Tolerance.{IsTolerated, IsWithinTolerance}
 use Rattle.stair_member.proofs.EditionLemmas.{bears_below}
 use Rattle.stair_array.proofs.CreatedLemmas.{borne_first, closed_not_open, created_behind, created_gate, created_place, first_held, held_first, joined_first, kept_device, mark_first, place_needed, seats_first, zero}
 

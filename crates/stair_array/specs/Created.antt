@@ -13,9 +13,9 @@ use Rattle.stair_super.specs.declared.mark.Mark.{Mark}
 use Rattle.stair_super.specs.declared.mark.Mark.TheVariants.{Live, Down}
 use Rattle.stair_member.specs.Reserve.{Bears}
 use Rattle.stair_journal.specs.Gate.{closed_gate}
-use Rattle.stair_array.specs.Blocks.{zero_block}
-use Rattle.stair_array.specs.Reassembly.{Location, IsMediumOf}
-use Rattle.stair_array.specs.Represents.{IsLargeEnough}
+use Rattle.stair_state.specs.Blocks.{zero_block}
+use Rattle.stair_state.specs.Reassembly.{Location, IsMediumOf}
+use Rattle.stair_state.specs.Represents.{IsLargeEnough}
 
 -- the first n of 32, and the others
 abbrev pub first_marks : Geometry → List Mark

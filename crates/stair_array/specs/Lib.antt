@@ -1,16 +1,6 @@
--- What an array is: its blocks and their stripes, its state, and which media represent it.
-pub mod Blocks
-pub mod State
-pub mod Forms
-pub mod Tolerance
-pub mod Degraded
-pub mod Represents
-pub mod Reassembly
+-- What a new array is, and what `create` does.
 pub mod Created
 pub mod Looking
 pub mod Look
 pub mod Making
 pub mod Creates
-pub mod Surveyed
-pub mod Redoing
-pub mod Recovering

@@ -10,7 +10,7 @@ use Rattle.stair_super.specs.Superblock.{Superblock}
 use Rattle.stair_member.specs.Superblocks.{HasSuper, HoldsSuper}
 use Rattle.stair_rack.specs.Telling.{IsReading, Telling}
 use Rattle.stair_array.specs.Looking.{Finding, WasGone, WasSmall, Holds, IsBare, IsFound, IsRefusedFor}
-use Rattle.stair_array.specs.Represents.{IsLargeEnough}
+use Rattle.stair_state.specs.Represents.{IsLargeEnough}
 use Rattle.stair_array.specs.declared.fault.CreateFault.{CreateFault}
 use Rattle.stair_array.specs.declared.look.Found.{Found}
 use Rattle.stair_array.specs.declared.look.Found.TheVariants as found

@@ -12,7 +12,7 @@ use Rattle.stair_model.proofs.RestLaws.{subset_covered}
 use Rattle.stair_base.specs.Equations.{equation_of}
 use Rattle.stair_base.proofs.EquationLaws.{not_codeword}
 use Rattle.stair_array.specs.Creates.{CanBeMade, Creates}
-use Rattle.stair_array.proofs.SurveyedLemmas.{finds_array}
+use Rattle.stair_state.proofs.SurveyedLemmas.{finds_array}
 use Rattle.stair_conf.specs.Config.{TextReadsAs}
 use Rattle.stair_conf.specs.declared.job.Job.{Job}
 use Rattle.stair_conf.specs.declared.job.Job.TheVariants.{OneStripe, Create, Show}

@@ -4,7 +4,7 @@ use Rattle.stair_rack.specs.Answers.{Ran}
 use Rattle.stair_rack.specs.History.{Happening}
 use Rattle.stair_rack.proofs.MomentLemmas.{ran_before, ran_none}
 use Rattle.stair_member.specs.Asked.{LeavesSectors}
-use Rattle.stair_array.proofs.OutsideLemmas.{looks_stand}
+use Rattle.stair_state.proofs.OutsideLemmas.{looks_stand}
 use Rattle.stair_engine.specs.Stands.{ArrayStands}
 
 pub looked_stands : (old new : List Happening) → Ran LeavesSectors old new → ArrayStands old new

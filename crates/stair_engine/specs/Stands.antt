@@ -4,9 +4,9 @@ use Rattle.stair_rack.specs.Answers.{Ran, any_call}
 use Rattle.stair_rack.specs.History.{Happening}
 use Rattle.stair_rack.specs.Moments.{IsMoment}
 use Rattle.stair_rack.specs.Stretch.{NothingReturned}
-use Rattle.stair_array.specs.Represents.{Represents}
-use Rattle.stair_array.specs.State.{State, without_seats}
-use Rattle.stair_array.specs.Tolerance.{IsTolerated, ToleratedSince}
+use Rattle.stair_state.specs.Represents.{Represents}
+use Rattle.stair_state.specs.State.{State, without_seats}
+use Rattle.stair_state.specs.Tolerance.{IsTolerated, ToleratedSince}
 
 -- Where the rack represented a state, no medium came back, and what has failed is within tolerance, it represents the state,
 -- marks and joined numbers aside.

@@ -4,7 +4,7 @@ use Rattle.stair_model.specs.Device.{gate_sector}
 use Rattle.stair_model.specs.Geometry.{sectors_needed}
 use Rattle.stair_rack.specs.declared.rack.Reply.TheVariants as reply
 use Rattle.stair_rack.proofs.PassCounts.{Done-compared, Gone-compared}
-use Rattle.stair_array.specs.Blocks.{zero_block}
+use Rattle.stair_state.specs.Blocks.{zero_block}
 use Rattle.stair_rack.specs.Told.{told}
 use Rattle.stair_array.proofs.CreatedLemmas.{created_behind, created_gate}
 use Rattle.stair_array.proofs.DeviceLemmas.{all_sectors, laid_gone, laid_gone_ran, laid_made, laid_more, laid_none, laid_ran, laid_unsynced}

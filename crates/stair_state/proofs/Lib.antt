@@ -1,0 +1,26 @@
+-- Lemmas of this crate.
+pub mod BlockLemmas
+pub mod WordLemmas
+pub mod FormLemmas
+pub mod CommitLemmas
+pub mod CertainLemmas
+pub mod ToleranceLemmas
+pub mod DegradedLemmas
+pub mod IdentityLemmas
+pub mod DeterminedLemmas
+pub mod AloneLemmas
+pub mod OutsideLemmas
+pub mod ReturnLemmas
+pub mod StillLemmas
+pub mod AgreeLemmas
+pub mod SeenLemmas
+pub mod MixedLemmas
+pub mod SurveyedLemmas
+pub mod CoverLemmas
+pub mod BegunLemmas
+pub mod StageLemmas
+pub mod RedoPhaseLemmas
+pub mod RedoRunLemmas
+pub mod RedoFormLemmas
+pub mod RedoFoundLemmas
+pub mod RecoveryLemmas

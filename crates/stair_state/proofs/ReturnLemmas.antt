@@ -1,0 +1,338 @@
+-- Whatever the outside does, media put back too, a rack stays consistent under reassembly: each medium came from one before.
+use Rattle.std.proofs.Common.{◌≡◌, ℕ, zero, suc, ◌+◌, ◌<◌, ◌≤◌, List, [], ◌∷◌, ◌++◌, length, ◌⊎◌, inl, inr, refl, sym, ap, ◌∙◌, subst, arith, slice_get}
+use Rattle.std.specs.Prelude.{Option, None, Some, is_some, ◌==◌, nat_lt, if◌then◌else◌, remove}
+use Rattle.std.proofs.lemmas.Bool.{cases_Bool, cases_eq, cases_lt, cond-true, cond-false, eq-eqb, ne_eqb, lt-ltb, le-ltb, false≢true}
+use Rattle.std.proofs.lemmas.Option.{slice_get_cases}
+use Rattle.stair_rack.specs.Answers.{Ran, no_call}
+use Rattle.stair_rack.specs.Crash.{EachImage, SlotMayLeave}
+use Rattle.stair_rack.specs.History.{Happening, Made, Stopped, Acted, Called, SlotAct, Pulled, InsertedBlank, InsertedOld, SectorDamaged, SlotState, after_act, slot_state, with_old}
+use Rattle.stair_rack.specs.Media.{Image, Medium, SlotImage, has_sector, sectors_of}
+use Rattle.stair_rack.specs.Outside.{IsAct, MayHappen}
+use Rattle.stair_rack.specs.Sector.{Cell, Damaged, MayLeave}
+use Rattle.stair_rack.proofs.CrashLemmas.{settled_left}
+use Rattle.stair_rack.proofs.MomentLemmas.{ran_weakened}
+use Rattle.stair_rack.proofs.StepLemmas.{kept, slot_act_cases}
+use Rattle.stair_super.specs.Superblock.{Superblock}
+use Rattle.stair_member.specs.Asked.{LeavesSectors}
+use Rattle.stair_state.specs.Degraded.{AreAllDamaged, AreDamagedCopies, Taken, Blank, Stays}
+use Rattle.stair_state.specs.Reassembly.{Location, InSlot, Outside, IsBorne, IsConsistent, IsConsistentUnderReassembly, IsMediumOf, IsReassembledSlot, OneOf, Unwritten, Empty, IsReassembly}
+use Rattle.stair_state.specs.Represents.{Encodings}
+use Rattle.stair_state.specs.State.{State, without_seats}
+use Rattle.stair_state.proofs.AloneLemmas.{encodings_without_seats, image_without_seats}
+use Rattle.stair_state.proofs.DegradedLemmas.{bears_before, copies_again, copies_damaged}
+use Rattle.stair_state.proofs.FormLemmas.{good_whole}
+use Rattle.stair_state.proofs.OutsideLemmas.{SlotComesFrom, same_slot, slot_before, slot_now, slot_now_left, steady_looks}
+
+-- WHERE A MEDIUM CAME FROM
+
+-- it is the one that lay there, of whose cells some may be damaged, or it was never written
+pub data IsFrom (was : SlotImage) (place : Location) (medium : Medium) : Type 0 where
+  Same : (old : Medium) → IsMediumOf was place old → old.size ≡ medium.size → AreDamagedCopies old.cell medium.cell
+      → IsFrom was place medium
+  New : AreAllDamaged medium.cell → IsFrom was place medium
+
+-- The slot's media came from those that a crash might have left of it, each from a place of its own.
+pub record MediaCameFrom (b : SlotState) (image : SlotImage) : Type 0 where
+  pub was : SlotImage
+  pub left : SlotMayLeave b was
+  pub place : Location → Location
+  pub apart : (p q : Location) → place p ≡ place q → p ≡ q
+  pub medium : (p : Location) (m : Medium) → IsMediumOf image p m → IsFrom was (place p) m
+
+not_some : {size : ℕ} {o : Option ℕ} → o ≡ None → ¬ (o ≡ Some size)
+not_some none some = false≢true (sym (ap is_some none) ∙ ap is_some some)
+
+size_once : {a b : ℕ} → Some a ≡ Some b → a ≡ b
+size_once same = cc
+
+cells_same : {a b : ℕ → Cell} → a ≡ b → AreDamagedCopies a b
+cells_same same k = inl (ap (λ (cells : ℕ → Cell). cells k) (sym same))
+
+-- MEDIA THAT STAY WHERE THEY ARE
+
+stay : (b : SlotState) (image : SlotImage) (from : SlotComesFrom b image) → from.was.removed ≡ image.removed → MediaCameFrom b image
+stay b image from same = record {
+  was = from.was;
+  left = from.left;
+  place = λ p. p;
+  apart = λ p q is. is;
+  medium = from_there;
+}
+  where
+    from_there : (p : Location) (m : Medium) → IsMediumOf image p m → IsFrom from.was p m
+    from_there InSlot m is =
+        elim from.degraded [
+          | Taken none all ↦ New (copies_damaged all (cells_same is.1))
+          | Blank size has all ↦ New (copies_damaged all (cells_same is.1))
+          | Stays size copies ↦
+              Same (record { size = m.size; cell = from.was.cell }) (sym size ∙ is.0, refl) refl (copies_again copies (cells_same is.1))
+        ]
+    from_there (Outside i) m is = Same m (subst (λ xs. slice_get xs i ≡ Some m) (sym same) is) refl (λ k. inl refl)
+
+-- A MEDIUM THAT IS PULLED
+
+-- it lies behind the others
+pulled_to : ℕ → Location → Location
+pulled_to count InSlot = Outside count
+pulled_to count (Outside i) = if i == count then InSlot else Outside i
+
+pulled_last : (count i : ℕ) → i ≡ count → pulled_to count (Outside i) ≡ InSlot
+unfolding pulled_to
+pulled_last count i same = cond-true _ _ _ (eq-eqb i count same)
+
+pulled_other : (count i : ℕ) → ¬ (i ≡ count) → pulled_to count (Outside i) ≡ Outside i
+unfolding pulled_to
+pulled_other count i other = cond-false _ _ _ (ne_eqb i count other)
+
+pulled_twice : (count : ℕ) (p : Location) → pulled_to count (pulled_to count p) ≡ p
+unfolding pulled_to
+pulled_twice count InSlot = pulled_last count count refl
+pulled_twice count (Outside i) =
+    elim (cases_eq i count) [
+      | inl same ↦ ap (pulled_to count) (pulled_last count i same) ∙ ap Outside (sym same)
+      | inr other ↦ ap (pulled_to count) (pulled_other count i other) ∙ pulled_other count i other
+    ]
+
+pulled_apart : (count : ℕ) (p q : Location) → pulled_to count p ≡ pulled_to count q → p ≡ q
+pulled_apart count p q same = sym (pulled_twice count p) ∙ ap (pulled_to count) same ∙ pulled_twice count q
+
+-- of the list with one more behind it
+pushed_cases : (xs : List Medium) (m x : Medium) (i : ℕ) → slice_get (xs ++ m ∷ []) i ≡ Some x
+    → ((i ≡ length xs) × (m ≡ x)) ⊎ ((¬ (i ≡ length xs)) × (slice_get xs i ≡ Some x))
+pushed_cases [] m x zero is = inl (refl, some_once is)
+  where
+    some_once : {a b : Medium} → Some a ≡ Some b → a ≡ b
+    some_once same = cc
+pushed_cases [] m x (suc i) is = absurd (false≢true (ap is_some is))
+pushed_cases (y ∷ xs) m x zero is = inr (λ same. absurd (omega (arith, same)), is)
+pushed_cases (y ∷ xs) m x (suc i) is =
+    elim (pushed_cases xs m x i is) [
+      | inl last ↦ inl (ap suc last.0, last.1)
+      | inr other ↦ inr (λ same. other.0 (omega (arith, same)), other.1)
+    ]
+
+pulled_came : (b : SlotState) (m : Medium) → MayHappen b (Pulled m) → (image : SlotImage) → SlotMayLeave (after_act (Pulled m) b) image
+    → MediaCameFrom b image
+pulled_came b m settles image left = record {
+  was = record { size = b.size; cell = m.cell; removed = b.removed };
+  left = record { size = refl; each = settles.each; removed = refl };
+  place = pulled_to (length b.removed);
+  apart = pulled_apart (length b.removed);
+  medium = from_there;
+}
+  where
+    from_there : (p : Location) (x : Medium) → IsMediumOf image p x
+        → IsFrom (record { size = b.size; cell = m.cell; removed = b.removed }) (pulled_to (length b.removed) p) x
+    from_there InSlot x is = absurd (not_some left.size is.0)
+    from_there (Outside i) x is =
+        elim (pushed_cases b.removed m x i (subst (λ xs. slice_get xs i ≡ Some x) left.removed is)) [
+          | inl last ↦
+              subst (λ p. IsFrom (record { size = b.size; cell = m.cell; removed = b.removed }) p x)
+              (sym (pulled_last (length b.removed) i last.0))
+              (subst (IsFrom (record { size = b.size; cell = m.cell; removed = b.removed }) InSlot) last.1
+              (Same m (settles.size, refl) refl (λ k. inl refl)))
+          | inr other ↦
+              subst (λ p. IsFrom (record { size = b.size; cell = m.cell; removed = b.removed }) p x)
+              (sym (pulled_other (length b.removed) i other.0)) (Same x other.1 refl (λ k. inl refl))
+        ]
+
+-- A MEDIUM THAT IS PUT BACK
+
+-- those behind it move up
+before_return : ℕ → ℕ → ℕ
+before_return i k = if nat_lt k i then k else k + 1
+
+return_below : (i k : ℕ) → k < i → before_return i k ≡ k
+unfolding before_return
+return_below i k below = cond-true _ _ _ (lt-ltb k i below)
+
+return_behind : (i k : ℕ) → i ≤ k → before_return i k ≡ k + 1
+unfolding before_return
+return_behind i k behind = cond-false _ _ _ (le-ltb k i behind)
+
+return_other : (i k : ℕ) → ¬ (before_return i k ≡ i)
+return_other i k same =
+    elim (cases_lt k i) [
+      | inl below ↦ omega (arith, same, return_below i k below)
+      | inr behind ↦ omega (arith, same, return_behind i k behind)
+    ]
+
+return_once : (i k l : ℕ) → before_return i k ≡ before_return i l → k ≡ l
+return_once i k l same =
+    elim (cases_lt k i) [
+      | inl below ↦
+          elim (cases_lt l i) [
+            | inl also ↦ omega (arith, same, return_below i k below, return_below i l also)
+            | inr behind ↦ omega (arith, same, return_below i k below, return_behind i l behind)
+          ]
+      | inr behind ↦
+          elim (cases_lt l i) [
+            | inl below ↦ omega (arith, same, return_behind i k behind, return_below i l below)
+            | inr also ↦ omega (arith, same, return_behind i k behind, return_behind i l also)
+          ]
+    ]
+
+returned_to : ℕ → Location → Location
+returned_to i InSlot = Outside i
+returned_to i (Outside k) = Outside (before_return i k)
+
+outside_once : {a b : ℕ} → Outside a ≡ Outside b → a ≡ b
+outside_once same = cc
+
+returned_apart : (i : ℕ) (p q : Location) → returned_to i p ≡ returned_to i q → p ≡ q
+unfolding returned_to
+returned_apart i InSlot InSlot same = refl
+returned_apart i InSlot (Outside l) same = absurd (return_other i l (sym (outside_once same)))
+returned_apart i (Outside k) InSlot same = absurd (return_other i k (outside_once same))
+returned_apart i (Outside k) (Outside l) same = ap Outside (return_once i k l (outside_once same))
+
+-- of the list without one
+removed_was : (xs : List Medium) (i k : ℕ) → i < length xs → slice_get (remove xs i) k ≡ slice_get xs (before_return i k)
+removed_was [] i k below = absurd (omega (arith, below))
+removed_was (y ∷ xs) zero k below = ap (slice_get (y ∷ xs)) next
+  where
+    next : suc k ≡ before_return 0 k
+    next = omega (arith, return_behind 0 k (omega arith))
+removed_was (y ∷ xs) (suc i) zero below = ap (slice_get (y ∷ xs)) (sym (return_below (suc i) 0 (omega arith)))
+removed_was (y ∷ xs) (suc i) (suc k) below =
+    removed_was xs i k (omega (arith, below)) ∙ ap (slice_get (y ∷ xs)) further
+  where
+    further : suc (before_return i k) ≡ before_return (suc i) (suc k)
+    further =
+        elim (cases_lt k i) [
+          | inl under ↦ omega (arith, return_below i k under, return_below (suc i) (suc k) (omega arith))
+          | inr behind ↦ omega (arith, return_behind i k behind, return_behind (suc i) (suc k) (omega arith))
+        ]
+
+-- of its cells nothing is left past its end
+sectors_left : (size : Option ℕ) (cell : ℕ → Cell) (k : ℕ) (found : Cell) → MayLeave (sectors_of size cell k) found
+    → (found ≡ cell k) ⊎ (found ≡ Damaged)
+sectors_left size cell k found may =
+    elim (cases_Bool (has_sector size k)) [
+      | inl within ↦ inl (settled_left (cell k) found (subst (λ s. MayLeave s found) (cond-true _ _ _ within) may))
+      | inr past ↦ inr (settled_left Damaged found (subst (λ s. MayLeave s found) (cond-false _ _ _ past) may))
+    ]
+
+returned_came : (b : SlotState) (i : ℕ) (m : Medium) → i < length b.removed → slice_get b.removed i ≡ Some m → (image : SlotImage)
+    → SlotMayLeave (with_old i (Some m) b) image → MediaCameFrom b image
+unfolding returned_to
+returned_came b i m below at image left = record {
+  was = slot_now b;
+  left = slot_now_left b;
+  place = returned_to i;
+  apart = returned_apart i;
+  medium = from_there;
+}
+  where
+    from_there : (p : Location) (x : Medium) → IsMediumOf image p x → IsFrom (slot_now b) (returned_to i p) x
+    from_there InSlot x is =
+        Same m at (size_once (sym left.size ∙ is.0))
+        (copies_again (λ k. sectors_left (Some m.size) m.cell k (image.cell k) (left.each k)) (cells_same is.1))
+    from_there (Outside k) x is =
+        Same x (sym (removed_was b.removed i k below) ∙ subst (λ xs. slice_get xs k ≡ Some x) left.removed is) refl (λ l. inl refl)
+
+-- ANY ACT
+
+slot_came : (b : SlotState) (a : SlotAct) → MayHappen b a → (image : SlotImage) → SlotMayLeave (after_act a b) image → MediaCameFrom b image
+slot_came b (Pulled m) may image left = pulled_came b m may image left
+slot_came b (InsertedBlank size) may image left =
+    let from = slot_before [] 0 b (InsertedBlank size) tt image left in stay b image from (from.left.removed ∙ sym left.removed)
+slot_came b (InsertedOld i) may image left =
+    elim (slice_get_cases b.removed i).1 [
+      | inl at ↦ returned_came b i at.0 may.1 at.2 image (subst (λ o. SlotMayLeave (with_old i o b) image) at.2 left)
+      | inr past ↦ absurd (omega (arith, past.0, may.1))
+    ]
+slot_came b (SectorDamaged l) may image left =
+    let from = slot_before [] 0 b (SectorDamaged l) tt image left in stay b image from (from.left.removed ∙ sym left.removed)
+
+unmoved : (b : SlotState) (image : SlotImage) → SlotMayLeave b image → MediaCameFrom b image
+unmoved b image left = let from = same_slot b image left in stay b image from (from.left.removed ∙ sym left.removed)
+
+act_came : (h : List Happening) (e : Happening) → IsAct h e → (j : ℕ) (image : SlotImage) → SlotMayLeave (slot_state (e ∷ h) j) image
+    → MediaCameFrom (slot_state h j) image
+act_came h (Made media) act j image left = absurd act
+act_came h Stopped act j image left = unmoved (slot_state h j) image left
+act_came h (Acted i a) act j image left =
+    slot_act_cases (λ b. SlotMayLeave b image → MediaCameFrom (slot_state h j) image) h i j a
+    (λ same. slot_came (slot_state h j) a (subst (λ n. MayHappen (slot_state h n) a) same act.1) image)
+    (unmoved (slot_state h j) image) left
+act_came h (Called i c) act j image left = absurd act
+
+-- REASSEMBLED SLOTS AND BORNE SUPERBLOCKS
+
+reassembled_before : (b : SlotState) (image to : SlotImage) (from : MediaCameFrom b image) → IsReassembledSlot image to
+    → IsReassembledSlot from.was to
+reassembled_before b image to from (OneOf p m is size copies past) =
+    elim (from.medium p m is) [
+      | Same old at same copied ↦ OneOf (from.place p) old at (size ∙ ap Some (sym same)) (copies_again copied copies) past
+      | New all ↦ Unwritten m.size size (copies_damaged all copies)
+    ]
+reassembled_before b image to from (Unwritten size is all) = Unwritten size is all
+reassembled_before b image to from (Empty none all) = Empty none all
+
+module _ (s : State) (encodings : Encodings s) (h : List Happening) (image : Image) (from : (j : ℕ) → MediaCameFrom (slot_state h j) (image j)) where
+  abbrev was : Image
+  was j = (from j).was
+
+  borne_before : (j : ℕ) (p : Location) (t : Superblock) → IsBorne s.geometry image j p t
+      → IsBorne s.geometry was j ((from j).place p) t
+  borne_before j p t borne =
+      elim ((from j).medium p borne.medium borne.is_one) [
+        | Same old at same copied ↦ record { medium = old; is_one = at; bears = bears_before copied borne.bears }
+        | New all ↦ absurd (good_whole borne.bears.holds.good (all borne.bears.place))
+      ]
+
+  whole_before : (to : Image) → IsReassembly image to → IsReassembly was to
+  whole_before to reassembly j = reassembled_before (slot_state h j) (image j) (to j) (from j) (reassembly j)
+
+  consistent_after : IsConsistent s encodings was → IsConsistent s encodings image
+  consistent_after consistent = record {
+    each = λ to reassembly. consistent.each to (whole_before to reassembly);
+    one_list = λ i j p q a b first second.
+        consistent.one_list i j ((from i).place p) ((from j).place q) a b (borne_before i p a first) (borne_before j q b second);
+    own_joined = λ j p q a b first second same.
+        (from j).apart p q
+        (consistent.own_joined j ((from j).place p) ((from j).place q) a b (borne_before j p a first) (borne_before j q b second) same);
+    same_joined = λ to also a b j first second. consistent.same_joined to also a b j (whole_before to first) (whole_before also second);
+    drawn = λ to current reassembly tolerated is_current.
+        let found = consistent.drawn to current (whole_before to reassembly) tolerated is_current in (
+          found.0,
+          record {
+            serves = found.1.serves;
+            above = λ i p t borne. found.1.above i ((from i).place p) t (borne_before i p t borne);
+          },
+        );
+  }
+
+-- RACKS
+
+consistent_acts : (s : State) (encodings : Encodings s) (old new : List Happening) → Ran no_call old new
+    → EachImage (IsConsistent s encodings) old → EachImage (IsConsistent s encodings) new
+consistent_acts s encodings old new ran each =
+    kept {allowed = no_call} {P = EachImage (IsConsistent s encodings)} (record {
+      act = λ h e act before image left.
+          let from = λ (j : ℕ). act_came h e act j (image j) (left j) in
+          consistent_after s encodings h image from (before (λ j. (from j).was) (λ j. (from j).left));
+      call = λ h i c may answered before. absurd may;
+    }) ran each
+
+consistent_without_seats : (s : State) (encodings : Encodings s) (image : Image) → IsConsistent s encodings image
+    → IsConsistent (without_seats s) (encodings_without_seats s encodings) image
+consistent_without_seats s encodings image consistent = record {
+  each = λ to reassembly tolerated. image_without_seats s encodings to (consistent.each to reassembly tolerated);
+  one_list = consistent.one_list;
+  own_joined = consistent.own_joined;
+  same_joined = consistent.same_joined;
+  drawn = consistent.drawn;
+}
+
+pub acts_consistent : (s : State) (old new : List Happening) → IsConsistentUnderReassembly s old → Ran no_call old new
+    → IsConsistentUnderReassembly (without_seats s) new
+acts_consistent s old new consistent ran =
+    record {
+      encodings = encodings_without_seats s consistent.encodings;
+      each = λ image left.
+          consistent_without_seats s consistent.encodings image (consistent_acts s consistent.encodings old new ran consistent.each image left);
+      seats = tt;
+      steady = steady_looks s.geometry old new (ran_weakened {allowed = no_call} {more = LeavesSectors} (λ j c may. absurd may) ran) consistent.steady;
+    }

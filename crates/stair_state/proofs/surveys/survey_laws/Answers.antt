@@ -1,0 +1,8 @@
+-- Each law is a lemma.
+use Rattle.stair_state.proofs.BegunLemmas.{begins}
+use Rattle.stair_state.proofs.CoverLemmas.{covers_all}
+use Rattle.stair_state.proofs.SurveyedLemmas.{finds_array}
+use Rattle.stair_state.proofs.surveys.survey_laws.Goals as goal
+
+pub returns : goal.returns
+returns c = record { found = finds_array; covers = covers_all; begun = begins }

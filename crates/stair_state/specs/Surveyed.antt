@@ -1,0 +1,34 @@
+-- What a survey finds of an array that the rack represents.
+use Rattle.std.specs.Prelude.{◌≡◌, ◌<◌, ◌≤◌, ℕ, List, Result, Ok}
+use Rattle.stair_model.specs.Geometry.{Geometry}
+use Rattle.stair_rack.specs.Crash.{EachImage}
+use Rattle.stair_rack.specs.History.{Happening}
+use Rattle.stair_super.specs.Superblock.{Superblock}
+use Rattle.stair_member.specs.Current.{IsCurrent, IsLive}
+use Rattle.stair_member.specs.Membership.{Membership, why_of}
+use Rattle.stair_member.specs.Reserve.{Bears}
+use Rattle.stair_member.specs.declared.fault.SurveyFault.{SurveyFault}
+use Rattle.stair_member.specs.declared.why.Why.TheVariants.{Here}
+use Rattle.stair_state.specs.State.{State}
+
+-- The array of the state was found, and each slot that is here was live in whatever a crash before the survey might have left.
+pub record FindsArray (s : State) (answer : Result Membership SurveyFault)
+    (old : List Happening) : Type 0 where
+  pub member : Membership
+  pub found : answer ≡ Ok member
+  pub identity : member.array.geometry ≡ s.geometry
+  pub live : (j : ℕ) → j < s.geometry.n → why_of member j ≡ Here
+      → EachImage (λ image. (current : Superblock) → IsCurrent s.geometry image current
+      → IsLive s.geometry image current j) old
+
+-- The member covers a superblock: it names no later epoch than the member, the same configuration at the member's epoch, and
+-- has no greater draw than was seen.
+pub record Covers (m : Membership) (t : Superblock) : Type 0 where
+  pub epoch : t.array.epoch ≤ m.array.epoch
+  pub one_list : t.array.epoch ≡ m.array.epoch → t.array ≡ m.array
+  pub draw : t.draw ≤ m.drawn
+
+-- in each image that a crash at h may leave it covers what the slots bear of the array, hidden superblocks too
+pub record CoversAll (g : Geometry) (m : Membership) (h : List Happening) : Type 0 where
+  pub each : EachImage (λ image. (j : ℕ) (t : Superblock) → Bears g j ((image j).cell) t
+      → Covers m t) h

@@ -1,0 +1,37 @@
+// What a survey finds of a rack that represents a state.
+ghost use Rattle.std.specs.Prelude.{◌≡◌, IsTrue, None, List, Result, Ok};
+ghost use Rattle.stair_rack.specs.Answers.{Ran, any_call};
+ghost use Rattle.stair_rack.specs.History.{Happening};
+ghost use Rattle.stair_rack.specs.Stretch.{NothingReturned};
+ghost use Rattle.stair_member.specs.Fencing.{IsBegun};
+ghost use Rattle.stair_member.specs.Membership.{IsMembership, Membership};
+ghost use Rattle.stair_member.specs.Survey.{Surveys};
+ghost use Rattle.stair_rack.specs.Telling.{Telling};
+ghost use Rattle.stair_member.specs.declared.fault.SurveyFault.{SurveyFault};
+ghost use Rattle.stair_state.specs.Represents.{Represents};
+ghost use Rattle.stair_state.specs.State.{State};
+ghost use Rattle.stair_state.specs.Surveyed.{CoversAll, FindsArray};
+ghost use Rattle.stair_state.specs.Tolerance.{ToleratedSince};
+
+/// What a survey finds of an array. It does nothing.
+pub fn survey_laws()
+    // A rack that represents a state, is within tolerance since the session began and gets no medium back: the survey
+    // finds the array of the state.
+    ensures found { (s : State) (before : List Happening) (old new : Telling)
+        (answer : Result Membership SurveyFault) → Surveys answer old new → IsTrue new.honest →
+        Ran any_call before old.history → Represents s old.history →
+        NothingReturned old.history new.history → ToleratedSince s.geometry before new.history →
+        FindsArray s answer old.history }
+    // its answer then covers each superblock that a slot bears in whatever a crash at its end may leave
+    ensures covers { (s : State) (before : List Happening) (old new : Telling)
+        (answer : Result Membership SurveyFault) (m : Membership) → Surveys answer old new →
+        IsTrue new.honest → Ran any_call before old.history → Represents s old.history →
+        NothingReturned old.history new.history → ToleratedSince s.geometry before new.history →
+        answer ≡ Ok m → CoversAll s.geometry m new.history }
+    // and a call that establishes an epoch may begin with it
+    ensures begun { (s : State) (before : List Happening) (old new : Telling)
+        (answer : Result Membership SurveyFault) (m : Membership) → Surveys answer old new →
+        IsTrue new.honest → Ran any_call before old.history → Represents s old.history →
+        NothingReturned old.history new.history → ToleratedSince s.geometry before new.history →
+        IsMembership m → answer ≡ Ok m → IsBegun None m new.history }
+{}
