@@ -1,5 +1,5 @@
 -- What follows from a call that means what its words say, whatever they are.
-use Rattle.std.proofs.Common.{◌≡◌, ◌≢◌, ◌∙◌, ◌↔◌, ℕ, ◌≤◌, le_refl, List, [], ◌∷◌, Option, None, Some, IfSome, IsTrue, Ok, Err, refl, sym, ap, subst}
+use Rattle.std.proofs.Common.{◌≡◌, ◌≢◌, ◌∙◌, ◌↔◌, ℕ, ◌≤◌, le_refl, List, [], ◌∷◌, inl, inr, Option, None, Some, IfSome, IsTrue, Ok, Err, refl, sym, ap, subst}
 use Rattle.stair_model.specs.Geometry.{Geometry}
 use Rattle.stair_rack.specs.Answers.{Ran}
 use Rattle.stair_rack.proofs.MomentLemmas.{ran_none}
@@ -22,7 +22,7 @@ use Rattle.stair_engine.specs.Does.{Leaves}
 use Rattle.stair_engine.specs.Fault.{status_of_config}
 use Rattle.stair_engine.specs.Laws.{AllIsKept, ArrayIsLeft, ArrayIsMade, MemoryComesFirst, RackIsLeft, ShowOnlyLooks, UsageIsExact}
 use Rattle.stair_engine.specs.Means.{Bears, Counts, Holds}
-use Rattle.stair_engine.specs.Create.{MakesArray}
+use Rattle.stair_engine.specs.Create.{IsOnceMade, MakesArray}
 use Rattle.stair_engine.specs.Outside.{Outside, Views}
 use Rattle.stair_engine.specs.Plan.{Over, Ask, create_plan, if_spelled, job_plan, plan_of}
 use Rattle.stair_engine.specs.Question.{Question, IsReply, Words}
@@ -234,29 +234,39 @@ module _ {R S K : Type 0} (rack : RackView R) (view : Views S K) where
       job_short Create later = create_short view (Works rack) OutOfMemory a b x y (went_over OutOfMemory a b x y later) refl
       job_short Show later = absurd ((show_status rack view OutOfMemory a b x y (show_went rack view OutOfMemory a b x y later)).2 refl)
 
-  made_so : (status : Status) (a b : Outside S K) (x y : R) → CreateWent view (Works rack) status a b x y → IsTrue rack.honest → status ≡ Done
+  never : {status named : Status} → status ≡ named → named ≢ Done → named ≢ OutputFault → IsOnceMade status → ⊥
+  never is not_done not_fault (inl done) = not_done (sym is ∙ done)
+  never is not_done not_fault (inr fault) = not_fault (sym is ∙ fault)
+
+  made_of : (text : List ℕ) (g : Geometry) (a : Outside S K) (x y : R) → IfSome (view.source.left a.source) (λ all. text ≡ all) → TextReadsAs text (Ok g)
+      → Creates g (Ok tt) (told_of rack x) (told_of rack y) → IsTrue rack.honest
       → MakesArray (view.source.left a.source) (rack.history x) (rack.history y)
-  made_so status a b x y (Long bytes long gives is sink same) honest done = absurd (let clash : Input _ _ ≡ Done = sym is ∙ done in cc)
-  made_so status a b x y (Failed bytes gives is sink same) honest done = absurd (let clash : InputFault ≡ Done = sym is ∙ done in cc)
-  made_so status a b x y (Whole text short gives (Unread is sink same)) honest done = absurd (let clash : OutOfMemory ≡ Done = sym is ∙ done in cc)
-  made_so status a b x y (Whole text short gives (Faulty fault reads is sink same)) honest done = absurd ((config_status fault).3 (sym is ∙ done))
-  made_so status a b x y (Whole text short gives (Says g reads (ShortOfMemory is sink same))) honest done =
-      absurd (let clash : OutOfMemory ≡ Done = sym is ∙ done in cc)
-  made_so status a b x y (Whole text short gives (Says g reads (NotMade refusal did is sink))) honest done = absurd ((create_status refusal).3 (sym is ∙ done))
-  made_so status a b x y (Whole text short gives (Says g reads (Made did held is))) honest done =
-      let creates : Creates g (Ok tt) (told_of rack x) (told_of rack y) = did in
-      record { geometry = g; said = all_told (view.source.left a.source) text g gives.1 reads; made = creates.made honest }
-  made_so status a b x y (Whole text short gives (Says g reads (MadeUntold part did all held is))) honest done =
-      absurd (let clash : OutputFault ≡ Done = sym is ∙ done in cc)
+  made_of text g a x y told reads creates honest =
+      record { geometry = g; said = all_told (view.source.left a.source) text g told reads; made = creates.made honest }
+
+  made_so : (status : Status) (a b : Outside S K) (x y : R) → CreateWent view (Works rack) status a b x y → IsTrue rack.honest
+      → IsOnceMade status → MakesArray (view.source.left a.source) (rack.history x) (rack.history y)
+  made_so status a b x y (Long bytes long gives is sink same) honest once = absurd (never is (λ clash. cc) (λ clash. cc) once)
+  made_so status a b x y (Failed bytes gives is sink same) honest once = absurd (never is (λ clash. cc) (λ clash. cc) once)
+  made_so status a b x y (Whole text short gives (Unread is sink same)) honest once = absurd (never is (λ clash. cc) (λ clash. cc) once)
+  made_so status a b x y (Whole text short gives (Faulty fault reads is sink same)) honest once =
+      absurd (never is (config_status fault).3 (config_status fault).1 once)
+  made_so status a b x y (Whole text short gives (Says g reads (ShortOfMemory is sink same))) honest once =
+      absurd (never is (λ clash. cc) (λ clash. cc) once)
+  made_so status a b x y (Whole text short gives (Says g reads (NotMade refusal did is sink))) honest once =
+      absurd (never is (create_status refusal).3 (create_status refusal).1 once)
+  made_so status a b x y (Whole text short gives (Says g reads (Made did held is))) honest once = made_of text g a x y gives.1 reads did honest
+  made_so status a b x y (Whole text short gives (Says g reads (MadeUntold part did all held is))) honest once =
+      made_of text g a x y gives.1 reads did honest
 
   pub array_is_made : ArrayIsMade rack view
-  array_is_made words status a b x y over spells honest done =
+  array_is_made words status a b x y over spells honest once =
       elim (called_over rack view words status a b x y over) as (λ _. MakesArray (view.source.left a.source) (rack.history x) (rack.history y)) [
-        | NoMemory out ends still ↦ absurd (let clash : OutOfMemory ≡ Done = sym out ∙ done in cc)
+        | NoMemory out ends still ↦ absurd (never out (λ clash. cc) (λ clash. cc) once)
         | NotSpelled not usage ends still ↦ absurd (not (Create, spells))
         | Spelled job read later ↦
             made_so status a b x y (went_over status a b x y
-            (subst (λ (j : Job). MeansOver rack view (job_plan j) (Over status) a b x y) (spells_once words job Create read spells) later)) honest done
+            (subst (λ (j : Job). MeansOver rack view (job_plan j) (Over status) a b x y) (spells_once words job Create read spells) later)) honest once
       ]
 
   pub usage_is_exact : UsageIsExact rack view

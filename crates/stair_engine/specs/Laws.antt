@@ -14,7 +14,7 @@ use Rattle.stair_engine.specs.declared.status.Status.TheVariants.{Done, Usage, I
 use Rattle.stair_engine.specs.Answer.{map_bytes}
 use Rattle.stair_engine.specs.Cause.{Answers, IfRefusedAtOnce}
 use Rattle.stair_engine.specs.Complete.{IsComplete}
-use Rattle.stair_engine.specs.Create.{MakesArray}
+use Rattle.stair_engine.specs.Create.{IsOnceMade, MakesArray}
 use Rattle.stair_engine.specs.Does.{Does, Leaves}
 use Rattle.stair_engine.specs.Means.{Means}
 use Rattle.stair_engine.specs.Outside.{Outside, Views}
@@ -103,7 +103,7 @@ abbrev pub ArrayIsMade : {R S K : Type 0} → RackView R → Views S K → Type 
 ArrayIsMade {R} {S} {K} rack view =
     (words : List (List ℕ)) (status : Status) (old new : Outside S K) (first last : R) →
     MeansOver rack view (plan_of words) (Over status) old new first last →
-    Spells words Create → IsTrue rack.honest → status ≡ Done →
+    Spells words Create → IsTrue rack.honest → IsOnceMade status →
     MakesArray (view.source.left old.source) (rack.history first) (rack.history last)
 
 -- where memory was short no device was written

@@ -25,7 +25,7 @@ ghost use Rattle.stair_conf.specs.Words.{IsCommandLine, Spells};
 ghost use Rattle.stair_conf.specs.declared.job.Job.{Job as Jobs};
 ghost use Rattle.stair_conf.specs.declared.job.Job.TheVariants.{Create};
 ghost use Rattle.stair_engine.specs.Complete.{IsComplete};
-ghost use Rattle.stair_engine.specs.Create.{MakesArray};
+ghost use Rattle.stair_engine.specs.Create.{IsOnceMade, MakesArray};
 ghost use Rattle.stair_engine.specs.Fault.{status_of};
 ghost use Rattle.stair_engine.specs.Means.{Means};
 ghost use Rattle.stair_engine.specs.Outside.{outside, views};
@@ -101,9 +101,9 @@ pub fn stair<R: Rack, S: Source, K: Sink, L: Ledger>(
     // Want of memory: only where a command's word comes first and no word begins with a hyphen.
     ensures memory { result ≡ Status.OutOfMemory → IsCommandLine (map string_bytes words.now) }
 
-    // What `create` made on an honest rack: the array of the geometry that the input says, whose blocks are zeros.
-    ensures created { IsTrue R.is_honest → Spells (map string_bytes words.now) Create →
-        result ≡ Status.Done →
+    // What `create` made on an honest rack: the array of the geometry that the input says, whose blocks are zeros. It is
+    // there too where only its line couldn't be put out.
+    ensures created { IsTrue R.is_honest → Spells (map string_bytes words.now) Create → IsOnceMade result →
         MakesArray (S.left input.old) (R.history rack.old) (R.history rack.new) }
 
     // On an honest rack every other command leaves an array as it was: at every moment, and at the end.

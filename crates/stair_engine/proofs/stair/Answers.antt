@@ -29,7 +29,7 @@ returns-in-Ok g c =
     record {
       means = over;
       memory = λ memory. job_line _ c.in-Ok.job c.in-Ok.ensures.ok;
-      created = λ honest spells done. array_is_made rack view words c.work.result old _ c.args.rack.now _ over spells honest done;
+      created = λ honest spells once. array_is_made rack view words c.work.result old _ c.args.rack.now _ over spells honest once;
       stands = λ honest other. array_is_left rack view words c.work.result old _ c.args.rack.now _ over other honest;
       complete = λ job spells. all_is_complete rack view words job c.work.result old _ c.args.rack.now _ spells over;
     }
