@@ -23,7 +23,7 @@ use Rattle.stair_member.proofs.CountingLemmas.{more_from_all_but}
 use Rattle.stair_member.proofs.SuperLemmas.{counts_bears, one_identity, super_held}
 use Rattle.stair_array.specs.Created.{AreNewMedia, BearNoneOutside, IsNewArray, IsNewDevice, Kept, created_sector, first_super}
 use Rattle.stair_state.specs.Represents.{Represents}
-use Rattle.stair_state.specs.Reassembly.{IsConsistentUnderReassembly}
+use Rattle.stair_state.specs.Holding.{IsConsistentUnderReassembly}
 use Rattle.stair_state.specs.State.{created_state}
 use Rattle.stair_state.specs.Tolerance.{IsStripeCovered, IsTolerated, IsWithinTolerance}
 use Rattle.stair_state.proofs.AloneLemmas.{IsImageTidy, each_left, steady_made}

@@ -18,17 +18,18 @@ use Rattle.stair_super.specs.Newer.{IsOlder}
 use Rattle.stair_super.specs.Superblock.{Superblock, joined_at, joined_in, mark_at, mark_in}
 use Rattle.stair_super.specs.declared.configuration.Configuration.{Configuration}
 use Rattle.stair_super.specs.declared.mark.Mark.TheVariants.{Live, Rebuilding}
-use Rattle.stair_member.specs.Current.{IsCurrent, IsLive, IsRebuilding, Serves}
+use Rattle.stair_member.specs.Current.{IsCurrent, IsLive, IsRebuilding}
 use Rattle.stair_member.specs.Reserve.{Bears, IsOrderly}
 use Rattle.stair_member.specs.Superblocks.{Counts, First, HoldsSuper, IsOnlyIdentity, IsSuperOf, Second}
-use Rattle.stair_member.proofs.SuperLemmas.{counts_bears, one_current}
+use Rattle.stair_member.proofs.SuperLemmas.{counts_bears}
 use Rattle.stair_journal.specs.Body.{Harmed, Holds}
 use Rattle.stair_journal.specs.Gate.{closed_gate, open_gate}
 use Rattle.stair_journal.specs.declared.redo.Redo.{Redo}
 use Rattle.stair_array.specs.Created.{AreNewMedia, BearNoneOutside, IsNewArray, IsNewDevice, IsNewSlot, Kept, Other, first_configuration, first_super, in_slot}
 use Rattle.stair_state.specs.Degraded.{AreAllDamaged, AreDamagedCopies, Blank, IsDegraded, IsDegradedSlot, Stays, Taken}
 use Rattle.stair_state.specs.Forms.{Encodes, IdleOld, IsOpen, RepresentsBy}
-use Rattle.stair_state.specs.Reassembly.{Empty, HasDrawAbove, InSlot, IsBorne, IsConsistent, IsConsistentUnderReassembly, IsMediumOf, IsReassembledSlot, IsReassembly, Location, OneOf, Outside, Unwritten}
+use Rattle.stair_state.specs.Holding.{Holders, IsBorneSince, IsConsistentBy, IsConsistentUnderReassembly, IsHolder}
+use Rattle.stair_state.specs.Reassembly.{Empty, InSlot, IsBorne, IsMediumOf, IsReassembledSlot, IsReassembly, Location, OneOf, Outside, Unwritten}
 use Rattle.stair_state.specs.Represents.{AreSteady, Encodings, HaveSeats, ImageRepresents, IsImageOf, IsLargeEnough, Left, Lesser, Represents, Shrinks}
 use Rattle.stair_state.specs.State.{created_state, first_seats}
 use Rattle.stair_state.specs.Tolerance.{IsTolerated, IsWithinTolerance}
@@ -347,60 +348,98 @@ media_in_slots g h image is left media j below = by_size (image j).size refl
         new_copied g j (in_slot (record { size = n; cell = (image j).cell })) (image j) some (λ k. inl refl)
         (media.each j InSlot (record { size = n; cell = (image j).cell }) below (some, refl))
 
+-- all media that were written hold their chunks
+abbrev pub first_holders : Geometry → Holders
+first_holders g j = Some (joined_in (first_configuration g) j)
+
 module _ (g : Geometry) (image : Image) (limits : IsWithinLimits g) (id : length g.id ≡ 16) (media : AreNewMedia g image) where
-  borne_by_medium : (j : ℕ) (place : Location) (s : Superblock) → IsBorne g image j place s → s ≡ first_super g j
-  borne_by_medium j place s borne =
-      borne_first g j (in_slot borne.medium) s limits id
-      (media.each j place borne.medium (bears_below g j borne.medium.cell s borne.bears) borne.is_one) borne.bears
+  first_of : (j : ℕ) (place : Location) (medium : Medium) (s : Superblock) → IsMediumOf (image j) place medium → Bears g j medium.cell s
+      → s ≡ first_super g j
+  first_of j place medium s is bears =
+      borne_first g j (in_slot medium) s limits id (media.each j place medium (bears_below g j medium.cell s bears) is) bears
 
-  medium_array : (j : ℕ) (place : Location) (s : Superblock) → IsBorne g image j place s → s.array ≡ first_configuration g
-  medium_array j place s borne = ap (λ (t : Superblock). t.array) (borne_by_medium j place s borne)
+  array_of : (i : ℕ) (p : Location) (a : Superblock) → IsBorne g image i p a → a.array ≡ first_configuration g
+  array_of i p a borne = ap (λ (t : Superblock). t.array) (first_of i p borne.medium a borne.is_one borne.bears)
 
-  again_new : (to : Image) → IsReassembly image to → IsNewArray g to
-  again_new to reassembly = reassembled_new g image to media reassembly
+  since_array : (a : Superblock) → IsBorneSince g 1 image a → a.array ≡ first_configuration g
+  since_array a borne = array_of borne.slot borne.place a borne.borne
 
-  joined_again : (to : Image) (current : Superblock) (j : ℕ) → IsReassembly image to → IsCurrent g to current
-      → joined_at current j ≡ joined_in (first_configuration g) j
-  joined_again to current j reassembly is = current_joined g to limits id (again_new to reassembly) current j is
+  -- a holder is a new device
+  device : (to : Image) (j : ℕ) → IsReassembly image to → IsHolder g (first_holders g) j ((to j).cell) → IsNewDevice g j (to j)
+  device to j reassembly holder =
+      kept_device g j (to j) holder.super (reassembled_new g image to media reassembly j (bears_below g j ((to j).cell) holder.super holder.bears)) holder.bears
 
-  -- each slot that serves has drawn 1, and that is every epoch
-  draws_all : (to : Image) (current : Superblock) (j : ℕ) → IsReassembly image to
-      → Serves (λ k. (to k).size ≡ None) g to current j → HasDrawAbove g image to current j
-  draws_all to current j reassembly serves = record {
-    serves = serves;
-    above = λ i place s borne.
-        let epoch : s.array.epoch ≡ 1 = ap (λ (array : Configuration). array.epoch) (medium_array i place s borne) in
-        let draw : serves.live.super.draw ≡ 1 =
-        ap (λ (x : Superblock). x.draw)
-        (borne_is_first g to limits id (again_new to reassembly) j serves.live.super (counts_bears g to j serves.live.super serves.live.counts))
-        in
-        omega (arith, epoch, draw);
+  holder_shut : (to : Image) (j : ℕ) (redo : Redo) → IsNewDevice g j (to j) → ¬ IsOpen g to j redo
+  holder_shut to j redo is_new open_with =
+      elim (is_new.sectors gate_sector (omega arith)) [
+        | inl is ↦
+            let same : Good (closed_gate) ≡ Good (open_gate g redo) = ap Good (sym (created_gate g j)) ∙ sym is ∙ open_with.good in
+            let bytes : closed_gate ≡ open_gate g redo = cc in
+            closed_not_open g redo bytes
+        | inr damaged ↦ let none : Good (open_gate g redo) ≡ Damaged = sym open_with.good ∙ damaged in absurd (cc)
+      ]
+
+  bears_super : (cell : ℕ → Cell) (j : ℕ) (x : Superblock) → IsSuperOf cell x → x.slot ≡ j → x.array.geometry ≡ g → Bears g j cell x
+  bears_super cell j x (First holds rest) slot geometry =
+      record { place = 0; place_in = omega arith; holds = holds; slot = slot; identity = geometry }
+  bears_super cell j x (Second holds rest) slot geometry =
+      record { place = 1; place_in = omega arith; holds = holds; slot = slot; identity = geometry }
+
+  not_rebuilding : (a : Superblock) (j : ℕ) → a.array ≡ first_configuration g → j < g.n → ¬ (mark_at a j ≡ Rebuilding)
+  not_rebuilding a j same below marked =
+      let live : mark_at a j ≡ Live =
+      ap (λ (c : Configuration). mark_in c j) same ∙ mark_first g j below in
+      let both : Live ≡ Rebuilding = sym live ∙ marked in
+      absurd (cc)
+
+  pub new_consistent_by : IsConsistentBy (created_state g) (zero_encodings g limits) (first_holders g) 1 image
+  new_consistent_by = record {
+    overtaken = λ i p a borne earlier.
+        let begun : 1 ≤ a.array.epoch = borne.bears.holds.spells.block.rules.array.begun in absurd (omega arith);
+    reserved = record {
+      exceptions = no_slots;
+      formed = refl;
+      few = none_is_few g.m;
+      others = λ j below out joined holder p medium x is super slot geometry same first second i q t borne.
+          let draw : x.draw ≡ 1 = ap (λ (y : Superblock). y.draw) (first_of j p medium x is (bears_super medium.cell j x super slot geometry)) in
+          let epoch : t.array.epoch ≡ 1 = ap (λ (c : Configuration). c.epoch) (array_of i q t borne) in
+          omega arith;
+    };
+    live = λ j a borne marked. ap (λ (c : Configuration). Some (joined_in c j)) (sym (since_array a borne));
+    frozen = λ a borne. inl (ap (λ (c : Configuration). c.frozen) (since_array a borne));
+    label = λ a borne. inl (ap (λ (c : Configuration). c.label) (since_array a borne));
+    forms = λ to some reassembly have gate. record {
+      one_redo = λ i j a b on also open_i open_j. absurd (holder_shut to i a (device to i reassembly (have i on)) open_i);
+      form = IdleOld (record {
+        encodes = λ t i j t_in i_in j_in on.
+            elim ((device to j reassembly (have j on)).sectors (cell_sector g t i) (sector_in_range g (Chunk t i) limits (t_in, i_in))) [
+              | inl is ↦
+                  Holds (is ∙ ap Good (created_behind g j (cell_sector g t i) (omega arith) ∙ sym (cell-zero_stripe g i j i_in j_in)))
+              | inr damaged ↦ Harmed damaged
+            ];
+        body = λ j redo on open_with. absurd (holder_shut to j redo (device to j reassembly (have j on)) open_with);
+      });
+    };
+    full = λ to j reassembly holder. (device to j reassembly holder).full;
+    rebuilding = λ to j a b redo reassembly borne marked bears same open_with.
+        not_rebuilding a j (since_array a borne) (bears_below g j ((to j).cell) b bears) marked;
+    one_list = λ i j p q a b first second same. array_of i p a first ∙ sym (array_of j q b second);
+    own_joined = λ j p q a b first second same.
+        media.once j p q first.medium second.medium a b first.is_one second.is_one first.bears second.bears;
   }
 
-  new_image_consistent : IsConsistent (created_state g) (zero_encodings g limits) image
-  new_image_consistent = record {
-    each = λ to reassembly alone. tolerated_represents g to limits id (again_new to reassembly) alone;
-    one_list = λ i j p q a b borne_a borne_b same. medium_array i p a borne_a ∙ sym (medium_array j q b borne_b);
-    own_joined = λ j p q a b borne_a borne_b same.
-        media.once j p q borne_a.medium borne_b.medium a b borne_a.is_one borne_b.is_one borne_a.bears borne_b.bears;
-    same_joined = λ to also a b j is_to is_also alone_to alone_also current_a current_b live_a live_b.
-        joined_again to a j is_to current_a ∙ sym (joined_again also b j is_also current_b);
-    drawn = λ to current reassembly alone is. (
-      alone.journal_slot,
-      draws_all to current alone.journal_slot reassembly
-          (subst (λ (s : Superblock). Serves (λ k. (to k).size ≡ None) g to s alone.journal_slot)
-          (one_current g to alone.current current alone.is_current is) alone.journal.serves),
-    );
-  }
-
--- a rack is consistent under reassembly where each medium is new or bears no superblock of the array for its slot
+-- a rack is consistent under reassembly, since epoch 1, where each medium is new or bears no superblock of the array for its slot
 pub new_consistent : (g : Geometry) (h : List Happening) → IsWithinLimits g → length g.id ≡ 16 → IsHistory h
     → EachImage (AreNewMedia g) h → AreSteady g h → IsConsistentUnderReassembly (created_state g) h
 new_consistent g h limits id is media steady = record {
-  encodings = zero_encodings g limits;
-  each = λ image left. new_image_consistent g image limits id (media image left);
-  seats = new_seats g h limits id (λ image left. media_in_slots g h image is left (media image left));
-  steady = steady;
+  holders = first_holders g;
+  since = 1;
+  is = record {
+    encodings = zero_encodings g limits;
+    each = λ image left. new_consistent_by g image limits id (media image left);
+    seats = new_seats g h limits id (λ image left. media_in_slots g h image is left (media image left));
+    steady = steady;
+  };
 }
 
 -- MEDIA OUTSIDE

@@ -13,7 +13,7 @@ use Rattle.stair_array.specs.Created.{BearNoneOutside, NoneComesBack, created_se
 use Rattle.stair_rack.specs.Telling.{Telling}
 use Rattle.stair_array.specs.Looking.{IsNotCreated, WasLookedAt, cells_at}
 use Rattle.stair_array.specs.Making.{SuperblocksCameLast, WrittenWithin}
-use Rattle.stair_state.specs.Reassembly.{IsConsistentUnderReassembly}
+use Rattle.stair_state.specs.Holding.{IsConsistentUnderReassembly}
 use Rattle.stair_state.specs.Represents.{AreSteady, IsLargeEnough, Represents}
 use Rattle.stair_state.specs.State.{created_state}
 use Rattle.stair_state.specs.Tolerance.{IsTolerated}

@@ -9,7 +9,7 @@ ghost use Rattle.stair_rack.specs.History.{Happening, Made};
 ghost use Rattle.stair_rack.specs.Media.{Image};
 ghost use Rattle.stair_state.specs.Blocks.{AreEncodingsOf, zero_blocks};
 ghost use Rattle.stair_array.specs.Created.{AreNewMedia, BearNoneOutside, IsNewArray};
-ghost use Rattle.stair_state.specs.Reassembly.{IsConsistentUnderReassembly};
+ghost use Rattle.stair_state.specs.Holding.{IsConsistentUnderReassembly};
 ghost use Rattle.stair_state.specs.Represents.{AreSteady, Represents};
 ghost use Rattle.stair_state.specs.State.{created_state};
 ghost use Rattle.stair_state.specs.Tolerance.{IsTolerated};

@@ -15,7 +15,7 @@ use Rattle.stair_member.specs.Reserve.{IsOrderly}
 use Rattle.stair_member.specs.Seats.{Seats}
 use Rattle.stair_member.specs.Superblocks.{IsOnlyIdentity}
 use Rattle.stair_state.specs.Degraded.{IsDegraded}
-use Rattle.stair_state.specs.Reassembly.{IsConsistent, IsConsistentUnderReassembly}
+use Rattle.stair_state.specs.Holding.{IsConsistentBy, IsConsistentUnderReassembly}
 use Rattle.stair_state.specs.Represents.{AreSteady, Encodings, HaveSeats, ImageRepresents, IsImageOf, Left, Lesser, Represents, RepresentsAlone}
 use Rattle.stair_state.specs.State.{State, without_seats}
 use Rattle.stair_state.specs.Tolerance.{IsToleratedAlone}
@@ -127,8 +127,12 @@ pub left_consistent : (s : State) (h : List Happening) (image : Image) → IsHis
 left_consistent s h image history consistent left =
     let tidy : IsImageTidy image = left_past_end h (history_tidy history) image left in
     record {
-      encodings = consistent.encodings;
-      each = each_left image tidy (IsConsistent s consistent.encodings) (consistent.each image left);
-      seats = seats_left s.seats s.geometry h image tidy left consistent.seats;
-      steady = steady_made s.geometry image;
+      holders = consistent.holders;
+      since = consistent.since;
+      is = record {
+        encodings = consistent.is.encodings;
+        each = each_left image tidy (IsConsistentBy s consistent.is.encodings consistent.holders consistent.since) (consistent.is.each image left);
+        seats = seats_left s.seats s.geometry h image tidy left consistent.is.seats;
+        steady = steady_made s.geometry image;
+      };
     }

@@ -10,6 +10,8 @@ pub mod IdentityLemmas
 pub mod DeterminedLemmas
 pub mod AloneLemmas
 pub mod OutsideLemmas
+pub mod ReassembledLemmas
+pub mod HoldingLemmas
 pub mod ReturnLemmas
 pub mod StillLemmas
 pub mod AgreeLemmas
@@ -18,6 +20,7 @@ pub mod MixedLemmas
 pub mod SurveyedLemmas
 pub mod CoverLemmas
 pub mod BegunLemmas
+pub mod MarkedLemmas
 pub mod StageLemmas
 pub mod RedoPhaseLemmas
 pub mod RedoRunLemmas

@@ -1,27 +1,32 @@
--- Whatever the outside does, media put back too, a rack stays consistent under reassembly: each medium came from one before.
+-- Whatever the outside does, media put back too, and while a rack is only looked at, it stays consistent under reassembly: each
+-- medium came from one before.
 use Rattle.std.proofs.Common.{◌≡◌, ℕ, zero, suc, ◌+◌, ◌<◌, ◌≤◌, List, [], ◌∷◌, ◌++◌, length, ◌⊎◌, inl, inr, refl, sym, ap, ◌∙◌, subst, arith, slice_get}
 use Rattle.std.specs.Prelude.{Option, None, Some, is_some, ◌==◌, nat_lt, if◌then◌else◌, remove}
 use Rattle.std.proofs.lemmas.Bool.{cases_Bool, cases_eq, cases_lt, cond-true, cond-false, eq-eqb, ne_eqb, lt-ltb, le-ltb, false≢true}
 use Rattle.std.proofs.lemmas.Option.{slice_get_cases}
-use Rattle.stair_rack.specs.Answers.{Ran, no_call}
-use Rattle.stair_rack.specs.Crash.{EachImage, SlotMayLeave}
-use Rattle.stair_rack.specs.History.{Happening, Made, Stopped, Acted, Called, SlotAct, Pulled, InsertedBlank, InsertedOld, SectorDamaged, SlotState, after_act, slot_state, with_old}
+use Rattle.stair_rack.specs.Answers.{Ran}
+use Rattle.stair_rack.specs.Crash.{SlotMayLeave}
+use Rattle.stair_rack.specs.History.{Attach, Happening, Read, Sectors, SlotAct, Pulled, InsertedBlank, InsertedOld, SectorDamaged, SlotCall, SlotState, Sync, Write, after_act, after_call, slot_state, with_old}
 use Rattle.stair_rack.specs.Media.{Image, Medium, SlotImage, has_sector, sectors_of}
-use Rattle.stair_rack.specs.Outside.{IsAct, MayHappen}
+use Rattle.stair_rack.specs.Outside.{MayHappen}
 use Rattle.stair_rack.specs.Sector.{Cell, Damaged, MayLeave}
 use Rattle.stair_rack.proofs.CrashLemmas.{settled_left}
-use Rattle.stair_rack.proofs.MomentLemmas.{ran_weakened}
-use Rattle.stair_rack.proofs.StepLemmas.{kept, slot_act_cases}
-use Rattle.stair_super.specs.Superblock.{Superblock}
+use Rattle.stair_rack.specs.declared.rack.Reply.TheVariants as reply
+use Rattle.stair_rack.proofs.StepLemmas.{kept, keeps_slot}
+use Rattle.stair_super.specs.Superblock.{Superblock, joined_at}
 use Rattle.stair_member.specs.Asked.{LeavesSectors}
+use Rattle.stair_member.specs.Current.{IsLost}
+use Rattle.stair_member.proofs.CountingLemmas.{all_but_mapped}
+use Rattle.stair_member.proofs.SuperLemmas.{super_cells, super_held}
 use Rattle.stair_state.specs.Degraded.{AreAllDamaged, AreDamagedCopies, Taken, Blank, Stays}
-use Rattle.stair_state.specs.Reassembly.{Location, InSlot, Outside, IsBorne, IsConsistent, IsConsistentUnderReassembly, IsMediumOf, IsReassembledSlot, OneOf, Unwritten, Empty, IsReassembly}
+use Rattle.stair_state.specs.Holding.{HasOvertaken, HolderReserved, Holders, IsBorneSince, IsConsistentBy, IsConsistentSince, IsConsistentUnderReassembly, OfAdmitted}
+use Rattle.stair_state.specs.Reassembly.{Location, InSlot, Outside, IsBorne, IsMediumOf, IsReassembledSlot, OneOf, Unwritten, Empty, IsReassembly}
 use Rattle.stair_state.specs.Represents.{Encodings}
 use Rattle.stair_state.specs.State.{State, without_seats}
-use Rattle.stair_state.proofs.AloneLemmas.{encodings_without_seats, image_without_seats}
+use Rattle.stair_state.proofs.AloneLemmas.{encodings_without_seats}
 use Rattle.stair_state.proofs.DegradedLemmas.{bears_before, copies_again, copies_damaged}
-use Rattle.stair_state.proofs.FormLemmas.{good_whole}
-use Rattle.stair_state.proofs.OutsideLemmas.{SlotComesFrom, same_slot, slot_before, slot_now, slot_now_left, steady_looks}
+use Rattle.stair_state.proofs.FormLemmas.{good_whole, same_kept}
+use Rattle.stair_state.proofs.OutsideLemmas.{SlotComesFrom, slot_before, slot_now, slot_now_left, steady_looks}
 
 -- WHERE A MEDIUM CAME FROM
 
@@ -245,18 +250,65 @@ slot_came b (InsertedOld i) may image left =
 slot_came b (SectorDamaged l) may image left =
     let from = slot_before [] 0 b (SectorDamaged l) tt image left in stay b image from (from.left.removed ∙ sym left.removed)
 
-unmoved : (b : SlotState) (image : SlotImage) → SlotMayLeave b image → MediaCameFrom b image
-unmoved b image left = let from = same_slot b image left in stay b image from (from.left.removed ∙ sym left.removed)
+-- LOOKS
 
-act_came : (h : List Happening) (e : Happening) → IsAct h e → (j : ℕ) (image : SlotImage) → SlotMayLeave (slot_state (e ∷ h) j) image
-    → MediaCameFrom (slot_state h j) image
-act_came h (Made media) act j image left = absurd act
-act_came h Stopped act j image left = unmoved (slot_state h j) image left
-act_came h (Acted i a) act j image left =
-    slot_act_cases (λ b. SlotMayLeave b image → MediaCameFrom (slot_state h j) image) h i j a
-    (λ same. slot_came (slot_state h j) a (subst (λ n. MayHappen (slot_state h n) a) same act.1) image)
-    (unmoved (slot_state h j) image) left
-act_came h (Called i c) act j image left = absurd act
+-- every image that a crash may leave of the slot came from one before
+pub AllCameFrom : SlotState → SlotState → Type 0
+AllCameFrom before b = (image : SlotImage) → SlotMayLeave b image → MediaCameFrom before image
+
+came_again : (before b : SlotState) (image : SlotImage) → MediaCameFrom b image → AllCameFrom before b → MediaCameFrom before image
+unfolding AllCameFrom
+came_again before b image from all =
+    let come = all from.was from.left in
+    record {
+      was = come.was;
+      left = come.left;
+      place = λ p. come.place (from.place p);
+      apart = λ p q same. from.apart p q (come.apart (from.place p) (from.place q) same);
+      medium = λ p m is. by come p m (from.medium p m is);
+    }
+  where
+    once_more : {was : SlotImage} {place : Location} {old m : Medium} → old.size ≡ m.size → AreDamagedCopies old.cell m.cell
+        → IsFrom was place old → IsFrom was place m
+    once_more size copies (Same first at same copied) = Same first at (same ∙ size) (copies_again copied copies)
+    once_more size copies (New all) = New (copies_damaged all copies)
+
+    by : (come : MediaCameFrom before from.was) (p : Location) (m : Medium) → IsFrom from.was (from.place p) m
+        → IsFrom come.was (come.place (from.place p)) m
+    by come p m (Same old at same copies) = once_more same copies (come.medium (from.place p) old at)
+    by come p m (New all) = New all
+
+look_leaves : (b : SlotState) (j : ℕ) (c : SlotCall) → LeavesSectors j c → (image : SlotImage) → SlotMayLeave (after_call c b) image
+    → SlotMayLeave b image
+look_leaves b j (Attach reply.Done) may image left = record { size = left.size; each = left.each; removed = left.removed }
+look_leaves b j (Attach reply.Gone) may image left = record { size = left.size; each = left.each; removed = left.removed }
+look_leaves b j (Sectors size) may image left = left
+look_leaves b j (Read k answer) may image left = left
+look_leaves b j (Write k bytes answer) may image left = absurd may
+look_leaves b j (Sync answer) may image left = absurd may
+
+came_first : (b : SlotState) → AllCameFrom b b
+unfolding AllCameFrom
+came_first b image left = record {
+  was = image;
+  left = left;
+  place = λ p. p;
+  apart = λ p q same. same;
+  medium = λ p m is. Same m is refl (λ k. inl refl);
+}
+
+pub came_looking : {old new : List Happening} (j : ℕ) → Ran LeavesSectors old new → AllCameFrom (slot_state old j) (slot_state new j)
+unfolding AllCameFrom
+came_looking {old} {new} j ran =
+    kept {allowed = LeavesSectors} {P = λ h. AllCameFrom (slot_state old j) (slot_state h j)}
+    (keeps_slot {allowed = LeavesSectors} {j = j} {R = AllCameFrom (slot_state old j)} (record {
+      act = λ b a may all image left. came_again (slot_state old j) b image (slot_came b a may image left) all;
+      call = λ h c may answered all image left. all image (look_leaves (slot_state h j) j c may image left);
+    })) ran (came_first (slot_state old j))
+
+pub at_image : {before b : SlotState} → AllCameFrom before b → (image : SlotImage) → SlotMayLeave b image → MediaCameFrom before image
+unfolding AllCameFrom
+at_image all image left = all image left
 
 -- REASSEMBLED SLOTS AND BORNE SUPERBLOCKS
 
@@ -270,69 +322,101 @@ reassembled_before b image to from (OneOf p m is size copies past) =
 reassembled_before b image to from (Unwritten size is all) = Unwritten size is all
 reassembled_before b image to from (Empty none all) = Empty none all
 
-module _ (s : State) (encodings : Encodings s) (h : List Happening) (image : Image) (from : (j : ℕ) → MediaCameFrom (slot_state h j) (image j)) where
+module _ (s : State) (encodings : Encodings s) (holders : Holders) (since : ℕ) (old : List Happening) (image : Image)
+    (from : (j : ℕ) → MediaCameFrom (slot_state old j) (image j)) where
   abbrev was : Image
   was j = (from j).was
 
-  borne_before : (j : ℕ) (p : Location) (t : Superblock) → IsBorne s.geometry image j p t
-      → IsBorne s.geometry was j ((from j).place p) t
+  whole_before : (to : Image) → IsReassembly image to → IsReassembly was to
+  whole_before to reassembly j = reassembled_before (slot_state old j) (image j) (to j) (from j) (reassembly j)
+
+  borne_before : (j : ℕ) (p : Location) (t : Superblock) → IsBorne s.geometry image j p t → IsBorne s.geometry was j ((from j).place p) t
   borne_before j p t borne =
       elim ((from j).medium p borne.medium borne.is_one) [
         | Same old at same copied ↦ record { medium = old; is_one = at; bears = bears_before copied borne.bears }
         | New all ↦ absurd (good_whole borne.bears.holds.good (all borne.bears.place))
       ]
 
-  whole_before : (to : Image) → IsReassembly image to → IsReassembly was to
-  whole_before to reassembly j = reassembled_before (slot_state h j) (image j) (to j) (from j) (reassembly j)
-
-  consistent_after : IsConsistent s encodings was → IsConsistent s encodings image
-  consistent_after consistent = record {
-    each = λ to reassembly. consistent.each to (whole_before to reassembly);
-    one_list = λ i j p q a b first second.
-        consistent.one_list i j ((from i).place p) ((from j).place q) a b (borne_before i p a first) (borne_before j q b second);
-    own_joined = λ j p q a b first second same.
-        (from j).apart p q
-        (consistent.own_joined j ((from j).place p) ((from j).place q) a b (borne_before j p a first) (borne_before j q b second) same);
-    same_joined = λ to also a b j first second. consistent.same_joined to also a b j (whole_before to first) (whole_before also second);
-    drawn = λ to current reassembly tolerated is_current.
-        let found = consistent.drawn to current (whole_before to reassembly) tolerated is_current in (
-          found.0,
-          record {
-            serves = found.1.serves;
-            above = λ i p t borne. found.1.above i ((from i).place p) t (borne_before i p t borne);
-          },
-        );
+  since_before : (a : Superblock) → IsBorneSince s.geometry since image a → IsBorneSince s.geometry since was a
+  since_before a borne = record {
+    slot = borne.slot;
+    place = (from borne.slot).place borne.place;
+    borne = borne_before borne.slot borne.place a borne.borne;
+    since_then = borne.since_then;
   }
 
--- RACKS
+  -- what holds of the media admitted in an epoch
+  admitted_after : (joined j : ℕ) (Q R : Superblock → Type 0) → ((x : Superblock) → Q x → R x) → OfAdmitted s.geometry was joined Q j
+      → OfAdmitted s.geometry image joined R j
+  admitted_after joined j Q R map holds p m x is super slot geometry same first second =
+      elim ((from j).medium p m is) [
+        | Same old at size copied ↦
+            map x
+            (holds ((from j).place p) old x at (super_cells m.cell old.cell x (same_kept (copied 0) first) (same_kept (copied 1) second) super) slot
+            geometry same (subst (λ (c : Cell). ¬ IsLost c) (same_kept (copied 0) first) first)
+            (subst (λ (c : Cell). ¬ IsLost c) (same_kept (copied 1) second) second))
+        | New all ↦
+            let held = super_held m.cell x super in absurd (good_whole held.holds.good (all held.place))
+      ]
 
-consistent_acts : (s : State) (encodings : Encodings s) (old new : List Happening) → Ran no_call old new
-    → EachImage (IsConsistent s encodings) old → EachImage (IsConsistent s encodings) new
-consistent_acts s encodings old new ran each =
-    kept {allowed = no_call} {P = EachImage (IsConsistent s encodings)} (record {
-      act = λ h e act before image left.
-          let from = λ (j : ℕ). act_came h e act j (image j) (left j) in
-          consistent_after s encodings h image from (before (λ j. (from j).was) (λ j. (from j).left));
-      call = λ h i c may answered before. absurd may;
-    }) ran each
+  pub consistent_by_after : IsConsistentBy s encodings holders since was → IsConsistentBy s encodings holders since image
+  consistent_by_after it = record {
+    overtaken = λ i p a borne earlier.
+        all_but_mapped {P = HasOvertaken s.geometry was a} {Q = HasOvertaken s.geometry image a}
+        (λ j below over marked.
+        admitted_after (joined_at a j) j (λ x. a.array.epoch < x.array.epoch) (λ x. a.array.epoch < x.array.epoch) (λ x less. less) (over marked))
+        (it.overtaken i ((from i).place p) a (borne_before i p a borne) earlier);
+    reserved =
+        all_but_mapped {P = HolderReserved s.geometry holders was} {Q = HolderReserved s.geometry holders image}
+        (λ j below reserved joined holder.
+        admitted_after joined j
+        (λ x. (i : ℕ) (q : Location) (t : Superblock) → IsBorne s.geometry was i q t → t.array.epoch ≤ x.draw)
+        (λ x. (i : ℕ) (q : Location) (t : Superblock) → IsBorne s.geometry image i q t → t.array.epoch ≤ x.draw)
+        (λ x above i q t borne. above i ((from i).place q) t (borne_before i q t borne)) (reserved joined holder))
+        it.reserved;
+    live = λ j a borne. it.live j a (since_before a borne);
+    frozen = λ a borne. it.frozen a (since_before a borne);
+    label = λ a borne. it.label a (since_before a borne);
+    forms = λ to some reassembly. it.forms to some (whole_before to reassembly);
+    full = λ to j reassembly. it.full to j (whole_before to reassembly);
+    rebuilding = λ to j a b redo reassembly borne. it.rebuilding to j a b redo (whole_before to reassembly) (since_before a borne);
+    one_list = λ i j p q a b first second.
+        it.one_list i j ((from i).place p) ((from j).place q) a b (borne_before i p a first) (borne_before j q b second);
+    own_joined = λ j p q a b first second same.
+        (from j).apart p q
+        (it.own_joined j ((from j).place p) ((from j).place q) a b (borne_before j p a first) (borne_before j q b second) same);
+  }
 
-consistent_without_seats : (s : State) (encodings : Encodings s) (image : Image) → IsConsistent s encodings image
-    → IsConsistent (without_seats s) (encodings_without_seats s encodings) image
-consistent_without_seats s encodings image consistent = record {
-  each = λ to reassembly tolerated. image_without_seats s encodings to (consistent.each to reassembly tolerated);
-  one_list = consistent.one_list;
-  own_joined = consistent.own_joined;
-  same_joined = consistent.same_joined;
-  drawn = consistent.drawn;
+without : (s : State) (encodings : Encodings s) (holders : Holders) (since : ℕ) (image : Image) → IsConsistentBy s encodings holders since image
+    → IsConsistentBy (without_seats s) (encodings_without_seats s encodings) holders since image
+without s encodings holders since image it = record {
+  overtaken = it.overtaken;
+  reserved = it.reserved;
+  live = it.live;
+  frozen = it.frozen;
+  label = it.label;
+  forms = it.forms;
+  full = it.full;
+  rebuilding = it.rebuilding;
+  one_list = it.one_list;
+  own_joined = it.own_joined;
 }
 
-pub acts_consistent : (s : State) (old new : List Happening) → IsConsistentUnderReassembly s old → Ran no_call old new
+-- acts, media put back too, and looks
+pub looks_consistent : (s : State) (holders : Holders) (since : ℕ) (old new : List Happening) → IsConsistentSince s holders since old
+    → Ran LeavesSectors old new → IsConsistentSince (without_seats s) holders since new
+looks_consistent s holders since old new it ran = record {
+  encodings = encodings_without_seats s it.encodings;
+  each = λ image left.
+      let from = λ (j : ℕ). at_image (came_looking j ran) (image j) (left j) in
+      without s it.encodings holders since image
+      (consistent_by_after s it.encodings holders since old image from (it.each (λ j. (from j).was) (λ j. (from j).left)));
+  seats = tt;
+  steady = steady_looks s.geometry old new ran it.steady;
+}
+
+-- such acts and looks leave a rack consistent under reassembly
+pub looked_consistent : (s : State) (old new : List Happening) → IsConsistentUnderReassembly s old → Ran LeavesSectors old new
     → IsConsistentUnderReassembly (without_seats s) new
-acts_consistent s old new consistent ran =
-    record {
-      encodings = encodings_without_seats s consistent.encodings;
-      each = λ image left.
-          consistent_without_seats s consistent.encodings image (consistent_acts s consistent.encodings old new ran consistent.each image left);
-      seats = tt;
-      steady = steady_looks s.geometry old new (ran_weakened {allowed = no_call} {more = LeavesSectors} (λ j c may. absurd may) ran) consistent.steady;
-    }
+looked_consistent s old new it ran =
+    record { holders = it.holders; since = it.since; is = looks_consistent s it.holders it.since old new it.is ran }

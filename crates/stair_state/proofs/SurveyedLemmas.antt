@@ -1,5 +1,5 @@
 -- A survey of a rack that represents an array, is within tolerance since the session began and gets no medium back finds it.
-use Rattle.std.proofs.Common.{◌≡◌, ℕ, ◌<◌, ◌≤◌, List, inl, inr, refl, sym, ◌∙◌, subst, arith}
+use Rattle.std.proofs.Common.{◌≡◌, ℕ, ◌<◌, ◌≤◌, List, ◌⊎◌, inl, inr, refl, sym, ap, ◌∙◌, subst, arith}
 use Rattle.std.specs.Prelude.{IsTrue, Result, Ok, Err}
 use Rattle.stair_model.specs.Geometry.{Geometry}
 use Rattle.stair_model.specs.Slots.{HasSlot, slot_count}
@@ -27,7 +27,7 @@ use Rattle.stair_member.specs.declared.why.Why.TheVariants.{Here}
 use Rattle.stair_member.proofs.AskedLemmas.{asked_ran}
 use Rattle.stair_member.proofs.CountingLemmas.{apart, has_or_not}
 use Rattle.stair_member.proofs.StandingLemmas.{serves_unless_failed}
-use Rattle.stair_member.proofs.SuperLemmas.{super_held}
+use Rattle.stair_member.proofs.SuperLemmas.{one_current, super_held}
 use Rattle.stair_state.specs.Represents.{Left, Lesser, Represents}
 use Rattle.stair_state.specs.State.{State}
 use Rattle.stair_state.specs.Surveyed.{FindsArray}
@@ -35,7 +35,7 @@ use Rattle.stair_state.specs.Tolerance.{IsTolerated, IsWithinTolerance, Tolerate
 use Rattle.stair_state.proofs.AgreeLemmas.{AgreeBelow, agree_back, current_agree, here_live, identifies_agree, identifies_limits, live_agree, live_here}
 use Rattle.stair_state.proofs.FormLemmas.{good_whole}
 use Rattle.stair_state.proofs.MixedLemmas.{read_live}
-use Rattle.stair_state.proofs.SeenLemmas.{IsLookedAt, ending, limits, read_only, read_stands, serving_read}
+use Rattle.stair_state.proofs.SeenLemmas.{IsLookedAt, ending, found_is, is_ending, limits, read_only, read_stands, serving_read}
 use Rattle.stair_state.proofs.StillLemmas.{degraded_now, gone_lost, offline_decided, read_cell, read_copies, read_image, read_kept, steady_cells}
 
 -- what was read, and the cells of it that are known
@@ -68,7 +68,7 @@ module _ (s : State) (before : List Happening) (old new : Telling) (f : Findings
   at_last : IsWithinTolerance offline g last
   at_last = tolerated_last last (CrashMayLeave-now new.history)
 
-  goes_on : ¬ IsTrue (stopped new.history)
+  pub goes_on : ¬ IsTrue (stopped new.history)
   goes_on stops = at_last.journal.serves.online (RackStopped stops)
 
   pub looks : IsLookedAt g offline first (read_image f) last
@@ -139,6 +139,22 @@ module _ (s : State) (before : List Happening) (old new : Telling) (f : Findings
         (serving_read looks at_first.current surveyed.current at_first.is_current current_read j serves))
         (reasons j serves.live.below)
 
+    -- it has what is named at the end or at first
+    named : (was is : Superblock) → IsCurrent g first was → IsCurrent g last is → (m.array ≡ is.array) ⊎ (m.array ≡ was.array)
+    named was is is_was is_is =
+        elim (found_is looks was surveyed.current is_was current_read) [
+          | inl same ↦
+              inl
+              (surveyed.array ∙ same
+              ∙ ap (λ (c : Superblock). c.array) (one_current g last (ending looks) is (is_ending looks) is_is))
+          | inr same ↦ inr (surveyed.array ∙ same)
+        ]
+
+    here_then : (current : Superblock) (j : ℕ) → IsCurrent g last current → Serves offline g last current j → why_of m j ≡ Here
+    here_then current j is serves =
+        serving_here j
+        (subst (λ (c : Superblock). Serves offline g last c j) (one_current g last current (ending looks) is (is_ending looks)) serves)
+
     -- so few are missing
     few_missing : AtMost m.array.geometry.m (IsMissing m)
     few_missing = record {
@@ -169,11 +185,13 @@ module _ (s : State) (before : List Happening) (old new : Telling) (f : Findings
         (read_live looks current surveyed.current (current_agree g g.n (omega arith) image first current same is_current) current_read j
         (live_agree g 32 small f.image (read_image f) surveyed.current j (agree f) live))
 
-  pub finds : (answer : Result Membership SurveyFault) → IsAnswer f answer → FindsArray s answer old.history
+  pub finds : (answer : Result Membership SurveyFault) → IsAnswer f answer → FindsArray s answer before old.history new.history
   finds (Ok m) answered = record {
     member = m;
     found = refl;
     identity = identity m answered.0;
+    named = named m answered.0;
+    here = here_then m answered.0;
     live = here_before m answered.0;
   }
   finds (Err NoArray) answered = absurd (answered g found_stands)
@@ -182,7 +200,7 @@ module _ (s : State) (before : List Happening) (old new : Telling) (f : Findings
 
 pub finds_array : (s : State) (before : List Happening) (old new : Telling) (answer : Result Membership SurveyFault) → Surveys answer old new
     → IsTrue new.honest → Ran any_call before old.history → Represents s old.history → NothingReturned old.history new.history
-    → ToleratedSince s.geometry before new.history → FindsArray s answer old.history
+    → ToleratedSince s.geometry before new.history → FindsArray s answer before old.history new.history
 finds_array s before old new answer surveys honest began stands none tolerated =
     finds s before old new surveys.findings surveys.found honest (surveys.began honest)
     (asked_ran 32 old.history new.history (surveys.asked honest)) began stands none tolerated answer surveys.answered

@@ -6,6 +6,7 @@ pub mod Tolerance
 pub mod Degraded
 pub mod Represents
 pub mod Reassembly
+pub mod Holding
 pub mod Surveyed
 pub mod Redoing
 pub mod Recovering

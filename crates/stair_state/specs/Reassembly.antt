@@ -1,8 +1,6 @@
 -- Media that lie in other ways: each slot may get any of its own.
-use Rattle.std.specs.Prelude.{◌≡◌, ◌≤◌, ℕ, false, List, None, Some, slice_get}
+use Rattle.std.specs.Prelude.{◌≡◌, ◌≤◌, ℕ, false, None, Some, slice_get}
 use Rattle.stair_model.specs.Geometry.{Geometry}
-use Rattle.stair_rack.specs.Crash.{EachImage}
-use Rattle.stair_rack.specs.History.{Happening}
 use Rattle.stair_rack.specs.Media.{Image, Medium, SlotImage, has_sector}
 use Rattle.stair_rack.specs.Sector.{Damaged}
 use Rattle.stair_super.specs.Superblock.{Superblock, joined_at, mark_at}
@@ -10,7 +8,7 @@ use Rattle.stair_super.specs.declared.mark.Mark.TheVariants.{Live}
 use Rattle.stair_member.specs.Current.{IsCurrent, Serves}
 use Rattle.stair_member.specs.Reserve.{Bears}
 use Rattle.stair_state.specs.Degraded.{AreAllDamaged, AreDamagedCopies}
-use Rattle.stair_state.specs.Represents.{AreSteady, Encodings, HaveSeats, ImageRepresents}
+use Rattle.stair_state.specs.Represents.{Encodings, ImageRepresents}
 use Rattle.stair_state.specs.State.{State}
 use Rattle.stair_state.specs.Tolerance.{IsToleratedAlone}
 
@@ -71,10 +69,3 @@ pub record IsConsistent (s : State) (encodings : Encodings s) (image : Image) : 
   pub drawn : (to : Image) (current : Superblock) → IsReassembly image to
       → IsToleratedAlone s.geometry to → IsCurrent s.geometry to current
       → (j : ℕ) × HasDrawAbove s.geometry image to current j
-
--- what a crash now may leave of the rack is consistent under reassembly, and has the state's marks where they are known
-pub record IsConsistentUnderReassembly (s : State) (h : List Happening) : Type 0 where
-  pub encodings : Encodings s
-  pub each : EachImage (IsConsistent s encodings) h
-  pub seats : HaveSeats s.seats s.geometry h
-  pub steady : AreSteady s.geometry h

@@ -1,22 +1,33 @@
 -- What a survey finds of an array that the rack represents.
-use Rattle.std.specs.Prelude.{◌≡◌, ◌<◌, ◌≤◌, ℕ, List, Result, Ok}
+use Rattle.std.specs.Prelude.{◌≡◌, ◌⊎◌, ◌<◌, ◌≤◌, ℕ, List, Result, Ok}
 use Rattle.stair_model.specs.Geometry.{Geometry}
-use Rattle.stair_rack.specs.Crash.{EachImage}
+use Rattle.stair_rack.specs.Crash.{EachImage, image_now}
 use Rattle.stair_rack.specs.History.{Happening}
-use Rattle.stair_super.specs.Superblock.{Superblock}
-use Rattle.stair_member.specs.Current.{IsCurrent, IsLive}
+use Rattle.stair_rack.specs.Offline.{IsOffline}
+use Rattle.stair_super.specs.Superblock.{Superblock, joined_in, mark_in}
+use Rattle.stair_member.specs.Aims.{mark_for}
+use Rattle.stair_member.specs.Current.{IsCurrent, IsLive, Serves}
 use Rattle.stair_member.specs.Membership.{Membership, why_of}
 use Rattle.stair_member.specs.Reserve.{Bears}
 use Rattle.stair_member.specs.declared.fault.SurveyFault.{SurveyFault}
 use Rattle.stair_member.specs.declared.why.Why.TheVariants.{Here}
 use Rattle.stair_state.specs.State.{State}
 
--- The array of the state was found, and each slot that is here was live in whatever a crash before the survey might have left.
+-- The array of the state was found, by a survey from old to new in a session that began at `before`.
 pub record FindsArray (s : State) (answer : Result Membership SurveyFault)
-    (old : List Happening) : Type 0 where
+    (before old new : List Happening) : Type 0 where
   pub member : Membership
   pub found : answer ≡ Ok member
   pub identity : member.array.geometry ≡ s.geometry
+  -- it has what the current superblock names, of the rack at the end or at the beginning
+  pub named : (first last : Superblock) → IsCurrent s.geometry (image_now old) first
+      → IsCurrent s.geometry (image_now new) last
+      → (member.array ≡ last.array) ⊎ (member.array ≡ first.array)
+  -- a slot that serves at the end is here
+  pub here : (current : Superblock) (j : ℕ) → IsCurrent s.geometry (image_now new) current
+      → Serves (IsOffline before new) s.geometry (image_now new) current j
+      → why_of member j ≡ Here
+  -- and one that is here was live in whatever a crash before the survey might have left
   pub live : (j : ℕ) → j < s.geometry.n → why_of member j ≡ Here
       → EachImage (λ image. (current : Superblock) → IsCurrent s.geometry image current
       → IsLive s.geometry image current j) old
@@ -32,3 +43,9 @@ pub record Covers (m : Membership) (t : Superblock) : Type 0 where
 pub record CoversAll (g : Geometry) (m : Membership) (h : List Happening) : Type 0 where
   pub each : EachImage (λ image. (j : ℕ) (t : Superblock) → Bears g j ((image j).cell) t
       → Covers m t) h
+
+-- in each image that a crash at h may leave, a slot whose medium is the one that the member's epoch means is marked by its reason
+abbrev pub MarksByReasons : Membership → List Happening → Type 0
+MarksByReasons m h = EachImage (λ image. (j : ℕ) (s : Superblock) → j < m.array.geometry.n
+    → Bears m.array.geometry j ((image j).cell) s → s.joined ≡ joined_in m.array j
+    → mark_in m.array j ≡ mark_for (why_of m j)) h

@@ -1,14 +1,15 @@
 // What the outside may do to a rack that represents a state.
 ghost use Rattle.std.specs.Prelude.{List, [], ◌∷◌};
 ghost use Rattle.stair_model.specs.Geometry.{Geometry};
-ghost use Rattle.stair_rack.specs.Answers.{IsHistory, Ran, no_call};
-ghost use Rattle.stair_rack.specs.Crash.{CrashMayLeave};
+ghost use Rattle.stair_rack.specs.Answers.{IsHistory, Ran};
+ghost use Rattle.stair_rack.specs.Crash.{CrashMayLeave, EachImage};
 ghost use Rattle.stair_rack.specs.History.{Happening, Made};
 ghost use Rattle.stair_rack.specs.Media.{Image};
 ghost use Rattle.stair_rack.specs.Stretch.{NothingReturned};
 ghost use Rattle.stair_member.specs.Asked.{LeavesSectors};
-ghost use Rattle.stair_state.specs.Reassembly.{IsConsistentUnderReassembly};
-ghost use Rattle.stair_state.specs.Represents.{Represents};
+ghost use Rattle.stair_state.specs.Holding.{IsConsistentUnderReassembly};
+ghost use Rattle.stair_state.specs.Reassembly.{IsConsistent};
+ghost use Rattle.stair_state.specs.Represents.{Encodings, Represents};
 ghost use Rattle.stair_state.specs.State.{State, without_seats};
 ghost use Rattle.stair_state.specs.Tolerance.{IsTolerated, IsToleratedAlone};
 
@@ -26,8 +27,11 @@ pub fn outside_laws()
     ensures made { (s : State) (h : List Happening) (image : Image) → IsHistory h →
         IsConsistentUnderReassembly s h → CrashMayLeave h image →
         IsConsistentUnderReassembly s (Made image ∷ []) }
-    // any acts leave a rack that is so, marks and joined numbers aside
+    // any acts, media put back too, and calls that change no sector leave a rack that is so, marks and joined numbers aside
     ensures consistent { (s : State) (old new : List Happening) → IsHistory old →
-        IsConsistentUnderReassembly s old → Ran no_call old new →
+        IsConsistentUnderReassembly s old → Ran LeavesSectors old new →
         IsConsistentUnderReassembly (without_seats s) new }
+    // each image that a crash may leave of it represents the state however its media lie
+    ensures however { (s : State) (h : List Happening) → IsConsistentUnderReassembly s h →
+        (encodings : Encodings s) × EachImage (IsConsistent s encodings) h }
 {}

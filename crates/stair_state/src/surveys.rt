@@ -1,16 +1,17 @@
 // What a survey finds of a rack that represents a state.
-ghost use Rattle.std.specs.Prelude.{◌≡◌, IsTrue, None, List, Result, Ok};
+ghost use Rattle.std.specs.Prelude.{◌≡◌, ◌<◌, ℕ, IsTrue, None, List, Result, Ok};
 ghost use Rattle.stair_rack.specs.Answers.{Ran, any_call};
 ghost use Rattle.stair_rack.specs.History.{Happening};
+ghost use Rattle.stair_rack.specs.Offline.{IsHeld};
 ghost use Rattle.stair_rack.specs.Stretch.{NothingReturned};
 ghost use Rattle.stair_member.specs.Fencing.{IsBegun};
-ghost use Rattle.stair_member.specs.Membership.{IsMembership, Membership};
+ghost use Rattle.stair_member.specs.Membership.{IsHere, IsMembership, Membership};
 ghost use Rattle.stair_member.specs.Survey.{Surveys};
 ghost use Rattle.stair_rack.specs.Telling.{Telling};
 ghost use Rattle.stair_member.specs.declared.fault.SurveyFault.{SurveyFault};
 ghost use Rattle.stair_state.specs.Represents.{Represents};
 ghost use Rattle.stair_state.specs.State.{State};
-ghost use Rattle.stair_state.specs.Surveyed.{CoversAll, FindsArray};
+ghost use Rattle.stair_state.specs.Surveyed.{CoversAll, FindsArray, MarksByReasons};
 ghost use Rattle.stair_state.specs.Tolerance.{ToleratedSince};
 
 /// What a survey finds of an array. It does nothing.
@@ -21,7 +22,7 @@ pub fn survey_laws()
         (answer : Result Membership SurveyFault) → Surveys answer old new → IsTrue new.honest →
         Ran any_call before old.history → Represents s old.history →
         NothingReturned old.history new.history → ToleratedSince s.geometry before new.history →
-        FindsArray s answer old.history }
+        FindsArray s answer before old.history new.history }
     // its answer then covers each superblock that a slot bears in whatever a crash at its end may leave
     ensures covers { (s : State) (before : List Happening) (old new : Telling)
         (answer : Result Membership SurveyFault) (m : Membership) → Surveys answer old new →
@@ -34,4 +35,16 @@ pub fn survey_laws()
         IsTrue new.honest → Ran any_call before old.history → Represents s old.history →
         NothingReturned old.history new.history → ToleratedSince s.geometry before new.history →
         IsMembership m → answer ≡ Ok m → IsBegun None m new.history }
+    // its marks are those of the reasons, where a slot's medium is the one that its epoch means
+    ensures marked { (s : State) (before : List Happening) (old new : Telling)
+        (answer : Result Membership SurveyFault) (m : Membership) → Surveys answer old new →
+        IsTrue new.honest → Ran any_call before old.history → Represents s old.history →
+        NothingReturned old.history new.history → ToleratedSince s.geometry before new.history →
+        IsMembership m → answer ≡ Ok m → MarksByReasons m new.history }
+    // and each slot that takes part is held since the survey began
+    ensures held { (s : State) (before : List Happening) (old new : Telling)
+        (answer : Result Membership SurveyFault) (m : Membership) → Surveys answer old new →
+        IsTrue new.honest → Ran any_call before old.history → Represents s old.history →
+        NothingReturned old.history new.history → ToleratedSince s.geometry before new.history →
+        answer ≡ Ok m → (j : ℕ) → IsHere m j → IsHeld old.history new.history j }
 {}
