@@ -17,7 +17,7 @@ use Rattle.stair_rack.specs.Sector.{Cell, Good, Damaged, Sector, LeftOf, MayLeav
 use Rattle.stair_rack.specs.Stretch.{EachHappening, IsNoWrite, NoneWritten, NothingWritten}
 use Rattle.stair_rack.specs.declared.rack.Reply.TheVariants as reply
 use Rattle.stair_rack.proofs.StepLemmas.{slot_act_cases, slot_after_act, slot_call_cases, throughout_end}
-use Rattle.stair_rack.proofs.MomentLemmas.{at_every_from, at_last, at_moment, at_some_wider, moment_between, moment_sooner, ran_any, ran_before, ran_join, ran_none}
+use Rattle.stair_rack.proofs.MomentLemmas.{at_every_from, at_last, at_moment, at_some_wider, moment_between, moment_sooner, ran_any, ran_before, ran_join, ran_none, ran_weakened}
 use Rattle.stair_rack.proofs.StretchLemmas.{each_after, each_before, each_join, each_of_ran, none_written}
 use Rattle.stair_rack.proofs.KeptLemmas.{IsKept-since}
 use Rattle.stair_rack.proofs.OfflineLemmas.{pulls_on}
@@ -29,12 +29,13 @@ use Rattle.stair_array.specs.Created as created
 use Rattle.stair_array.specs.Look.{IsLook, IsTaken}
 use Rattle.stair_rack.specs.Telling.{IsLater, IsReading, Telling}
 use Rattle.stair_array.specs.Looking.{Finding, WasGone, WasSmall, Holds, AllPassed, HadSectors, IsFound, IsGoneInWriting, IsNotCreated, IsRefusedFor, IsUnwritten, cells_at}
-use Rattle.stair_array.specs.Making.{AreMade, IsBehind, IsLaidOut, IsMaking, IsNoPlaceWrite, IsPlace, IsSlotOf, IsStoppedBy, IsWriteWithin, NoPlaceWritten, SuperblocksCameLast, CameAfter, WritesNoPlace, WritesWithin, WrittenWithin}
+use Rattle.stair_array.specs.Making.{AreMade, IsBehind, IsCreating, IsLaidOut, IsMaking, IsNoPlaceWrite, IsPlace, IsSlotOf, IsStoppedBy, IsWriteWithin, NoPlaceWritten, SuperblocksCameLast, CameAfter, WritesInTurn, WritesNoPlace, WritesWithin, WrittenWithin}
 use Rattle.stair_state.specs.Represents.{AreSteady, IsLargeEnough}
 use Rattle.stair_array.specs.declared.fault.CreateFault.{CreateFault}
 use Rattle.stair_array.specs.declared.fault.CreateFault.TheVariants.{Gone, SmallDevice, AlreadyArray}
 use Rattle.stair_state.proofs.RedoPhaseLemmas.{large_some}
 use Rattle.stair_array.proofs.DeviceLemmas.{made_on, made_sooner, making_no_attach}
+use Rattle.stair_array.proofs.EnrolLemmas.{none_second}
 use Rattle.stair_array.proofs.PulledLemmas.{IsSameOrOther, ReturnsOnly, SameMedium, OtherMedium, BearsNot, any_cell, bears_none, lost_bears_not, returns_any, returns_none, same_or_other}
 
 -- WHY THERE IS NO ARRAY
@@ -185,7 +186,7 @@ every_sector k = ⊤
 
 -- what lies behind the superblock places was made, and then these were
 pub made_whole : (g : Geometry) (j : ℕ) (slots : ℕ → Type 0) (old mid new : List Happening) → AreMade g (IsBehind g) j old mid
-    → AreMade g IsPlace j mid new → Ran any_call old mid → Ran (IsMaking slots IsPlace) mid new → AreMade g every_sector j old new
+    → AreMade g IsPlace j mid new → Ran any_call old mid → Ran (IsMaking g slots IsPlace) mid new → AreMade g every_sector j old new
 made_whole g j slots old mid new behind places ran ran' = record {
   landed = λ k is below. elim (cases_lt k 2) [ inl place ↦ after.landed k place below | inr past ↦ before.landed k (past, below) below ];
   stands = λ k is below. elim (cases_lt k 2) [ inl place ↦ after.stands k place below | inr past ↦ before.stands k (past, below) below ];
@@ -193,7 +194,7 @@ made_whole g j slots old mid new behind places ran ran' = record {
   where
     before : AreMade g (IsBehind g) j old new
     before =
-        made_on {allowed = IsMaking slots IsPlace} behind ran'
+        made_on {allowed = IsMaking g slots IsPlace} behind ran'
         (λ k past bytes may. let place : k < 2 = may.1 in let beyond : 2 ≤ k = past.0 in omega arith)
 
     after : AreMade g IsPlace j old new
@@ -205,7 +206,7 @@ pub record IsFinished (g : Geometry) (j : ℕ) (old new : List Happening) : Type
   pub sectors : AreMade g every_sector j slot.taken new
 
 finished : (g : Geometry) (j : ℕ) (slots : ℕ → Type 0) (old now mid new : List Happening) → IsTaken g j old now → AreMade g (IsBehind g) j now mid
-    → AreMade g IsPlace j mid new → Ran (IsMaking slots (IsBehind g)) now mid → Ran (IsMaking slots IsPlace) mid new → IsFinished g j old new
+    → AreMade g IsPlace j mid new → Ran (IsMaking g slots (IsBehind g)) now mid → Ran (IsMaking g slots IsPlace) mid new → IsFinished g j old new
 finished g j slots old now mid new t behind places ran ran' = record {
   slot = record {
     taken = t.taken;
@@ -213,13 +214,13 @@ finished g j slots old now mid new t behind places ran ran' = record {
     before = t.before;
     since =
         ran_join t.since
-        (ran_join (making_no_attach {slots = slots} {part = IsBehind g} j ran) (making_no_attach {slots = slots} {part = IsPlace} j ran'));
+        (ran_join (making_no_attach g {slots = slots} {part = IsBehind g} j ran) (making_no_attach g {slots = slots} {part = IsPlace} j ran'));
     in_use = t.in_use;
     large = t.large;
   };
   sectors =
       made_sooner (ran_any {allowed = IsNoAttach j} t.since)
-      (made_whole g j slots now mid new behind places (ran_any {allowed = IsMaking slots (IsBehind g)} ran) ran');
+      (made_whole g j slots now mid new behind places (ran_any {allowed = IsMaking g slots (IsBehind g)} ran) ran');
 }
 
 module _ (g : Geometry) (j : ℕ) (old new : List Happening) (f : IsFinished g j old new) where
@@ -296,8 +297,8 @@ module _ (g : Geometry) (j : ℕ) (old new : List Happening) (f : IsFinished g j
 -- ALL SLOTS
 
 pub all_finished : (g : Geometry) (old now mid new : List Happening) → IsWithinLimits g → ((j : ℕ) → j < 32 → j < g.n → IsTaken g j old now)
-    → ((j : ℕ) → j < g.n → AreMade g (IsBehind g) j now mid) → Ran (IsMaking (IsSlotOf g) (IsBehind g)) now mid
-    → Ran (IsMaking (IsSlotOf g) IsPlace) mid new → ((j : ℕ) → j < g.n → AreMade g IsPlace j mid new) → (j : ℕ) → j < g.n → IsFinished g j old new
+    → ((j : ℕ) → j < g.n → AreMade g (IsBehind g) j now mid) → Ran (IsMaking g (IsSlotOf g) (IsBehind g)) now mid
+    → Ran (IsMaking g (IsSlotOf g) IsPlace) mid new → ((j : ℕ) → j < g.n → AreMade g IsPlace j mid new) → (j : ℕ) → j < g.n → IsFinished g j old new
 all_finished g old now mid new limits taken behind ran ran' places j below =
     finished g j (IsSlotOf g) old now mid new (taken j (omega (arith, below, limits.devices)) below) (behind j below) (places j below) ran ran'
 
@@ -312,27 +313,49 @@ pub finished_history : (g : Geometry) (old new : List Happening) → IsWithinLim
 finished_history g old new limits each =
     let first = (each 0 (omega (arith, limits.devices))).slot in history_on {allowed = IsNoAttach 0} first.history first.since
 
--- NO OTHER SLOT
+-- WHAT IS WRITTEN
 
-pub looks_spare : (g : Geometry) {old new : List Happening} → Ran IsLook old new → NoneWritten (λ j. g.n ≤ j) old new
-looks_spare g ran = none_written {allowed = IsLook} {slots = λ j. g.n ≤ j} (λ j c is past. is) ran
-
-pub making_spares : (g : Geometry) (part : ℕ → Type 0) {old new : List Happening} → Ran (IsMaking (IsSlotOf g) part) old new
-    → NoneWritten (λ j. g.n ≤ j) old new
-making_spares g part ran = none_written {allowed = IsMaking (IsSlotOf g) part} {slots = λ j. g.n ≤ j} spares ran
+pub looks_create : (g : Geometry) {old new : List Happening} → Ran IsLook old new → Ran (IsCreating g) old new
+looks_create g ran = ran_weakened {allowed = IsLook} {more = IsCreating g} step ran
   where
-    spares : (j : ℕ) (c : SlotCall) → IsMaking (IsSlotOf g) part j c → g.n ≤ j → IsNoWrite c
+    step : (j : ℕ) (c : SlotCall) → IsLook j c → IsCreating g j c
+    step j (Attach answer) is = tt
+    step j (Sectors size) is = tt
+    step j (Read k answer) is = tt
+    step j (Write k bytes answer) is = absurd is
+    step j (Sync answer) is = tt
+
+making_creates : (g : Geometry) (part : ℕ → Type 0) {old new : List Happening} → ((k : ℕ) → part k → k < sectors_needed g)
+    → Ran (IsMaking g (IsSlotOf g) part) old new → Ran (IsCreating g) old new
+making_creates g part needed ran = ran_weakened {allowed = IsMaking g (IsSlotOf g) part} {more = IsCreating g} step ran
+  where
+    step : (j : ℕ) (c : SlotCall) → IsMaking g (IsSlotOf g) part j c → IsCreating g j c
+    step j (Attach answer) is = tt
+    step j (Sectors size) is = tt
+    step j (Read k answer) is = tt
+    step j (Write k bytes answer) is = (is.0, needed k is.1, is.2)
+    step j (Sync answer) is = tt
+
+pub laying_creates : (g : Geometry) {old new : List Happening} → Ran (IsMaking g (IsSlotOf g) (IsBehind g)) old new → Ran (IsCreating g) old new
+laying_creates g ran = making_creates g (IsBehind g) (λ k is. is.1) ran
+
+pub enrolling_creates : (g : Geometry) {old new : List Happening} → Ran (IsMaking g (IsSlotOf g) IsPlace) old new → Ran (IsCreating g) old new
+enrolling_creates g ran = making_creates g IsPlace (λ k is. let place : k < 2 = is in omega arith) ran
+
+-- no other slot
+pub created_spares : (g : Geometry) {old new : List Happening} → Ran (IsCreating g) old new → NoneWritten (λ j. g.n ≤ j) old new
+created_spares g ran = none_written {allowed = IsCreating g} {slots = λ j. g.n ≤ j} spares ran
+  where
+    spares : (j : ℕ) (c : SlotCall) → IsCreating g j c → g.n ≤ j → IsNoWrite c
     spares j (Attach answer) is past = tt
     spares j (Sectors size) is past = tt
     spares j (Read k answer) is past = tt
     spares j (Write k bytes answer) is past = let below : j < g.n = is.0 in absurd (omega arith)
     spares j (Sync answer) is past = tt
 
--- NO SECTOR THAT THE ARRAY DOESN'T NEED
-
-written_within : (g : Geometry) {allowed : ℕ → SlotCall → Type 0} {old new : List Happening}
-    → ((j : ℕ) (c : SlotCall) → allowed j c → IsWriteWithin g c) → Ran allowed old new → WrittenWithin g old new
-written_within g {allowed} within ran = each_of_ran {allowed = allowed} {P = WritesWithin g} act (λ h j c may. within j c may) ran
+-- and no sector that the array doesn't need
+pub created_within : (g : Geometry) {old new : List Happening} → Ran (IsCreating g) old new → WrittenWithin g old new
+created_within g ran = each_of_ran {allowed = IsCreating g} {P = WritesWithin g} act call ran
   where
     act : (h : List Happening) (e : Happening) → IsAct h e → WritesWithin g h e
     act h (Made image) may = tt
@@ -340,34 +363,14 @@ written_within g {allowed} within ran = each_of_ran {allowed = allowed} {P = Wri
     act h (Acted j a) may = tt
     act h (Called j c) may = absurd may
 
-pub looks_within : (g : Geometry) {old new : List Happening} → Ran IsLook old new → WrittenWithin g old new
-looks_within g ran = written_within g {allowed = IsLook} within ran
-  where
-    within : (j : ℕ) (c : SlotCall) → IsLook j c → IsWriteWithin g c
-    within j (Attach answer) is = tt
-    within j (Sectors size) is = tt
-    within j (Read k answer) is = tt
-    within j (Write k bytes answer) is = absurd is
-    within j (Sync answer) is = tt
+    call : (h : List Happening) (j : ℕ) (c : SlotCall) → IsCreating g j c → IsWriteWithin g c
+    call h j (Attach answer) is = tt
+    call h j (Sectors size) is = tt
+    call h j (Read k answer) is = tt
+    call h j (Write k bytes answer) is = is.1
+    call h j (Sync answer) is = tt
 
-making_writes_within : (g : Geometry) (slots part : ℕ → Type 0) {old new : List Happening} → ((k : ℕ) → part k → k < sectors_needed g)
-    → Ran (IsMaking slots part) old new → WrittenWithin g old new
-making_writes_within g slots part needed ran = written_within g {allowed = IsMaking slots part} within ran
-  where
-    within : (j : ℕ) (c : SlotCall) → IsMaking slots part j c → IsWriteWithin g c
-    within j (Attach answer) is = tt
-    within j (Sectors size) is = tt
-    within j (Read k answer) is = tt
-    within j (Write k bytes answer) is = needed k is.1
-    within j (Sync answer) is = tt
-
-pub laying_within : (g : Geometry) {old new : List Happening} → Ran (IsMaking (IsSlotOf g) (IsBehind g)) old new → WrittenWithin g old new
-laying_within g ran = making_writes_within g (IsSlotOf g) (IsBehind g) (λ k is. is.1) ran
-
-pub enrolling_within : (g : Geometry) {old new : List Happening} → Ran (IsMaking (IsSlotOf g) IsPlace) old new → WrittenWithin g old new
-enrolling_within g ran = making_writes_within g (IsSlotOf g) IsPlace (λ k is. let place : k < 2 = is in omega arith) ran
-
--- SUPERBLOCKS COME LAST
+-- IN WHICH ORDER
 
 spared : {allowed : ℕ → SlotCall → Type 0} {old new : List Happening} → ((j : ℕ) (c : SlotCall) → allowed j c → IsNoPlaceWrite c) → Ran allowed old new
     → NoPlaceWritten old new
@@ -389,11 +392,11 @@ looks_no_place ran = spared {allowed = IsLook} spares ran
     spares j (Write k bytes answer) is = absurd is
     spares j (Sync answer) is = tt
 
-pub laying_no_place : (g : Geometry) {slots : ℕ → Type 0} {old new : List Happening} → Ran (IsMaking slots (IsBehind g)) old new
+pub laying_no_place : (g : Geometry) {slots : ℕ → Type 0} {old new : List Happening} → Ran (IsMaking g slots (IsBehind g)) old new
     → NoPlaceWritten old new
-laying_no_place g {slots} ran = spared {allowed = IsMaking slots (IsBehind g)} spares ran
+laying_no_place g {slots} ran = spared {allowed = IsMaking g slots (IsBehind g)} spares ran
   where
-    spares : (j : ℕ) (c : SlotCall) → IsMaking slots (IsBehind g) j c → IsNoPlaceWrite c
+    spares : (j : ℕ) (c : SlotCall) → IsMaking g slots (IsBehind g) j c → IsNoPlaceWrite c
     spares j (Attach answer) is = absurd is
     spares j (Sectors size) is = absurd is
     spares j (Read k answer) is = absurd is
@@ -401,22 +404,31 @@ laying_no_place g {slots} ran = spared {allowed = IsMaking slots (IsBehind g)} s
     spares j (Sync answer) is = tt
 
 laid_out : (g : Geometry) (j : ℕ) (slots : ℕ → Type 0) (old now mid : List Happening) → IsTaken g j old now → AreMade g (IsBehind g) j now mid
-    → Ran (IsMaking slots (IsBehind g)) now mid → IsLaidOut g j old mid
+    → Ran (IsMaking g slots (IsBehind g)) now mid → IsLaidOut g j old mid
 laid_out g j slots old now mid t behind ran = record {
   since = t.taken;
   is_one =
       moment_between {a = any_call} {b = any_call} t.before
-      (ran_join (ran_any {allowed = IsNoAttach j} t.since) (ran_any {allowed = IsMaking slots (IsBehind g)} ran));
+      (ran_join (ran_any {allowed = IsNoAttach j} t.since) (ran_any {allowed = IsMaking g slots (IsBehind g)} ran));
   in_use = t.in_use;
   stands = λ k is below. IsKept-since (pulls_on {allowed = IsNoAttach j} j t.since) (behind.stands k (is, below) below);
 }
 
 pub came_after : (g : Geometry) (old now mid new : List Happening) → IsWithinLimits g → ((j : ℕ) → j < 32 → j < g.n → IsTaken g j old now)
-    → ((j : ℕ) → j < g.n → AreMade g (IsBehind g) j now mid) → Ran IsLook old now → Ran (IsMaking (IsSlotOf g) (IsBehind g)) now mid
-    → Ran (IsMaking (IsSlotOf g) IsPlace) mid new → SuperblocksCameLast g old new
+    → ((j : ℕ) → j < g.n → AreMade g (IsBehind g) j now mid) → Ran IsLook old now → Ran (IsMaking g (IsSlotOf g) (IsBehind g)) now mid
+    → Ran (IsMaking g (IsSlotOf g) IsPlace) mid new → SuperblocksCameLast g old new
 came_after g old now mid new limits taken behind looks laying last =
     CameAfter mid
-    (moment_between {a = any_call} {b = IsMaking (IsSlotOf g) IsPlace}
-    (ran_join (ran_any {allowed = IsLook} looks) (ran_any {allowed = IsMaking (IsSlotOf g) (IsBehind g)} laying)) last)
+    (moment_between {a = any_call} {b = IsMaking g (IsSlotOf g) IsPlace}
+    (ran_join (ran_any {allowed = IsLook} looks) (ran_any {allowed = IsMaking g (IsSlotOf g) (IsBehind g)} laying)) last)
     (each_join (looks_no_place looks) (laying_no_place g laying))
     (λ j below. laid_out g j (IsSlotOf g) old now mid (taken j (omega (arith, below, limits.devices)) below) (behind j below) laying)
+
+-- no superblock place was written in a look and in the laying out, so they are in turn
+pub looks_in_turn : (g : Geometry) {old mid new : List Happening} → Ran IsLook mid new → EachHappening (WritesInTurn g old) mid new
+looks_in_turn g ran = none_second g {allowed = IsLook} (λ j k bytes answer may second. absurd may) ran
+
+pub laying_in_turn : (g : Geometry) {old mid new : List Happening} → Ran (IsMaking g (IsSlotOf g) (IsBehind g)) mid new
+    → EachHappening (WritesInTurn g old) mid new
+laying_in_turn g ran =
+    none_second g {allowed = IsMaking g (IsSlotOf g) (IsBehind g)} (λ j k bytes answer may second. let past : 2 ≤ k = may.1.0 in omega arith) ran

@@ -1,39 +1,38 @@
 -- What a call of `create` does, from what its stages did.
-use Rattle.std.proofs.Common.{◌≡◌, ◌<◌, ◌≤◌, ℕ, IsTrue, List, Result, Ok, Err, length, refl}
+use Rattle.std.proofs.Common.{◌≡◌, ◌<◌, ℕ, IsTrue, List, Result, Ok, Err, length, refl}
 use Rattle.std.specs.Prelude.{IfErr, OnOk}
 use Rattle.stair_model.specs.Geometry.{Geometry, IsWithinLimits}
+use Rattle.stair_rack.specs.Answers.{IsHistory, Ran}
 use Rattle.stair_rack.specs.History.{Happening}
-use Rattle.stair_rack.specs.Stretch.{NoneWritten}
 use Rattle.stair_array.specs.Creates.{Creates, IsMade}
 use Rattle.stair_rack.specs.Telling.{IsLater, Telling}
 use Rattle.stair_array.specs.Looking.{IsNotCreated, WasLookedAt}
-use Rattle.stair_array.specs.Making.{SuperblocksCameLast, WrittenWithin}
+use Rattle.stair_array.specs.Making.{IsCreating, PlacesInTurn, SuperblocksCameLast}
 use Rattle.stair_array.specs.declared.fault.CreateFault.{CreateFault}
-use Rattle.stair_array.proofs.CreateLemmas.{IsFinished, finished_all_steady, finished_history, finished_image, finished_landed, never_refused}
+use Rattle.stair_array.proofs.CreateLemmas.{IsFinished, created_spares, created_within, finished_all_steady, finished_history, finished_image, finished_landed, never_refused}
 use Rattle.stair_array.proofs.NewArrayLemmas.{media_of_array, new_consistent, new_represents}
 
--- no slot but those of the array was written, on an honest rack
-abbrev pub AreSpared : Geometry → Telling → Telling → Type 0
-AreSpared g old new = IsTrue new.honest → NoneWritten (λ j. g.n ≤ j) old.history new.history
+-- each write is one of a new array, on an honest rack
+abbrev pub AreNew : Geometry → Telling → Telling → Type 0
+AreNew g old new = IsTrue new.honest → Ran (IsCreating g) old.history new.history
 
--- nor a sector behind those that the array needs
-abbrev pub StayWithin : Geometry → Telling → Telling → Type 0
-StayWithin g old new = IsTrue new.honest → WrittenWithin g old.history new.history
-
--- and superblocks came last
+-- superblocks came last, and those of a slot in turn
 abbrev pub AreOrdered : Geometry → Telling → Telling → Type 0
-AreOrdered g old new = IsTrue new.honest → SuperblocksCameLast g old.history new.history
+AreOrdered g old new = IsTrue new.honest → SuperblocksCameLast g old.history new.history × PlacesInTurn g old.history new.history
 
-pub not_created : (g : Geometry) (fault : CreateFault) (old new : Telling) → IsNotCreated g fault old new → IsLater old new → AreSpared g old new
-    → StayWithin g old new → AreOrdered g old new → Creates g (Err fault) old new
-not_created g fault old new why later spared within last = record {
+pub not_created : (g : Geometry) (fault : CreateFault) (old new : Telling) → (IsTrue new.honest → IsHistory old.history) → IsNotCreated g fault old new
+    → IsLater old new → AreNew g old new → AreOrdered g old new → Creates g (Err fault) old new
+not_created g fault old new began why later ran ordered = record {
   refused = why;
   looked = tt;
   counts = later.counts;
   made = λ honest. tt;
-  others = spared;
-  within = within;
-  order = last;
+  began = began;
+  ran = ran;
+  others = λ honest. created_spares g (ran honest);
+  within = λ honest. created_within g (ran honest);
+  order = λ honest. (ordered honest).0;
+  in_turn = λ honest. (ordered honest).1;
   complete = λ honest can. absurd (never_refused g old new honest (later.ran honest) can.online can.large can.bare fault why);
 }
 
@@ -52,17 +51,20 @@ is_made g old new limits id each =
     }
 
 -- at its end
-pub ends_so : (g : Geometry) (answer : Result (Unit {0}) CreateFault) (old new : Telling) → IfErr answer (λ fault. IsNotCreated g fault old new)
-    → WasLookedAt g old new → IsLater old new → AreSpared g old new → StayWithin g old new → AreOrdered g old new
+pub ends_so : (g : Geometry) (answer : Result (Unit {0}) CreateFault) (old new : Telling) → (IsTrue new.honest → IsHistory old.history) → IfErr answer (λ fault. IsNotCreated g fault old new)
+    → WasLookedAt g old new → IsLater old new → AreNew g old new → AreOrdered g old new
     → (IsTrue new.honest → OnOk answer (IsMade g old.history new.history)) → Creates g answer old new
-ends_so g (Ok done) old new refused looked later spared within last made = record {
+ends_so g (Ok done) old new began refused looked later ran ordered made = record {
   refused = tt;
   looked = looked;
   counts = later.counts;
   made = made;
-  others = spared;
-  within = within;
-  order = last;
+  began = began;
+  ran = ran;
+  others = λ honest. created_spares g (ran honest);
+  within = λ honest. created_within g (ran honest);
+  order = λ honest. (ordered honest).0;
+  in_turn = λ honest. (ordered honest).1;
   complete = λ honest can. refl;
 }
-ends_so g (Err fault) old new refused looked later spared within last made = not_created g fault old new refused later spared within last
+ends_so g (Err fault) old new began refused looked later ran ordered made = not_created g fault old new began refused later ran ordered

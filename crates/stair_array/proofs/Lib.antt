@@ -4,6 +4,8 @@ pub mod NewArrayLemmas
 pub mod ExampleLemmas
 pub mod LookLemmas
 pub mod DeviceLemmas
+pub mod EnrolLemmas
 pub mod PulledLemmas
 pub mod CreateLemmas
 pub mod CreatesLemmas
+pub mod KeepLemmas

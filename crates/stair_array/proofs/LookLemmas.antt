@@ -1,5 +1,5 @@
 -- What a look at one slot tells.
-use Rattle.std.proofs.Common.{◌≡◌, ◌≢◌, ℕ, ◌+◌, ◌<◌, ◌≤◌, below_more, Bool, true, false, List, inl, inr, refl, sym, ap, ◌∙◌, subst, arith, Option, None, Some, if◌then◌else◌, true≢false}
+use Rattle.std.proofs.Common.{◌≡◌, ◌≢◌, ◌⊎◌, ℕ, ◌+◌, ◌<◌, ◌≤◌, below_more, Bool, true, false, List, inl, inr, refl, sym, ap, ◌∙◌, subst, arith, Option, None, Some, if◌then◌else◌, true≢false}
 use Rattle.std.specs.Prelude.{IfSome, IsSome, IsTrue, is_some, not}
 use Rattle.std.proofs.lemmas.Bool.{cases_Bool, false≢true, lt-ltb}
 use Rattle.stair_model.specs.Geometry.{Geometry, sectors_needed}
@@ -21,7 +21,7 @@ use Rattle.stair_rack.proofs.OfflineLemmas.{and-false, and-true_left, held_on, o
 use Rattle.stair_rack.proofs.CallLemmas.{attach_done, attach_found, attach_gone, read_bad, sectors_of_last, sync_gone}
 use Rattle.stair_rack.proofs.ReadLemmas.{read_answered, ready_unpulled, was_read_bad, was_read_good, was_read_gone}
 use Rattle.stair_rack.proofs.PassCounts.{NoneFalls-same, NoneFalls-then}
-use Rattle.stair_rack.proofs.StretchLemmas.{none_written}
+use Rattle.stair_rack.proofs.StretchLemmas.{answered_wider, call_told, none_written}
 use Rattle.stair_rack.proofs.TidyLemmas.{history_called, history_on, history_tidy}
 use Rattle.stair_super.specs.Spelling.{SpellsSuperblock}
 use Rattle.stair_super.specs.Superblock.{Superblock}
@@ -34,7 +34,7 @@ use Rattle.stair_member.proofs.DecisionLemmas.{no_super, spelled_here}
 use Rattle.stair_member.proofs.SightLemmas.{both, place_cases}
 use Rattle.stair_rack.proofs.TellingLemmas.{attach_uses, gone_wider, honest_within, later_called, later_join, later_none, reading_wider, some_wider}
 use Rattle.stair_rack.specs.Telling.{IsLater, IsReading, Telling, telling}
-use Rattle.stair_array.specs.Looking.{Finding, WasGone, WasSmall, Holds, HadSectors, IsBare, IsFound, IsLarge, IsRefused, Passed, cells_at}
+use Rattle.stair_array.specs.Looking.{Finding, WasGone, WasSmall, Holds, HadSectors, IsBare, IsFound, IsLarge, IsRefused, IsSettled, Passed, cells_at}
 use Rattle.stair_state.specs.Represents.{IsLargeEnough}
 
 -- CALLS
@@ -115,8 +115,18 @@ module _ (old mid new later : Telling) (first : IsLater old mid) (same : mid.hon
     bare_wider j cell was.2,
   )
 
+  settled_wider : (g : Geometry) (j : ℕ) → IsSettled g j mid new → IsSettled g j old later
+  settled_wider g j was below honest =
+      let here = honest_within old mid new later first same within second honest in
+      answered_wider {a = any_call} {b = any_call} (first.ran (same ∙ here)) (second.ran honest) (was below here)
+
   pub passed_wider : (g : Geometry) (j : ℕ) → Passed g j mid new → Passed g j old later
-  passed_wider g j was = record { finding = was.finding; found = found_wider g j was.finding was.found; passes = was.passes }
+  passed_wider g j was = record {
+    finding = was.finding;
+    found = found_wider g j was.finding was.found;
+    passes = was.passes;
+    settled = settled_wider g j was.settled;
+  }
 
 -- ONE READ
 
@@ -424,6 +434,13 @@ module _ (g : Geometry) (honest : Bool) (old att : List Happening) (bads bads' :
         offline_at_read old att j (attached is) (ran_join (syn_ran is) (call_no_attach tt (measured is))) (ran is) (lost.unready is)))
         (λ within is. (has, enough, had_sectors old att j (attached is) has (syn_ran is) (measured is) (ran_any (ran is)))) was
 
+    pub settled_own : (new : List Happening) (bads'' : ℕ) (gones'' : ℕ → ℕ) → (IsTrue honest → Ran (IsReadOf j) sec new)
+        → IsSettled g j (telling honest old bads gones) (telling honest new bads'' gones'')
+    settled_own new bads'' gones'' ran within is =
+        answered_wider {a = IsThis j (Attach reply.Done)} {b = any_call} (calls_ran (attached is))
+        (ran_join (ran_any {allowed = IsThis j (Sectors has)} (calls_ran (measured is))) (ran_any {allowed = IsReadOf j} (ran is)))
+        (call_told att syn j (Sync reply.Done) (λ refused. let gone : reply.Done ≡ reply.Gone = refused in absurd (cc)) (synced is))
+
     pub taken_own : (new : List Happening) → sectors_needed g ≤ has → IsTrue honest → Ran (IsReadOf j) sec new → IsHistory att
         → IsTaken g j old new
     taken_own new enough is ran history =
@@ -445,6 +462,8 @@ pub record LookedSoFar (g : Geometry) (i : ℕ) (old now : Telling) : Type 0 whe
   pub taken : IsTrue now.honest → (j : ℕ) → j < i → j < g.n → IsTaken g j old.history now.history
   pub ran : IsTrue now.honest → Ran IsLook old.history now.history
   pub counts : NoneFalls old.bads now.bads old.gones now.gones
+  -- the rack has a history, once a slot was looked at
+  pub began : IsTrue now.honest → ((i ≡ 0) × (now.history ≡ old.history)) ⊎ IsHistory old.history
 
 pub looked_none : (g : Geometry) (now : Telling) → LookedSoFar g 0 now now
 looked_none g now = record {
@@ -452,6 +471,7 @@ looked_none g now = record {
   taken = λ is j below. absurd (omega arith);
   ran = λ is. ran_none now.history;
   counts = NoneFalls-same now.bads now.gones;
+  began = λ is. inl (refl, refl);
 }
 
 pub look_any : {old new : List Happening} {j : ℕ} → Ran (IsLookAt j) old new → Ran IsLook old new
@@ -475,13 +495,16 @@ module _ (g : Geometry) (i : ℕ) (honest : Bool) (old now next : List Happening
       passed_wider (telling honest old bads gones) (telling honest old bads gones) (telling honest now bads' gones') (telling honest next bads'' gones'')
       (later_none (telling honest old bads gones)) refl so_far.counts next_later g j (so_far.each j below)
 
+  pub began_first : (IsTrue honest → IsHistory now) → IsTrue honest → IsHistory old
+  began_first began is = elim (so_far.began is) [ inl first ↦ subst IsHistory first.1 (began is) | inr before ↦ before ]
+
   ran_next : IsTrue honest → Ran IsLook old next
   ran_next is = ran_join (so_far.ran is) (look_any (ran is))
 
-  pub looked_more : Passed g i (telling honest now bads' gones') (telling honest next bads'' gones'')
+  pub looked_more : (IsTrue honest → IsHistory now) → Passed g i (telling honest now bads' gones') (telling honest next bads'' gones'')
       → (IsTrue honest → i < g.n → IsTaken g i now next)
       → LookedSoFar g (i + 1) (telling honest old bads gones) (telling honest next bads'' gones'')
-  looked_more passed taken = record {
+  looked_more began passed taken = record {
     each =
         below_more (λ j. Passed g j (telling honest old bads gones) (telling honest next bads'' gones'')) i still_passed
         (passed_wider (telling honest old bads gones) (telling honest now bads' gones') (telling honest next bads'' gones'')
@@ -492,6 +515,7 @@ module _ (g : Geometry) (i : ℕ) (honest : Bool) (old now next : List Happening
         (λ within. taken_sooner (ran_any {allowed = IsLook} (so_far.ran is)) (taken is within));
     ran = ran_next;
     counts = NoneFalls-then so_far.counts counts;
+    began = λ is. inr (began_first began is);
   }
 
   pub refused_here : (fault : CreateFault) → i < 32 → IsRefusedAt g fault i (telling honest now bads' gones') (telling honest next bads'' gones'')

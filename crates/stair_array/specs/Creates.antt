@@ -1,6 +1,7 @@
 -- What `create` does: what stands after it, and when it succeeds.
 use Rattle.std.specs.Prelude.{◌<◌, ◌≤◌, ℕ, IsTrue, List, Result, IfErr, IsOk, OnOk}
 use Rattle.stair_model.specs.Geometry.{Geometry, sectors_needed}
+use Rattle.stair_rack.specs.Answers.{IsHistory, Ran}
 use Rattle.stair_rack.specs.Crash.{EachImage}
 use Rattle.stair_rack.specs.History.{Happening, slot_state}
 use Rattle.stair_rack.specs.Moments.{AtEveryMoment, IsMoment}
@@ -12,7 +13,7 @@ use Rattle.stair_member.specs.Superblocks.{HasSuper}
 use Rattle.stair_array.specs.Created.{BearNoneOutside, NoneComesBack, created_sector}
 use Rattle.stair_rack.specs.Telling.{Telling}
 use Rattle.stair_array.specs.Looking.{IsNotCreated, WasLookedAt, cells_at}
-use Rattle.stair_array.specs.Making.{SuperblocksCameLast, WrittenWithin}
+use Rattle.stair_array.specs.Making.{IsCreating, PlacesInTurn, SuperblocksCameLast, WrittenWithin}
 use Rattle.stair_state.specs.Holding.{IsConsistentUnderReassembly}
 use Rattle.stair_state.specs.Represents.{AreSteady, IsLargeEnough, Represents}
 use Rattle.stair_state.specs.State.{created_state}
@@ -51,11 +52,16 @@ pub record Creates (g : Geometry) (answer : Result (Unit {0}) CreateFault) (old 
   pub counts : NoneFalls old.bads new.bads old.gones new.gones
   -- on an honest rack: what stands
   pub made : IsTrue new.honest → OnOk answer (IsMade g old.history new.history)
+  -- the rack has a history, and each write since then is to a sector of the array, of what a new one has there
+  pub began : IsTrue new.honest → IsHistory old.history
+  pub ran : IsTrue new.honest → Ran (IsCreating g) old.history new.history
   -- no other slot was written
   pub others : IsTrue new.honest → NoneWritten (λ j. g.n ≤ j) old.history new.history
   -- nor was, of any slot, a sector behind those that the array needs
   pub within : IsTrue new.honest → WrittenWithin g old.history new.history
   -- a superblock is written only once every device of the array has the rest of it on the disk
   pub order : IsTrue new.honest → SuperblocksCameLast g old.history new.history
+  -- and a slot's second superblock only once the first one is on the disk
+  pub in_turn : IsTrue new.honest → PlacesInTurn g old.history new.history
   -- it succeeds where an array can be made
   pub complete : IsTrue new.honest → CanBeMade g old.history new.history → IsOk answer

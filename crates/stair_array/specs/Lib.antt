@@ -4,3 +4,4 @@ pub mod Looking
 pub mod Look
 pub mod Making
 pub mod Creates
+pub mod Keeping

@@ -2,13 +2,14 @@
 use Rattle.std.specs.Prelude.{◌≡◌, ◌<◌, ◌≤◌, ◌⊎◌, ℕ, IsTrue, List, Some}
 use Rattle.stair_model.specs.Geometry.{Geometry, sectors_needed}
 use Rattle.stair_rack.specs.Count.{Rose}
-use Rattle.stair_rack.specs.History.{Happening, slot_state}
+use Rattle.stair_rack.specs.History.{Happening, Sync, slot_state}
 use Rattle.stair_rack.specs.Moments.{AtSomeMoment}
 use Rattle.stair_rack.specs.Offline.{IsOffline}
 use Rattle.stair_rack.specs.Sector.{Cell, content}
-use Rattle.stair_rack.specs.Stretch.{NothingWritten}
+use Rattle.stair_rack.specs.Stretch.{NothingWritten, WasAnswered}
 use Rattle.stair_member.specs.Superblocks.{HasSuper}
 use Rattle.stair_rack.specs.Telling.{Telling, IsFoundGone, IsLater, IsReading}
+use Rattle.stair_rack.specs.declared.rack.Reply.TheVariants as reply
 use Rattle.stair_array.specs.declared.fault.CreateFault.{CreateFault}
 use Rattle.stair_array.specs.declared.fault.CreateFault.TheVariants.{Gone, SmallDevice, AlreadyArray}
 
@@ -62,11 +63,17 @@ IsFound g j old new (Holds cell) = ((k : ℕ) → k < 2 → IsReading j k old ne
 
 -- WHAT COMES OF THE LOOK
 
+-- a slot of the array was synced, so that nothing of its medium's earlier life is unsynced any more
+abbrev pub IsSettled : Geometry → ℕ → Telling → Telling → Type 0
+IsSettled g j old new =
+    j < g.n → IsTrue new.honest → WasAnswered j (Sync reply.Done) old.history new.history
+
 -- slot j was looked at, and passed
 pub record Passed (g : Geometry) (j : ℕ) (old new : Telling) : Type 0 where
   pub finding : Finding
   pub found : IsFound g j old new finding
   pub passes : Passes g j finding
+  pub settled : IsSettled g j old new
 
 -- no device was written
 abbrev pub IsUnwritten : Telling → Telling → Type 0

@@ -1,7 +1,8 @@
 -- What `create` knows of a device that it wrote.
 use Rattle.std.specs.Prelude.{◌≡◌, ◌<◌, ◌≤◌, ℕ, true, IsTrue, List, ⊤}
-use Rattle.stair_model.specs.Device.{gate_sector}
+use Rattle.stair_model.specs.Device.{first_place, gate_sector, second_place}
 use Rattle.stair_model.specs.Geometry.{Geometry, sectors_needed}
+use Rattle.stair_model.specs.Slots.{Slots, HasSlot}
 use Rattle.stair_rack.specs.Count.{Rose}
 use Rattle.stair_rack.specs.History.{Happening, Made, Stopped, Acted, Called, SlotCall, Attach, Sectors, Read, Write, Sync, slot_state}
 use Rattle.stair_rack.specs.Moments.{IsMoment}
@@ -15,21 +16,24 @@ use Rattle.stair_rack.specs.Telling.{Telling}
 use Rattle.stair_array.specs.declared.fault.CreateFault.{CreateFault}
 use Rattle.stair_array.specs.declared.fault.CreateFault.TheVariants.{Gone, SmallDevice, AlreadyArray}
 
--- a write to one of these sectors of one of these slots, or a sync of one
-abbrev pub IsMaking : (ℕ → Type 0) → (ℕ → Type 0) → ℕ → SlotCall → Type 0
-IsMaking slots part j (Attach answer) = ⊥
-IsMaking slots part j (Sectors size) = ⊥
-IsMaking slots part j (Read k answer) = ⊥
-IsMaking slots part j (Write k bytes answer) = slots j × part k
-IsMaking slots part j (Sync answer) = slots j
+-- a write to one of these sectors of one of these slots, of what a new array has there, or a sync of one
+abbrev pub IsMaking : Geometry → (ℕ → Type 0) → (ℕ → Type 0) → ℕ → SlotCall → Type 0
+IsMaking g slots part j (Attach answer) = ⊥
+IsMaking g slots part j (Sectors size) = ⊥
+IsMaking g slots part j (Read k answer) = ⊥
+IsMaking g slots part j (Write k bytes answer) = slots j × part k × (bytes ≡ created_sector g j k)
+IsMaking g slots part j (Sync answer) = slots j
 
 -- the slots of the array
 abbrev pub IsSlotOf : Geometry → ℕ → Type 0
 IsSlotOf g j = j < g.n
 
--- the superblock places, and any other sector
+-- the superblock places, the first one of them, and any other sector
 abbrev pub IsPlace : ℕ → Type 0
 IsPlace k = k < gate_sector
+
+abbrev pub IsFirst : ℕ → Type 0
+IsFirst k = k ≡ first_place
 
 abbrev pub IsNoPlace : ℕ → Type 0
 IsNoPlace k = gate_sector ≤ k
@@ -58,7 +62,24 @@ IsStoppedBy g (Gone slot) old new = (slot < g.n) × IsStoppedAt g slot old new
 IsStoppedBy g (SmallDevice slot has needs) old new = ⊥
 IsStoppedBy g (AlreadyArray slot) old new = ⊥
 
--- WHERE IT WRITES: what lies behind the sectors that the array needs is left alone
+-- of slots that were gone it is one that is answered
+abbrev pub IsOneGone : Slots → CreateFault → Type 0
+IsOneGone gone (Gone slot) = HasSlot gone slot
+IsOneGone gone (SmallDevice slot has needs) = ⊥
+IsOneGone gone (AlreadyArray slot) = ⊥
+
+-- WHAT IT WRITES: the sectors that the array needs, each with what a new array has there
+
+-- a call that writes nothing, or a write to a sector of the array, of what a new one has there
+abbrev pub IsCreating : Geometry → ℕ → SlotCall → Type 0
+IsCreating g j (Attach answer) = ⊤
+IsCreating g j (Sectors size) = ⊤
+IsCreating g j (Read k answer) = ⊤
+IsCreating g j (Write k bytes answer) =
+    (j < g.n) × (k < sectors_needed g) × (bytes ≡ created_sector g j k)
+IsCreating g j (Sync answer) = ⊤
+
+-- so what lies behind those sectors is left alone
 
 -- no write to a sector behind those
 abbrev pub IsWriteWithin : Geometry → SlotCall → Type 0
@@ -112,3 +133,22 @@ pub data SuperblocksCameLast (g : Geometry) (old new : List Happening) : Type 0 
   NoneCame : NoPlaceWritten old new → SuperblocksCameLast g old new
   CameAfter : (mid : List Happening) → IsMoment old mid new → NoPlaceWritten old mid
       → ((j : ℕ) → j < g.n → IsLaidOut g j old mid) → SuperblocksCameLast g old new
+
+-- no write to the second place of a slot unless its first one got its superblock before, and has it on the disk but for the
+-- outside
+abbrev pub IsInTurn : Geometry → List Happening → List Happening → ℕ → SlotCall → Type 0
+IsInTurn g old h j (Attach answer) = ⊤
+IsInTurn g old h j (Sectors size) = ⊤
+IsInTurn g old h j (Read k answer) = ⊤
+IsInTurn g old h j (Write k bytes answer) = k ≡ second_place → AreMade g IsFirst j old h
+IsInTurn g old h j (Sync answer) = ⊤
+
+abbrev pub WritesInTurn : Geometry → List Happening → List Happening → Happening → Type 0
+WritesInTurn g old h (Made image) = ⊤
+WritesInTurn g old h Stopped = ⊤
+WritesInTurn g old h (Acted j act) = ⊤
+WritesInTurn g old h (Called j call) = IsInTurn g old h j call
+
+-- from old to new the superblock places of each slot were written in turn
+abbrev pub PlacesInTurn : Geometry → List Happening → List Happening → Type 0
+PlacesInTurn g old new = EachHappening (WritesInTurn g old) old new

@@ -1,4 +1,4 @@
-//! Laws of new arrays.
+//! Laws of new arrays, and of those that are there.
 
 ghost use Rattle.std.specs.Prelude.{◌≡◌, List, [], ◌∷◌, length};
 ghost use Rattle.stair_model.specs.Geometry.{Geometry, IsWithinLimits};
@@ -9,6 +9,7 @@ ghost use Rattle.stair_rack.specs.History.{Happening, Made};
 ghost use Rattle.stair_rack.specs.Media.{Image};
 ghost use Rattle.stair_state.specs.Blocks.{AreEncodingsOf, zero_blocks};
 ghost use Rattle.stair_array.specs.Created.{AreNewMedia, BearNoneOutside, IsNewArray};
+ghost use Rattle.stair_array.specs.Keeping.{ArraysAreKept, StatesAreKept};
 ghost use Rattle.stair_state.specs.Holding.{IsConsistentUnderReassembly};
 ghost use Rattle.stair_state.specs.Represents.{AreSteady, Represents};
 ghost use Rattle.stair_state.specs.State.{created_state};
@@ -35,4 +36,12 @@ pub fn created_laws()
         (image : Image) × IsNewArray g image × IsTolerated g [] (Made image ∷ [])
         × Represents (created_state g) (Made image ∷ [])
         × IsConsistentUnderReassembly (created_state g) (Made image ∷ []) }
+{}
+
+/// What `create` leaves alone. It does nothing.
+pub fn kept_laws()
+    // no array that is within tolerance is written over
+    ensures arrays { ArraysAreKept }
+    // and a rack that represents a state of one goes on to do so
+    ensures states { StatesAreKept }
 {}

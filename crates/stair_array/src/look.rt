@@ -14,7 +14,7 @@ ghost use Rattle.stair_array.specs.Look.{
   WasGoneToRead,
 };
 ghost use Rattle.stair_rack.specs.Told.{told};
-ghost use Rattle.stair_array.specs.Looking.{AllPassed, IsRefused, Passed};
+ghost use Rattle.stair_array.specs.Looking.{AllPassed, IsRefused, IsSettled, Passed};
 
 use crate::fault::CreateFault;
 use stair_base::{FIRST_PLACE, Geometry, SECOND_PLACE};
@@ -35,6 +35,7 @@ enum Found {
 
 // Looks at all slots in rising order, up to the first that is refused.
 pub(crate) fn look_at_all<R: Rack>(rack: &mut R, geometry: &Geometry) -> Result<(), CreateFault>
+    ensures began { IsTrue R.is_honest → IsHistory (R.history rack.old) }
     ensures refused { IfErr result (λ fault. IsRefused geometry.now fault (told R.Rack rack.old)
         (told R.Rack rack.new)) }
     ensures passed { OnOk result (AllPassed geometry.now (told R.Rack rack.old)
@@ -55,6 +56,7 @@ pub(crate) fn look_at_all<R: Rack>(rack: &mut R, geometry: &Geometry) -> Result<
 // Looks at one slot, and refuses it by the rule.
 fn look_at<R: Rack>(rack: &mut R, geometry: &Geometry, slot: u8) -> Result<(), CreateFault>
     requires { slot < 32 }
+    ensures began { IsTrue R.is_honest → IsHistory (R.history rack.old) }
     ensures refused { IfErr result (λ fault. IsRefusedAt geometry.now fault slot
         (told R.Rack rack.old) (told R.Rack rack.new)) }
     ensures passed { OnOk result (Passed geometry.now slot (told R.Rack rack.old)
@@ -82,10 +84,13 @@ fn look_at<R: Rack>(rack: &mut R, geometry: &Geometry, slot: u8) -> Result<(), C
 // A slot of the array is synced and measured too, since it is to be written.
 fn find<R: Rack>(rack: &mut R, geometry: &Geometry, slot: u8) -> Found
     requires { slot < 32 }
+    ensures began { IsTrue R.is_honest → IsHistory (R.history rack.old) }
     ensures told { IsFoundAs geometry.now slot (told R.Rack rack.old) (told R.Rack rack.new)
         result }
     ensures taken { IsTrue R.is_honest → result ≡ Found.Bare → slot < geometry.now.n →
         IsTaken geometry.now slot (R.history rack.old) (R.history rack.new) }
+    ensures settled { result ≡ Found.Bare →
+        IsSettled geometry.now slot (told R.Rack rack.old) (told R.Rack rack.new) }
     ensures ran { IsTrue R.is_honest →
         Ran (IsLookAt slot) (R.history rack.old) (R.history rack.new) }
     ensures counts { NoneFalls (R.bads rack.old) (R.bads rack.new) (R.gones rack.old)

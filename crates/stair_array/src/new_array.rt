@@ -3,7 +3,7 @@ ghost use Rattle.stair_rack.specs.Told.{told};
 
 use crate::fault::CreateFault;
 use crate::look::look_at_all;
-use crate::new_device::{enrol_all, lay_out_all};
+use crate::new_device::{enrol_all, lay_out};
 use stair_base::Geometry;
 use stair_rack::Rack;
 
@@ -15,16 +15,16 @@ use stair_rack::Rack;
 /// devices would stop every later opening; one that is gone is passed over. The first slot that is refused is the answer:
 /// `Gone`, `SmallDevice` or `AlreadyArray`, and then nothing was written.
 ///
-/// Then each device of the array gets a closed gate and zeros behind it, and is synced; and after all of them, each gets the
-/// superblock of epoch 1 in its two places, each of which is synced before the next write. What lies behind the sectors that
-/// the array needs is left alone. `Gone` comes too where a slot is gone meanwhile. Then there is no array, and the media aren't
-/// blank any more.
+/// Then the devices of the array get a closed gate and zeros behind it, sector by sector, and are synced; and after that, each
+/// gets the superblock of epoch 1 in its two places, each of which is synced before the next write. What lies behind the
+/// sectors that the array needs is left alone. `Gone` comes too where a slot is gone meanwhile, of several in one sector the
+/// lowest. Then there is no array, and the media aren't blank any more.
 ///
 /// It takes no memory.
 pub fn create<R: Rack>(rack: &mut R, geometry: &Geometry) -> Result<(), CreateFault>
     ensures { Creates geometry.now result (told R.Rack rack.old) (told R.Rack rack.new) }
 {
     look_at_all(rack, geometry)?;
-    lay_out_all(rack, geometry)?;
+    lay_out(rack, geometry)?;
     enrol_all(rack, geometry)
 }

@@ -1,6 +1,7 @@
 // What is written to the devices of a new array.
-ghost use Rattle.std.specs.Prelude.{◌≡◌, ◌<◌, ℕ, IfErr, IsTrue, OnOk, length};
+ghost use Rattle.std.specs.Prelude.{◌≡◌, ◌<◌, ◌↔◌, ℕ, IfErr, IsTrue, OnOk, length};
 ghost use Rattle.stair_model.specs.Geometry.{IsWithinLimits};
+ghost use Rattle.stair_model.specs.Slots.{HasSlot, IsSlotSet};
 ghost use Rattle.stair_rack.specs.Answers.{Ran};
 ghost use Rattle.stair_rack.specs.Placed.{IsSlot};
 ghost use Rattle.stair_rack.specs.RackCounts.{NoneFalls};
@@ -10,63 +11,69 @@ ghost use Rattle.stair_array.specs.Making.{
   AreMade,
   IsBehind,
   IsMaking,
+  IsOneGone,
   IsPlace,
   IsSlotOf,
   IsStoppedAt,
   IsStoppedBy,
+  PlacesInTurn,
 };
 
 use crate::fault::CreateFault;
-use stair_base::{BODY_START, FIRST_PLACE, GATE_SECTOR, Geometry, SECOND_PLACE};
+use stair_base::{BODY_START, FIRST_PLACE, GATE_SECTOR, Geometry, SECOND_PLACE, Slots};
 use stair_journal::closed_gate;
-use stair_rack::{Rack, Reply, write_through};
+use stair_rack::{Rack, Reply, sync_all, write_all, write_through};
 use stair_super::{Configuration, Label, Mark, Super, write_super};
 
-// Lays out the devices of the array in rising order, up to the first that is gone.
-pub(crate) fn lay_out_all<R: Rack>(rack: &mut R, geometry: &Geometry) -> Result<(), CreateFault>
+// Writes a closed gate to the devices of the array and zeros behind it, and syncs them. Their superblock places stay as they
+// are. It goes sector by sector, since a rack may keep what it makes of the bytes of a sector for the next device, and ends
+// after the first write or sync to which a slot was gone.
+pub(crate) fn lay_out<R: Rack>(rack: &mut R, geometry: &Geometry) -> Result<(), CreateFault>
     ensures made { IsTrue R.is_honest → OnOk result ((j : ℕ) → j < geometry.now.n →
         AreMade geometry.now (IsBehind geometry.now) j (R.history rack.old)
         (R.history rack.new)) }
     ensures gone { IfErr result (λ fault. IsStoppedBy geometry.now fault (told R.Rack rack.old)
         (told R.Rack rack.new)) }
     ensures ran { IsTrue R.is_honest →
-        Ran (IsMaking (IsSlotOf geometry.now) (IsBehind geometry.now)) (R.history rack.old)
-        (R.history rack.new) }
+        Ran (IsMaking geometry.now (IsSlotOf geometry.now) (IsBehind geometry.now))
+        (R.history rack.old) (R.history rack.new) }
     ensures counts { NoneFalls (R.bads rack.old) (R.bads rack.new) (R.gones rack.old)
         (R.gones rack.new) }
     ensures limits { IsWithinLimits geometry.now }
 {
+    let slots = slots_of(geometry);
+    none_gone(&write_all(rack, slots, GATE_SECTOR, &closed_gate()))?;
+    let zeros = [0; 512];
+    for sector in BODY_START..geometry.need() {
+        none_gone(&write_all(rack, slots, sector, &zeros))?;
+    }
+    none_gone(&sync_all(rack, slots))
+}
+
+// The slots of the array.
+fn slots_of(geometry: &Geometry) -> Slots
+    ensures are { (j : ℕ) → HasSlot result j ↔ (j < geometry.now.n) }
+    ensures formed { IsSlotSet result }
+    ensures limits { IsWithinLimits geometry.now }
+{
+    let mut slots = Slots::empty();
     for slot in 0..geometry.n() {
-        if lay_out(rack, geometry, slot) == Reply::Gone {
+        slots.add(slot);
+    }
+    slots
+}
+
+// Refuses the lowest of the slots that were gone.
+fn none_gone(gone: &Slots) -> Result<(), CreateFault>
+    ensures one { IfErr result (λ fault. IsOneGone gone.now fault) }
+    ensures none { OnOk result ((j : ℕ) → ¬ HasSlot gone.now j) }
+{
+    for slot in 0..32 {
+        if gone.has(slot) {
             return Err(CreateFault::Gone(slot));
         }
     }
     Ok(())
-}
-
-// Writes a closed gate to the slot's device and zeros behind it, and syncs it. Its superblock places stay as they are.
-fn lay_out<R: Rack>(rack: &mut R, geometry: &Geometry, slot: u8) -> Reply
-    requires { slot < 32 }
-    ensures made { IsTrue R.is_honest → result ≡ Reply.Done →
-        AreMade geometry.now (IsBehind geometry.now) slot (R.history rack.old)
-        (R.history rack.new) }
-    ensures gone { result ≡ Reply.Gone → IsStoppedAt geometry.now slot (told R.Rack rack.old)
-        (told R.Rack rack.new) }
-    ensures ran { IsTrue R.is_honest → Ran (IsMaking (IsSlot slot) (IsBehind geometry.now))
-        (R.history rack.old) (R.history rack.new) }
-    ensures counts { NoneFalls (R.bads rack.old) (R.bads rack.new) (R.gones rack.old)
-        (R.gones rack.new) }
-{
-    if rack.write(slot, GATE_SECTOR, &closed_gate()) == Reply::Gone {
-        return Reply::Gone;
-    }
-    let zeros = [0; 512];
-    for sector in BODY_START..geometry.need() {
-        if rack.write(slot, sector, &zeros) == Reply::Gone {
-            return Reply::Gone;
-        }
-    }
-    rack.sync(slot)
 }
 
 // Gives each device of the array its superblock, in rising order, up to the first that is gone.
@@ -75,8 +82,11 @@ pub(crate) fn enrol_all<R: Rack>(rack: &mut R, geometry: &Geometry) -> Result<()
         AreMade geometry.now IsPlace j (R.history rack.old) (R.history rack.new)) }
     ensures gone { IfErr result (λ fault. IsStoppedBy geometry.now fault (told R.Rack rack.old)
         (told R.Rack rack.new)) }
-    ensures ran { IsTrue R.is_honest → Ran (IsMaking (IsSlotOf geometry.now) IsPlace)
-        (R.history rack.old) (R.history rack.new) }
+    ensures ran { IsTrue R.is_honest →
+        Ran (IsMaking geometry.now (IsSlotOf geometry.now) IsPlace) (R.history rack.old)
+        (R.history rack.new) }
+    ensures in_turn { IsTrue R.is_honest →
+        PlacesInTurn geometry.now (R.history rack.old) (R.history rack.new) }
     ensures counts { NoneFalls (R.bads rack.old) (R.bads rack.new) (R.gones rack.old)
         (R.gones rack.new) }
     ensures id { length geometry.now.id ≡ 16 }
@@ -99,8 +109,11 @@ fn enrol<R: Rack>(rack: &mut R, array: &Configuration, slot: u8) -> Reply
         AreMade array.now.geometry IsPlace slot (R.history rack.old) (R.history rack.new) }
     ensures gone { result ≡ Reply.Gone → IsStoppedAt array.now.geometry slot (told R.Rack rack.old)
         (told R.Rack rack.new) }
-    ensures ran { IsTrue R.is_honest → Ran (IsMaking (IsSlot slot) IsPlace)
-        (R.history rack.old) (R.history rack.new) }
+    ensures ran { IsTrue R.is_honest →
+        Ran (IsMaking array.now.geometry (IsSlot slot) IsPlace) (R.history rack.old)
+        (R.history rack.new) }
+    ensures in_turn { IsTrue R.is_honest →
+        PlacesInTurn array.now.geometry (R.history rack.old) (R.history rack.new) }
     ensures counts { NoneFalls (R.bads rack.old) (R.bads rack.new) (R.gones rack.old)
         (R.gones rack.new) }
     ensures id { length array.now.geometry.id ≡ 16 }

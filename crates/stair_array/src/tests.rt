@@ -183,7 +183,7 @@ fn a_slot_that_is_gone_in_the_writing(rt: HostRuntime) -> Result<(), Fail> {
     let geometry = Geometry::new(4, 1, 2, &[1], 3, ID)
         .ok()
         .expect(&rt, "worked");
-    for at in [80, 94, 95, 120, 121, 122, 123] {
+    for at in [50, 106, 110, 120, 121, 122, 123] {
         let what = What::Pull { slot: 2 };
         let mut rack = MemRack::new(rt.alloc(), 4, 17, &[Act { at, what }], 400)?;
         assert_eq!(rt;

@@ -1,13 +1,18 @@
 -- What follows from a call that means what its words say, whatever they are.
-use Rattle.std.proofs.Common.{◌≡◌, ◌≢◌, ◌∙◌, ◌↔◌, ℕ, ◌≤◌, le_refl, List, [], ◌∷◌, inl, inr, Option, None, Some, IfSome, IsTrue, Ok, Err, refl, sym, ap, subst}
+use Rattle.std.proofs.Common.{◌≡◌, ◌≢◌, ◌∙◌, ◌↔◌, ℕ, ◌≤◌, le_refl, List, [], ◌∷◌, inl, inr, Option, None, Some, IfSome, IsTrue, Result, Ok, Err, false, true, refl, sym, ap, subst}
+use Rattle.std.specs.Prelude.{IsErr}
 use Rattle.stair_model.specs.Geometry.{Geometry}
 use Rattle.stair_rack.specs.Answers.{Ran}
+use Rattle.stair_rack.specs.History.{Happening}
 use Rattle.stair_rack.proofs.MomentLemmas.{ran_none}
+use Rattle.stair_rack.proofs.StretchLemmas.{each_none}
 use Rattle.stair_member.specs.Asked.{LeavesSectors}
 use Rattle.stair_member.specs.Survey.{Surveys}
 use Rattle.stair_array.specs.Creates.{Creates}
 use Rattle.stair_array.specs.declared.fault.CreateFault.{CreateFault}
 use Rattle.stair_array.specs.declared.fault.CreateFault.TheVariants as fault
+use Rattle.stair_array.proofs.KeepLemmas.{arrays_kept, no_writes}
+use Rattle.stair_state.proofs.OutsideLemmas.{unwritten_ran}
 use Rattle.stair_member.proofs.AskedLemmas.{asked_ran}
 use Rattle.stair_conf.specs.Config.{TextReadsAs}
 use Rattle.stair_conf.specs.Words.{IsSpelled, Spells}
@@ -20,9 +25,9 @@ use Rattle.stair_engine.specs.Action.{status_of_create}
 use Rattle.stair_engine.specs.Cause.{IfNothingIsPutOut, IfRefusedAtOnce, LimitsComeFirst}
 use Rattle.stair_engine.specs.Does.{Leaves}
 use Rattle.stair_engine.specs.Fault.{status_of_config}
-use Rattle.stair_engine.specs.Laws.{AllIsKept, ArrayIsLeft, ArrayIsMade, MemoryComesFirst, RackIsLeft, ShowOnlyLooks, UsageIsExact}
+use Rattle.stair_engine.specs.Laws.{AllIsKept, ArrayIsLeft, ArrayIsMade, ArraysAreSpared, MemoryComesFirst, RackIsLeft, ShowOnlyLooks, UsageIsExact}
 use Rattle.stair_engine.specs.Means.{Bears, Counts, Holds}
-use Rattle.stair_engine.specs.Create.{IsOnceMade, MakesArray}
+use Rattle.stair_engine.specs.Create.{IsOnceMade, MakesArray, SparesArrays}
 use Rattle.stair_engine.specs.Outside.{Outside, Views}
 use Rattle.stair_engine.specs.Plan.{Over, Ask, create_plan, if_spelled, job_plan, plan_of}
 use Rattle.stair_engine.specs.Question.{Question, IsReply, Words}
@@ -31,7 +36,7 @@ use Rattle.stair_engine.specs.Stands.{ArrayStands}
 use Rattle.stair_engine.specs.Story.{Deed, Found, Grew, RanOut, Leads, Moves}
 use Rattle.stair_engine.specs.Task.{one_stripe}
 use Rattle.stair_engine.specs.declared.status.Status.{Status}
-use Rattle.stair_engine.specs.declared.status.Status.TheVariants.{Done, Usage, Input, InputFault, OutputFault, OutOfMemory}
+use Rattle.stair_engine.specs.declared.status.Status.TheVariants.{Done, Usage, InputFault, OutputFault, OutOfMemory}
 use Rattle.stair_engine.proofs.CreateLaws.{CreateWent, Making, Reading, create_went}
 use Rattle.stair_engine.proofs.CreateLaws.CreateWent.{Long, Failed, Whole}
 use Rattle.stair_engine.proofs.CreateLaws.Reading.{Unread, Faulty, Says}
@@ -180,6 +185,16 @@ module _ {S K X : Type 0} (view : Views S K) (W : Deed → X → X → Type 0) w
   create_short status a b x y (Whole text short gives (Says g reads (MadeUntold part did all held is))) other =
       let clash : OutputFault ≡ OutOfMemory = sym is ∙ other in cc
 
+-- `create` was not begun, or was refused
+never : {status named : Status} → status ≡ named → named ≢ Done → named ≢ OutputFault → ¬ IsOnceMade status
+never is not_done not_fault (inl done) = not_done (sym is ∙ done)
+never is not_done not_fault (inr fault) = not_fault (sym is ∙ fault)
+
+-- where no call was made on a rack all is as it was
+pub still_spared : (status : Status) (h : List Happening) → ¬ IsOnceMade status → SparesArrays status h h
+still_spared status h not_made array before returned tolerated =
+    record { none = not_made; unwritten = each_none h; stands = still_stands h }
+
 -- what was taken is all that a source told
 all_told : (told : Option (List ℕ)) (text : List ℕ) (g : Geometry) → IfSome told (λ all. text ≡ all) → TextReadsAs text (Ok g)
     → IfSome told (λ all. TextReadsAs all (Ok g))
@@ -234,10 +249,6 @@ module _ {R S K : Type 0} (rack : RackView R) (view : Views S K) where
       job_short Create later = create_short view (Works rack) OutOfMemory a b x y (went_over OutOfMemory a b x y later) refl
       job_short Show later = absurd ((show_status rack view OutOfMemory a b x y (show_went rack view OutOfMemory a b x y later)).2 refl)
 
-  never : {status named : Status} → status ≡ named → named ≢ Done → named ≢ OutputFault → IsOnceMade status → ⊥
-  never is not_done not_fault (inl done) = not_done (sym is ∙ done)
-  never is not_done not_fault (inr fault) = not_fault (sym is ∙ fault)
-
   made_of : (text : List ℕ) (g : Geometry) (a : Outside S K) (x y : R) → IfSome (view.source.left a.source) (λ all. text ≡ all) → TextReadsAs text (Ok g)
       → Creates g (Ok tt) (told_of rack x) (told_of rack y) → IsTrue rack.honest
       → MakesArray (view.source.left a.source) (rack.history x) (rack.history y)
@@ -267,6 +278,51 @@ module _ {R S K : Type 0} (rack : RackView R) (view : Views S K) where
         | Spelled job read later ↦
             made_so status a b x y (went_over status a b x y
             (subst (λ (j : Job). MeansOver rack view (job_plan j) (Over status) a b x y) (spells_once words job Create read spells) later)) honest once
+      ]
+
+  -- no call was made on the rack
+  left_spared : {status named : Status} (x y : R) → status ≡ named → named ≢ Done → named ≢ OutputFault → y ≡ x
+      → SparesArrays status (rack.history x) (rack.history y)
+  left_spared {status} x y is not_done not_fault same =
+      subst (λ (z : R). SparesArrays status (rack.history x) (rack.history z)) (sym same)
+      (still_spared status (rack.history x) (never is not_done not_fault))
+
+  -- where an array is within tolerance a call of `create` is refused
+  call_spared : (g : Geometry) (answer : Result (Unit {0}) CreateFault) (status : Status) (x y : R)
+      → Creates g answer (told_of rack x) (told_of rack y) → IsTrue rack.honest → (IsErr answer → ¬ IsOnceMade status)
+      → SparesArrays status (rack.history x) (rack.history y)
+  call_spared g answer status x y creates honest refused array before returned tolerated =
+      let kept = arrays_kept array g answer before (told_of rack x) (told_of rack y) honest creates returned tolerated in
+      record {
+        none = refused kept.0;
+        unwritten = kept.1;
+        stands = looked_stands (rack.history x) (rack.history y) (no_writes (creates.ran honest) kept.1);
+      }
+
+  spared_so : (status : Status) (a b : Outside S K) (x y : R) → CreateWent view (Works rack) status a b x y → IsTrue rack.honest
+      → SparesArrays status (rack.history x) (rack.history y)
+  spared_so status a b x y (Long bytes long gives is sink same) honest = left_spared x y is (λ clash. cc) (λ clash. cc) same
+  spared_so status a b x y (Failed bytes gives is sink same) honest = left_spared x y is (λ clash. cc) (λ clash. cc) same
+  spared_so status a b x y (Whole text short gives (Unread is sink same)) honest = left_spared x y is (λ clash. cc) (λ clash. cc) same
+  spared_so status a b x y (Whole text short gives (Faulty fault reads is sink same)) honest =
+      left_spared x y is (config_status fault).3 (config_status fault).1 same
+  spared_so status a b x y (Whole text short gives (Says g reads (ShortOfMemory is sink same))) honest =
+      left_spared x y is (λ clash. cc) (λ clash. cc) same
+  spared_so status a b x y (Whole text short gives (Says g reads (NotMade refusal did is sink))) honest =
+      call_spared g (Err refusal) status x y did honest (λ refused. never is (create_status refusal).3 (create_status refusal).1)
+  spared_so status a b x y (Whole text short gives (Says g reads (Made did held is))) honest =
+      call_spared g (Ok tt) status x y did honest (λ (refused : false ≡ true). absurd cc)
+  spared_so status a b x y (Whole text short gives (Says g reads (MadeUntold part did all held is))) honest =
+      call_spared g (Ok tt) status x y did honest (λ (refused : false ≡ true). absurd cc)
+
+  pub arrays_are_spared : ArraysAreSpared rack view
+  arrays_are_spared words status a b x y over spells honest =
+      elim (called_over rack view words status a b x y over) as (λ _. SparesArrays status (rack.history x) (rack.history y)) [
+        | NoMemory out ends still ↦ left_spared x y out (λ clash. cc) (λ clash. cc) still
+        | NotSpelled not usage ends still ↦ absurd (not (Create, spells))
+        | Spelled job read later ↦
+            spared_so status a b x y (went_over status a b x y
+            (subst (λ (j : Job). MeansOver rack view (job_plan j) (Over status) a b x y) (spells_once words job Create read spells) later)) honest
       ]
 
   pub usage_is_exact : UsageIsExact rack view
@@ -336,4 +392,4 @@ module _ {R S K : Type 0} (rack : RackView R) (view : Views S K) where
       job_stands Create spells later = absurd (other spells)
       job_stands Show spells later =
           let went = show_went rack view status a b x y later in
-          looked_stands (rack.history x) (rack.history y) (came_ran status a b x y went.came honest)
+          looked_stands (rack.history x) (rack.history y) (unwritten_ran (came_ran status a b x y went.came honest))

@@ -1,9 +1,12 @@
--- What `create` means beyond its plan: what it made.
+-- What `create` means beyond its plan: what it made, and what it leaves alone.
 use Rattle.std.specs.Prelude.{◌≡◌, ◌⊎◌, ℕ, List, Option, Ok, IfSome}
 use Rattle.stair_model.specs.Geometry.{Geometry}
 use Rattle.stair_rack.specs.History.{Happening}
+use Rattle.stair_rack.specs.Stretch.{NothingReturned, NothingWritten}
 use Rattle.stair_array.specs.Creates.{IsMade}
+use Rattle.stair_array.specs.Keeping.{ToleratedUnwritten}
 use Rattle.stair_conf.specs.Config.{TextReadsAs}
+use Rattle.stair_engine.specs.Stands.{ArrayStands}
 use Rattle.stair_engine.specs.declared.status.Status.{Status}
 use Rattle.stair_engine.specs.declared.status.Status.TheVariants.{Done, OutputFault}
 
@@ -16,3 +19,15 @@ pub record MakesArray (input : Option (List ℕ)) (old new : List Happening) : T
   pub geometry : Geometry
   pub said : IfSome input (λ text. TextReadsAs text (Ok geometry))
   pub made : IsMade geometry old new
+
+-- no array was made and no device was written, and an array that stood stands
+pub record MakesNothing (status : Status) (old new : List Happening) : Type 0 where
+  pub none : ¬ IsOnceMade status
+  pub unwritten : NothingWritten old new
+  pub stands : ArrayStands old new
+
+-- So it is where an array, of whatever geometry, is within tolerance at every moment before anything is written, and no medium
+-- comes back.
+abbrev pub SparesArrays : Status → List Happening → List Happening → Type 0
+SparesArrays status old new = (array : Geometry) (before : List Happening) → NothingReturned old new
+    → ToleratedUnwritten array before old new → MakesNothing status old new

@@ -10,11 +10,11 @@ use Rattle.stair_conf.specs.declared.job.Job.{Job}
 use Rattle.stair_conf.specs.declared.job.Job.TheVariants.{OneStripe, Create, Show}
 use Rattle.stair_conf.specs.declared.job.StripeCommand.{StripeCommand}
 use Rattle.stair_engine.specs.declared.status.Status.{Status}
-use Rattle.stair_engine.specs.declared.status.Status.TheVariants.{Done, Usage, InputFault, OutOfMemory}
+use Rattle.stair_engine.specs.declared.status.Status.TheVariants.{Usage, InputFault, OutOfMemory}
 use Rattle.stair_engine.specs.Answer.{map_bytes}
 use Rattle.stair_engine.specs.Cause.{Answers, IfRefusedAtOnce}
 use Rattle.stair_engine.specs.Complete.{IsComplete}
-use Rattle.stair_engine.specs.Create.{IsOnceMade, MakesArray}
+use Rattle.stair_engine.specs.Create.{IsOnceMade, MakesArray, SparesArrays}
 use Rattle.stair_engine.specs.Does.{Does, Leaves}
 use Rattle.stair_engine.specs.Means.{Means}
 use Rattle.stair_engine.specs.Outside.{Outside, Views}
@@ -105,6 +105,14 @@ ArrayIsMade {R} {S} {K} rack view =
     MeansOver rack view (plan_of words) (Over status) old new first last →
     Spells words Create → IsTrue rack.honest → IsOnceMade status →
     MakesArray (view.source.left old.source) (rack.history first) (rack.history last)
+
+-- `create` writes over no array that is within tolerance, where its rack is honest
+abbrev pub ArraysAreSpared : {R S K : Type 0} → RackView R → Views S K → Type 0
+ArraysAreSpared {R} {S} {K} rack view =
+    (words : List (List ℕ)) (status : Status) (old new : Outside S K) (first last : R) →
+    MeansOver rack view (plan_of words) (Over status) old new first last →
+    Spells words Create → IsTrue rack.honest →
+    SparesArrays status (rack.history first) (rack.history last)
 
 -- where memory was short no device was written
 abbrev pub MemoryComesFirst : {R S K : Type 0} → RackView R → Views S K → Type 0

@@ -8,6 +8,7 @@ ghost use Rattle.stair_engine.specs.Laws.{
   AllIsKept,
   ArrayIsLeft,
   ArrayIsMade,
+  ArraysAreSpared,
   BytesAreAnswered,
   DifferAtErased,
   MemoryComesFirst,
@@ -51,6 +52,9 @@ pub fn plan_laws<R: Rack, S: Source, K: Sink>()
         (views S.left S.ended S.faults K.held K.faults) }
     // what `create` made
     ensures created { ArrayIsMade (rack_view R.is_honest R.history R.bads R.gones)
+        (views S.left S.ended S.faults K.held K.faults) }
+    // `create` writes over no array that is within tolerance
+    ensures spared { ArraysAreSpared (rack_view R.is_honest R.history R.bads R.gones)
         (views S.left S.ended S.faults K.held K.faults) }
     // a job is done where it can be, if there was memory
     ensures complete { AllIsComplete (rack_view R.is_honest R.history R.bads R.gones)

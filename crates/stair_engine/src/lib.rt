@@ -25,7 +25,7 @@ ghost use Rattle.stair_conf.specs.Words.{IsCommandLine, Spells};
 ghost use Rattle.stair_conf.specs.declared.job.Job.{Job as Jobs};
 ghost use Rattle.stair_conf.specs.declared.job.Job.TheVariants.{Create};
 ghost use Rattle.stair_engine.specs.Complete.{IsComplete};
-ghost use Rattle.stair_engine.specs.Create.{IsOnceMade, MakesArray};
+ghost use Rattle.stair_engine.specs.Create.{IsOnceMade, MakesArray, SparesArrays};
 ghost use Rattle.stair_engine.specs.Fault.{status_of};
 ghost use Rattle.stair_engine.specs.Means.{Means};
 ghost use Rattle.stair_engine.specs.Outside.{outside, views};
@@ -105,6 +105,11 @@ pub fn stair<R: Rack, S: Source, K: Sink, L: Ledger>(
     // there too where only its line couldn't be put out.
     ensures created { IsTrue R.is_honest → Spells (map string_bytes words.now) Create → IsOnceMade result →
         MakesArray (S.left input.old) (R.history rack.old) (R.history rack.new) }
+
+    // On an honest rack `create` writes over no array: where one, of whatever geometry, is within tolerance before anything
+    // is written, and no medium comes back, none is made and no device is written.
+    ensures spared { IsTrue R.is_honest → Spells (map string_bytes words.now) Create →
+        SparesArrays result (R.history rack.old) (R.history rack.new) }
 
     // On an honest rack every other command leaves an array as it was: at every moment, and at the end.
     ensures stands { IsTrue R.is_honest → (Spells (map string_bytes words.now) Create → ⊥) →

@@ -7,8 +7,10 @@ use Rattle.stair_rack.specs.Media.{Image}
 use Rattle.stair_rack.specs.Sector.{Cell}
 use Rattle.stair_super.specs.Superblock.{Superblock, joined_at, joined_in, mark_at, mark_in}
 use Rattle.stair_super.specs.declared.configuration.Configuration.{Configuration}
+use Rattle.stair_super.specs.declared.mark.Mark.{Mark}
 use Rattle.stair_super.specs.declared.mark.Mark.TheVariants as mark
-use Rattle.stair_member.specs.Current.{IsCurrent, IsLive}
+use Rattle.stair_member.specs.Current.{HasMark, IsCurrent, IsLive, IsRebuilding}
+use Rattle.stair_member.specs.Membership.{IsHere, Membership, why_of}
 use Rattle.stair_member.specs.Reasons.{IsReason, rank}
 use Rattle.stair_member.specs.Reserve.{Bears, IsOrderly}
 use Rattle.stair_member.specs.Superblocks.{Counts, CountsFor, HoldsSuper, Identifies}
@@ -57,13 +59,14 @@ module _ (g : Geometry) (bound : ℕ) (small : g.n ≤ bound) where
     newest = λ j s counts. is.newest j s (counts_agree b a j s (agree_back bound a b agree) counts);
   }
 
-  pub live_agree : (a b : Image) (current : Superblock) (j : ℕ) → AgreeBelow bound a b → IsLive g a current j → IsLive g b current j
-  live_agree a b current j agree live = record {
-    below = live.below;
-    marked = live.marked;
-    super = live.super;
-    counts = counts_agree a b j live.super agree live.counts;
-    joined = live.joined;
+  pub mark_agree : {mark : Mark} (a b : Image) (current : Superblock) (j : ℕ) → AgreeBelow bound a b → HasMark g a current mark j
+      → HasMark g b current mark j
+  mark_agree a b current j agree has = record {
+    below = has.below;
+    marked = has.marked;
+    super = has.super;
+    counts = counts_agree a b j has.super agree has.counts;
+    joined = has.joined;
   }
 
   pub identifies_agree : (a b : Image) → AgreeBelow bound a b → Identifies g a → Identifies g b
@@ -78,15 +81,15 @@ identifies_limits g image stands =
     let for : CountsFor g image some.0 = stands.each some.0 some.2 in
     counts_limits g image some.0 for.super for.counts
 
--- a slot whose superblock counts elsewhere too is live there, by a superblock that names the same
-pub live_moved : (g : Geometry) (a b : Image) (before after : Superblock) (j : ℕ) → before.array ≡ after.array
-    → ((s : Superblock) → Counts g a j s → Counts g b j s) → IsLive g a before j → IsLive g b after j
-live_moved g a b before after j same moves live = record {
-  below = live.below;
-  marked = sym (ap (λ (array : Configuration). mark_in array j) same) ∙ live.marked;
-  super = live.super;
-  counts = moves live.super live.counts;
-  joined = live.joined ∙ ap (λ (array : Configuration). joined_in array j) same;
+-- a slot whose superblock counts elsewhere too has its mark there, by a superblock that names the same
+pub mark_moved : {mark : Mark} (g : Geometry) (a b : Image) (before after : Superblock) (j : ℕ) → before.array ≡ after.array
+    → ((s : Superblock) → Counts g a j s → Counts g b j s) → HasMark g a before mark j → HasMark g b after mark j
+mark_moved g a b before after j same moves has = record {
+  below = has.below;
+  marked = sym (ap (λ (array : Configuration). mark_in array j) same) ∙ has.marked;
+  super = has.super;
+  counts = moves has.super has.counts;
+  joined = has.joined ∙ ap (λ (array : Configuration). joined_in array j) same;
 }
 
 -- THE ORDER OF SUPERBLOCKS
@@ -135,9 +138,17 @@ own_mark g image j s counts =
 
 -- REASONS
 
+-- the reason of a slot that takes part comes behind all that speak of its medium
+pub here_late : (m : Membership) (j : ℕ) → IsHere m j → rank OtherJoined < rank (why_of m j)
+here_late m j here =
+    elim here.why [
+      | inl is ↦ subst (λ (why : Why). rank OtherJoined < rank why) (sym is) (omega arith)
+      | inr is ↦ subst (λ (why : Why). rank OtherJoined < rank why) (sym is) (omega arith)
+    ]
+
 module _ (gone : ℕ → Type 0) (g : Geometry) (image : Image) (current : Superblock) (j : ℕ) where
   -- a slot counts where none of the reasons is one for which it doesn't
-  pub here_counts : (why : Why) → rank OtherSlot < rank why → IsReason gone g image current j why → CountsFor g image j
+  here_counts : (why : Why) → rank OtherSlot < rank why → IsReason gone g image current j why → CountsFor g image j
   here_counts why late reason =
       elim (counts_decided g image j) [ inl counts ↦ counts | inr none ↦ absurd (none_counts none) ]
     where
@@ -157,22 +168,35 @@ module _ (gone : ℕ → Type 0) (g : Geometry) (image : Image) (current : Super
             | inr not ↦ reason.first NoSuper (omega (arith, late)) not
           ]
 
-  -- a slot that is here is live
-  pub here_live : j < g.n → IsReason gone g image current j Here → IsLive g image current j
-  here_live below reason = record {
+  -- and its medium is the one that the current superblock means
+  pub here_marked : (why : Why) → j < g.n → rank OtherJoined < rank why → IsReason gone g image current j why
+      → HasMark g image current (mark_at current j) j
+  here_marked why below late reason = record {
     below = below;
-    marked = live_unless (mark_at current j) (reason.first MarkedDown (omega arith)) (reason.first Rebuilding (omega arith));
+    marked = refl;
     super = here.super;
     counts = here.counts;
     joined =
         elim (cases_eq here.super.joined (joined_at current j)) [
           | inl same ↦ same
-          | inr other ↦ absurd (reason.first OtherJoined (omega arith) (here.super, here.counts.super, other))
+          | inr other ↦ absurd (reason.first OtherJoined late (here.super, here.counts.super, other))
         ];
   }
     where
       here : CountsFor g image j
-      here = here_counts Here (omega arith) reason
+      here = here_counts why (omega (arith, late)) reason
+
+  -- so a slot that is here is live
+  pub here_live : j < g.n → IsReason gone g image current j Here → IsLive g image current j
+  here_live below reason =
+      subst (λ (m : Mark). HasMark g image current m j)
+      (live_unless (mark_at current j) (reason.first MarkedDown (omega arith)) (reason.first Rebuilding (omega arith)))
+      (here_marked Here below (omega arith) reason)
+
+  -- and one that is rebuilt is so in the image
+  pub here_rebuilding : j < g.n → IsReason gone g image current j Rebuilding → IsRebuilding g image current j
+  here_rebuilding below reason =
+      subst (λ (m : Mark). HasMark g image current m j) reason.applies (here_marked Rebuilding below (omega arith) reason)
 
   -- and the other way round, unless it was gone
   pub live_here : (why : Why) → ¬ gone j → IsLive g image current j → IsReason gone g image current j why → why ≡ Here

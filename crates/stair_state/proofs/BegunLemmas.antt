@@ -1,7 +1,6 @@
 -- A call may begin with the member that a survey answered.
 use Rattle.std.proofs.Common.{◌≡◌, ℕ, ◌-◌, ◌<◌, ◌≤◌, List, None, inl, inr, sym, ap, ◌∙◌, subst, arith}
-use Rattle.std.specs.Prelude.{◌≢◌, ◌⊎◌, IsTrue, Result, Ok, Some}
-use Rattle.std.proofs.lemmas.Bool.{cases_eq}
+use Rattle.std.specs.Prelude.{◌≢◌, IsTrue, Result, Ok, Some}
 use Rattle.stair_model.specs.Geometry.{Geometry}
 use Rattle.stair_model.specs.Slots.{HasSlot}
 use Rattle.stair_rack.specs.Answers.{IsHistory, Ran, any_call}
@@ -15,35 +14,31 @@ use Rattle.stair_rack.proofs.TidyLemmas.{history_on}
 use Rattle.stair_super.specs.Superblock.{Superblock, joined_at, joined_in, mark_at, mark_in}
 use Rattle.stair_super.specs.declared.configuration.Configuration.{Configuration}
 use Rattle.stair_super.specs.declared.mark.Mark.TheVariants.{Down}
-use Rattle.stair_member.specs.Asked.{LeavesSectors}
 use Rattle.stair_member.specs.Counting.{AllBut}
-use Rattle.stair_member.specs.Current.{IsCurrent, IsLost}
+use Rattle.stair_member.specs.Current.{HasMark, IsLost}
 use Rattle.stair_member.specs.Epochs.{IsTaken}
 use Rattle.stair_member.specs.Fencing.{HasDrawn, IsBegun, IsKnownTo}
 use Rattle.stair_member.specs.Findings.{Findings}
 use Rattle.stair_member.specs.Membership.{IsHere, IsMembership, Membership, place_of, why_of}
-use Rattle.stair_member.specs.Reasons.{rank}
 use Rattle.stair_member.specs.Reserve.{Bears, HasReached, HasReserved, IsOrderly}
-use Rattle.stair_member.specs.Superblocks.{Counts, CountsFor, HoldsSuper}
+use Rattle.stair_member.specs.Superblocks.{Counts, HoldsSuper}
 use Rattle.stair_member.specs.Survey.{InFirst, InSecond, IsAnswer, IsPlaceOf, IsSurveyed, Surveys}
 use Rattle.stair_rack.specs.Telling.{Telling}
 use Rattle.stair_member.specs.declared.fault.SurveyFault.{SurveyFault}
-use Rattle.stair_member.specs.declared.why.Why.{Why}
-use Rattle.stair_member.specs.declared.why.Why.TheVariants.{Here, OtherJoined, Rebuilding}
 use Rattle.stair_member.proofs.AskedLemmas.{asked_ran}
 use Rattle.stair_member.proofs.CountingLemmas.{all_but_mapped}
 use Rattle.stair_member.proofs.SuperLemmas.{holds_once, slot_below}
-use Rattle.stair_state.specs.Represents.{AreSteady, Represents}
+use Rattle.stair_state.specs.Represents.{AreSteady, Represents, no_write}
 use Rattle.stair_state.specs.State.{State}
 use Rattle.stair_state.specs.Surveyed.{Covers, CoversAll}
 use Rattle.stair_state.specs.Tolerance.{ToleratedSince}
-use Rattle.stair_state.proofs.AgreeLemmas.{AgreeBelow, agree_back, bears_agree, counts_agree, current_agree, here_counts}
+use Rattle.stair_state.proofs.AgreeLemmas.{AgreeBelow, agree_back, bears_agree, counts_agree, here_late, here_marked}
 use Rattle.stair_state.proofs.CoverLemmas.{covers_all, held_upto}
 use Rattle.stair_state.proofs.DegradedLemmas.{bears_before}
-use Rattle.stair_state.proofs.OutsideLemmas.{looks_stand, steady_looks}
-use Rattle.stair_state.proofs.SeenLemmas.{IsLookedAt, IsWhole, counts_first, counts_read, first_whole, found_first, holds_first, holds_last, holds_read, last_copies, limits, whole_places}
+use Rattle.stair_state.proofs.OutsideLemmas.{looks_stand, steady_looks, unwritten_ran}
+use Rattle.stair_state.proofs.SeenLemmas.{IsLookedAt, IsWhole, counts_first, counts_read, first_whole, fits, found_first, holds_first, holds_last, holds_read, last_copies, whole_places}
 use Rattle.stair_state.proofs.StillLemmas.{read_cell, read_image, steady_cells}
-use Rattle.stair_state.proofs.SurveyedLemmas.{agree, identity, looks, tolerated_last}
+use Rattle.stair_state.proofs.SurveyedLemmas.{agree, found_current, identity, looks, tolerated_last}
 
 -- a place in which a superblock lies holds it
 place_holds : {cell : ℕ → Cell} {s : Superblock} {k : ℕ} → IsPlaceOf cell s k → HoldsSuper (cell k) s
@@ -59,17 +54,11 @@ module _ (m : Membership) (f : Findings) (surveyed : IsSurveyed f m) {offline : 
   abbrev found : Superblock
   found = surveyed.current
 
-  small : g.n ≤ 32
-  small = (limits looked).devices.1
-
-  is_found : IsCurrent g (read_image f) found
-  is_found = current_agree g 32 small f.image (read_image f) found (agree f) surveyed.is_current
-
   epochs : m.array.epoch ≡ found.array.epoch
   epochs = ap (λ (array : Configuration). array.epoch) surveyed.array
 
   found_borne : Bears g found.slot ((first found.slot).cell) found
-  found_borne = found_first looked found is_found
+  found_borne = found_first looked found (found_current m f surveyed looked)
 
   -- WHAT WAS AT FIRST
 
@@ -102,14 +91,14 @@ module _ (m : Membership) (f : Findings) (surveyed : IsSurveyed f m) {offline : 
 
     counted_found : Counts g f.image j s
     counted_found =
-        counts_agree g 32 small (read_image f) f.image j s (agree_back 32 f.image (read_image f) (agree f)) (counts_read looked j s whole counted)
+        counts_agree g 32 (fits looked) (read_image f) f.image j s (agree_back 32 f.image (read_image f) (agree f)) (counts_read looked j s whole counted)
 
     -- its superblock lies where it was found
     lies_aside : HoldsSuper ((image j).cell (1 - place_of m j)) s
     lies_aside =
         let next : ℕ = 1 - place_of m j in
         let place : next < 2 = omega arith in
-        let in_range : j < 32 = omega (arith, below, small) in
+        let in_range : j < 32 = omega (arith, below, fits looked) in
         let holds : HoldsSuper ((f.image j).cell next) s =
         place_holds {cell = (f.image j).cell} {s = s} {k = next} ((surveyed.places j in_range).other s counted_found.super) in
         let seen : HoldsSuper ((read_image f j).cell next) s =
@@ -119,25 +108,20 @@ module _ (m : Membership) (f : Findings) (surveyed : IsSurveyed f m) {offline : 
 
   -- DRAWS
 
-  late : (why : Why) → (why ≡ Here) ⊎ (why ≡ Rebuilding) → rank OtherJoined < rank why
-  late why (inl is) = subst (λ (w : Why). rank OtherJoined < rank w) (sym is) (omega arith)
-  late why (inr is) = subst (λ (w : Why). rank OtherJoined < rank w) (sym is) (omega arith)
-
-  -- a slot that is here counted in what was found
-  here_found : (j : ℕ) → IsHere m j → CountsFor g f.image j
-  here_found j here =
-      let past : rank OtherJoined < rank (why_of m j) = late (why_of m j) here.why in
-      here_counts (HasSlot f.gone) g f.image found j (why_of m j) (omega (arith, past)) (surveyed.reasons j here.below)
+  -- a slot that is here has the medium that what was found means
+  found_here : (j : ℕ) → IsHere m j → HasMark g f.image found (mark_at found j) j
+  found_here j here =
+      here_marked (HasSlot f.gone) g f.image found j (why_of m j) here.below (here_late m j here) (surveyed.reasons j here.below)
 
   -- what lies in a place was read there
   seen_here : (j k : ℕ) (s : Superblock) → j < g.n → k < 2 → HoldsSuper ((image j).cell k) s → HoldsSuper ((f.image j).cell k) s
   seen_here j k s below place holds =
-      subst (λ (cell : Cell). HoldsSuper cell s) (read_cell f j k (omega (arith, below, small)) place)
+      subst (λ (cell : Cell). HoldsSuper cell s) (read_cell f j k (omega (arith, below, fits looked)) place)
       (holds_read looked j k s below place (subst (λ (cell : Cell). HoldsSuper cell s) (agrees j k below place) holds))
 
   drawn_here : (j k : ℕ) (s : Superblock) → IsHere m j → k < 2 → HoldsSuper ((image j).cell k) s → s.draw ≤ m.drawn
   drawn_here j k s here place holds =
-      let for = here_found j here in
+      let for = found_here j here in
       let seen : HoldsSuper ((f.image j).cell k) s = seen_here j k s here.below place holds in
       let upto : s.draw ≤ for.super.draw = held_upto ((f.image j).cell) k for.super s place for.counts.super seen in
       let most : for.super.draw ≤ m.drawn = surveyed.drawn.above j for.super for.counts in
@@ -150,20 +134,14 @@ module _ (m : Membership) (f : Findings) (surveyed : IsSurveyed f m) {offline : 
   -- what lies aside of a slot that is here is the superblock by which it is
   own_here : (j : ℕ) (t : Superblock) → IsHere m j → HoldsSuper ((image j).cell (1 - place_of m j)) t → t.joined ≡ joined_in m.array j
   own_here j t here holds =
-      let for = here_found j here in
+      let for = found_here j here in
       let below : j < g.n = here.below in
       let lies : HoldsSuper ((f.image j).cell (1 - place_of m j)) for.super =
       place_holds {cell = (f.image j).cell} {s = for.super} {k = 1 - place_of m j}
-      ((surveyed.places j (omega (arith, below, small))).other for.super for.counts.super) in
+      ((surveyed.places j (omega (arith, below, fits looked))).other for.super for.counts.super) in
       let same : t ≡ for.super =
       holds_once ((f.image j).cell (1 - place_of m j)) t for.super (seen_here j (1 - place_of m j) t below (omega arith) holds) lies in
-      ap (λ (s : Superblock). s.joined) same
-      ∙ (elim (cases_eq for.super.joined (joined_at found j)) [
-        | inl joined ↦ joined
-        | inr apart ↦
-            absurd ((surveyed.reasons j below).first OtherJoined (late (why_of m j) here.why) (for.super, for.counts.super, apart))
-      ])
-      ∙ sym (ap (λ (array : Configuration). joined_in array j) surveyed.array)
+      ap (λ (s : Superblock). s.joined) same ∙ for.joined ∙ sym (ap (λ (array : Configuration). joined_in array j) surveyed.array)
 
   -- EPOCHS
 
@@ -211,7 +189,7 @@ begins s before old new answer m surveys honest began stands none tolerated memb
     let answered : IsAnswer surveys.findings (Ok m) = subst (λ (a : Result Membership SurveyFault). IsAnswer surveys.findings a) ok surveys.answered in
     let surveyed : IsSurveyed surveys.findings m = answered.0 in
     let is : IsHistory old.history = surveys.began honest in
-    let ran : Ran LeavesSectors old.history new.history = asked_ran 32 old.history new.history (surveys.asked honest) in
+    let ran : Ran no_write old.history new.history = unwritten_ran (asked_ran 32 old.history new.history (surveys.asked honest)) in
     let same : s.geometry ≡ m.array.geometry =
     sym (identity s before old new surveys.findings surveys.found honest is ran began stands none tolerated m surveyed) in
     let looked : IsLookedAt m.array.geometry (λ j. IsOffline before new.history j) (image_now old.history) (read_image surveys.findings)
@@ -227,7 +205,7 @@ begins s before old new answer m surveys honest began stands none tolerated memb
     looks_stand s before old.history new.history stands ran none
     (tolerated_last s before old new surveys.findings surveys.found honest is ran began stands none tolerated) in
     record {
-      history = history_on {allowed = LeavesSectors} is ran;
+      history = history_on {allowed = no_write} is ran;
       member = member;
       settled = steady;
       down = λ j joins below. let none : None ≡ Some j = joins in absurd (cc);

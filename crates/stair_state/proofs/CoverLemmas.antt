@@ -13,7 +13,6 @@ use Rattle.stair_rack.specs.Sector.{Cell}
 use Rattle.stair_rack.specs.Stretch.{NothingReturned}
 use Rattle.stair_super.specs.Superblock.{Superblock}
 use Rattle.stair_super.specs.declared.configuration.Configuration.{Configuration}
-use Rattle.stair_member.specs.Asked.{LeavesSectors}
 use Rattle.stair_member.specs.Current.{IsCurrent}
 use Rattle.stair_member.specs.Findings.{AreFound, Findings}
 use Rattle.stair_member.specs.Membership.{Membership}
@@ -24,16 +23,16 @@ use Rattle.stair_rack.specs.Telling.{Telling}
 use Rattle.stair_member.specs.declared.fault.SurveyFault.{SurveyFault}
 use Rattle.stair_member.proofs.AskedLemmas.{asked_ran}
 use Rattle.stair_member.proofs.SuperLemmas.{counts_bears, holds_once}
-use Rattle.stair_state.specs.Represents.{Represents}
+use Rattle.stair_state.specs.Represents.{Represents, no_write}
 use Rattle.stair_state.specs.State.{State}
 use Rattle.stair_state.specs.Surveyed.{Covers, CoversAll}
 use Rattle.stair_state.specs.Tolerance.{ToleratedSince}
 use Rattle.stair_state.proofs.AgreeLemmas.{agree_back, bears_agree, borne_upto, counts_agree, has_newest}
 use Rattle.stair_state.proofs.DegradedLemmas.{orderly_copies}
-use Rattle.stair_state.proofs.OutsideLemmas.{steady_looks}
-use Rattle.stair_state.proofs.SeenLemmas.{IsLookedAt, bears_read}
+use Rattle.stair_state.proofs.OutsideLemmas.{steady_looks, unwritten_ran}
+use Rattle.stair_state.proofs.SeenLemmas.{IsLookedAt, bears_read, fits}
 use Rattle.stair_state.proofs.StillLemmas.{read_image, steady_cells}
-use Rattle.stair_state.proofs.SurveyedLemmas.{agree, current_read, identity, looks, small}
+use Rattle.stair_state.proofs.SurveyedLemmas.{agree, current_read, identity, looks}
 
 -- DRAWS
 
@@ -97,7 +96,7 @@ module _ {g : Geometry} {offline : ℕ → Type 0} {first read last : Image} (lo
 -- THE MEMBER
 
 module _ (s : State) (before : List Happening) (old new : Telling) (f : Findings) (found : AreFound f old new) (honest : IsTrue new.honest)
-    (is : IsHistory old.history) (ran : Ran LeavesSectors old.history new.history) (began : Ran any_call before old.history)
+    (is : IsHistory old.history) (ran : Ran no_write old.history new.history) (began : Ran any_call before old.history)
     (stands : Represents s old.history) (none : NothingReturned old.history new.history)
     (tolerated : ToleratedSince s.geometry before new.history) (m : Membership) (surveyed : IsSurveyed f m) where
   abbrev g : Geometry
@@ -113,7 +112,7 @@ module _ (s : State) (before : List Happening) (old new : Telling) (f : Findings
   counts_found : (j : ℕ) (v : Superblock) → Counts g (read_image f) j v → Counts m.array.geometry f.image j v
   counts_found j v counts =
       let there =
-      counts_agree g 32 (small s before old new f found honest is ran began stands none tolerated) (read_image f) f.image j v
+      counts_agree g 32 (fits looked) (read_image f) f.image j v
       (agree_back 32 f.image (read_image f) (agree f)) counts in
       record {
         super = there.super;
@@ -152,4 +151,4 @@ pub covers_all : (s : State) (before : List Happening) (old new : Telling) (answ
 covers_all s before old new answer m surveys honest began stands none tolerated ok =
     let answered : IsAnswer surveys.findings (Ok m) = subst (λ (a : Result Membership SurveyFault). IsAnswer surveys.findings a) ok surveys.answered in
     covers s before old new surveys.findings surveys.found honest (surveys.began honest)
-    (asked_ran 32 old.history new.history (surveys.asked honest)) began stands none tolerated m answered.0
+    (unwritten_ran (asked_ran 32 old.history new.history (surveys.asked honest))) began stands none tolerated m answered.0

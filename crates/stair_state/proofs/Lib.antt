@@ -16,11 +16,16 @@ pub mod ReturnLemmas
 pub mod StillLemmas
 pub mod AgreeLemmas
 pub mod SeenLemmas
+pub mod ExchangedLemmas
 pub mod MixedLemmas
 pub mod SurveyedLemmas
 pub mod CoverLemmas
 pub mod BegunLemmas
 pub mod MarkedLemmas
+pub mod ShutLemmas
+pub mod OwnLemmas
+pub mod NamedLemmas
+pub mod RestoredLemmas
 pub mod StageLemmas
 pub mod RedoPhaseLemmas
 pub mod RedoRunLemmas

@@ -1,7 +1,7 @@
 -- The member that a survey answers marks each slot by its reason, where its medium is the one that the member's epoch means; and
 -- what takes part is held since the survey began.
 use Rattle.std.proofs.Common.{◌≡◌, ◌≢◌, ℕ, ◌<◌, ◌≤◌, List, inl, inr, sym, ap, ◌∙◌, subst, arith}
-use Rattle.std.specs.Prelude.{◌⊎◌, IsTrue, Result, Ok}
+use Rattle.std.specs.Prelude.{IsTrue, Result, Ok}
 use Rattle.stair_model.specs.Geometry.{Geometry}
 use Rattle.stair_model.specs.Slots.{HasSlot}
 use Rattle.stair_rack.specs.Answers.{IsHistory, Ran, any_call}
@@ -17,11 +17,9 @@ use Rattle.stair_super.specs.Superblock.{Superblock, joined_at, joined_in, mark_
 use Rattle.stair_super.specs.declared.configuration.Configuration.{Configuration}
 use Rattle.stair_super.specs.declared.mark.Mark.TheVariants.{Down}
 use Rattle.stair_member.specs.Aims.{mark_for}
-use Rattle.stair_member.specs.Asked.{LeavesSectors}
-use Rattle.stair_member.specs.Current.{IsCurrent}
 use Rattle.stair_member.specs.Findings.{Findings}
 use Rattle.stair_member.specs.Membership.{IsHere, IsMarkedFor, IsMembership, Membership, why_of}
-use Rattle.stair_member.specs.Reasons.{IsReason, rank}
+use Rattle.stair_member.specs.Reasons.{IsReason}
 use Rattle.stair_member.specs.Reserve.{Bears, IsOrderly}
 use Rattle.stair_member.specs.Superblocks.{IsSuperOf}
 use Rattle.stair_member.specs.Survey.{IsAnswer, IsSurveyed, Surveys}
@@ -31,16 +29,16 @@ use Rattle.stair_member.specs.declared.why.Why.TheVariants.{Gone, Here, MarkedDo
 use Rattle.stair_member.proofs.AskedLemmas.{asked_ran}
 use Rattle.stair_member.proofs.EditionLemmas.{bears_below, none_held_there}
 use Rattle.stair_member.proofs.SuperLemmas.{counts_bears, super_cells}
-use Rattle.stair_state.specs.Represents.{AreSteady, Represents}
+use Rattle.stair_state.specs.Represents.{AreSteady, Represents, no_write}
 use Rattle.stair_state.specs.State.{State}
 use Rattle.stair_state.specs.Surveyed.{MarksByReasons}
 use Rattle.stair_state.specs.Tolerance.{ToleratedSince}
-use Rattle.stair_state.proofs.AgreeLemmas.{agree_back, bears_agree, current_agree, current_upto, own_joined, own_mark}
+use Rattle.stair_state.proofs.AgreeLemmas.{agree_back, here_late, bears_agree, current_upto, own_joined, own_mark}
 use Rattle.stair_state.proofs.DegradedLemmas.{orderly_copies}
-use Rattle.stair_state.proofs.OutsideLemmas.{steady_looks}
-use Rattle.stair_state.proofs.SeenLemmas.{IsLookedAt, bears_read, limits}
+use Rattle.stair_state.proofs.OutsideLemmas.{steady_looks, unwritten_ran}
+use Rattle.stair_state.proofs.SeenLemmas.{IsLookedAt, bears_read, fits}
 use Rattle.stair_state.proofs.StillLemmas.{gone_lost, read_cell, read_image, steady_cells}
-use Rattle.stair_state.proofs.SurveyedLemmas.{agree, goes_on, identity, looks}
+use Rattle.stair_state.proofs.SurveyedLemmas.{agree, goes_on, found_current, identity, looks}
 
 -- what a superblock that a medium bears says of its own slot
 borne_joined : (g : Geometry) (j : ℕ) (cell : ℕ → Cell) (s : Superblock) → Bears g j cell s → s.joined ≡ joined_at s j
@@ -56,31 +54,22 @@ module _ (m : Membership) (rules : IsMembership m) (f : Findings) (surveyed : Is
   abbrev g : Geometry
   g = m.array.geometry
 
-  abbrev found : Superblock
-  found = surveyed.current
-
-  small : g.n ≤ 32
-  small = (limits looked).devices.1
-
   read_order : IsOrderly g (read_image f)
   read_order = orderly_copies g first (read_image f) looked.copies looked.orderly
-
-  is_found : IsCurrent g (read_image f) found
-  is_found = current_agree g 32 small f.image (read_image f) found (agree f) surveyed.is_current
 
   module _ (j : ℕ) (u : Superblock) (below : j < g.n) (bears : Bears g j ((last j).cell) u) (joined : u.joined ≡ joined_in m.array j) where
     in_read : Bears g j ((read_image f j).cell) u
     in_read = bears_read looked j u bears
 
     in_found : Bears g j ((f.image j).cell) u
-    in_found = bears_agree g 32 small (read_image f) f.image j u (agree_back 32 f.image (read_image f) (agree f)) in_read
+    in_found = bears_agree g 32 (fits looked) (read_image f) f.image j u (agree_back 32 f.image (read_image f) (agree f)) in_read
 
     super_read : (t : Superblock) → IsSuperOf ((f.image j).cell) t → IsSuperOf ((read_image f j).cell) t
     super_read t super =
-        super_cells ((f.image j).cell) ((read_image f j).cell) t (sym (read_cell f j 0 (omega (arith, below, small)) (omega arith)))
-        (sym (read_cell f j 1 (omega (arith, below, small)) (omega arith))) super
+        super_cells ((f.image j).cell) ((read_image f j).cell) t (sym (read_cell f j 0 (omega (arith, below, fits looked)) (omega arith)))
+        (sym (read_cell f j 1 (omega (arith, below, fits looked)) (omega arith))) super
 
-    by_why : (why : Why) → IsMarkedFor why (mark_in m.array j) → IsReason (HasSlot f.gone) g f.image found j why
+    by_why : (why : Why) → IsMarkedFor why (mark_in m.array j) → IsReason (HasSlot f.gone) g f.image surveyed.current j why
         → mark_in m.array j ≡ mark_for why
     by_why Here is reason = is
     by_why Rebuilding is reason = is
@@ -98,12 +87,14 @@ module _ (m : Membership) (rules : IsMembership m) (f : Findings) (surveyed : Is
         let bears_t = counts_bears g (read_image f) j t hid.0 in
         let up : joined_at u j ≤ joined_at t j =
         read_order.joined j j j u t in_read bears_t hid.1 (borne_mark g j ((read_image f j).cell) u in_read) (own_mark g (read_image f) j t hid.0) in
-        let down : joined_at t j ≤ joined_at found j =
-        read_order.joined j found.slot j t found bears_t (counts_bears g (read_image f) found.slot found is_found.counts)
-        (current_upto g (read_image f) found j t is_found hid.0) (own_mark g (read_image f) j t hid.0) (reason.first MarkedDown (omega arith)) in
+        let down : joined_at t j ≤ joined_at surveyed.current j =
+        read_order.joined j surveyed.current.slot j t surveyed.current bears_t
+        (counts_bears g (read_image f) surveyed.current.slot surveyed.current (found_current m f surveyed looked).counts)
+        (current_upto g (read_image f) surveyed.current j t (found_current m f surveyed looked) hid.0) (own_mark g (read_image f) j t hid.0)
+        (reason.first MarkedDown (omega arith)) in
         let own_u : u.joined ≡ joined_at u j = borne_joined g j ((read_image f j).cell) u in_read in
         let own_t : t.joined ≡ joined_at t j = own_joined g (read_image f) j t hid.0 in
-        let named : joined_in m.array j ≡ joined_at found j = ap (λ (array : Configuration). joined_in array j) surveyed.array in
+        let named : joined_in m.array j ≡ joined_at surveyed.current j = ap (λ (array : Configuration). joined_in array j) surveyed.array in
         absurd (reason.applies.2 (omega (arith, up, down, own_u, own_t, named, joined)))
 
     pub marked_last : mark_in m.array j ≡ mark_for (why_of m j)
@@ -121,8 +112,8 @@ module _ (s : State) (before : List Happening) (old new : Telling) (answer : Res
   is : IsHistory old.history
   is = surveys.began honest
 
-  ran : Ran LeavesSectors old.history new.history
-  ran = asked_ran 32 old.history new.history (surveys.asked honest)
+  ran : Ran no_write old.history new.history
+  ran = unwritten_ran (asked_ran 32 old.history new.history (surveys.asked honest))
 
   same : s.geometry ≡ m.array.geometry
   same = sym (identity s before old new surveys.findings surveys.found honest is ran began stands none tolerated m surveyed_as)
@@ -135,13 +126,10 @@ module _ (s : State) (before : List Happening) (old new : Telling) (answer : Res
       (image_now new.history)) same
       (looks s before old new surveys.findings surveys.found honest is ran began stands none tolerated)
 
-  fits : m.array.geometry.n ≤ 32
-  fits = (limits looked).devices.1
-
   gone_none : (j : ℕ) (t : Superblock) → HasSlot surveys.findings.gone j → Bears m.array.geometry j ((image_now new.history j).cell) t → ⊥
   gone_none j t gone bears =
       let below : j < m.array.geometry.n = bears_below m.array.geometry j ((image_now new.history j).cell) t bears in
-      elim (gone_lost surveys.findings old new surveys.found honest is ran none j (omega (arith, below, fits)) gone) [
+      elim (gone_lost surveys.findings old new surveys.found honest is ran none j (omega (arith, below, fits looked)) gone) [
         | inl stops ↦ goes_on s before old new surveys.findings surveys.found honest is ran began stands none tolerated stops
         | inr all ↦ none_held_there ((image_now new.history j).cell bears.place) t (all bears.place) bears.holds
       ]
@@ -155,11 +143,7 @@ module _ (s : State) (before : List Happening) (old new : Telling) (answer : Res
       (steady_cells m.array.geometry new.history image steady left) bears) joined
 
   pub held_since : (j : ℕ) → IsHere m j → IsHeld old.history new.history j
-  held_since j here = (surveys.found.each j (omega (arith, here.below, fits))).held honest not_gone old.history (ran_none old.history)
+  held_since j here = (surveys.found.each j (omega (arith, here.below, fits looked))).held honest not_gone old.history (ran_none old.history)
     where
-      up : (why : Why) → (why ≡ Here) ⊎ (why ≡ Rebuilding) → rank Gone < rank why
-      up why (inl at) = subst (λ x. rank Gone < rank x) (sym at) (omega arith)
-      up why (inr at) = subst (λ x. rank Gone < rank x) (sym at) (omega arith)
-
       not_gone : ¬ HasSlot surveys.findings.gone j
-      not_gone = (surveyed_as.reasons j here.below).first Gone (up (why_of m j) here.why)
+      not_gone = let late = here_late m j here in (surveyed_as.reasons j here.below).first Gone (omega (arith, late))

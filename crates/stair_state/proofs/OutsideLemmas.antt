@@ -1,4 +1,4 @@
--- What acts that put no medium back, and calls that change no sector, leave of an array.
+-- What acts that put no medium back, and calls that write nothing, leave of an array.
 use Rattle.std.proofs.Common.{◌≡◌, ℕ, List, [], ◌∷◌, ◌⊎◌, inl, inr, refl, sym, ap, ◌∙◌, subst, slice_get}
 use Rattle.std.specs.Prelude.{None, Some, ◌==◌, if◌then◌else◌}
 use Rattle.std.proofs.lemmas.Bool.{cases_Bool, cases_eq, cond-true, cond-false, eq-eqb, ne_eqb}
@@ -12,14 +12,14 @@ use Rattle.stair_rack.specs.Outside.{IsAct, MayHappen}
 use Rattle.stair_rack.specs.Sector.{Cell, Sector, Damaged, MayLeave, content, damaged, settled}
 use Rattle.stair_rack.specs.Stretch.{NothingReturned, ReturnsNothing}
 use Rattle.stair_rack.specs.declared.rack.Reply.TheVariants as reply
-use Rattle.stair_rack.proofs.CrashLemmas.{content_left, settled_left}
+use Rattle.stair_rack.proofs.CrashLemmas.{synced_within, content_left, settled_left}
 use Rattle.stair_rack.proofs.KeptLemmas.{with_old_cases, with_sector_cases}
-use Rattle.stair_rack.proofs.MomentLemmas.{at_last}
+use Rattle.stair_rack.proofs.MomentLemmas.{at_last, ran_weakened}
 use Rattle.stair_rack.proofs.StepLemmas.{kept, keeps_slot, slot_act_cases, slot_call_cases}
 use Rattle.stair_rack.proofs.StretchLemmas.{kept_where}
 use Rattle.stair_member.specs.Asked.{LeavesSectors}
 use Rattle.stair_state.specs.Degraded.{IsDegraded, IsDegradedSlot, Taken, Blank, Stays}
-use Rattle.stair_state.specs.Represents.{AreSteady, IsImageOf, Left, Lesser, Represents}
+use Rattle.stair_state.specs.Represents.{AreSteady, IsImageOf, Left, Lesser, Represents, no_write}
 use Rattle.stair_state.specs.State.{State, without_seats}
 use Rattle.stair_state.specs.Tolerance.{IsTolerated, IsToleratedAlone}
 use Rattle.stair_state.proofs.AloneLemmas.{encodings_without_seats, image_without_seats}
@@ -32,6 +32,19 @@ pub tolerated_alone : (g : Geometry) (before h : List Happening) (image : Image)
 tolerated_alone g before h image tolerated left =
     tolerated_fewer {fewer = λ j. (image j).size ≡ None} {more = IsOffline before h}
     (λ j none. NoMedium (sym (left j).size ∙ none)) (tolerated image left)
+
+-- CALLS THAT WRITE NOTHING
+
+-- those that neither write nor sync are such
+pub unwritten_ran : {old new : List Happening} → Ran LeavesSectors old new → Ran no_write old new
+unwritten_ran ran = ran_weakened {allowed = LeavesSectors} {more = no_write} leaves ran
+  where
+    leaves : (j : ℕ) (c : SlotCall) → LeavesSectors j c → no_write j c
+    leaves j (Attach answer) may = tt
+    leaves j (Sectors size) may = tt
+    leaves j (Read k answer) may = tt
+    leaves j (Write k bytes answer) may = absurd may
+    leaves j (Sync answer) may = absurd may
 
 -- SUPERBLOCK PLACES STAY SETTLED
 
@@ -52,20 +65,21 @@ settled_act k b (InsertedOld i) may is =
     ])
 settled_act k b (SectorDamaged l) may is = with_sector_cases (λ s. s.since ≡ []) l k damaged b (λ at. refl) is
 
-settled_call : (k : ℕ) (b : SlotState) (j : ℕ) (c : SlotCall) → LeavesSectors j c → IsSettled k b → IsSettled k (after_call c b)
+settled_call : (k : ℕ) (b : SlotState) (j : ℕ) (c : SlotCall) → no_write j c → IsSettled k b → IsSettled k (after_call c b)
 unfolding IsSettled
 settled_call k b j (Attach reply.Done) may is = is
 settled_call k b j (Attach reply.Gone) may is = is
 settled_call k b j (Sectors size) may is = is
 settled_call k b j (Read l answer) may is = is
 settled_call k b j (Write l bytes answer) may is = absurd may
-settled_call k b j (Sync answer) may is = absurd may
+settled_call k b j (Sync reply.Done) may is = refl
+settled_call k b j (Sync reply.Gone) may is = is
 
-pub steady_looks : (g : Geometry) (old new : List Happening) → Ran LeavesSectors old new → AreSteady g old → AreSteady g new
+pub steady_looks : (g : Geometry) (old new : List Happening) → Ran no_write old new → AreSteady g old → AreSteady g new
 unfolding IsSettled
 steady_looks g old new ran steady j k below place =
-    kept {allowed = LeavesSectors} {P = λ h. IsSettled k (slot_state h j)}
-    (keeps_slot {allowed = LeavesSectors} {j = j} {R = IsSettled k} (record {
+    kept {allowed = no_write} {P = λ h. IsSettled k (slot_state h j)}
+    (keeps_slot {allowed = no_write} {j = j} {R = IsSettled k} (record {
       act = settled_act k;
       call = λ h c may is before. settled_call k (slot_state h j) j c may before;
     })) ran (steady j k below place)
@@ -141,17 +155,19 @@ act_before h (Acted i a) act none j image left =
     (λ same. slot_before h i (slot_state h j) a none image) (same_slot (slot_state h j) image) left
 act_before h (Called i c) act none j image left = absurd act
 
--- a call that changes no sector changes nothing of what a crash may leave
-look_left : (b : SlotState) (j : ℕ) (c : SlotCall) → LeavesSectors j c → (image : SlotImage) → SlotMayLeave (after_call c b) image
+-- after a call that writes nothing a crash may leave no more than before
+pub look_left : (b : SlotState) (j : ℕ) (c : SlotCall) → no_write j c → (image : SlotImage) → SlotMayLeave (after_call c b) image
     → SlotMayLeave b image
 look_left b j (Attach reply.Done) may image left = record { size = left.size; each = left.each; removed = left.removed }
 look_left b j (Attach reply.Gone) may image left = record { size = left.size; each = left.each; removed = left.removed }
 look_left b j (Sectors size) may image left = left
 look_left b j (Read k answer) may image left = left
 look_left b j (Write k bytes answer) may image left = absurd may
-look_left b j (Sync answer) may image left = absurd may
+look_left b j (Sync reply.Done) may image left =
+    record { size = left.size; each = λ k. synced_within (b.sector k) (image.cell k) (left.each k); removed = left.removed }
+look_left b j (Sync reply.Gone) may image left = left
 
-look_before : (h : List Happening) (i : ℕ) (c : SlotCall) → LeavesSectors i c → (j : ℕ) (image : SlotImage)
+look_before : (h : List Happening) (i : ℕ) (c : SlotCall) → no_write i c → (j : ℕ) (image : SlotImage)
     → SlotMayLeave (slot_state (Called i c ∷ h) j) image → SlotMayLeave (slot_state h j) image
 look_before h i c may j image left =
     slot_call_cases (λ b. SlotMayLeave b image → SlotMayLeave (slot_state h j) image) h i j c
@@ -177,17 +193,22 @@ next_come old h e act none before image left =
       degraded = again from.was (λ j. (slots j).was) image from.degraded (λ j. (slots j).degraded);
     }
 
-pub come_from : (old new : List Happening) → Ran LeavesSectors old new → NothingReturned old new → AllComeFrom old new
+come_from : (old new : List Happening) → Ran no_write old new → NothingReturned old new → AllComeFrom old new
 unfolding AllComeFrom
 come_from old new ran none =
     at_last {P = AllComeFrom old}
-    (kept_where {P = ReturnsNothing} {allowed = LeavesSectors} {R = AllComeFrom old} (record {
+    (kept_where {P = ReturnsNothing} {allowed = no_write} {R = AllComeFrom old} (record {
       act = λ h e act none before. next_come old h e act none before;
       call = λ h i c may answered none before image left. before image (λ j. look_before h i c may j (image j) (left j));
     }) ran none (λ image left. record { was = image; left = left; degraded = degraded_same image }))
 
+pub comes_from : (old new : List Happening) → Ran no_write old new → NothingReturned old new → (image : Image) → CrashMayLeave new image
+    → ComesFrom old image
+unfolding AllComeFrom
+comes_from old new ran none image left = come_from old new ran none image left
+
 -- the rack represents the state, marks aside
-pub looks_stand : (s : State) (before old new : List Happening) → Represents s old → Ran LeavesSectors old new → NothingReturned old new
+pub looks_stand : (s : State) (before old new : List Happening) → Represents s old → Ran no_write old new → NothingReturned old new
     → IsTolerated s.geometry before new → Represents (without_seats s) new
 unfolding AllComeFrom
 looks_stand s before old new stands ran none tolerated =

@@ -6,27 +6,25 @@ use Rattle.std.proofs.lemmas.Bool.{cases_Bool, cases_eq, cases_lt, cond-true, co
 use Rattle.std.proofs.lemmas.Option.{slice_get_cases}
 use Rattle.stair_rack.specs.Answers.{Ran}
 use Rattle.stair_rack.specs.Crash.{SlotMayLeave}
-use Rattle.stair_rack.specs.History.{Attach, Happening, Read, Sectors, SlotAct, Pulled, InsertedBlank, InsertedOld, SectorDamaged, SlotCall, SlotState, Sync, Write, after_act, after_call, slot_state, with_old}
+use Rattle.stair_rack.specs.History.{Happening, SlotAct, Pulled, InsertedBlank, InsertedOld, SectorDamaged, SlotState, after_act, slot_state, with_old}
 use Rattle.stair_rack.specs.Media.{Image, Medium, SlotImage, has_sector, sectors_of}
 use Rattle.stair_rack.specs.Outside.{MayHappen}
 use Rattle.stair_rack.specs.Sector.{Cell, Damaged, MayLeave}
 use Rattle.stair_rack.proofs.CrashLemmas.{settled_left}
-use Rattle.stair_rack.specs.declared.rack.Reply.TheVariants as reply
 use Rattle.stair_rack.proofs.StepLemmas.{kept, keeps_slot}
 use Rattle.stair_super.specs.Superblock.{Superblock, joined_at}
-use Rattle.stair_member.specs.Asked.{LeavesSectors}
 use Rattle.stair_member.specs.Current.{IsLost}
 use Rattle.stair_member.proofs.CountingLemmas.{all_but_mapped}
 use Rattle.stair_member.proofs.SuperLemmas.{super_cells, super_held}
 use Rattle.stair_state.specs.Degraded.{AreAllDamaged, AreDamagedCopies, Taken, Blank, Stays}
 use Rattle.stair_state.specs.Holding.{HasOvertaken, HolderReserved, Holders, IsBorneSince, IsConsistentBy, IsConsistentSince, IsConsistentUnderReassembly, OfAdmitted}
 use Rattle.stair_state.specs.Reassembly.{Location, InSlot, Outside, IsBorne, IsMediumOf, IsReassembledSlot, OneOf, Unwritten, Empty, IsReassembly}
-use Rattle.stair_state.specs.Represents.{Encodings}
+use Rattle.stair_state.specs.Represents.{Encodings, no_write}
 use Rattle.stair_state.specs.State.{State, without_seats}
 use Rattle.stair_state.proofs.AloneLemmas.{encodings_without_seats}
 use Rattle.stair_state.proofs.DegradedLemmas.{bears_before, copies_again, copies_damaged}
 use Rattle.stair_state.proofs.FormLemmas.{good_whole, same_kept}
-use Rattle.stair_state.proofs.OutsideLemmas.{SlotComesFrom, slot_before, slot_now, slot_now_left, steady_looks}
+use Rattle.stair_state.proofs.OutsideLemmas.{SlotComesFrom, look_left, slot_before, slot_now, slot_now_left, steady_looks}
 
 -- WHERE A MEDIUM CAME FROM
 
@@ -278,15 +276,6 @@ came_again before b image from all =
     by come p m (Same old at same copies) = once_more same copies (come.medium (from.place p) old at)
     by come p m (New all) = New all
 
-look_leaves : (b : SlotState) (j : ℕ) (c : SlotCall) → LeavesSectors j c → (image : SlotImage) → SlotMayLeave (after_call c b) image
-    → SlotMayLeave b image
-look_leaves b j (Attach reply.Done) may image left = record { size = left.size; each = left.each; removed = left.removed }
-look_leaves b j (Attach reply.Gone) may image left = record { size = left.size; each = left.each; removed = left.removed }
-look_leaves b j (Sectors size) may image left = left
-look_leaves b j (Read k answer) may image left = left
-look_leaves b j (Write k bytes answer) may image left = absurd may
-look_leaves b j (Sync answer) may image left = absurd may
-
 came_first : (b : SlotState) → AllCameFrom b b
 unfolding AllCameFrom
 came_first b image left = record {
@@ -297,13 +286,13 @@ came_first b image left = record {
   medium = λ p m is. Same m is refl (λ k. inl refl);
 }
 
-pub came_looking : {old new : List Happening} (j : ℕ) → Ran LeavesSectors old new → AllCameFrom (slot_state old j) (slot_state new j)
+pub came_looking : {old new : List Happening} (j : ℕ) → Ran no_write old new → AllCameFrom (slot_state old j) (slot_state new j)
 unfolding AllCameFrom
 came_looking {old} {new} j ran =
-    kept {allowed = LeavesSectors} {P = λ h. AllCameFrom (slot_state old j) (slot_state h j)}
-    (keeps_slot {allowed = LeavesSectors} {j = j} {R = AllCameFrom (slot_state old j)} (record {
+    kept {allowed = no_write} {P = λ h. AllCameFrom (slot_state old j) (slot_state h j)}
+    (keeps_slot {allowed = no_write} {j = j} {R = AllCameFrom (slot_state old j)} (record {
       act = λ b a may all image left. came_again (slot_state old j) b image (slot_came b a may image left) all;
-      call = λ h c may answered all image left. all image (look_leaves (slot_state h j) j c may image left);
+      call = λ h c may answered all image left. all image (look_left (slot_state h j) j c may image left);
     })) ran (came_first (slot_state old j))
 
 pub at_image : {before b : SlotState} → AllCameFrom before b → (image : SlotImage) → SlotMayLeave b image → MediaCameFrom before image
@@ -404,7 +393,7 @@ without s encodings holders since image it = record {
 
 -- acts, media put back too, and looks
 pub looks_consistent : (s : State) (holders : Holders) (since : ℕ) (old new : List Happening) → IsConsistentSince s holders since old
-    → Ran LeavesSectors old new → IsConsistentSince (without_seats s) holders since new
+    → Ran no_write old new → IsConsistentSince (without_seats s) holders since new
 looks_consistent s holders since old new it ran = record {
   encodings = encodings_without_seats s it.encodings;
   each = λ image left.
@@ -416,7 +405,7 @@ looks_consistent s holders since old new it ran = record {
 }
 
 -- such acts and looks leave a rack consistent under reassembly
-pub looked_consistent : (s : State) (old new : List Happening) → IsConsistentUnderReassembly s old → Ran LeavesSectors old new
+pub looked_consistent : (s : State) (old new : List Happening) → IsConsistentUnderReassembly s old → Ran no_write old new
     → IsConsistentUnderReassembly (without_seats s) new
 looked_consistent s old new it ran =
     record { holders = it.holders; since = it.since; is = looks_consistent s it.holders it.since old new it.is ran }

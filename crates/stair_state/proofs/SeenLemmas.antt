@@ -7,9 +7,10 @@ use Rattle.stair_rack.specs.Media.{Image}
 use Rattle.stair_rack.specs.Sector.{Cell, Good}
 use Rattle.stair_super.specs.Superblock.{Superblock, joined_at, joined_in, mark_at, mark_in}
 use Rattle.stair_super.specs.declared.configuration.Configuration.{Configuration}
-use Rattle.stair_super.specs.declared.mark.Mark.TheVariants.{Down, Live}
+use Rattle.stair_super.specs.declared.mark.Mark.{Mark}
+use Rattle.stair_super.specs.declared.mark.Mark.TheVariants.{Down}
 use Rattle.stair_member.specs.Counting.{AllBut}
-use Rattle.stair_member.specs.Current.{IsCurrent, IsLive, IsLost, Serves}
+use Rattle.stair_member.specs.Current.{HasMark, IsCurrent, IsLive, IsLost, Serves}
 use Rattle.stair_member.specs.Reserve.{Bears, BearsFor, HasReached, IsOrderly, MayStand}
 use Rattle.stair_member.specs.Superblocks.{Counts, CountsFor, HoldsSuper, Identifies}
 use Rattle.stair_member.proofs.CountingLemmas.{all_but_mapped, common, more_from_all_but, more_mapped}
@@ -18,7 +19,7 @@ use Rattle.stair_member.proofs.SuperLemmas.{counts_bears, counts_limits, slot_be
 use Rattle.stair_state.specs.Degraded.{AreDamagedCopies, IsDegraded}
 use Rattle.stair_state.specs.Represents.{Shrinks}
 use Rattle.stair_state.specs.Tolerance.{IsToleratedAlone, IsWithinTolerance}
-use Rattle.stair_state.proofs.AgreeLemmas.{borne_upto, current_upto, has_newest, live_moved, own_joined, own_mark}
+use Rattle.stair_state.proofs.AgreeLemmas.{borne_upto, current_upto, has_newest, mark_moved, own_joined, own_mark}
 use Rattle.stair_member.proofs.EditionLemmas.{bears_below}
 use Rattle.stair_state.proofs.DegradedLemmas.{bears_before, degraded_copies, holds_before, orderly_copies}
 use Rattle.stair_state.proofs.FormLemmas.{same_kept}
@@ -59,6 +60,9 @@ module _ {g : Geometry} {offline : ℕ → Type 0} {first read last : Image} (lo
 
   pub limits : IsWithinLimits g
   limits = counts_limits g last ending.slot ending is_ending.counts
+
+  pub fits : g.n ≤ 32
+  fits = limits.devices.1
 
   pub last_copies : (j : ℕ) → AreDamagedCopies (first j).cell (last j).cell
   last_copies j = degraded_copies (looks.degraded j)
@@ -199,37 +203,36 @@ module _ {g : Geometry} {offline : ℕ → Type 0} {first read last : Image} (lo
     serving_read j serves =
         elim found_is [
           | inl same ↦
-              live_moved g last read ending found j (sym same)
+              mark_moved g last read ending found j (sym same)
               (λ s counts. counts_read j s serves.places (counts_first j s serves.places counts)) serves.live
           | inr same ↦
-              live_moved g first read current found j (sym same) (λ s counts. counts_read j s serves.places counts) (serving_first j serves)
+              mark_moved g first read current found j (sym same) (λ s counts. counts_read j s serves.places counts) (serving_first j serves)
         ]
 
-    -- SLOTS THAT WERE LIVE IN WHAT WAS READ
+    -- SLOTS THAT HAD A MARK IN WHAT WAS READ
 
     -- where it names what the rack named at first
-    pub live_by_first : (j : ℕ) → found.array ≡ current.array → IsLive g read found j → IsLive g first current j
-    live_by_first j same live =
-        let s : Superblock = live.super in
-        let bears : Bears g j ((first j).cell) s = bears_before (looks.copies j) (counts_bears g read j s live.counts) in
+    pub mark_by_first : {mark : Mark} (j : ℕ) → mark ≢ Down → found.array ≡ current.array → HasMark g read found mark j → HasMark g first current mark j
+    mark_by_first {mark} j up same has =
+        let s : Superblock = has.super in
+        let bears : Bears g j ((first j).cell) s = bears_before (looks.copies j) (counts_bears g read j s has.counts) in
         let newest = has_newest g first j s looks.orderly bears in
         let t : Superblock = newest.super in
         let bears_t = counts_bears g first j t newest.counts in
-        let marked : mark_at current j ≡ Live = sym (ap (λ (array : Configuration). mark_in array j) same) ∙ live.marked in
-        let not_down : mark_at current j ≢ Down = λ down. let both : Live ≡ Down = sym marked ∙ down in absurd (cc) in
-        let up : joined_at s j ≤ joined_at t j =
-        looks.orderly.joined j j j s t bears bears_t newest.upto (own_mark g read j s live.counts) (own_mark g first j t newest.counts) in
+        let marked : mark_at current j ≡ mark = sym (ap (λ (array : Configuration). mark_in array j) same) ∙ has.marked in
+        let above : joined_at s j ≤ joined_at t j =
+        looks.orderly.joined j j j s t bears bears_t newest.upto (own_mark g read j s has.counts) (own_mark g first j t newest.counts) in
         let down : joined_at t j ≤ joined_at current j =
         looks.orderly.joined j current.slot j t current bears_t (counts_bears g first current.slot current is_current.counts)
-        (current_upto g first current j t is_current newest.counts) (own_mark g first j t newest.counts) not_down in
+        (current_upto g first current j t is_current newest.counts) (own_mark g first j t newest.counts) (λ is_down. up (sym marked ∙ is_down)) in
         let named : joined_at found j ≡ joined_at current j = ap (λ (array : Configuration). joined_in array j) same in
-        let own_s : s.joined ≡ joined_at s j = own_joined g read j s live.counts in
+        let own_s : s.joined ≡ joined_at s j = own_joined g read j s has.counts in
         let own_t : t.joined ≡ joined_at t j = own_joined g first j t newest.counts in
-        let joined : s.joined ≡ joined_at found j = live.joined in
+        let joined : s.joined ≡ joined_at found j = has.joined in
         record {
-          below = live.below;
+          below = has.below;
           marked = marked;
           super = t;
           counts = newest.counts;
-          joined = omega (arith, up, down, named, own_s, own_t, joined);
+          joined = omega (arith, above, down, named, own_s, own_t, joined);
         }

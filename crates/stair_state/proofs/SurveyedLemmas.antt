@@ -4,7 +4,7 @@ use Rattle.std.specs.Prelude.{IsTrue, Result, Ok, Err}
 use Rattle.stair_model.specs.Geometry.{Geometry}
 use Rattle.stair_model.specs.Slots.{HasSlot, slot_count}
 use Rattle.stair_rack.specs.Answers.{IsHistory, Ran, any_call}
-use Rattle.stair_rack.specs.Crash.{EachImage, image_now}
+use Rattle.stair_rack.specs.Crash.{CrashMayLeave, EachImage, image_now}
 use Rattle.stair_rack.specs.History.{Happening, stopped}
 use Rattle.stair_rack.specs.Media.{Image}
 use Rattle.stair_rack.specs.Offline.{IsOffline, NoMedium, RackStopped}
@@ -12,7 +12,6 @@ use Rattle.stair_rack.specs.Stretch.{NothingReturned}
 use Rattle.stair_rack.proofs.CrashLemmas.{CrashMayLeave-now}
 use Rattle.stair_rack.proofs.MomentLemmas.{moment_between, moment_last, ran_any, ran_join}
 use Rattle.stair_super.specs.Superblock.{Superblock}
-use Rattle.stair_member.specs.Asked.{LeavesSectors}
 use Rattle.stair_member.specs.Counting.{AtMost}
 use Rattle.stair_member.specs.Current.{IsCurrent, IsLive, Serves}
 use Rattle.stair_member.specs.Findings.{AreFound, Findings}
@@ -28,22 +27,30 @@ use Rattle.stair_member.proofs.AskedLemmas.{asked_ran}
 use Rattle.stair_member.proofs.CountingLemmas.{apart, has_or_not}
 use Rattle.stair_member.proofs.StandingLemmas.{serves_unless_failed}
 use Rattle.stair_member.proofs.SuperLemmas.{one_current, super_held}
-use Rattle.stair_state.specs.Represents.{Left, Lesser, Represents}
+use Rattle.stair_state.specs.Degraded.{AreDamagedCopies, IsDegraded}
+use Rattle.stair_state.specs.Represents.{Left, Lesser, Represents, no_write}
 use Rattle.stair_state.specs.State.{State}
 use Rattle.stair_state.specs.Surveyed.{FindsArray}
 use Rattle.stair_state.specs.Tolerance.{IsTolerated, IsWithinTolerance, ToleratedSince}
-use Rattle.stair_state.proofs.AgreeLemmas.{AgreeBelow, agree_back, current_agree, here_live, identifies_agree, identifies_limits, live_agree, live_here}
+use Rattle.stair_state.proofs.AgreeLemmas.{AgreeBelow, agree_back, current_agree, here_live, identifies_agree, identifies_limits, mark_agree, live_here}
 use Rattle.stair_state.proofs.FormLemmas.{good_whole}
+use Rattle.stair_state.proofs.OutsideLemmas.{unwritten_ran}
 use Rattle.stair_state.proofs.MixedLemmas.{read_live}
-use Rattle.stair_state.proofs.SeenLemmas.{IsLookedAt, ending, found_is, is_ending, limits, read_only, read_stands, serving_read}
+use Rattle.stair_state.proofs.SeenLemmas.{IsLookedAt, ending, fits, found_is, is_ending, read_only, read_stands, serving_read}
 use Rattle.stair_state.proofs.StillLemmas.{degraded_now, gone_lost, offline_decided, read_cell, read_copies, read_image, read_kept, steady_cells}
 
 -- what was read, and the cells of it that are known
 pub agree : (f : Findings) → AgreeBelow 32 f.image (read_image f)
 agree f j k j_in k_in = sym (read_cell f j k j_in k_in)
 
+-- so what is current in what was found is so in what was read
+pub found_current : (m : Membership) (f : Findings) (surveyed : IsSurveyed f m) {offline : ℕ → Type 0} {first last : Image}
+    → IsLookedAt m.array.geometry offline first (read_image f) last → IsCurrent m.array.geometry (read_image f) surveyed.current
+found_current m f surveyed looked =
+    current_agree m.array.geometry 32 (fits looked) f.image (read_image f) surveyed.current (agree f) surveyed.is_current
+
 module _ (s : State) (before : List Happening) (old new : Telling) (f : Findings) (found : AreFound f old new) (honest : IsTrue new.honest)
-    (is : IsHistory old.history) (ran : Ran LeavesSectors old.history new.history) (began : Ran any_call before old.history)
+    (is : IsHistory old.history) (ran : Ran no_write old.history new.history) (began : Ran any_call before old.history)
     (stands : Represents s old.history) (none : NothingReturned old.history new.history)
     (tolerated : ToleratedSince s.geometry before new.history) where
   abbrev g : Geometry
@@ -63,7 +70,7 @@ module _ (s : State) (before : List Happening) (old new : Telling) (f : Findings
 
   pub tolerated_last : IsTolerated g before new.history
   tolerated_last =
-      let all = ran_join began (ran_any {allowed = LeavesSectors} ran) in tolerated new.history (moment_last all.more all.is)
+      let all = ran_join began (ran_any {allowed = no_write} ran) in tolerated new.history (moment_last all.more all.is)
 
   at_last : IsWithinTolerance offline g last
   at_last = tolerated_last last (CrashMayLeave-now new.history)
@@ -71,27 +78,32 @@ module _ (s : State) (before : List Happening) (old new : Telling) (f : Findings
   pub goes_on : ¬ IsTrue (stopped new.history)
   goes_on stops = at_last.journal.serves.online (RackStopped stops)
 
-  pub looks : IsLookedAt g offline first (read_image f) last
-  looks = record {
-    orderly = stands.orderly first (CrashMayLeave-now old.history);
-    others = at_first.others;
-    shrinks = λ less degraded alone.
-        stands.shrinks first less (Left (CrashMayLeave-now old.history)) (Lesser first (CrashMayLeave-now old.history) degraded alone) degraded;
-    degraded = degraded_now ran none;
-    copies = read_copies f old new found honest is ran none;
-    kept = λ j k bytes j_in k_in good. read_kept f old new found honest is ran none j k bytes goes_on j_in k_in good;
-    after = at_last;
-    empty = λ j empty. NoMedium empty;
+  -- of images that a crash may leave at the beginning and at the end, whose superblock places are those now
+  pub looks_from : (more less : Image) → CrashMayLeave old.history more → CrashMayLeave new.history less → IsDegraded more less
+      → ((j : ℕ) → AreDamagedCopies (more j).cell (read_image f j).cell)
+      → ((j k : ℕ) → j < 32 → k < 2 → (less j).cell k ≡ (last j).cell k) → IsLookedAt g offline more (read_image f) less
+  looks_from more less more_left less_left degraded copies now = record {
+    orderly = stands.orderly more more_left;
+    others = (tolerated old.history (moment_between began ran) more more_left).others;
+    shrinks = λ lesser from alone. stands.shrinks more lesser (Left more_left) (Lesser more more_left from alone) from;
+    degraded = degraded;
+    copies = copies;
+    kept = λ j k bytes j_in k_in good.
+        read_kept f old new found honest is ran none j k bytes goes_on j_in k_in (sym (now j k j_in k_in) ∙ good);
+    after = tolerated_last less less_left;
+    empty = λ j empty. NoMedium (sym (less_left j).size ∙ empty);
     known = λ j. offline_decided before new.history j;
   }
 
-  pub small : g.n ≤ 32
-  small = (limits looks).devices.1
+  pub looks : IsLookedAt g offline first (read_image f) last
+  looks =
+      looks_from first last (CrashMayLeave-now old.history) (CrashMayLeave-now new.history) (degraded_now ran none)
+      (read_copies f old new found honest is ran none) (λ j k j_in k_in. refl)
 
   -- WHICH ARRAY IS FOUND
 
   found_stands : Identifies g f.image
-  found_stands = identifies_agree g 32 small (read_image f) f.image (agree_back 32 f.image (read_image f) (agree f)) (read_stands looks)
+  found_stands = identifies_agree g 32 (fits looks) (read_image f) f.image (agree_back 32 f.image (read_image f) (agree f)) (read_stands looks)
 
   found_only : (other : Geometry) → Identifies other f.image → other ≡ g
   found_only other identified =
@@ -116,9 +128,9 @@ module _ (s : State) (before : List Happening) (old new : Telling) (f : Findings
     current_found = subst (λ (x : Geometry). IsCurrent x f.image surveyed.current) identity surveyed.is_current
 
     pub current_read : IsCurrent g (read_image f) surveyed.current
-    current_read = current_agree g 32 small f.image (read_image f) surveyed.current (agree f) current_found
+    current_read = current_agree g 32 (fits looks) f.image (read_image f) surveyed.current (agree f) current_found
 
-    reasons : (j : ℕ) → j < g.n → IsReason (HasSlot f.gone) g f.image surveyed.current j (why_of m j)
+    pub reasons : (j : ℕ) → j < g.n → IsReason (HasSlot f.gone) g f.image surveyed.current j (why_of m j)
     reasons =
         subst (λ (x : Geometry). (j : ℕ) → j < x.n → IsReason (HasSlot f.gone) x f.image surveyed.current j (why_of m j)) identity surveyed.reasons
 
@@ -126,7 +138,7 @@ module _ (s : State) (before : List Happening) (old new : Telling) (f : Findings
     not_gone j serves gone =
         let below : j < g.n = serves.live.below in
         let held = super_held ((last j).cell) serves.live.super serves.live.counts.super in
-        elim (gone_lost f old new found honest is ran none j (omega (arith, below, small)) gone) [
+        elim (gone_lost f old new found honest is ran none j (omega (arith, below, fits looks)) gone) [
           | inl stops ↦ absurd (goes_on stops)
           | inr all ↦ absurd (good_whole held.holds.good (all held.place))
         ]
@@ -135,12 +147,12 @@ module _ (s : State) (before : List Happening) (old new : Telling) (f : Findings
     serving_here : (j : ℕ) → Serves offline g last (ending looks) j → why_of m j ≡ Here
     serving_here j serves =
         live_here (HasSlot f.gone) g f.image surveyed.current j (why_of m j) (not_gone j serves)
-        (live_agree g 32 small (read_image f) f.image surveyed.current j (agree_back 32 f.image (read_image f) (agree f))
+        (mark_agree g 32 (fits looks) (read_image f) f.image surveyed.current j (agree_back 32 f.image (read_image f) (agree f))
         (serving_read looks at_first.current surveyed.current at_first.is_current current_read j serves))
         (reasons j serves.live.below)
 
     -- it has what is named at the end or at first
-    named : (was is : Superblock) → IsCurrent g first was → IsCurrent g last is → (m.array ≡ is.array) ⊎ (m.array ≡ was.array)
+    pub named : (was is : Superblock) → IsCurrent g first was → IsCurrent g last is → (m.array ≡ is.array) ⊎ (m.array ≡ was.array)
     named was is is_was is_is =
         elim (found_is looks was surveyed.current is_was current_read) [
           | inl same ↦
@@ -181,9 +193,9 @@ module _ (s : State) (before : List Happening) (old new : Telling) (f : Findings
         let live : IsLive g f.image surveyed.current j =
         here_live (HasSlot f.gone) g f.image surveyed.current j below
         (subst (λ why. IsReason (HasSlot f.gone) g f.image surveyed.current j why) here (reasons j below)) in
-        live_agree g g.n (omega arith) first image current j (agree_back g.n image first same)
+        mark_agree g g.n (omega arith) first image current j (agree_back g.n image first same)
         (read_live looks current surveyed.current (current_agree g g.n (omega arith) image first current same is_current) current_read j
-        (live_agree g 32 small f.image (read_image f) surveyed.current j (agree f) live))
+        (mark_agree g 32 (fits looks) f.image (read_image f) surveyed.current j (agree f) live))
 
   pub finds : (answer : Result Membership SurveyFault) → IsAnswer f answer → FindsArray s answer before old.history new.history
   finds (Ok m) answered = record {
@@ -203,4 +215,4 @@ pub finds_array : (s : State) (before : List Happening) (old new : Telling) (ans
     → ToleratedSince s.geometry before new.history → FindsArray s answer before old.history new.history
 finds_array s before old new answer surveys honest began stands none tolerated =
     finds s before old new surveys.findings surveys.found honest (surveys.began honest)
-    (asked_ran 32 old.history new.history (surveys.asked honest)) began stands none tolerated answer surveys.answered
+    (unwritten_ran (asked_ran 32 old.history new.history (surveys.asked honest))) began stands none tolerated answer surveys.answered

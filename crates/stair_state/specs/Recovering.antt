@@ -5,7 +5,7 @@ use Rattle.stair_model.specs.Geometry.{Geometry}
 use Rattle.stair_rack.specs.Answers.{is_good}
 use Rattle.stair_rack.specs.History.{Happening}
 use Rattle.stair_rack.specs.Offline.{ButForOutside}
-use Rattle.stair_rack.specs.Sector.{Good, Sector, content, settled}
+use Rattle.stair_rack.specs.Sector.{Good, Leaves, Sector, content, settled}
 use Rattle.stair_journal.specs.Gate.{ReadsClosed, open_gate}
 use Rattle.stair_journal.specs.declared.redo.Redo.{Redo}
 
@@ -34,3 +34,7 @@ IsKnownClosed g start h j = ButForOutside start h j gate_sector (IsClosedSector 
 
 abbrev pub IsKnownBad : List Happening → List Happening → ℕ → Type 0
 IsKnownBad start h j = ButForOutside start h j gate_sector IsUnreadable
+
+-- whatever a crash leaves of it reads as closed, and so does what lies under its unsynced writes
+abbrev pub IsShut : Geometry → List Happening → List Happening → ℕ → Type 0
+IsShut g start h j = ButForOutside start h j gate_sector (Leaves (ReadsClosed g) (ReadsClosed g))

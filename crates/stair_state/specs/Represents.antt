@@ -2,8 +2,9 @@
 use Rattle.std.specs.Prelude.{◌≡◌, ◌<◌, ◌⊎◌, ℕ, IsTrue, List, [], ◌∷◌, Option, None, Some, ⊤}
 use Rattle.stair_model.specs.Geometry.{Geometry, sectors_needed}
 use Rattle.stair_rack.specs.Crash.{CrashMayLeave, EachImage}
-use Rattle.stair_rack.specs.History.{Happening, Made, slot_state}
+use Rattle.stair_rack.specs.History.{Happening, Made, SlotCall, slot_state}
 use Rattle.stair_rack.specs.Media.{Image, has_sector}
+use Rattle.stair_rack.specs.Stretch.{IsNoWrite}
 use Rattle.stair_super.specs.Superblock.{Superblock}
 use Rattle.stair_member.specs.Current.{IsCurrent, IsLive, IsRebuilding}
 use Rattle.stair_member.specs.Reserve.{IsOrderly}
@@ -62,6 +63,12 @@ abbrev pub Shrinks : Geometry → Image → Image → Type 0
 Shrinks g more less = (before after : Superblock) (j : ℕ) → IsCurrent g more before
     → IsCurrent g less after → IsLive g less after j → IsLive g more before j
 
+-- of the image, and of what is degraded from it and within tolerance, no loss of media adds a live slot
+abbrev pub OnlyShrinks : Geometry → Image → Type 0
+OnlyShrinks g image = (more less : Image) → (more ≡ image) ⊎ IsToleratedAlone g more
+    → IsDegraded image more → IsDegraded more less → IsToleratedAlone g less
+    → Shrinks g more less
+
 -- nothing is unsynced in the superblock places of the array's slots
 abbrev pub AreSteady : Geometry → List Happening → Type 0
 AreSteady g h = (j k : ℕ) → j < g.n → k < 2 → ((slot_state h j).sector k).since ≡ []
@@ -80,3 +87,7 @@ pub record Represents (s : State) (h : List Happening) : Type 0 where
 -- so does a rack over these media, of which nothing is unsynced
 abbrev pub RepresentsAlone : State → Image → Type 0
 RepresentsAlone s image = Represents s (Made image ∷ [])
+
+-- a call that writes nothing, on whatever slot; it may sync one
+abbrev pub no_write : ℕ → SlotCall → Type 0
+no_write j call = IsNoWrite call

@@ -1,17 +1,22 @@
 -- What a survey finds of an array that the rack represents.
-use Rattle.std.specs.Prelude.{◌≡◌, ◌⊎◌, ◌<◌, ◌≤◌, ℕ, List, Result, Ok}
+use Rattle.std.specs.Prelude.{◌≡◌, ◌⊎◌, ◌<◌, ◌≤◌, ℕ, false, IsSome, List, Result, Ok}
 use Rattle.stair_model.specs.Geometry.{Geometry}
 use Rattle.stair_rack.specs.Crash.{EachImage, image_now}
-use Rattle.stair_rack.specs.History.{Happening}
-use Rattle.stair_rack.specs.Offline.{IsOffline}
+use Rattle.stair_rack.specs.History.{Happening, SlotState}
+use Rattle.stair_rack.specs.Offline.{IsAttached, IsOffline}
+use Rattle.stair_rack.specs.Sector.{damaged}
 use Rattle.stair_super.specs.Superblock.{Superblock, joined_in, mark_in}
+use Rattle.stair_super.specs.declared.configuration.Configuration.{Configuration}
 use Rattle.stair_member.specs.Aims.{mark_for}
 use Rattle.stair_member.specs.Current.{IsCurrent, IsLive, Serves}
 use Rattle.stair_member.specs.Membership.{Membership, why_of}
 use Rattle.stair_member.specs.Reserve.{Bears}
 use Rattle.stair_member.specs.declared.fault.SurveyFault.{SurveyFault}
 use Rattle.stair_member.specs.declared.why.Why.TheVariants.{Here}
-use Rattle.stair_state.specs.State.{State}
+use Rattle.stair_journal.specs.declared.redo.Redo.{Redo}
+use Rattle.stair_state.specs.Forms.{IsOpen}
+use Rattle.stair_state.specs.Recovering.{IsShut}
+use Rattle.stair_state.specs.State.{State, new_content}
 
 -- The array of the state was found, by a survey from old to new in a session that began at `before`.
 pub record FindsArray (s : State) (answer : Result Membership SurveyFault)
@@ -49,3 +54,19 @@ abbrev pub MarksByReasons : Membership → List Happening → Type 0
 MarksByReasons m h = EachImage (λ image. (j : ℕ) (s : Superblock) → j < m.array.geometry.n
     → Bears m.array.geometry j ((image j).cell) s → s.joined ≡ joined_in m.array j
     → mark_in m.array j ≡ mark_for (why_of m j)) h
+
+-- In each image that a crash at h may leave the gate of slot j is closed, whether the slot is attached or not; and where it
+-- is, the gate is shut.
+pub record IsLeftShut (g : Geometry) (h : List Happening) (j : ℕ) : Type 0 where
+  pub closed : EachImage (λ image. (redo : Redo) → ¬ IsOpen g image j redo) h
+  pub shut : IsAttached h j → IsShut g h h j
+
+-- The slot holds the medium that it held at first, since none was pulled; or it isn't attached, and nothing can be read of it.
+pub data IsOwnOrBare (first b : SlotState) : Type 0 where
+  Own : IsSome first.size → b.pulls ≡ first.pulls → IsSome b.size → IsOwnOrBare first b
+  Bare : b.attached ≡ false → ((k : ℕ) → b.sector k ≡ damaged) → IsOwnOrBare first b
+
+-- the frozen mark and the label are those of the state, or those that it has where the change in doubt was made
+pub record NamesContent (s : State) (array : Configuration) : Type 0 where
+  pub frozen : (array.frozen ≡ s.content.frozen) ⊎ (array.frozen ≡ (new_content s).frozen)
+  pub label : (array.label ≡ s.content.label) ⊎ (array.label ≡ (new_content s).label)

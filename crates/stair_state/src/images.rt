@@ -11,13 +11,15 @@ ghost use Rattle.stair_rack.specs.Crash.{CrashMayLeave};
 ghost use Rattle.stair_rack.specs.History.{Happening};
 ghost use Rattle.stair_rack.specs.Media.{Image};
 ghost use Rattle.stair_rack.specs.Sector.{Damaged};
-ghost use Rattle.stair_super.specs.Superblock.{Superblock};
-ghost use Rattle.stair_member.specs.Current.{IsFailed, IsLost};
+ghost use Rattle.stair_super.specs.Superblock.{Superblock, joined_at, mark_at};
+ghost use Rattle.stair_super.specs.declared.mark.Mark.TheVariants.{Live};
+ghost use Rattle.stair_member.specs.Current.{IsCurrent, IsFailed, IsLive, IsLost};
+ghost use Rattle.stair_member.specs.Reserve.{IsOrderly, MayStand};
 ghost use Rattle.stair_member.specs.Superblocks.{IsOnlyIdentity};
 ghost use Rattle.stair_state.specs.Blocks.{Codewords};
 ghost use Rattle.stair_state.specs.Degraded.{IsDegraded};
 ghost use Rattle.stair_state.specs.Forms.{AreStill, HasGate, IsIdle, IsUncommitted, RepresentsBy};
-ghost use Rattle.stair_state.specs.Represents.{Encodings, ImageRepresents, Represents, RepresentsAlone};
+ghost use Rattle.stair_state.specs.Represents.{Encodings, ImageRepresents, OnlyShrinks, Represents, RepresentsAlone};
 ghost use Rattle.stair_state.specs.State.{State, without_seats};
 ghost use Rattle.stair_state.specs.Tolerance.{HasJournal, IsStripeCovered, IsToleratedAlone};
 
@@ -49,6 +51,17 @@ pub fn degraded_laws()
     // where one array stands alone no degraded image is within another one's tolerance
     ensures identity { (g other : Geometry) (more less : Image) → IsOnlyIdentity g more →
         IsDegraded more less → IsToleratedAlone other less → other ≡ g }
+    // of what a crash may leave of a rack that represents a state no loss of media adds a live slot
+    ensures shrinks { (s : State) (h : List Happening) (image : Image) → Represents s h →
+        CrashMayLeave h image → OnlyShrinks s.geometry image }
+    // where no other array may stand, what is live in a lesser image whose current superblock names an earlier epoch
+    // is marked Live by that of the other, with the same joined number
+    ensures live_as_current { (g : Geometry) (more less : Image) (current older : Superblock) →
+        IsOrderly g more → OnlyShrinks g more →
+        ((other : Geometry) → MayStand other more → other ≡ g) → IsDegraded more less →
+        IsToleratedAlone g less → IsCurrent g more current → IsCurrent g less older →
+        older.array.epoch < current.array.epoch → (j : ℕ) → IsLive g less older j →
+        (mark_at current j ≡ Live) × (joined_at older j ≡ joined_at current j) }
 {}
 
 /// What coverage gives, where these slots are offline. It does nothing.

@@ -1,17 +1,18 @@
 // What a survey finds of a rack that represents a state.
 ghost use Rattle.std.specs.Prelude.{◌≡◌, ◌<◌, ℕ, IsTrue, None, List, Result, Ok};
 ghost use Rattle.stair_rack.specs.Answers.{Ran, any_call};
-ghost use Rattle.stair_rack.specs.History.{Happening};
+ghost use Rattle.stair_rack.specs.History.{Happening, slot_state};
 ghost use Rattle.stair_rack.specs.Offline.{IsHeld};
 ghost use Rattle.stair_rack.specs.Stretch.{NothingReturned};
 ghost use Rattle.stair_member.specs.Fencing.{IsBegun};
-ghost use Rattle.stair_member.specs.Membership.{IsHere, IsMembership, Membership};
+ghost use Rattle.stair_member.specs.Membership.{IsHere, IsMembership, Membership, why_of};
 ghost use Rattle.stair_member.specs.Survey.{Surveys};
 ghost use Rattle.stair_rack.specs.Telling.{Telling};
 ghost use Rattle.stair_member.specs.declared.fault.SurveyFault.{SurveyFault};
+ghost use Rattle.stair_member.specs.declared.why.Why.TheVariants.{Rebuilding};
 ghost use Rattle.stair_state.specs.Represents.{Represents};
 ghost use Rattle.stair_state.specs.State.{State};
-ghost use Rattle.stair_state.specs.Surveyed.{CoversAll, FindsArray, MarksByReasons};
+ghost use Rattle.stair_state.specs.Surveyed.{CoversAll, FindsArray, IsLeftShut, IsOwnOrBare, MarksByReasons, NamesContent};
 ghost use Rattle.stair_state.specs.Tolerance.{ToleratedSince};
 
 /// What a survey finds of an array. It does nothing.
@@ -47,4 +48,22 @@ pub fn survey_laws()
         IsTrue new.honest → Ran any_call before old.history → Represents s old.history →
         NothingReturned old.history new.history → ToleratedSince s.geometry before new.history →
         answer ≡ Ok m → (j : ℕ) → IsHere m j → IsHeld old.history new.history j }
+    // it has the medium that it had then, or is bare, whatever the rack represents
+    ensures own { (old new : Telling) (answer : Result Membership SurveyFault) (m : Membership) →
+        Surveys answer old new → IsTrue new.honest → NothingReturned old.history new.history →
+        answer ≡ Ok m → (j : ℕ) → IsHere m j →
+        IsOwnOrBare (slot_state old.history j) (slot_state new.history j) }
+    // the gate of one that is rebuilt is closed in whatever a crash at the survey's end may leave
+    ensures rebuilding { (s : State) (before : List Happening) (old new : Telling)
+        (answer : Result Membership SurveyFault) (m : Membership) → Surveys answer old new →
+        IsTrue new.honest → Ran any_call before old.history → Represents s old.history →
+        NothingReturned old.history new.history → ToleratedSince s.geometry before new.history →
+        answer ≡ Ok m → (j : ℕ) → j < m.array.geometry.n → why_of m j ≡ Rebuilding →
+        IsLeftShut m.array.geometry new.history j }
+    // and the frozen mark and the label of the answer are the state's, before or after the change in doubt
+    ensures content { (s : State) (before : List Happening) (old new : Telling)
+        (answer : Result Membership SurveyFault) (m : Membership) → Surveys answer old new →
+        IsTrue new.honest → Ran any_call before old.history → Represents s old.history →
+        NothingReturned old.history new.history → ToleratedSince s.geometry before new.history →
+        answer ≡ Ok m → NamesContent s m.array }
 {}

@@ -1,5 +1,5 @@
 -- The job that was read is the one that the words spell.
-use Rattle.std.proofs.Common.{◌≡◌, Err, None, Some, map, refl, string_bytes, subst}
+use Rattle.std.proofs.Common.{◌≡◌, inl, inr, Err, None, Some, map, refl, string_bytes, subst}
 use Rattle.stair_conf.proofs.WordsLemmas.{job_line}
 use Rattle.stair_conf.specs.declared.fault.WordsFault.{WordsFault}
 use Rattle.stair_conf.specs.declared.fault.WordsFault.TheVariants.{Usage}
@@ -8,7 +8,7 @@ use Rattle.stair_engine.specs.Plan.{Over, Ask, if_spelled, plan_of}
 use Rattle.stair_engine.specs.Question.{Words}
 use Rattle.stair_engine.specs.Rack.{MeansOver, rack_view}
 use Rattle.stair_engine.specs.Story.{Found}
-use Rattle.stair_engine.proofs.CallLaws.{array_is_left, array_is_made}
+use Rattle.stair_engine.proofs.CallLaws.{array_is_left, array_is_made, arrays_are_spared, still_spared}
 use Rattle.stair_engine.proofs.CompleteLaws.{all_is_complete}
 use Rattle.stair_engine.proofs.RackLaws.{over_one, over_then}
 use Rattle.stair_engine.proofs.StandLaws.{still_stands}
@@ -30,6 +30,7 @@ returns-in-Ok g c =
       means = over;
       memory = λ memory. job_line _ c.in-Ok.job c.in-Ok.ensures.ok;
       created = λ honest spells once. array_is_made rack view words c.work.result old _ c.args.rack.now _ over spells honest once;
+      spared = λ honest spells. arrays_are_spared rack view words c.work.result old _ c.args.rack.now _ over spells honest;
       stands = λ honest other. array_is_left rack view words c.work.result old _ c.args.rack.now _ over other honest;
       complete = λ job spells. all_is_complete rack view words job c.work.result old _ c.args.rack.now _ spells over;
     }
@@ -57,3 +58,9 @@ returns-in-Err-Usage-clause-stands g c honest other = still_stands _
 
 pub returns-in-Err-Memory-clause-stands : goal.returns-in-Err-Memory-clause-stands
 returns-in-Err-Memory-clause-stands g c honest other = still_stands _
+
+pub returns-in-Err-Usage-clause-spared : goal.returns-in-Err-Usage-clause-spared
+returns-in-Err-Usage-clause-spared g c honest spells = still_spared _ _ (λ made. elim made [ inl done ↦ cc | inr fault ↦ cc ])
+
+pub returns-in-Err-Memory-clause-spared : goal.returns-in-Err-Memory-clause-spared
+returns-in-Err-Memory-clause-spared g c honest spells = still_spared _ _ (λ made. elim made [ inl done ↦ cc | inr fault ↦ cc ])

@@ -3,7 +3,7 @@ use Rattle.std.proofs.Common.{◌≡◌, ◌≤◌, sym, ◌∙◌, arith}
 use Rattle.stair_rack.specs.declared.rack.Reply.TheVariants as reply
 use Rattle.stair_rack.proofs.MomentLemmas.{ran_join}
 use Rattle.stair_rack.proofs.PassCounts.{Done-compared, Gone-compared}
-use Rattle.stair_array.proofs.LookLemmas.{found_other, found_own, found_small, found_unsynced, gone_attach, look_ran, reads_ran, taken_own}
+use Rattle.stair_array.proofs.LookLemmas.{found_other, found_own, found_small, found_unsynced, gone_attach, look_ran, reads_ran, settled_own, taken_own}
 use Rattle.stair_array.proofs.look.find.Goals as goal
 
 pub returns-then-eq-clause-told : goal.returns-then-eq-clause-told
@@ -27,6 +27,11 @@ returns-then-slot-n-clause-told g c =
 
 pub returns-then-slot-n-clause-taken : goal.returns-then-slot-n-clause-taken
 returns-then-slot-n-clause-taken g c honest is below =
+    let past : c.args.geometry.now.n ≤ c.args.slot = rw c.n.ensures.value at c.if-slot-n.true in
+    absurd (omega arith)
+
+pub returns-then-slot-n-clause-settled : goal.returns-then-slot-n-clause-settled
+returns-then-slot-n-clause-settled g c is below =
     let past : c.args.geometry.now.n ≤ c.args.slot = rw c.n.ensures.value at c.if-slot-n.true in
     absurd (omega arith)
 
@@ -85,6 +90,18 @@ returns-clause-taken g c honest is below =
     (λ honest. rw synced at (c.sync.ensures.told honest)) c.sync.ensures.counts c.sectors-has.ensures.told c.sectors-has.ensures.counts
     below (g.R.Rack.history c.find_super-2.new.rack) (rw c.need.ensures.value at c.if-has-need.false) honest
     (c.find_super-2.ensures.ran honest) (c.sync.ensures.began honest)
+
+pub returns-clause-settled : goal.returns-clause-settled
+returns-clause-settled g c is =
+    let attached : c.attach.result ≡ reply.Done = Done-compared c.attach.result (sym c.eq.ensures ∙ c.if-eq.false) in
+    let synced : c.sync.result ≡ reply.Done = Done-compared c.sync.result (sym c.eq-2.ensures ∙ c.if-eq-2.false) in
+    settled_own c.args.geometry.now g.R.Rack.is_honest (g.R.Rack.history c.args.rack.now) (g.R.Rack.history c.attach.new.self)
+    (g.R.Rack.bads c.args.rack.now) (g.R.Rack.bads c.attach.new.self) (g.R.Rack.gones c.args.rack.now) (g.R.Rack.gones c.attach.new.self) c.args.slot
+    (λ honest. rw attached at (c.attach.ensures.told honest)) c.attach.ensures.counts (g.R.Rack.history c.sync.new.self) (g.R.Rack.history c.sectors-has.new.self)
+    (g.R.Rack.bads c.sync.new.self) (g.R.Rack.bads c.sectors-has.new.self) (g.R.Rack.gones c.sync.new.self) (g.R.Rack.gones c.sectors-has.new.self) c.sectors-has.result
+    (λ honest. rw synced at (c.sync.ensures.told honest)) c.sync.ensures.counts c.sectors-has.ensures.told c.sectors-has.ensures.counts
+    (rw c.n.ensures.value at c.if-slot-n.false) (g.R.Rack.history c.find_super-2.new.rack) (g.R.Rack.bads c.find_super-2.new.rack) (g.R.Rack.gones c.find_super-2.new.rack)
+    c.find_super-2.ensures.ran
 
 pub returns-clause-ran : goal.returns-clause-ran
 returns-clause-ran g c honest =

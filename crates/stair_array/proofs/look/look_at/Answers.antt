@@ -9,7 +9,8 @@ returns-in-Small-clause-refused g c =
 
 pub returns-in-Bare-clause-passed : goal.returns-in-Bare-clause-passed
 returns-in-Bare-clause-passed g c =
-    let was = c.in-Bare.ensures.told in record { finding = Holds was.0; found = was.1; passes = was.2 }
+    let was = c.in-Bare.ensures.told in
+    record { finding = Holds was.0; found = was.1; passes = was.2; settled = c.in-Bare.ensures.settled refl }
 
 pub returns-in-Super-clause-refused : goal.returns-in-Super-clause-refused
 returns-in-Super-clause-refused g c =

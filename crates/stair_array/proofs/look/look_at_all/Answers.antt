@@ -1,9 +1,9 @@
 -- Each turn looks at the next slot.
-use Rattle.std.proofs.Common.{◌≡◌, arith}
+use Rattle.std.proofs.Common.{◌≡◌, inl, inr, arith}
 use Rattle.std.proofs.lemmas.Result.{err_from_is_err_and}
 use Rattle.stair_rack.proofs.MomentLemmas.{ran_join}
 use Rattle.stair_rack.proofs.PassCounts.{NoneFalls-then}
-use Rattle.stair_array.proofs.LookLemmas.{look_any, looked_more, looked_none, looks_unwritten, refused_here}
+use Rattle.stair_array.proofs.LookLemmas.{began_first, look_any, looked_more, looked_none, looks_unwritten, refused_here}
 use Rattle.stair_array.proofs.look.look_at_all.Goals as goal
 
 pub loop-slot-init : goal.loop-slot-init
@@ -14,7 +14,7 @@ loop-slot-preserved g c =
     looked_more c.args.geometry.now c.loop-slot.slot g.R.Rack.is_honest (g.R.Rack.history c.args.rack.now) (g.R.Rack.history c.loop-slot.rack) (g.R.Rack.history c.look_at.new.rack)
     (g.R.Rack.bads c.args.rack.now) (g.R.Rack.bads c.loop-slot.rack) (g.R.Rack.bads c.look_at.new.rack)
     (g.R.Rack.gones c.args.rack.now) (g.R.Rack.gones c.loop-slot.rack) (g.R.Rack.gones c.look_at.new.rack) c.loop-slot.invariant c.look_at.ensures.ran c.look_at.ensures.counts
-    c.in_ok-look_at.ensures.passed c.in_ok-look_at.ensures.taken
+    c.look_at.ensures.began c.in_ok-look_at.ensures.passed c.in_ok-look_at.ensures.taken
 
 pub returns-in_err-look_at-clause-refused : goal.returns-in_err-look_at-clause-refused
 returns-in_err-look_at-clause-refused g c =
@@ -30,6 +30,21 @@ returns-in_err-look_at-clause-ran g c honest = ran_join (c.loop-slot.invariant.r
 
 pub returns-in_err-look_at-clause-counts : goal.returns-in_err-look_at-clause-counts
 returns-in_err-look_at-clause-counts g c = NoneFalls-then c.loop-slot.invariant.counts c.look_at.ensures.counts
+
+pub returns-in_err-look_at-clause-began : goal.returns-in_err-look_at-clause-began
+returns-in_err-look_at-clause-began g c =
+    began_first c.args.geometry.now c.loop-slot.slot g.R.Rack.is_honest (g.R.Rack.history c.args.rack.now) (g.R.Rack.history c.loop-slot.rack) (g.R.Rack.history c.look_at.new.rack)
+    (g.R.Rack.bads c.args.rack.now) (g.R.Rack.bads c.loop-slot.rack) (g.R.Rack.bads c.look_at.new.rack)
+    (g.R.Rack.gones c.args.rack.now) (g.R.Rack.gones c.loop-slot.rack) (g.R.Rack.gones c.look_at.new.rack) c.loop-slot.invariant c.look_at.ensures.ran c.look_at.ensures.counts
+    c.look_at.ensures.began
+
+pub returns-clause-began : goal.returns-clause-began
+returns-clause-began g c honest =
+    let all : c.loop-slot.slot ≡ 32 = omega arith in
+    elim (c.loop-slot.invariant.began honest) [
+      | inl first ↦ absurd (omega (arith, all, first.0))
+      | inr before ↦ before
+    ]
 
 pub returns-clause-passed : goal.returns-clause-passed
 returns-clause-passed g c =

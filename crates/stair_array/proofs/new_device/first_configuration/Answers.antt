@@ -2,7 +2,7 @@
 use Rattle.std.proofs.Common.{◌≡◌, ℕ, ◌<◌, ◌≤◌, List, set, ap, ◌∙◌, arith}
 use Rattle.stair_super.specs.declared.mark.Mark.{Mark}
 use Rattle.stair_super.specs.declared.mark.Mark.TheVariants.{Live, Down}
-use Rattle.stair_array.proofs.DeviceLemmas.{fill_more, first_from}
+use Rattle.stair_array.proofs.EnrolLemmas.{fill_more, first_from}
 use Rattle.stair_array.proofs.new_device.first_configuration.Goals as goal
 
 pub loop-slot-preserved : goal.loop-slot-preserved

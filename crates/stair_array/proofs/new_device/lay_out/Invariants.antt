@@ -5,6 +5,6 @@ use Rattle.stair_array.proofs.new_device.lay_out.Given as goal
 
 abbrev pub invariant-loop-sector : goal.invariant-loop-sector
 invariant-loop-sector g l =
-    LaidSoFar l.fn.geometry l.fn.slot l.sector
+    LaidSoFar l.fn.geometry l.slots l.sector
     (told g.R.Rack l.fn.rack)
     (told g.R.Rack l.rack)

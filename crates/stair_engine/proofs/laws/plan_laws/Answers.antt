@@ -1,7 +1,7 @@
 use Rattle.stair_engine.specs.Outside.{views}
 use Rattle.stair_engine.specs.Rack.{rack_view}
 use Rattle.stair_engine.proofs.MeaningLaws.{bytes_are_answered, words_are_done}
-use Rattle.stair_engine.proofs.CallLaws.{all_is_kept, array_is_left, array_is_made, memory_comes_first, rack_is_left, show_only_looks, usage_is_exact}
+use Rattle.stair_engine.proofs.CallLaws.{all_is_kept, array_is_left, array_is_made, arrays_are_spared, memory_comes_first, rack_is_left, show_only_looks, usage_is_exact}
 use Rattle.stair_engine.proofs.CompleteLaws.{all_is_complete}
 use Rattle.stair_engine.proofs.laws.plan_laws.Goals as goal
 
@@ -19,5 +19,6 @@ returns g c =
       stands = array_is_left rack view;
       memory = memory_comes_first rack view;
       created = array_is_made rack view;
+      spared = arrays_are_spared rack view;
       complete = all_is_complete rack view;
     }

@@ -4,6 +4,7 @@ use Rattle.stair_state.proofs.AloneLemmas.{left_stands, lesser_stands}
 use Rattle.stair_state.proofs.DegradedLemmas.{again}
 use Rattle.stair_state.proofs.IdentityLemmas.{same_identity}
 use Rattle.stair_state.proofs.FormLemmas.{idle_still, represents_still, uncommitted_still}
+use Rattle.stair_state.proofs.RestoredLemmas.{live_as_current, only_shrinks}
 use Rattle.stair_state.proofs.images.degraded_laws.Goals as goal
 
 pub returns-clause-again : goal.returns-clause-again
@@ -29,3 +30,9 @@ returns-clause-still_idle c = λ g words was is more fewer form within still.
 pub returns-clause-still_uncommitted : goal.returns-clause-still_uncommitted
 returns-clause-still_uncommitted c = λ g old new was is more fewer form within still.
     uncommitted_still g (HasSlot more) (HasSlot fewer) was is within still old new form
+
+pub returns-clause-shrinks : goal.returns-clause-shrinks
+returns-clause-shrinks c = only_shrinks
+
+pub returns-clause-live_as_current : goal.returns-clause-live_as_current
+returns-clause-live_as_current c = live_as_current
