@@ -4,7 +4,7 @@ use Rattle.std.proofs.lemmas.Bool.{cases_lt, false≢true}
 use Rattle.stair_model.specs.Device.{Chunk, cell_sector, gate_sector}
 use Rattle.stair_model.specs.Geometry.{Geometry, IsWithinLimits}
 use Rattle.stair_model.specs.Slots.{HasSlot, no_slots, slot_count}
-use Rattle.stair_model.specs.Stripe.{zero_stripe}
+use Rattle.stair_model.specs.Stripe.{cell, zero_stripe}
 use Rattle.stair_model.proofs.DeviceLaws.{sector_in_range}
 use Rattle.stair_model.proofs.SetLaws.{has_slot-none, slot_count_none}
 use Rattle.stair_model.proofs.StripeLaws.{cell-zero_stripe}
@@ -22,7 +22,7 @@ use Rattle.stair_member.specs.Current.{IsCurrent, IsLive, IsRebuilding}
 use Rattle.stair_member.specs.Reserve.{Bears, IsOrderly}
 use Rattle.stair_member.specs.Superblocks.{Counts, First, HoldsSuper, IsOnlyIdentity, IsSuperOf, Second}
 use Rattle.stair_member.proofs.SuperLemmas.{counts_bears}
-use Rattle.stair_journal.specs.Body.{Harmed, Holds}
+use Rattle.stair_journal.specs.Body.{IsOrDamaged, Harmed, Holds}
 use Rattle.stair_journal.specs.Gate.{closed_gate, open_gate}
 use Rattle.stair_journal.specs.declared.redo.Redo.{Redo}
 use Rattle.stair_array.specs.Created.{AreNewMedia, BearNoneOutside, IsNewArray, IsNewDevice, IsNewSlot, Kept, Other, first_configuration, first_super, in_slot}
@@ -123,6 +123,26 @@ new_degraded_slot g j more less new (Stays size copies) = new_copied g j more le
 pub new_degraded : (g : Geometry) (more less : Image) → IsNewArray g more → IsDegraded more less → IsNewArray g less
 new_degraded g more less new degraded j below = new_degraded_slot g j (more j) (less j) (new j below) (degraded j)
 
+-- no gate of a new device is open
+device_shut : (g : Geometry) (image : Image) (j : ℕ) (redo : Redo) → IsNewDevice g j (image j) → ¬ IsOpen g image j redo
+device_shut g image j redo device open_with =
+    elim (device.sectors gate_sector (omega arith)) [
+      | inl is ↦
+          let same : Good (closed_gate) ≡ Good (open_gate g redo) = ap Good (sym (created_gate g j)) ∙ sym is ∙ open_with.good in
+          let bytes : closed_gate ≡ open_gate g redo = cc in
+          closed_not_open g redo bytes
+      | inr damaged ↦ let none : Good (open_gate g redo) ≡ Damaged = sym open_with.good ∙ damaged in absurd (cc)
+    ]
+
+-- each cell of its chunks is zero, or damaged
+device_holds : (g : Geometry) (t i j : ℕ) (slot : SlotImage) → IsWithinLimits g → t < g.stripes → i < g.r → j < g.n → IsNewDevice g j slot
+    → IsOrDamaged (cell (zero_stripe g) i j) (slot.cell (cell_sector g t i))
+device_holds g t i j slot limits t_in i_in j_in device =
+    elim (device.sectors (cell_sector g t i) (sector_in_range g (Chunk t i) limits (t_in, i_in))) [
+      | inl is ↦ Holds (is ∙ ap Good (created_behind g j (cell_sector g t i) (omega arith) ∙ sym (cell-zero_stripe g i j i_in j_in)))
+      | inr damaged ↦ Harmed damaged
+    ]
+
 -- ONE IMAGE
 
 module _ (g : Geometry) (image : Image) (limits : IsWithinLimits g) (id : length g.id ≡ 16) (new : IsNewArray g image) where
@@ -143,22 +163,11 @@ module _ (g : Geometry) (image : Image) (limits : IsWithinLimits g) (id : length
 
   -- no gate is open on a slot that counts
   none_open : (j : ℕ) (s : Superblock) (redo : Redo) → Counts g image j s → ¬ IsOpen g image j redo
-  none_open j s redo counts open_with =
-      elim ((counted_device j s counts).sectors gate_sector (omega arith)) [
-        | inl is ↦
-            let same : Good (closed_gate) ≡ Good (open_gate g redo) = ap Good (sym (created_gate g j)) ∙ sym is ∙ open_with.good in
-            let bytes : closed_gate ≡ open_gate g redo = cc in
-            closed_not_open g redo bytes
-        | inr damaged ↦ let none : Good (open_gate g redo) ≡ Damaged = sym open_with.good ∙ damaged in absurd (cc)
-      ]
+  none_open j s redo counts = device_shut g image j redo (counted_device j s counts)
 
   zero_encoded : (current : Superblock) → Encodes g (λ t. zero_stripe g) (IsLive g image current) image
   zero_encoded current t i j t_in i_in j_in live =
-      elim ((counted_device j live.super live.counts).sectors (cell_sector g t i) (sector_in_range g (Chunk t i) limits (t_in, i_in))) [
-        | inl is ↦
-            Holds (is ∙ ap Good (created_behind g j (cell_sector g t i) (omega arith) ∙ sym (cell-zero_stripe g i j i_in j_in)))
-        | inr damaged ↦ Harmed damaged
-      ]
+      device_holds g t i j (image j) limits t_in i_in j_in (counted_device j live.super live.counts)
 
   zero_form : (current : Superblock) → RepresentsBy g (λ t. zero_stripe g) (λ t. zero_stripe g) (IsLive g image current) image
   zero_form current = record {
@@ -369,16 +378,6 @@ module _ (g : Geometry) (image : Image) (limits : IsWithinLimits g) (id : length
   device to j reassembly holder =
       kept_device g j (to j) holder.super (reassembled_new g image to media reassembly j (bears_below g j ((to j).cell) holder.super holder.bears)) holder.bears
 
-  holder_shut : (to : Image) (j : ℕ) (redo : Redo) → IsNewDevice g j (to j) → ¬ IsOpen g to j redo
-  holder_shut to j redo is_new open_with =
-      elim (is_new.sectors gate_sector (omega arith)) [
-        | inl is ↦
-            let same : Good (closed_gate) ≡ Good (open_gate g redo) = ap Good (sym (created_gate g j)) ∙ sym is ∙ open_with.good in
-            let bytes : closed_gate ≡ open_gate g redo = cc in
-            closed_not_open g redo bytes
-        | inr damaged ↦ let none : Good (open_gate g redo) ≡ Damaged = sym open_with.good ∙ damaged in absurd (cc)
-      ]
-
   bears_super : (cell : ℕ → Cell) (j : ℕ) (x : Superblock) → IsSuperOf cell x → x.slot ≡ j → x.array.geometry ≡ g → Bears g j cell x
   bears_super cell j x (First holds rest) slot geometry =
       record { place = 0; place_in = omega arith; holds = holds; slot = slot; identity = geometry }
@@ -409,15 +408,11 @@ module _ (g : Geometry) (image : Image) (limits : IsWithinLimits g) (id : length
     frozen = λ a borne. inl (ap (λ (c : Configuration). c.frozen) (since_array a borne));
     label = λ a borne. inl (ap (λ (c : Configuration). c.label) (since_array a borne));
     forms = λ to some reassembly have gate. record {
-      one_redo = λ i j a b on also open_i open_j. absurd (holder_shut to i a (device to i reassembly (have i on)) open_i);
+      one_redo = λ i j a b on also open_i open_j. absurd (device_shut g to i a (device to i reassembly (have i on)) open_i);
       form = IdleOld (record {
         encodes = λ t i j t_in i_in j_in on.
-            elim ((device to j reassembly (have j on)).sectors (cell_sector g t i) (sector_in_range g (Chunk t i) limits (t_in, i_in))) [
-              | inl is ↦
-                  Holds (is ∙ ap Good (created_behind g j (cell_sector g t i) (omega arith) ∙ sym (cell-zero_stripe g i j i_in j_in)))
-              | inr damaged ↦ Harmed damaged
-            ];
-        body = λ j redo on open_with. absurd (holder_shut to j redo (device to j reassembly (have j on)) open_with);
+            device_holds g t i j (to j) limits t_in i_in j_in (device to j reassembly (have j on));
+        body = λ j redo on open_with. absurd (device_shut g to j redo (device to j reassembly (have j on)) open_with);
       });
     };
     full = λ to j reassembly holder. (device to j reassembly holder).full;

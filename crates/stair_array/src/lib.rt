@@ -4,6 +4,7 @@
 mod fault;
 pub mod laws;
 mod look;
+pub mod machine;
 mod new_array;
 mod new_device;
 #[cfg(test)]

@@ -1,0 +1,74 @@
+-- What it is for a rack to be an array in a state, and what a session knows of all its media, by whether media that were
+-- pulled may come back.
+use Rattle.std.specs.Prelude.{◌≡◌, ◌≤◌, ℕ, Bool, true, false, List, [], ◌∷◌, Option, None, Some, nat_lt, if◌then◌else◌}
+use Rattle.stair_model.specs.Geometry.{Geometry}
+use Rattle.stair_rack.specs.Crash.{EachImage}
+use Rattle.stair_rack.specs.History.{Happening, Made}
+use Rattle.stair_rack.specs.Media.{Image}
+use Rattle.stair_rack.specs.Offline.{IsAttached}
+use Rattle.stair_rack.specs.Stretch.{NothingReturned}
+use Rattle.stair_super.specs.Superblock.{Superblock, joined_in, mark_in}
+use Rattle.stair_super.specs.declared.mark.Mark.TheVariants.{Down}
+use Rattle.stair_member.specs.Fencing.{IsBegun}
+use Rattle.stair_member.specs.Membership.{IsHere, Membership, why_of}
+use Rattle.stair_member.specs.declared.why.Why.{Why}
+use Rattle.stair_member.specs.declared.why.Why.TheVariants.{Here}
+use Rattle.stair_state.specs.Holding.{Holders, IsConsistentSince, IsConsistentUnderReassembly}
+use Rattle.stair_state.specs.Reassembly.{InSlot, IsBorne, Location}
+use Rattle.stair_state.specs.Represents.{Represents}
+use Rattle.stair_state.specs.State.{State}
+use Rattle.stair_state.specs.Tolerance.{ToleratedSince}
+use Rattle.stair_session.specs.Mixed.{IsToleratedMixed}
+
+-- whether a medium that was pulled may be put back into its slot
+pub data Returning : Type 0 where
+  NoneReturns : Returning
+  AnyReturns : Returning
+
+-- the rack with this history is an array in this state
+abbrev pub StandsFor : Returning → State → List Happening → Type 0
+StandsFor NoneReturns s h = Represents s h
+StandsFor AnyReturns s h = IsConsistentUnderReassembly s h
+
+-- so is one that is made over this image
+abbrev pub StandsForAlone : Returning → State → Image → Type 0
+StandsForAlone returning s image = StandsFor returning s (Made image ∷ [])
+
+-- WITHIN TOLERANCE
+
+-- Failures stay within tolerance in a session from `before` to h, in which its array is open or isn't yet.
+abbrev pub IsCalm : Returning → Geometry → Bool → List Happening → List Happening → Type 0
+IsCalm NoneReturns g is_open before h = ToleratedSince g before h × NothingReturned before h
+IsCalm AnyReturns g true before h = ToleratedSince g before h
+IsCalm AnyReturns g false before h = ToleratedSince g before h × IsToleratedMixed g before before h
+
+-- WHAT A SESSION KNOWS OF ALL MEDIA
+
+-- An image as a member knows it that has looked at the rack: its media, in slots and outside.
+pub record IsKnownWherever (joining : Option ℕ) (m : Membership) (attached : ℕ → Type 0)
+    (image : Image) : Type 0 where
+  -- every epoch is at most the greatest draw that was seen
+  pub covered : (i : ℕ) (p : Location) (s : Superblock) → IsBorne m.array.geometry image i p s
+      → s.array.epoch ≤ m.drawn
+  -- the member's epoch names what the member has
+  pub named : (i : ℕ) (p : Location) (s : Superblock) → IsBorne m.array.geometry image i p s
+      → s.array.epoch ≡ m.array.epoch → s.array ≡ m.array
+  -- the medium in a slot that is here and attached is the one that the member means
+  pub sole : (j : ℕ) (p : Location) (s : Superblock) → IsHere m j → attached j
+      → IsBorne m.array.geometry image j p s → s.joined ≡ joined_in m.array j → p ≡ InSlot
+  -- a slot that is to be admitted is Down
+  pub down : (j : ℕ) → joining ≡ Some j → mark_in m.array j ≡ Down
+
+-- the media that hold the chunks are those that the member's live slots mean
+abbrev pub holder_if : Why → ℕ → Option ℕ
+holder_if Here joined = Some joined
+holder_if why joined = None
+
+abbrev pub holders_of : Membership → Holders
+holders_of m j = if nat_lt j m.array.geometry.n then holder_if (why_of m j) (joined_in m.array j)
+    else None
+
+abbrev pub Knows : Returning → State → Membership → List Happening → Type 0
+Knows NoneReturns s m h = IsBegun None m h
+Knows AnyReturns s m h = EachImage (IsKnownWherever None m (IsAttached h)) h
+    × IsConsistentSince s (holders_of m) m.array.epoch h
