@@ -10,6 +10,7 @@ use Rattle.stair_rack.specs.Count.{Rose}
 use Rattle.stair_rack.specs.History.{SlotCall, Attach, Sectors, Read, Write, Sync}
 use Rattle.stair_rack.specs.Placed.{IsGoneSlot, IsSlot, Placed, Writes}
 use Rattle.stair_rack.specs.Sector.{Cell}
+use Rattle.stair_rack.specs.Stretch.{WasAnswered}
 use Rattle.stair_rack.specs.Telling.{IsFoundGone, IsLater, IsReading, Telling}
 use Rattle.stair_rack.specs.Writing.{IsOnSlot, Writing}
 use Rattle.stair_rack.specs.declared.rack.Reply.{Reply}
@@ -24,6 +25,7 @@ use Rattle.stair_member.specs.declared.aim.Aim.TheVariants.{Admit, Promote}
 use Rattle.stair_member.specs.declared.fault.AdmitFault.{AdmitFault}
 use Rattle.stair_member.specs.declared.fault.AdmitFault.TheVariants as admit
 use Rattle.stair_member.specs.declared.fault.FenceFault.{FenceFault}
+use Rattle.stair_journal.specs.Phases.{AnswersGone}
 use Rattle.stair_journal.specs.Redo.{IsRedo}
 use Rattle.stair_journal.specs.declared.redo.Redo.{Redo}
 use Rattle.stair_stripes.specs.Gathering.{IsCellOf}
@@ -169,6 +171,8 @@ pub record WritesChunk (j t : ℕ) (stripe : Stripe) (answer : Reply) (x y : Poi
       → Writing (cell_writes x.member.array.geometry redo stripe) (IsSlot j) (IsGoneSlot j answer)
       (IsOnSlot j) x.told.history y.told.history
   pub rose : answer ≡ reply.Gone → Rose (x.told.gones j) (y.told.gones j)
+  pub gone : IsTrue y.told.honest → (i : ℕ) (call : SlotCall)
+      → WasAnswered i call x.told.history y.told.history → AnswersGone call → IsGoneSlot j answer i
 
 -- the slot that was rebuilt was gone, and is left out
 pub record Drops (j : ℕ) (refusal : Option FenceFault) (x y : Point) : Type 0 where

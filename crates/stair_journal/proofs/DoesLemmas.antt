@@ -10,6 +10,7 @@ use Rattle.stair_rack.specs.Telling.{telling}
 use Rattle.stair_rack.proofs.PassCounts.{NoneFalls-then, Seen}
 use Rattle.stair_rack.proofs.PhaseCounts.{PhaseSoFar, phase_placed}
 use Rattle.stair_journal.specs.Phases.{DoesPhase}
+use Rattle.stair_journal.proofs.ToldLemmas.{AreGone, are_gone_ended}
 
 -- what was gone to the writes or to the syncs
 module _ (what : Writes) (to gone all : Slots) (honest : Bool) (old mid : Seen)
@@ -17,7 +18,8 @@ module _ (what : Writes) (to gone all : Slots) (honest : Bool) (old mid : Seen)
     (were : (j : ℕ) → HasSlot gone j → HasSlot to j × Rose (old.gones j) (mid.gones j)) (before : NoneFalls old.bads mid.bads old.gones mid.gones)
     (are : (j : ℕ) → HasSlot all j → HasSlot gone j ⊎ (HasSlot to j × Rose (mid.gones j) (gones j)))
     (after : NoneFalls mid.bads bads mid.gones gones) (formed : IsSlotSet all)
-    (placed : IsTrue honest → Placed what (HasSlot to) (HasSlot all) old.history new) where
+    (placed : IsTrue honest → Placed what (HasSlot to) (HasSlot all) old.history new)
+    (told : IsTrue honest → AreGone (HasSlot all) old.history new) where
   rose_in : (j : ℕ) → HasSlot all j → Rose (old.gones j) (gones j)
   rose_in j has =
       elim (are j has) [
@@ -28,6 +30,7 @@ module _ (what : Writes) (to gone all : Slots) (honest : Bool) (old mid : Seen)
   pub does_phase : DoesPhase what to all (telling honest old.history old.bads old.gones) (telling honest new bads gones)
   does_phase = record {
     placed = placed;
+    told = told;
     among = λ j has. elim (are j has) [ inl was ↦ (were j was).0 | inr now ↦ now.0 ];
     rose = rose_in;
     formed = formed;
@@ -37,10 +40,11 @@ module _ (what : Writes) (to gone all : Slots) (honest : Bool) (old mid : Seen)
 -- all slots' writes, and the end
 pub does_slots : (what : Writes) (to gone all : Slots) (n : ℕ) (honest : Bool) (old mid : Seen) (new : List Happening)
     (bads : ℕ) (gones : ℕ → ℕ) → PhaseSoFar what to gone n honest old mid
+    → (IsTrue honest → AreGone (HasSlot gone) old.history mid.history)
     → ((j k : ℕ) (bytes : List ℕ) → HasSlot to j → what j k ≡ Some bytes → j < n)
     → ((j : ℕ) → HasSlot all j → HasSlot gone j ⊎ (HasSlot to j × Rose (mid.gones j) (gones j)))
     → NoneFalls mid.bads bads mid.gones gones → IsSlotSet all → (IsTrue honest → EndsPhase to gone all mid.history new)
     → DoesPhase what to all (telling honest old.history old.bads old.gones) (telling honest new bads gones)
-does_slots what to gone all n honest old mid new bads gones so_far covered are after formed ended =
+does_slots what to gone all n honest old mid new bads gones so_far told covered are after formed ended =
     does_phase what to gone all honest old mid new bads gones (λ j has. ((so_far.gone_is j has).0, (so_far.gone_is j has).2)) so_far.counts are after formed
-    (λ is. phase_placed so_far covered is (ended is))
+    (λ is. phase_placed so_far covered is (ended is)) (λ is. are_gone_ended (so_far.told is).ran (told is) (ended is))

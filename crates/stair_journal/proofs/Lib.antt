@@ -5,6 +5,7 @@ pub mod KnownGate
 pub mod WritesLemmas
 pub mod RedoLemmas
 pub mod LiveCounts
+pub mod ToldLemmas
 pub mod DoesLemmas
 pub mod TurnLemmas
 pub mod GatesLemmas

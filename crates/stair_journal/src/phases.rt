@@ -1,14 +1,16 @@
 // What is written to the journal: the body of a redo, and gates.
-ghost use Rattle.std.specs.Prelude.{◌≡◌, ◌<◌, IsTrue};
+ghost use Rattle.std.specs.Prelude.{◌≡◌, ◌<◌, ℕ, IsTrue};
 ghost use Rattle.stair_model.specs.Stripe.{IsStripeOf};
 ghost use Rattle.stair_rack.specs.Count.{Rose};
+ghost use Rattle.stair_rack.specs.History.{SlotCall};
 ghost use Rattle.stair_rack.specs.Placed.{IsGoneSlot, IsSlot};
 ghost use Rattle.stair_rack.specs.RackCounts.{NoneFalls};
+ghost use Rattle.stair_rack.specs.Stretch.{WasAnswered};
 ghost use Rattle.stair_rack.specs.Told.{told};
 ghost use Rattle.stair_rack.specs.Writing.{IsOnSlot, Writing};
 ghost use Rattle.stair_journal.specs.Gate.{closed_gate as closed, open_gate as opened};
 ghost use Rattle.stair_journal.specs.Journalling.{body_writes, gate_writes};
-ghost use Rattle.stair_journal.specs.Phases.{DoesPhase};
+ghost use Rattle.stair_journal.specs.Phases.{AnswersGone, DoesPhase};
 ghost use Rattle.stair_journal.specs.PhaseSteps.{IsInRow};
 ghost use Rattle.stair_journal.specs.Redo.{IsRedo};
 
@@ -58,6 +60,9 @@ fn write_cells<R: Rack>(
         Writing (body_writes geometry.now redo.now stripe.now) (IsSlot slot)
         (IsGoneSlot slot result) (IsOnSlot slot) (R.history rack.old)
         (R.history rack.new) }
+    ensures told_gone { IsTrue R.is_honest → (j : ℕ) (call : SlotCall) →
+        WasAnswered j call (R.history rack.old) (R.history rack.new) → AnswersGone call →
+        IsGoneSlot slot result j }
     ensures gone { result ≡ Reply.Gone → Rose (R.gones rack.old slot) (R.gones rack.new slot) }
     ensures counts { NoneFalls (R.bads rack.old) (R.bads rack.new) (R.gones rack.old)
         (R.gones rack.new) }
@@ -88,6 +93,9 @@ fn write_row<R: Rack>(
         Writing (body_writes geometry.now redo.now stripe.now) (IsSlot slot)
         (IsGoneSlot slot result) (IsInRow geometry.now slot row) (R.history rack.old)
         (R.history rack.new) }
+    ensures told_gone { IsTrue R.is_honest → (j : ℕ) (call : SlotCall) →
+        WasAnswered j call (R.history rack.old) (R.history rack.new) → AnswersGone call →
+        IsGoneSlot slot result j }
     ensures gone { result ≡ Reply.Gone → Rose (R.gones rack.old slot) (R.gones rack.new slot) }
     ensures counts { NoneFalls (R.bads rack.old) (R.bads rack.new) (R.gones rack.old)
         (R.gones rack.new) }

@@ -14,7 +14,7 @@ use Rattle.stair_rack.proofs.StretchLemmas.{answered_allowed}
 use Rattle.stair_super.specs.Superblock.{mark_in}
 use Rattle.stair_super.specs.declared.mark.Mark.TheVariants as mark
 use Rattle.stair_member.specs.Aims.{admitted, aimed}
-use Rattle.stair_member.specs.Epochs.{IsGoneOf, IsRefusedBy, IsStanding, StandsOnDisk}
+use Rattle.stair_member.specs.Epochs.{IsGoneOf, IsRefusedBy, IsStanding, IsTaken, StandsOnDisk}
 use Rattle.stair_member.specs.Establishing.{Establishes, HasBegun, IsEstablished}
 use Rattle.stair_member.specs.Membership.{Membership, IsHere, IsMembership, why_of}
 use Rattle.stair_member.specs.RoundSteps.{BeganOut, BrokeOff, DrewOut, IsRefused, Round, StandsWithout, WentOn}
@@ -37,6 +37,7 @@ pub record Ended (aim : Aim) (m0 last : Membership) (gone : Slots) (old new : Te
   pub formed : IsSlotSet gone
   pub below : (j : ℕ) → HasSlot gone j → j < m0.array.geometry.n
   pub dropped : (j : ℕ) → HasSlot gone j → why_of last j ≡ why.Gone
+  pub took : (j : ℕ) → HasSlot gone j → IsTaken (admitted aim) m0 j
   pub began : HasBegun aim gone m0 last
   pub fell : (j : ℕ) → j < m0.array.geometry.n → mark_in last.array j ≡ mark.Down → mark_in m0.array j ≢ mark.Down
       → (¬ IsHere m0 j) ⊎ HasSlot gone j
@@ -68,6 +69,7 @@ ended aim m0 last gone refusal old new e done refused on_disk = record {
     told = λ honest j call answered is. answered_allowed {allowed = IsGoneOf (HasSlot gone)} (e.told honest).told answered is;
     shut = λ honest before j has held places. (e.told honest).shut before j has held places;
   };
+  took = e.took;
   done = done;
   refused = refused;
   began = e.began;
@@ -121,6 +123,7 @@ attempt_refused aim0 aim m0 m last gone fault old now new a same refused =
       formed = a.formed;
       below = a.below;
       dropped = a.dropped;
+      took = a.took;
       began = a.began;
       fell = a.fell;
       rose = λ j has. subst (λ (g : ℕ → ℕ). Rose (old.gones j) (g j)) (sym refused.gones) (a.rose j has);
@@ -180,6 +183,7 @@ module _ (aim0 aim : Aim) (m0 m last : Membership) (gone : Slots) (old now new :
     formed = a.formed;
     below = a.below;
     dropped = gone_after aim0 aim m0 m gone old now a last None new round;
+    took = a.took;
     began = began_after aim0 aim m0 m gone old now a last None new round;
     fell = fell_after aim0 aim m0 m gone old now a last None new round;
     rose = rose_after aim0 aim m0 m gone old now a last None new round;

@@ -38,6 +38,7 @@ pub record Attempt (aim0 aim : Aim) (m0 m : Membership) (gone : Slots) (old now 
   pub drawn : m.drawn ≡ m0.drawn + slot_count gone
   pub below : (j : ℕ) → HasSlot gone j → j < m0.array.geometry.n
   pub dropped : (j : ℕ) → HasSlot gone j → why_of m j ≡ why.Gone
+  pub took : (j : ℕ) → HasSlot gone j → IsTaken (admitted aim0) m0 j
   pub others : (j : ℕ) → j < m0.array.geometry.n → ¬ HasSlot gone j
       → (why_of m j ≡ why_of m0 j) ⊎ (why_of m j ≡ aimed aim0 j (why_of m0 j))
   pub left : (aim ≡ aim0) ⊎ ((aim ≡ aims.Fence) × IsAway aim0 gone)
@@ -68,6 +69,7 @@ attempt_first aim m gone now rules may down formed none = record {
   drawn = let zero_is = slot_count_none gone (λ j small. none j) in omega (arith, zero_is);
   below = λ j has. absurd (none j has);
   dropped = λ j has. absurd (none j has);
+  took = λ j has. absurd (none j has);
   others = λ j below out. inl refl;
   left = inl refl;
   apart = λ j w has. absurd (none j has);

@@ -10,6 +10,7 @@ use Rattle.stair_rack.specs.Count.{Rose, kept-Rose}
 use Rattle.stair_rack.proofs.PassCounts.{NoneFalls-then}
 use Rattle.stair_super.specs.declared.configuration.Configuration.{Configuration}
 use Rattle.stair_member.specs.ChangesSteps.{MayBegin, without}
+use Rattle.stair_member.specs.Epochs.{IsTaken}
 use Rattle.stair_member.specs.Aims.{admitted, aimed, frozen_then, label_then}
 use Rattle.stair_member.specs.Membership.{Membership, IsMembership, why_of}
 use Rattle.stair_member.specs.RoundSteps.{Round, left_after}
@@ -21,8 +22,8 @@ use Rattle.stair_member.specs.declared.why.Why.TheVariants as why
 use Rattle.stair_member.proofs.AttemptLemmas.{Moved, aimed_up, gone_down, moved}
 use Rattle.stair_member.proofs.ChangeLemmas.{IsUp, why_others, why_without}
 use Rattle.stair_member.proofs.RoundLemmas.{come_like}
-use Rattle.stair_member.proofs.TakingLemmas.{IsAway, IsNamedFor, admits_below, admits_up, began_wider, named_wider, taking}
-use Rattle.stair_member.proofs.EstablishLemmas.{Attempt, began_after, come_after, fell_after, gone_after, joined_after, rose_after, why_after}
+use Rattle.stair_member.proofs.TakingLemmas.{IsAway, IsNamedFor, admits_below, admits_up, began_wider, named_wider, taking, taking_only}
+use Rattle.stair_member.proofs.EstablishLemmas.{Attempt, aimed_taken, began_after, come_after, fell_after, gone_after, joined_after, rose_after, why_after}
 
 -- the aim goes on, and isn't at this slot; or it was at this slot, and nothing is left of it
 left_which : (aim : Aim) (j : ℕ) → ((left_after aim j ≡ aim) × ((w : Why) → aimed aim j w ≡ w))
@@ -150,6 +151,13 @@ module _ (aim0 aim : Aim) (m0 m last : Membership) (gone more : Slots) (j : ℕ)
             (elim ((members i).0 has) [ inl had ↦ had | inr at ↦ absurd (other at) ])
       ]
 
+  -- the slot was here at first, or is admitted
+  took_part : IsTaken (admitted aim0) m0 j
+  took_part =
+      taking_only aim0 m0 j
+      (aimed_taken aim0 aim m0 m gone old now a j at_slot
+      (elim (moves_now.fell j refl).2 [ inl up ↦ aimed_up aim j (why_of m j) up | inr up ↦ up ]))
+
   left_now : (left_after aim j ≡ aim0) ⊎ ((left_after aim j ≡ aims.Fence) × IsAway aim0 more)
   left_now =
       elim a.left [
@@ -223,6 +231,7 @@ module _ (aim0 aim : Aim) (m0 m last : Membership) (gone more : Slots) (j : ℕ)
         omega (arith, counted, moves_now.drawn, a.drawn);
     below = λ i has. elim ((members i).0 has) [ inl had ↦ a.below i had | inr at ↦ subst (λ (k : ℕ). k < m0.array.geometry.n) (sym at) at_slot ];
     dropped = gone_now;
+    took = λ i has. elim ((members i).0 has) [ inl had ↦ a.took i had | inr at ↦ subst (IsTaken (admitted aim0) m0) (sym at) took_part ];
     others = λ i below out.
         let after = why_after aim0 aim m0 m gone old now a last (Some j) new round i below (λ has. out (into i has)) in
         let as_last = why_others last j i (other_slot i out) in

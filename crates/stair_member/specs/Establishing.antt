@@ -6,7 +6,7 @@ use Rattle.stair_super.specs.Superblock.{mark_in}
 use Rattle.stair_super.specs.declared.mark.Mark.TheVariants as mark
 use Rattle.stair_member.specs.Aims.{IsAimed, admitted, aimed}
 use Rattle.stair_member.specs.Editions.{edition_of}
-use Rattle.stair_member.specs.Epochs.{IsRefusedBy, Issued, Stands, StandsOnDisk, WereGone}
+use Rattle.stair_member.specs.Epochs.{IsRefusedBy, IsTaken, Issued, Stands, StandsOnDisk, WereGone}
 use Rattle.stair_member.specs.Membership.{Membership, IsHere, why_of}
 use Rattle.stair_rack.specs.Telling.{Telling}
 use Rattle.stair_member.specs.declared.aim.Aim.{Aim}
@@ -50,6 +50,8 @@ pub record Establishes (aim : Aim) (m last : Membership) (refusal : Option Fence
   -- on any rack
   pub geometry : last.array.geometry ≡ m.array.geometry
   pub were_gone : WereGone gone m last old new
+  -- each slot that was gone took part when the call began, or was to be admitted
+  pub took : (j : ℕ) → HasSlot gone j → IsTaken (admitted aim) m j
   pub done : refusal ≡ None → IsEstablished aim m last gone
   -- each slot that was gone cost a draw
   pub refused : (fault : FenceFault) → refusal ≡ Some fault

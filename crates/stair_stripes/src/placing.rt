@@ -1,12 +1,14 @@
 // Placing the cells of a redo.
-ghost use Rattle.std.specs.Prelude.{◌≡◌, ◌<◌, IsTrue};
+ghost use Rattle.std.specs.Prelude.{◌≡◌, ◌<◌, ℕ, IsTrue};
 ghost use Rattle.stair_model.specs.Stripe.{IsStripeOf};
 ghost use Rattle.stair_rack.specs.Count.{Rose};
+ghost use Rattle.stair_rack.specs.History.{SlotCall};
 ghost use Rattle.stair_rack.specs.Placed.{IsGoneSlot, IsSlot};
 ghost use Rattle.stair_rack.specs.RackCounts.{NoneFalls};
+ghost use Rattle.stair_rack.specs.Stretch.{WasAnswered};
 ghost use Rattle.stair_rack.specs.Told.{told};
 ghost use Rattle.stair_rack.specs.Writing.{IsOnSlot, Writing};
-ghost use Rattle.stair_journal.specs.Phases.{DoesPhase};
+ghost use Rattle.stair_journal.specs.Phases.{AnswersGone, DoesPhase};
 ghost use Rattle.stair_journal.specs.Redo.{IsRedo};
 ghost use Rattle.stair_stripes.specs.Placing.{cell_writes};
 
@@ -59,6 +61,9 @@ pub fn write_chunk<R: Rack>(
         Writing (cell_writes geometry.now redo.now stripe.now) (IsSlot slot)
         (IsGoneSlot slot result) (IsOnSlot slot) (R.history rack.old)
         (R.history rack.new) }
+    ensures told_gone { IsTrue R.is_honest → (j : ℕ) (call : SlotCall) →
+        WasAnswered j call (R.history rack.old) (R.history rack.new) → AnswersGone call →
+        IsGoneSlot slot result j }
     ensures gone { result ≡ Reply.Gone → Rose (R.gones rack.old slot) (R.gones rack.new slot) }
     ensures counts { NoneFalls (R.bads rack.old) (R.bads rack.new) (R.gones rack.old)
         (R.gones rack.new) }

@@ -1,6 +1,9 @@
 -- the body was written to the live slots below this one
+use Rattle.std.specs.Prelude.{IsTrue}
+use Rattle.stair_model.specs.Slots.{HasSlot}
 use Rattle.stair_rack.proofs.PhaseCounts.{PhaseSoFar}
 use Rattle.stair_journal.specs.Journalling.{body_writes}
+use Rattle.stair_journal.proofs.ToldLemmas.{AreGone}
 use Rattle.stair_journal.proofs.phases.write_body.Given as goal
 
 abbrev pub invariant-loop-slot : goal.invariant-loop-slot
@@ -13,3 +16,4 @@ invariant-loop-slot g l =
       reads = g.R.Rack.reads l.initial.rack;
     })
     (record { history = g.R.Rack.history l.rack; bads = g.R.Rack.bads l.rack; gones = g.R.Rack.gones l.rack; reads = g.R.Rack.reads l.rack })
+    × (IsTrue g.R.Rack.is_honest → AreGone (HasSlot l.gone) (g.R.Rack.history l.initial.rack) (g.R.Rack.history l.rack))

@@ -1,6 +1,9 @@
--- the chunk's cells in the rows before this one were written
+-- the chunk's cells in the rows before this one were written, and none was gone
+use Rattle.std.specs.Prelude.{IsTrue}
+use Rattle.stair_rack.specs.Placed.{IsGoneSlot}
 use Rattle.stair_rack.specs.declared.rack.Reply.TheVariants as reply
 use Rattle.stair_rack.proofs.PhaseCounts.{WritesSlot}
+use Rattle.stair_journal.proofs.ToldLemmas.{AreGone}
 use Rattle.stair_stripes.specs.Placing.{cell_writes}
 use Rattle.stair_stripes.proofs.PlacingLemmas.{IsInChunkTo}
 use Rattle.stair_stripes.proofs.placing.write_chunk.Given as goal
@@ -15,3 +18,4 @@ invariant-loop-row g l =
       reads = g.R.Rack.reads l.initial.rack;
     })
     (record { history = g.R.Rack.history l.rack; bads = g.R.Rack.bads l.rack; gones = g.R.Rack.gones l.rack; reads = g.R.Rack.reads l.rack })
+    × (IsTrue g.R.Rack.is_honest → AreGone (IsGoneSlot l.fn.slot reply.Done) (g.R.Rack.history l.initial.rack) (g.R.Rack.history l.rack))
