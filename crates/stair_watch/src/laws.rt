@@ -1,0 +1,22 @@
+//! The laws of watchers that are told in order.
+
+ghost use Rattle.std.specs.Prelude.{◌≡◌, ◌↔◌, List, ◌++◌, length};
+ghost use Rattle.stair_rack.specs.Watching.{WatcherView};
+ghost use Rattle.stair_rack.specs.declared.watcher.Event.{Event};
+ghost use Rattle.stair_watch.specs.WatcherList.{AllStay, AreLeft, Tells, TellsAll};
+
+/// Who is left of a list of watchers after some events, and what each of them heard. It does nothing.
+pub fn watch_laws<W>()
+    // told one event after the other, those are left that are told on after these, each with all that it heard
+    ensures left { (view : WatcherView W) (events : List Event) (old new : List W) → AllStay view old →
+        TellsAll view events old new → AreLeft view events old new }
+    // and none of them has left
+    ensures stay { (view : WatcherView W) (events : List Event) (old new : List W) → AllStay view old →
+        TellsAll view events old new → AllStay view new }
+    // they are as many as before exactly where none left at the event
+    ensures as_many { (view : WatcherView W) (event : Event) (old new : List W) →
+        (tells : Tells view event old new) → (length new ≡ length old) ↔ AllStay view tells.heard }
+    // stretches of events join
+    ensures joined { (view : WatcherView W) (before after : List Event) (old mid new : List W) →
+        TellsAll view before old mid → TellsAll view after mid new → TellsAll view (before ++ after) old new }
+{}

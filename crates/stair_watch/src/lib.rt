@@ -1,0 +1,16 @@
+//! Who is told of what happens to an array: watchers that keep, count or print the events, told in order until they leave.
+#![tactic(auto)]
+
+mod kept;
+pub mod laws;
+mod line;
+mod printer;
+mod tally;
+#[cfg(test)]
+mod tests;
+mod told;
+
+pub use kept::Kept;
+pub use printer::Printer;
+pub use tally::Tally;
+pub use told::tell;

@@ -1,0 +1,126 @@
+// A watcher that prints.
+ghost use Rattle.std.specs.Prelude.{◌≡◌, ◌≤◌, ◌^◌, ◌-◌, ◌↔◌, IsTrue, None, Some, false};
+ghost use Rattle.stair_rack.specs.Watching.{HearsOne};
+ghost use Rattle.stair_rack.specs.declared.watcher.Next.{Next};
+ghost use Rattle.stair_watch.specs.Lines.{Prints, event_line};
+ghost use Rattle.stair_watch.specs.Watchers.{
+  count_in,
+  no_counts,
+  printer_left,
+  printer_view,
+  rest_of,
+  sum_in,
+  waits_on,
+};
+
+use crate::line::line_of;
+use crate::tally::Tally;
+use stair_rack::{Counts, Event, Next, Put, Sink, Watcher};
+use std::marker::Model;
+
+/// A watcher that prints a line for each event to its sink, and leaves at event number 2^64 - 1.
+///
+/// Where its sink fails it writes nothing more of that line, and counts the event all the same.
+#[derive(Drop)]
+pub struct Printer<K: Sink + Drop> {
+    sink: K,
+    tally: Tally,
+}
+
+impl<K: Sink + Drop> Model for Printer<K> {
+    ghost use Rattle.std.specs.Prelude.{◌≡◌, ◌^◌, ◌-◌};
+    ghost use Rattle.stair_watch.specs.Watchers.{PrinterState};
+
+    ghost Value = { PrinterState K };
+
+    ghost view = { λ p. record { sink = p.sink; counts = p.tally.counts } };
+
+    ghost invariant = { λ p. p.tally.limit ≡ 2 ^ 64 - 1 };
+}
+
+impl<K: Sink + Drop> Printer<K> {
+    /// A watcher that was told of no event, and prints to this sink.
+    pub fn new(sink: K) -> Printer<K>
+        ensures state { result ≡ record { sink = sink; counts = no_counts } }
+        ensures stays { printer_left result ≡ false }
+    {
+        Printer {
+            sink,
+            tally: Tally::new(u64::MAX),
+        }
+    }
+}
+
+impl<K: Sink + Drop> Watcher for Printer<K> {
+    ghost left = { printer_left };
+
+    ghost count = { λ p. count_in p.counts };
+
+    ghost told = { λ _. None };
+
+    ghost patience = { λ p. Some (rest_of (2 ^ 64 - 1) (sum_in p.counts)) };
+
+    ghost waits = { λ p. waits_on (2 ^ 64 - 1) (sum_in p.counts) };
+
+    fn notice(&mut self, event: Event) -> Next
+        requires { printer_left self.old ≡ false }
+        ensures left { (result ≡ Next.Leave) ↔ IsTrue (printer_left self.new) }
+        ensures heard { HearsOne printer_view event self.old self.new }
+        ensures full { 2 ^ 64 - 1 ≤ sum_in self.new.counts → result ≡ Next.Leave }
+        ensures printed { Prints K.held K.faults (event_line event) self.old.sink self.new.sink }
+    {
+        put_line(&mut self.sink, line_of(event).bytes());
+        self.tally.notice(event)
+    }
+
+    fn counts(&self) -> Counts {
+        self.tally.counts()
+    }
+
+    fn kept(&self, _at: u64) -> Option<Event> {
+        None
+    }
+}
+
+// Puts the bytes into the sink, up to a fault.
+fn put_line<K: Sink>(sink: &mut K, bytes: &[u8])
+    ensures { Prints K.held K.faults bytes.now sink.old sink.new }
+{
+    let mut put = 0;
+    while put < bytes.len() {
+        match sink.put(&bytes[put..]) {
+            Put::Bytes(count) => put += count,
+            Put::Failed => return,
+        }
+    }
+}
+
+#[cfg(test)]
+mod tests {
+    use super::*;
+    use crate::tests::EVENTS;
+    use stair_rack::MemSink;
+    use std::alloc::AllocError;
+
+    // What is printed for one of the events to a sink of so many bytes.
+    #[test]
+    fn a_line_up_to_a_fault(rt: HostRuntime) -> Result<(), AllocError> {
+        let [fenced, repaired, admitted, promoted] = EVENTS;
+        let line: &[u8] = b"repaired stripe 4294967295 cells 65535\n";
+        let rows: [(Event, usize, &[u8]); 6] = [
+            (fenced, 64, b"fenced 31\n"),
+            (repaired, 64, line),
+            (admitted, 64, b"admitted 0\n"),
+            (promoted, 64, b"promoted 7\n"),
+            (repaired, 38, &line[..38]),
+            (fenced, 0, b""),
+        ];
+        for (event, room, line) in rows {
+            let mut printer = Printer::new(MemSink::new(rt.alloc(), room)?);
+            assert_eq!(rt; printer.notice(event), Next::Stay);
+            assert_eq!(rt; printer.sink.bytes(), line);
+            assert_eq!(rt; printer.kept(0), None);
+        }
+        Ok(())
+    }
+}

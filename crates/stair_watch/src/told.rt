@@ -1,0 +1,36 @@
+// Telling a list of watchers of an event.
+ghost use Rattle.std.specs.Prelude.{◌≡◌, false, true};
+ghost use Rattle.stair_rack.specs.Watching.{HearsOne, watcher_view};
+ghost use Rattle.stair_rack.specs.declared.watcher.Next.{Next};
+ghost use Rattle.stair_watch.specs.WatcherList.{AllStay, Tells};
+
+use stair_rack::{Event, Next, Watcher};
+
+/// Tells each watcher of the event, in order. One that answers `Leave` is taken out and dropped, and the others keep their
+/// order. It takes no memory.
+pub fn tell(watchers: &mut Vec<Box<dyn Watcher>>, event: Event)
+    requires { AllStay (watcher_view told count left patience) watchers.old.items }
+    ensures told { Tells (watcher_view told count left patience) event watchers.old.items
+        watchers.new.items }
+
+    // None of those that are left has left, so they may be told of the next event.
+    ensures stay { AllStay (watcher_view told count left patience) watchers.new.items }
+{
+    let mut at = 0;
+    while at < watchers.len() {
+        match notify(&mut watchers[at], event) {
+            Next::Stay => at += 1,
+            Next::Leave => drop(watchers.remove(at)),
+        }
+    }
+}
+
+// The call of one watcher, whatever its type.
+fn notify(watcher: &mut Box<dyn Watcher>, event: Event) -> Next
+    requires { left watcher.old ≡ false }
+    ensures stays { result ≡ Next.Stay → left watcher.new ≡ false }
+    ensures leaves { result ≡ Next.Leave → left watcher.new ≡ true }
+    ensures heard { HearsOne (watcher_view told count left patience) event watcher.old watcher.new }
+{
+    watcher.notice(event)
+}
