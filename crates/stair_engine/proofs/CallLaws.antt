@@ -1,5 +1,5 @@
 -- What follows from a call that means what its words say, whatever they are.
-use Rattle.std.proofs.Common.{◌≡◌, ◌≢◌, ◌∙◌, ◌↔◌, ℕ, ◌≤◌, le_refl, List, [], ◌∷◌, inl, inr, Option, None, Some, IfSome, IsTrue, Result, Ok, Err, false, true, refl, sym, ap, subst}
+use Rattle.std.proofs.Common.{◌≡◌, ◌≢◌, ◌∙◌, ◌↔◌, ℕ, List, [], ◌∷◌, inl, inr, Option, None, Some, IfSome, IsTrue, Result, Ok, Err, false, true, sym, ap, subst}
 use Rattle.std.specs.Prelude.{IsErr}
 use Rattle.stair_model.specs.Geometry.{Geometry}
 use Rattle.stair_rack.specs.Answers.{Ran}
@@ -21,31 +21,34 @@ use Rattle.stair_conf.specs.declared.fault.ConfigFault.TheVariants as config
 use Rattle.stair_conf.specs.declared.job.Job.{Job}
 use Rattle.stair_conf.specs.declared.job.Job.TheVariants.{OneStripe, Create, Show}
 use Rattle.stair_conf.proofs.WordsLemmas.{spells_once}
-use Rattle.stair_engine.specs.Action.{status_of_create}
-use Rattle.stair_engine.specs.Cause.{IfNothingIsPutOut, IfRefusedAtOnce, LimitsComeFirst}
-use Rattle.stair_engine.specs.Does.{Leaves}
-use Rattle.stair_engine.specs.Fault.{status_of_config}
+use Rattle.stair_story.specs.Action.{status_of_create}
+use Rattle.stair_engine.specs.Cause.{IfRefusedAtOnce}
+use Rattle.stair_story.specs.Fault.{status_of_config}
 use Rattle.stair_engine.specs.Laws.{AllIsKept, ArrayIsLeft, ArrayIsMade, ArraysAreSpared, MemoryComesFirst, RackIsLeft, ShowOnlyLooks, UsageIsExact}
-use Rattle.stair_engine.specs.Means.{Bears, Counts, Holds}
+use Rattle.stair_story.specs.Means.{Bears, Counts}
 use Rattle.stair_engine.specs.Create.{IsOnceMade, MakesArray, SparesArrays}
-use Rattle.stair_engine.specs.Outside.{Outside, Views}
-use Rattle.stair_engine.specs.Plan.{Over, Ask, create_plan, if_spelled, job_plan, plan_of}
-use Rattle.stair_engine.specs.Question.{Question, IsReply, Words}
-use Rattle.stair_engine.specs.Rack.{MeansOver, RackView, Works, told_of}
+use Rattle.stair_story.specs.Outside.{Outside, Views}
+use Rattle.stair_story.specs.Plan.{Over, Ask}
+use Rattle.stair_engine.specs.Plans.{create_plan, if_spelled, job_plan, plan_of, show_plan}
+use Rattle.stair_story.specs.Question.{Question, IsReply, Words}
+use Rattle.stair_story.specs.Rack.{MeansOver, RackView, Works, told_of}
 use Rattle.stair_engine.specs.Stands.{ArrayStands}
-use Rattle.stair_engine.specs.Story.{Deed, Found, Grew, RanOut, Leads, Moves}
+use Rattle.stair_story.specs.Story.{Deed, Found, Grew, RanOut, Leads, Moves}
 use Rattle.stair_engine.specs.Task.{one_stripe}
-use Rattle.stair_engine.specs.declared.status.Status.{Status}
-use Rattle.stair_engine.specs.declared.status.Status.TheVariants.{Done, Usage, InputFault, OutputFault, OutOfMemory}
-use Rattle.stair_engine.proofs.CreateLaws.{CreateWent, Making, Reading, create_went}
+use Rattle.stair_story.specs.declared.status.Status.{Status}
+use Rattle.stair_story.specs.declared.status.Status.TheVariants.{Done, Usage, InputFault, OutputFault, OutOfMemory}
+use Rattle.stair_engine.proofs.CreateLaws.{CreateWent, create_went}
 use Rattle.stair_engine.proofs.CreateLaws.CreateWent.{Long, Failed, Whole}
 use Rattle.stair_engine.proofs.CreateLaws.Reading.{Unread, Faulty, Says}
 use Rattle.stair_engine.proofs.CreateLaws.Making.{ShortOfMemory, NotMade, Made, MadeUntold}
-use Rattle.stair_engine.proofs.MeaningLaws.{not_put, same_kept, tested_kept}
-use Rattle.stair_engine.proofs.RackLaws.{behind_over, left_along, over_done, stripe_calls_none, works_still}
-use Rattle.stair_engine.proofs.ShowLaws.{ShowCame, show_leaves, show_status, show_went}
+use Rattle.stair_engine.proofs.MeaningLaws.{tested_kept}
+use Rattle.stair_engine.proofs.ShowLaws.{ShowCame, show_went}
 use Rattle.stair_engine.proofs.ShowLaws.ShowCame.{Refused, Shown, ShownUntold}
 use Rattle.stair_engine.proofs.StandLaws.{looked_stands, still_stands}
+use Rattle.stair_story.proofs.RackLaws.{behind_over, left_along, over_done, works_still}
+use Rattle.stair_engine.proofs.StripeLaws.{stripe_calls_none}
+use Rattle.stair_story.proofs.EndingLaws.{none_taken, short_first}
+use Rattle.stair_engine.proofs.JobLaws.{job_no_usage, show_takes, words_first, words_leave}
 
 -- how a call of these words went, over a rack
 pub data CalledOver {R S K : Type 0} (rack : RackView R) (view : Views S K) (words : List (List ℕ)) (status : Status) (old new : Outside S K) (first last : R) : Type 0 where
@@ -97,93 +100,17 @@ module _ {R S K : Type 0} (rack : RackView R) (view : Views S K) where
 -- ---- how `create` ends
 
 -- the statuses of a refused text
-config_status : (fault : ConfigFault) → (status_of_config fault ≢ InputFault) × (status_of_config fault ≢ OutputFault) × (status_of_config fault ≢ Usage)
-    × (status_of_config fault ≢ Done)
-config_status config.NotToml = ((λ is. cc), (λ is. cc), (λ is. cc), (λ is. cc))
-config_status (config.Key key) = ((λ is. cc), (λ is. cc), (λ is. cc), (λ is. cc))
-config_status (config.Limit k) = ((λ is. cc), (λ is. cc), (λ is. cc), (λ is. cc))
-config_status config.Memory = ((λ is. cc), (λ is. cc), (λ is. cc), (λ is. cc))
+config_status : (fault : ConfigFault) → (status_of_config fault ≢ Done) × (status_of_config fault ≢ OutputFault)
+config_status config.NotToml = ((λ is. cc), (λ is. cc))
+config_status (config.Key key) = ((λ is. cc), (λ is. cc))
+config_status (config.Limit k) = ((λ is. cc), (λ is. cc))
+config_status config.Memory = ((λ is. cc), (λ is. cc))
 
 -- those of a refused array
-create_status : (fault : CreateFault) → (status_of_create fault ≢ InputFault) × (status_of_create fault ≢ OutputFault) × (status_of_create fault ≢ Usage)
-    × (status_of_create fault ≢ Done) × (status_of_create fault ≢ OutOfMemory)
-create_status (fault.Gone slot) = ((λ is. cc), (λ is. cc), (λ is. cc), (λ is. cc), (λ is. cc))
-create_status (fault.SmallDevice slot has needs) = ((λ is. cc), (λ is. cc), (λ is. cc), (λ is. cc), (λ is. cc))
-create_status (fault.AlreadyArray slot) = ((λ is. cc), (λ is. cc), (λ is. cc), (λ is. cc), (λ is. cc))
-
-module _ {S K X : Type 0} (view : Views S K) (W : Deed → X → X → Type 0) where
-  -- nothing was put out, and no fault is answered
-  quiet : (status : Status) (a b : Outside S K) → status ≢ InputFault → status ≢ OutputFault → view.source.faults a.source ≤ view.source.faults b.source
-      → b.sink ≡ a.sink → Leaves view status a b
-  quiet status a b not_input not_output count sink = record {
-    input_fault = λ is. absurd (not_input is);
-    output_fault = λ is. absurd (not_output is);
-    input_count = count;
-    output_count = subst (λ (k : K). view.sink.faults a.sink ≤ view.sink.faults k) (sym sink) (le_refl _);
-    untouched = subst (λ (k : K). IfNothingIsPutOut status (k ≡ a.sink)) (sym sink) (not_put status a.sink);
-  }
-
-  making_leaves : (g : Geometry) (status : Status) (a b : Outside S K) (x y : X) → view.source.faults a.source ≤ view.source.faults b.source
-      → Making (Holds view.sink) W g status a.sink b.sink x y → Leaves view status a b
-  making_leaves g status a b x y count (ShortOfMemory is sink same) =
-      quiet status a b (λ other. cc) (λ other. cc) count sink
-  making_leaves g status a b x y count (NotMade refusal did is sink) =
-      let not = create_status refusal in quiet status a b (λ other. not.0 (sym is ∙ other)) (λ other. not.1 (sym is ∙ other)) count sink
-  making_leaves g status a b x y count (Made did held is) = record {
-    input_fault = λ other. cc;
-    output_fault = λ other. cc;
-    input_count = count;
-    output_count = held.1;
-    untouched = subst (λ (s : Status). IfNothingIsPutOut s (b.sink ≡ a.sink)) (sym is) tt;
-  }
-  making_leaves g status a b x y count (MadeUntold part did all held is) = record {
-    input_fault = λ other. cc;
-    output_fault = λ other. held.2;
-    input_count = count;
-    output_count = held.1;
-    untouched = subst (λ (s : Status). IfNothingIsPutOut s (b.sink ≡ a.sink)) (sym is) tt;
-  }
-
-  reading_leaves : (text : List ℕ) (status : Status) (a b : Outside S K) (x y : X) → view.source.faults a.source ≤ view.source.faults b.source
-      → Reading (Holds view.sink) W text status a.sink b.sink x y → Leaves view status a b
-  reading_leaves text status a b x y count (Unread is sink same) = quiet status a b (λ other. cc) (λ other. cc) count sink
-  reading_leaves text status a b x y count (Faulty fault reads is sink same) =
-      let not = config_status fault in quiet status a b (λ other. not.0 (sym is ∙ other)) (λ other. not.1 (sym is ∙ other)) count sink
-  reading_leaves text status a b x y count (Says g reads making) = making_leaves g status a b x y count making
-
-  create_leaves : (status : Status) (a b : Outside S K) (x y : X) → CreateWent view W status a b x y → Leaves view status a b
-  create_leaves status a b x y (Long bytes long gives is sink same) = quiet status a b (λ other. cc) (λ other. cc) gives.3 sink
-  create_leaves status a b x y (Failed bytes gives is sink same) = record {
-    input_fault = λ other. gives.4;
-    output_fault = λ other. cc;
-    input_count = gives.3;
-    output_count = subst (λ (k : K). view.sink.faults a.sink ≤ view.sink.faults k) (sym sink) (le_refl _);
-    untouched = subst (λ (k : K). IfNothingIsPutOut status (k ≡ a.sink)) (sym sink) (not_put status a.sink);
-  }
-  create_leaves status a b x y (Whole text short gives reading) = reading_leaves text status a b x y gives.3 reading
-
-  create_no_usage : (status : Status) (a b : Outside S K) (x y : X) → CreateWent view W status a b x y → status ≢ Usage
-  create_no_usage status a b x y (Long bytes long gives is sink same) other = cc
-  create_no_usage status a b x y (Failed bytes gives is sink same) other = cc
-  create_no_usage status a b x y (Whole text short gives (Unread is sink same)) other = cc
-  create_no_usage status a b x y (Whole text short gives (Faulty fault reads is sink same)) other = (config_status fault).2 (sym is ∙ other)
-  create_no_usage status a b x y (Whole text short gives (Says g reads (ShortOfMemory is sink same))) other = cc
-  create_no_usage status a b x y (Whole text short gives (Says g reads (NotMade refusal did is sink))) other = (create_status refusal).2 (sym is ∙ other)
-  create_no_usage status a b x y (Whole text short gives (Says g reads (Made did held is))) other = cc
-  create_no_usage status a b x y (Whole text short gives (Says g reads (MadeUntold part did all held is))) other = cc
-
-  -- where memory was short nothing was done to an array
-  create_short : (status : Status) (a b : Outside S K) (x y : X) → CreateWent view W status a b x y → status ≡ OutOfMemory → y ≡ x
-  create_short status a b x y (Long bytes long gives is sink same) other = same
-  create_short status a b x y (Failed bytes gives is sink same) other = same
-  create_short status a b x y (Whole text short gives (Unread is sink same)) other = same
-  create_short status a b x y (Whole text short gives (Faulty fault reads is sink same)) other = same
-  create_short status a b x y (Whole text short gives (Says g reads (ShortOfMemory is sink same))) other = same
-  create_short status a b x y (Whole text short gives (Says g reads (NotMade refusal did is sink))) other =
-      absurd ((create_status refusal).4 (sym is ∙ other))
-  create_short status a b x y (Whole text short gives (Says g reads (Made did held is))) other = let clash : Done ≡ OutOfMemory = sym is ∙ other in cc
-  create_short status a b x y (Whole text short gives (Says g reads (MadeUntold part did all held is))) other =
-      let clash : OutputFault ≡ OutOfMemory = sym is ∙ other in cc
+create_status : (fault : CreateFault) → (status_of_create fault ≢ Done) × (status_of_create fault ≢ OutputFault)
+create_status (fault.Gone slot) = ((λ is. cc), (λ is. cc))
+create_status (fault.SmallDevice slot has needs) = ((λ is. cc), (λ is. cc))
+create_status (fault.AlreadyArray slot) = ((λ is. cc), (λ is. cc))
 
 -- `create` was not begun, or was refused
 never : {status named : Status} → status ≡ named → named ≢ Done → named ≢ OutputFault → ¬ IsOnceMade status
@@ -207,17 +134,7 @@ module _ {R S K : Type 0} (rack : RackView R) (view : Views S K) where
   went_over status a b x y over = create_went view (Works rack) (works_still rack) status a b x y over.means over.works
 
   pub all_is_kept : AllIsKept rack view
-  all_is_kept words status a b x y over =
-      elim (called_over rack view words status a b x y over) as (λ _. Leaves view status a b) [
-        | NoMemory out ends still ↦ same_kept view status a b ends (λ is. cc) (λ is. cc)
-        | NotSpelled not usage ends still ↦ same_kept view status a b ends (λ is. cc) (λ is. cc)
-        | Spelled job spells later ↦ job_leaves job later
-      ]
-    where
-      job_leaves : (job : Job) → MeansOver rack view (job_plan job) (Over status) a b x y → Leaves view status a b
-      job_leaves (OneStripe command n m r e) later = (tested_kept view command (one_stripe n m r e) status a b later.means).leaves
-      job_leaves Create later = create_leaves view (Works rack) status a b x y (went_over status a b x y later)
-      job_leaves Show later = show_leaves rack view status a b x y (show_went rack view status a b x y later)
+  all_is_kept words status a b x y over = words_leave view words status a b over.means
 
   pub rack_is_left : RackIsLeft rack view
   rack_is_left words status a b x y over other no_show =
@@ -236,18 +153,7 @@ module _ {R S K : Type 0} (rack : RackView R) (view : Views S K) where
       job_left Show spells later = absurd (no_show spells)
 
   pub memory_comes_first : MemoryComesFirst rack view
-  memory_comes_first words a b x y over =
-      elim (called_over rack view words OutOfMemory a b x y over) as (λ _. y ≡ x) [
-        | NoMemory out ends still ↦ still
-        | NotSpelled not usage ends still ↦ still
-        | Spelled job spells later ↦ job_short job later
-      ]
-    where
-      job_short : (job : Job) → MeansOver rack view (job_plan job) (Over OutOfMemory) a b x y → y ≡ x
-      job_short (OneStripe command n m r e) later =
-          left_along rack later.means.story _ (Over OutOfMemory) x y (stripe_calls_none command (one_stripe n m r e)) later.means.follows later.works
-      job_short Create later = create_short view (Works rack) OutOfMemory a b x y (went_over OutOfMemory a b x y later) refl
-      job_short Show later = absurd ((show_status rack view OutOfMemory a b x y (show_went rack view OutOfMemory a b x y later)).2 refl)
+  memory_comes_first words a b x y over = short_first rack over.means.story (plan_of words) x y (words_first words) over.means.follows over.works
 
   made_of : (text : List ℕ) (g : Geometry) (a : Outside S K) (x y : R) → IfSome (view.source.left a.source) (λ all. text ≡ all) → TextReadsAs text (Ok g)
       → Creates g (Ok tt) (told_of rack x) (told_of rack y) → IsTrue rack.honest
@@ -261,11 +167,11 @@ module _ {R S K : Type 0} (rack : RackView R) (view : Views S K) where
   made_so status a b x y (Failed bytes gives is sink same) honest once = absurd (never is (λ clash. cc) (λ clash. cc) once)
   made_so status a b x y (Whole text short gives (Unread is sink same)) honest once = absurd (never is (λ clash. cc) (λ clash. cc) once)
   made_so status a b x y (Whole text short gives (Faulty fault reads is sink same)) honest once =
-      absurd (never is (config_status fault).3 (config_status fault).1 once)
+      absurd (never is (config_status fault).0 (config_status fault).1 once)
   made_so status a b x y (Whole text short gives (Says g reads (ShortOfMemory is sink same))) honest once =
       absurd (never is (λ clash. cc) (λ clash. cc) once)
   made_so status a b x y (Whole text short gives (Says g reads (NotMade refusal did is sink))) honest once =
-      absurd (never is (create_status refusal).3 (create_status refusal).1 once)
+      absurd (never is (create_status refusal).0 (create_status refusal).1 once)
   made_so status a b x y (Whole text short gives (Says g reads (Made did held is))) honest once = made_of text g a x y gives.1 reads did honest
   made_so status a b x y (Whole text short gives (Says g reads (MadeUntold part did all held is))) honest once =
       made_of text g a x y gives.1 reads did honest
@@ -305,11 +211,11 @@ module _ {R S K : Type 0} (rack : RackView R) (view : Views S K) where
   spared_so status a b x y (Failed bytes gives is sink same) honest = left_spared x y is (λ clash. cc) (λ clash. cc) same
   spared_so status a b x y (Whole text short gives (Unread is sink same)) honest = left_spared x y is (λ clash. cc) (λ clash. cc) same
   spared_so status a b x y (Whole text short gives (Faulty fault reads is sink same)) honest =
-      left_spared x y is (config_status fault).3 (config_status fault).1 same
+      left_spared x y is (config_status fault).0 (config_status fault).1 same
   spared_so status a b x y (Whole text short gives (Says g reads (ShortOfMemory is sink same))) honest =
       left_spared x y is (λ clash. cc) (λ clash. cc) same
   spared_so status a b x y (Whole text short gives (Says g reads (NotMade refusal did is sink))) honest =
-      call_spared g (Err refusal) status x y did honest (λ refused. never is (create_status refusal).3 (create_status refusal).1)
+      call_spared g (Err refusal) status x y did honest (λ refused. never is (create_status refusal).0 (create_status refusal).1)
   spared_so status a b x y (Whole text short gives (Says g reads (Made did held is))) honest =
       call_spared g (Ok tt) status x y did honest (λ (refused : false ≡ true). absurd cc)
   spared_so status a b x y (Whole text short gives (Says g reads (MadeUntold part did all held is))) honest =
@@ -331,16 +237,9 @@ module _ {R S K : Type 0} (rack : RackView R) (view : Views S K) where
         | NoMemory out ends still ↦ absurd (memory out)
         | NotSpelled not usage ends still ↦ ((λ is. not, λ none. usage), λ other. absurd (other usage))
         | Spelled job spells later ↦
-            let not = job_no_usage job later in
+            let not = job_no_usage view job status a b later.means in
             ((λ is. absurd (not is), λ none. absurd (none (job, spells))), λ other. (job, spells))
       ]
-    where
-      job_no_usage : (job : Job) → MeansOver rack view (job_plan job) (Over status) a b x y → status ≢ Usage
-      job_no_usage (OneStripe command n m r e) later is =
-          subst (LimitsComeFirst command (one_stripe n m r e)) is
-          (tested_kept view command (one_stripe n m r e) status a b later.means).does.limits
-      job_no_usage Create later is = create_no_usage view (Works rack) status a b x y (went_over status a b x y later) is
-      job_no_usage Show later is = (show_status rack view status a b x y (show_went rack view status a b x y later)).1 is
 
   -- the calls that were made
   came_ran : (status : Status) (a b : Outside S K) (x y : R) → ShowCame rack view status a b x y → IsTrue rack.honest
@@ -368,9 +267,11 @@ module _ {R S K : Type 0} (rack : RackView R) (view : Views S K) where
         )
         | NotSpelled not usage ends still ↦ absurd (not (Show, spells))
         | Spelled job read later ↦
-            let went = show_went rack view status a b x y
-            (subst (λ (j : Job). MeansOver rack view (job_plan j) (Over status) a b x y) (spells_once words job Show read spells) later) in
-            ((show_status rack view status a b x y went).0, went.source, went.counter, came_ran status a b x y went.came)
+            let shown : MeansOver rack view show_plan (Over status) a b x y =
+            subst (λ (j : Job). MeansOver rack view (job_plan j) (Over status) a b x y) (spells_once words job Show read spells) later in
+            let went = show_went rack view status a b x y shown in
+            let taken = none_taken view.source shown.means.story show_plan status a.source b.source show_takes shown.means.follows shown.means.bears.gives in
+            (taken.1, taken.0, went.counter, came_ran status a b x y went.came)
       ]
 
   pub array_is_left : ArrayIsLeft rack view

@@ -20,17 +20,18 @@ use Rattle.stair_conf.specs.declared.job.StripeCommand.{StripeCommand}
 use Rattle.stair_conf.specs.declared.job.StripeCommand.TheVariants.{Check, Encode, Restore}
 use Rattle.stair_conf.proofs.ConfigLaws.{one_answer}
 use Rattle.stair_conf.proofs.WordsLemmas.{spells_once}
-use Rattle.stair_engine.specs.Answer.{HasBytes, IsJudged}
+use Rattle.stair_story.specs.Answer.{HasBytes, IsJudged}
 use Rattle.stair_engine.specs.Cause.{HasCause}
 use Rattle.stair_engine.specs.Complete.{CanBeDone, HasNoFault, IsDone, IsValidInput}
 use Rattle.stair_engine.specs.Laws.{AllIsComplete}
-use Rattle.stair_engine.specs.Outside.{Outside, Views}
-use Rattle.stair_engine.specs.Plan.{Over, job_plan}
-use Rattle.stair_engine.specs.Rack.{MeansOver, RackView, Works, told_of}
-use Rattle.stair_engine.specs.Restore.{HoldsCells, IsErasedBy}
+use Rattle.stair_story.specs.Outside.{Outside, Views}
+use Rattle.stair_story.specs.Plan.{Over}
+use Rattle.stair_engine.specs.Plans.{job_plan}
+use Rattle.stair_story.specs.Rack.{MeansOver, RackView, Works, told_of}
+use Rattle.stair_story.specs.Restore.{HoldsCells, IsErasedBy}
 use Rattle.stair_engine.specs.Task.{one_stripe}
-use Rattle.stair_engine.specs.declared.status.Status.{Status}
-use Rattle.stair_engine.specs.declared.status.Status.TheVariants.{Done, NotCodeword, NoCodeword, Usage, Limit, Key, NotToml, Input, InputFault, OutputFault, NoArray, TwoArrays, TooFew, Lost, AlreadyArray, SmallDevice, Gone, OutOfMemory}
+use Rattle.stair_story.specs.declared.status.Status.{Status}
+use Rattle.stair_story.specs.declared.status.Status.TheVariants.{Done, NotCodeword, NoCodeword, Limit, Input, InputFault, OutputFault, Lost, OutOfMemory}
 use Rattle.stair_engine.proofs.CallLaws.{called_over, went_over}
 use Rattle.stair_engine.proofs.CallLaws.CalledOver.{NoMemory, NotSpelled, Spelled}
 use Rattle.stair_engine.proofs.CreateLaws.{CreateWent}
@@ -40,6 +41,7 @@ use Rattle.stair_engine.proofs.CreateLaws.Making.{ShortOfMemory, NotMade, Made, 
 use Rattle.stair_engine.proofs.MeaningLaws.{tested_kept, told_more}
 use Rattle.stair_engine.proofs.ShowLaws.{ShowCame, show_went}
 use Rattle.stair_engine.proofs.ShowLaws.ShowCame.{Refused, Shown, ShownUntold}
+use Rattle.stair_engine.proofs.JobLaws.{job_leaves}
 
 -- ---- bytes make one stripe
 
@@ -123,15 +125,7 @@ stripe_done command g input held held' (Limit k) valid cause no_input no_output 
 stripe_done command g input held held' (Input needed took) valid cause no_input no_output = absurd (cause.1.1.other valid.whole)
 stripe_done command g input held held' InputFault valid cause no_input no_output = absurd (no_input refl)
 stripe_done command g input held held' OutputFault valid cause no_input no_output = absurd (no_output refl)
-stripe_done command g input held held' Usage valid cause no_input no_output = absurd cause
-stripe_done command g input held held' (Key key) valid cause no_input no_output = absurd cause
-stripe_done command g input held held' NotToml valid cause no_input no_output = absurd cause
-stripe_done command g input held held' NoArray valid cause no_input no_output = absurd cause
-stripe_done command g input held held' (TwoArrays first second) valid cause no_input no_output = absurd cause
-stripe_done command g input held held' (TooFew whys) valid cause no_input no_output = absurd cause
-stripe_done command g input held held' (AlreadyArray slot) valid cause no_input no_output = absurd cause
-stripe_done command g input held held' (SmallDevice slot has needs) valid cause no_input no_output = absurd cause
-stripe_done command g input held held' (Gone slot) valid cause no_input no_output = absurd cause
+stripe_done command g input held held' _ valid cause no_input no_output = absurd cause
 
 -- a fact of told bytes
 of_told : (told : Option (List ℕ)) (input : List ℕ) (P : List ℕ → Type 0) → told ≡ Some input → IfSome told P → P input
@@ -190,9 +184,10 @@ module _ {R S K : Type 0} (rack : RackView R) (view : Views S K) where
           → IsDone status
       job_done (OneStripe command n m r e) can later =
           let kept = tested_kept view command (one_stripe n m r e) status a b later.means in
+          let left = job_leaves view (OneStripe command n m r e) status a b later.means in
           stripe_done command (one_stripe n m r e) can.0 (view.sink.held a.sink) (view.sink.held b.sink) status can.2
           (of_told (view.source.left a.source) can.0
           (λ bytes. HasCause command (one_stripe n m r e) bytes (view.sink.held a.sink) (view.sink.held b.sink) status) can.1 kept.does.cause)
-          (λ is. none.source (kept.leaves.input_fault is)) (λ is. none.sink (kept.leaves.output_fault is))
+          (λ is. none.source (left.input_fault is)) (λ is. none.sink (left.output_fault is))
       job_done Create can later = create_done status a b x y none can (went_over rack view status a b x y later)
       job_done Show can later = show_done status a b x y none can (show_went rack view status a b x y later).came

@@ -4,21 +4,18 @@ use Rattle.stair_model.specs.Geometry.{Geometry}
 use Rattle.stair_array.specs.declared.fault.CreateFault.{CreateFault}
 use Rattle.stair_conf.specs.Config.{TextReadsAs}
 use Rattle.stair_conf.specs.declared.fault.ConfigFault.{ConfigFault}
-use Rattle.stair_engine.specs.Action.{Create, Outcome, status_of_create}
-use Rattle.stair_engine.specs.Fault.{status_of_config}
-use Rattle.stair_engine.specs.Means.{Gives, Holds, Means}
-use Rattle.stair_engine.specs.Outside.{Outside, Views}
-use Rattle.stair_engine.specs.Plan.{Plan, Over, Ask, Put, Allocate, Do, TEXT_LIMIT, create_plan, created_line, making_plan}
-use Rattle.stair_engine.specs.Question.{Text}
-use Rattle.stair_engine.specs.Story.{Deed, Found, Took, TookLast, TakeFailed, HasPut, PutFailed, Grew, RanOut, Did, IsPart, Leads, Moves, after}
-use Rattle.stair_engine.specs.declared.status.Status.{Status}
-use Rattle.stair_engine.specs.declared.status.Status.TheVariants.{Done, Input, InputFault, OutputFault, OutOfMemory}
-use Rattle.stair_engine.proofs.MeaningLaws.{no_move}
-
--- a deed that isn't one on an array
-abbrev pub IsOffDevices : Deed → Type 0
-IsOffDevices (Did action outcome) = ⊥
-IsOffDevices _ = Unit {0}
+use Rattle.stair_story.specs.Action.{Create, Outcome, status_of_create}
+use Rattle.stair_story.specs.Fault.{status_of_config}
+use Rattle.stair_story.specs.Means.{Gives, Holds, Means}
+use Rattle.stair_story.specs.Outside.{Outside, Views}
+use Rattle.stair_story.specs.Plan.{Plan, Over, Ask, Put, Allocate, Do}
+use Rattle.stair_engine.specs.Plans.{TEXT_LIMIT, create_plan, created_line, making_plan}
+use Rattle.stair_story.specs.Question.{Text}
+use Rattle.stair_story.specs.Story.{Deed, Found, Took, TookLast, TakeFailed, HasPut, PutFailed, Grew, RanOut, Did, IsPart, Leads, Moves, after}
+use Rattle.stair_story.specs.declared.status.Status.{Status}
+use Rattle.stair_story.specs.declared.status.Status.TheVariants.{Done, Input, InputFault, OutputFault, OutOfMemory}
+use Rattle.stair_story.proofs.EndLaws.{no_move}
+use Rattle.stair_story.proofs.RackLaws.{IsOffDevices}
 
 -- what became of an array, and of the line for it
 pub data Making {K X : Type 0} (Held : Deed → K → K → Type 0) (W : Deed → X → X → Type 0) (g : Geometry) (status : Status) (sink sink' : K) (x y : X) : Type 0 where

@@ -1,159 +1,34 @@
 -- What follows from a call that means what its words say: its story is taken apart, deed by deed, along its plan.
-use Rattle.std.proofs.Common.{◌≡◌, ◌≢◌, ℕ, ◌+◌, ◌<◌, ◌≤◌, ◌⊎◌, le_refl, Bool, true, false, inl, inr, List, [], ◌∷◌, ◌++◌, None, Some, IfSome, length, take, refl, sym, ap, ◌∙◌, subst, arith, length-append, append-nil}
+use Rattle.std.proofs.Common.{◌≡◌, ◌≢◌, ℕ, ◌+◌, ◌<◌, ◌≤◌, Bool, true, false, inl, inr, List, [], ◌∷◌, ◌++◌, None, Some, IfSome, length, take, refl, sym, ap, ◌∙◌, subst, arith, length-append, append-nil}
 use Rattle.std.specs.Prelude.{Option, MatchBool}
 use Rattle.std.specs.Io.KnownBytes.{Appends, Consumes}
 use Rattle.std.proofs.KnownBytes.{Appends-nil, Consumes-trans, Keeps-refl}
 use lib.Seq.{take-append_seam}
 use Rattle.std.proofs.lemmas.Option.{IfSome_then}
 use Rattle.stair_model.specs.Geometry.{Geometry, IsWithinLimits, IsFirstBrokenLimit}
-use Rattle.stair_rack.specs.Count.{Rose, kept-Rose}
+use Rattle.stair_rack.specs.Count.{Rose}
 use Rattle.stair_conf.specs.Words.{IsSpelled, Spells}
 use Rattle.stair_conf.specs.declared.job.Job.{Job}
 use Rattle.stair_conf.specs.declared.job.Job.TheVariants.{OneStripe}
 use Rattle.stair_conf.proofs.WordsLemmas.{spells_once}
-use Rattle.stair_engine.specs.declared.status.Status.{Status}
-use Rattle.stair_engine.specs.declared.status.Status.TheVariants.{Done, NotCodeword, NoCodeword, Usage, Limit, Key, NotToml, Input, InputFault, OutputFault, NoArray, TwoArrays, TooFew, Lost, AlreadyArray, SmallDevice, Gone, OutOfMemory}
+use Rattle.stair_story.specs.declared.status.Status.{Status}
+use Rattle.stair_story.specs.declared.status.Status.TheVariants.{Done, NotCodeword, NoCodeword, Usage, Limit, Input, InputFault, OutputFault, Lost, OutOfMemory}
 use Rattle.stair_conf.specs.declared.job.StripeCommand.{StripeCommand}
 use Rattle.stair_engine.specs.Task.{one_stripe}
 use Rattle.stair_conf.specs.declared.job.StripeCommand.TheVariants.{Check, Encode, Restore}
-use Rattle.stair_engine.specs.Answer.{IsAnswer, IsJudged, IsOtherLength, Judges, bytes_needed}
-use Rattle.stair_engine.specs.Cause.{Answers, CountsSteps, HasCause, IfNothingIsPutOut, IfRefusedAtOnce, IsOutput, LimitsComeFirst, LooksForEnd, PutsOut, PutsPart, TakesInput}
-use Rattle.stair_engine.specs.Does.{Does, Leaves}
+use Rattle.stair_story.specs.Answer.{IsAnswer, IsJudged, IsOtherLength, Judges, bytes_needed}
+use Rattle.stair_engine.specs.Cause.{Answers, CountsSteps, HasCause, IfRefusedAtOnce, IsOutput, LimitsComeFirst, LooksForEnd, PutsOut, PutsPart, TakesInput}
+use Rattle.stair_engine.specs.Does.{Does}
 use Rattle.stair_engine.specs.Laws.{BytesAreAnswered, WordsAreDone}
-use Rattle.stair_engine.specs.Means.{Bears, Counts, Gives, Holds, Means}
-use Rattle.stair_engine.specs.Outside.{Outside, Views, outside}
-use Rattle.stair_engine.specs.Plan.{Plan, Over, Ask, Take, Put, Allocate, answer, if_spelled, input_plan, job_plan, judged, plan_of, stripe_plan, tested_plan, within_limits}
-use Rattle.stair_engine.specs.Question.{Question, Reply, IsReply, Words, Limits, Judgement}
-use Rattle.stair_engine.specs.Story.{Deed, Found, Took, TookLast, TakeFailed, HasPut, PutFailed, Grew, RanOut, IsPart, Leads, Moves}
+use Rattle.stair_story.specs.Means.{Counts, Gives, Means}
+use Rattle.stair_story.specs.Outside.{Outside, Views, outside}
+use Rattle.stair_story.specs.Plan.{Over, Ask, Take, answer}
+use Rattle.stair_engine.specs.Plans.{if_spelled, input_plan, job_plan, judged, plan_of, stripe_plan, tested_plan, within_limits}
+use Rattle.stair_story.specs.Question.{IsReply, Words, Limits, Judgement}
+use Rattle.stair_story.specs.Story.{Found, Took, IsPart}
+use Rattle.stair_story.proofs.EndLaws.{GaveAll, GaveFault, GaveFewer, HeldAll, HeldPart, Putting, allocate_ends, ask_ends, over_ends, put_ends, take_ends}
 use Rattle.stair_engine.proofs.AnswerLaws.{HasBytes-cells}
-
--- ---- a story, deed by deed
-
--- a plan that is over makes no move
-pub no_move : (deed : Deed) (status : Status) (rest : Plan) → Moves deed (Over status) rest → ⊥
-no_move Grew status rest moves = moves
-no_move _ status rest moves = moves
-
--- what a question was answered, and how the plan went on
-record Decided {S K : Type 0} (view : Views S K) (question : Question) (k : Reply question → Plan) (status : Status) (old new : Outside S K) : Type 0 where
-  pub reply : Reply question
-  pub is : IsReply question reply
-  pub counter : ℕ
-  pub counts : Counts (Found question) old.counter counter
-  pub later : Means view (k reply) (Over status) (outside old.source old.sink counter) new
-
--- what was taken, and how the plan went on
-data Taking {S K : Type 0} (view : Views S K) (n : ℕ) (k short : List ℕ → Plan) (status : Status) (old new : Outside S K) : Type 0 where
-  GaveAll : (bytes : List ℕ) (mid : S) → length bytes ≡ n → Gives view.source (Took bytes) old.source mid
-      → Means view (k bytes) (Over status) (outside mid old.sink old.counter) new → Taking view n k short status old new
-  GaveFewer : (bytes : List ℕ) (mid : S) → length bytes < n → Gives view.source (TookLast bytes) old.source mid
-      → Means view (short bytes) (Over status) (outside mid old.sink old.counter) new → Taking view n k short status old new
-  GaveFault : (bytes : List ℕ) (mid : S) → length bytes < n → Gives view.source (TakeFailed bytes) old.source mid
-      → status ≡ InputFault → new ≡ outside mid old.sink old.counter → Taking view n k short status old new
-
--- what was put out, and how the plan went on
-data Putting {S K : Type 0} (view : Views S K) (all : List ℕ) (plan : Plan) (status : Status) (old new : Outside S K) : Type 0 where
-  HeldAll : (mid : K) → Holds view.sink (HasPut all) old.sink mid → Means view plan (Over status) (outside old.source mid old.counter) new
-      → Putting view all plan status old new
-  HeldPart : (part : List ℕ) (mid : K) → IsPart part all → Holds view.sink (PutFailed part) old.sink mid → status ≡ OutputFault
-      → new ≡ outside old.source mid old.counter → Putting view all plan status old new
-
-module _ {S K : Type 0} (view : Views S K) where
-  same_outside : (a b : Outside S K) → b.source ≡ a.source → b.sink ≡ a.sink → b.counter ≡ a.counter → b ≡ a
-  same_outside a b source sink counter = λ i. record { source = source i; sink = sink i; counter = counter i }
-
-  -- what comes behind the first deed
-  behind : (deed : Deed) (story : List Deed) (plan from : Plan) (status : Status) (a mid b : Outside S K) (bears : Bears view (deed ∷ story) a b)
-      → bears.gives.0 ≡ mid.source → bears.holds.0 ≡ mid.sink → bears.counts.0 ≡ mid.counter
-      → from ≡ plan → Leads Moves story from (Over status) → Means view plan (Over status) mid b
-  behind deed story plan from status a mid b bears source sink counter same follows = record {
-    story = story;
-    follows = subst (λ (p : Plan). Leads Moves story p (Over status)) same follows;
-    bears = record {
-      gives = subst (λ (x : S). Leads (Gives view.source) story x b.source) source bears.gives.2;
-      holds = subst (λ (x : K). Leads (Holds view.sink) story x b.sink) sink bears.holds.2;
-      counts = subst (λ (x : ℕ). Leads Counts story x b.counter) counter bears.counts.2;
-    };
-  }
-
-  over_ends : (from status : Status) (a b : Outside S K) → Means view (Over from) (Over status) a b → (status ≡ from) × (b ≡ a)
-  over_ends from status a b means = over_at means.story means.follows means.bears
-    where
-      over_at : (story : List Deed) → Leads Moves story (Over from) (Over status) → Bears view story a b → (status ≡ from) × (b ≡ a)
-      over_at [] follows bears = (let same : Over status ≡ Over from = follows in cc, same_outside a b bears.gives bears.holds bears.counts)
-      over_at (deed ∷ story) follows bears = absurd (no_move deed from follows.0 follows.1)
-
-  allocate_ends : (plan : Plan) (status : Status) (a b : Outside S K) → Means view (Allocate plan) (Over status) a b
-      → ((status ≡ OutOfMemory) × (b ≡ a)) ⊎ Means view plan (Over status) a b
-  allocate_ends plan status a b means = allocate_at means.story means.follows means.bears
-    where
-      allocate_at : (story : List Deed) → Leads Moves story (Allocate plan) (Over status) → Bears view story a b
-          → ((status ≡ OutOfMemory) × (b ≡ a)) ⊎ Means view plan (Over status) a b
-      allocate_at [] follows bears = let same : Over status ≡ Allocate plan = follows in absurd cc
-      allocate_at (Grew ∷ story) follows bears =
-          inr (behind Grew story plan follows.0 status a a b bears bears.gives.1 bears.holds.1 bears.counts.1 follows.1 follows.2)
-      allocate_at (RanOut ∷ story) follows bears =
-          inl (over_ends OutOfMemory status a b
-          (behind RanOut story (Over OutOfMemory) follows.0 status a a b bears bears.gives.1 bears.holds.1 bears.counts.1 follows.1 follows.2))
-      allocate_at (_ ∷ story) follows bears = absurd follows.1
-
-  ask_ends : (question : Question) (k : Reply question → Plan) (status : Status) (a b : Outside S K) → Means view (Ask question k) (Over status) a b
-      → Decided view question k status a b
-  ask_ends question k status a b means = ask_at means.story means.follows means.bears
-    where
-      ask_at : (story : List Deed) → Leads Moves story (Ask question k) (Over status) → Bears view story a b → Decided view question k status a b
-      ask_at [] follows bears = let same : Over status ≡ Ask question k = follows in absurd cc
-      ask_at (Found asked ∷ story) follows bears =
-          let moved = follows.1 in
-          record {
-            reply = moved.0;
-            is = moved.2;
-            counter = bears.counts.0;
-            counts = subst (λ (q : Question). Counts (Found q) a.counter bears.counts.0) moved.1 bears.counts.1;
-            later = behind (Found asked) story (k moved.0) follows.0 status a (outside a.source a.sink bears.counts.0) b bears
-                bears.gives.1 bears.holds.1 refl moved.3 follows.2;
-          }
-      ask_at (_ ∷ story) follows bears = absurd follows.1
-
-  take_ends : (n : ℕ) (k short : List ℕ → Plan) (status : Status) (a b : Outside S K) → Means view (Take n k short) (Over status) a b
-      → Taking view n k short status a b
-  take_ends n k short status a b means = take_at means.story means.follows means.bears
-    where
-      take_at : (story : List Deed) → Leads Moves story (Take n k short) (Over status) → Bears view story a b → Taking view n k short status a b
-      take_at [] follows bears = let same : Over status ≡ Take n k short = follows in absurd cc
-      take_at (Took bytes ∷ story) follows bears =
-          GaveAll bytes bears.gives.0 follows.1.0 bears.gives.1
-          (behind (Took bytes) story (k bytes) follows.0 status a (outside bears.gives.0 a.sink a.counter) b bears refl bears.holds.1 bears.counts.1
-          follows.1.1 follows.2)
-      take_at (TookLast bytes ∷ story) follows bears =
-          GaveFewer bytes bears.gives.0 follows.1.0 bears.gives.1
-          (behind (TookLast bytes) story (short bytes) follows.0 status a (outside bears.gives.0 a.sink a.counter) b bears refl bears.holds.1
-          bears.counts.1 follows.1.1 follows.2)
-      take_at (TakeFailed bytes ∷ story) follows bears =
-          let mid = outside bears.gives.0 a.sink a.counter in
-          let ends = over_ends InputFault status mid b
-          (behind (TakeFailed bytes) story (Over InputFault) follows.0 status a mid b bears refl bears.holds.1 bears.counts.1 follows.1.1 follows.2)
-          in
-          GaveFault bytes bears.gives.0 follows.1.0 bears.gives.1 ends.0 ends.1
-      take_at (_ ∷ story) follows bears = absurd follows.1
-
-  put_ends : (all : List ℕ) (plan : Plan) (status : Status) (a b : Outside S K) → Means view (Put all plan) (Over status) a b
-      → Putting view all plan status a b
-  put_ends all plan status a b means = put_at means.story means.follows means.bears
-    where
-      put_at : (story : List Deed) → Leads Moves story (Put all plan) (Over status) → Bears view story a b → Putting view all plan status a b
-      put_at [] follows bears = let same : Over status ≡ Put all plan = follows in absurd cc
-      put_at (HasPut bytes ∷ story) follows bears =
-          HeldAll bears.holds.0 (subst (λ (x : List ℕ). Holds view.sink (HasPut x) a.sink bears.holds.0) follows.1.0 bears.holds.1)
-          (behind (HasPut bytes) story plan follows.0 status a (outside a.source bears.holds.0 a.counter) b bears bears.gives.1 refl bears.counts.1
-          follows.1.1 follows.2)
-      put_at (PutFailed part ∷ story) follows bears =
-          let mid = outside a.source bears.holds.0 a.counter in
-          let ends = over_ends OutputFault status mid b
-          (behind (PutFailed part) story (Over OutputFault) follows.0 status a mid b bears bears.gives.1 refl bears.counts.1 follows.1.1 follows.2)
-          in
-          HeldPart part bears.holds.0 follows.1.0 bears.holds.1 ends.0 ends.1
-      put_at (_ ∷ story) follows bears = absurd follows.1
+use Rattle.stair_engine.proofs.JobLaws.{words_leave}
 
 -- ---- told bytes
 
@@ -211,7 +86,6 @@ uncounted (Encode method) g _ n n' not_done not_failed same = same
 
 pub record Kept {S K : Type 0} (view : Views S K) (command : StripeCommand) (g : Geometry) (status : Status) (old new : Outside S K) : Type 0 where
   pub does : Does view command g status old new
-  pub leaves : Leaves view status old new
   pub refused : IfRefusedAtOnce status (new ≡ old)
 
 module _ {S K : Type 0} (view : Views S K) (command : StripeCommand) (g : Geometry) where
@@ -230,13 +104,6 @@ module _ {S K : Type 0} (view : Views S K) (command : StripeCommand) (g : Geomet
       output = Keeps-refl (view.sink.held a.sink);
       steps = uncounted command g (Limit k) a.counter a.counter (λ is. cc) (λ is. cc) refl;
     };
-    leaves = record {
-      input_fault = λ is. cc;
-      output_fault = λ is. cc;
-      input_count = le_refl _;
-      output_count = le_refl _;
-      untouched = refl;
-    };
     refused = refl;
   }
 
@@ -250,13 +117,6 @@ module _ {S K : Type 0} (view : Views S K) (command : StripeCommand) (g : Geomet
       output = Keeps-refl (view.sink.held a.sink);
       steps = uncounted command g OutOfMemory a.counter a.counter (λ is. cc) (λ is. cc) refl;
     };
-    leaves = record {
-      input_fault = λ is. cc;
-      output_fault = λ is. cc;
-      input_count = le_refl _;
-      output_count = le_refl _;
-      untouched = refl;
-    };
     refused = refl;
   }
 
@@ -265,9 +125,8 @@ module _ {S K : Type 0} (view : Views S K) (command : StripeCommand) (g : Geomet
       → Consumes (view.source.left a.source) (view.source.left source) bytes
       → IfSome (view.source.left a.source) (λ input. IsOtherLength (bytes_needed command g) input (bytes_needed command g) took)
       → MatchBool (view.source.ended source) (took < bytes_needed command g) (took ≡ bytes_needed command g + 1)
-      → view.source.faults a.source ≤ view.source.faults source
       → Kept view command g (Input (bytes_needed command g) took) a (outside source a.sink a.counter)
-  length_kept took bytes a source limits long consumed other looked count = record {
+  length_kept took bytes a source limits long consumed other looked = record {
     does = record {
       limits = (limits, tt);
       cause = IfSome_then (view.source.left a.source) other (λ input is. ([], (limits, is, refl), Appends-nil (view.sink.held a.sink)));
@@ -276,22 +135,14 @@ module _ {S K : Type 0} (view : Views S K) (command : StripeCommand) (g : Geomet
       output = Keeps-refl (view.sink.held a.sink);
       steps = uncounted command g (Input (bytes_needed command g) took) a.counter a.counter (λ is. cc) (λ is. cc) refl;
     };
-    leaves = record {
-      input_fault = λ is. cc;
-      output_fault = λ is. cc;
-      input_count = count;
-      output_count = le_refl _;
-      untouched = refl;
-    };
     refused = tt;
   }
 
   -- the source failed
   fault_kept : (bytes : List ℕ) (a : Outside S K) (source : S) → IsWithinLimits g → length bytes ≤ bytes_needed command g
       → Consumes (view.source.left a.source) (view.source.left source) bytes
-      → view.source.faults a.source ≤ view.source.faults source → Rose (view.source.faults a.source) (view.source.faults source)
       → Kept view command g InputFault a (outside source a.sink a.counter)
-  fault_kept bytes a source limits few consumed count rose = record {
+  fault_kept bytes a source limits few consumed = record {
     does = record {
       limits = (limits, tt);
       cause = if_told (view.source.left a.source) _ (λ input. limits);
@@ -299,13 +150,6 @@ module _ {S K : Type 0} (view : Views S K) (command : StripeCommand) (g : Geomet
       looked = tt;
       output = Keeps-refl (view.sink.held a.sink);
       steps = uncounted command g InputFault a.counter a.counter (λ is. cc) (λ is. cc) refl;
-    };
-    leaves = record {
-      input_fault = λ is. rose;
-      output_fault = λ is. cc;
-      input_count = count;
-      output_count = le_refl _;
-      untouched = refl;
     };
     refused = tt;
   }
@@ -318,7 +162,6 @@ record HasTakenAll {S K : Type 0} (view : Views S K) (command : StripeCommand) (
   pub told : IfSome (view.source.left a.source) (λ all. input ≡ all)
   pub running : view.source.ended a.source ≡ false
   pub ended : view.source.ended source ≡ true
-  pub count : view.source.faults a.source ≤ view.source.faults source
 
 module _ {S K : Type 0} (view : Views S K) (command : StripeCommand) (g : Geometry) (input : List ℕ) (a : Outside S K) (source : S)
     (all : HasTakenAll view command g input a source) where
@@ -347,13 +190,6 @@ module _ {S K : Type 0} (view : Views S K) (command : StripeCommand) (g : Geomet
               output = (output, is_output, puts.0);
               steps = counts;
             };
-            leaves = record {
-              input_fault = λ is. cc;
-              output_fault = λ is. cc;
-              input_count = all.count;
-              output_count = puts.1;
-              untouched = tt;
-            };
             refused = tt;
           })
       put_kept (HeldPart part sink in_output puts same ends) =
@@ -367,13 +203,6 @@ module _ {S K : Type 0} (view : Views S K) (command : StripeCommand) (g : Geomet
               output = (output, is_output, puts_part);
               steps = counts';
             };
-            leaves = record {
-              input_fault = λ is. cc;
-              output_fault = λ is. puts.2;
-              input_count = all.count;
-              output_count = puts.1;
-              untouched = tt;
-            };
             refused = tt;
           })
 
@@ -382,10 +211,10 @@ module _ {S K : Type 0} (view : Views S K) (command : StripeCommand) (g : Geomet
       → IfSome (view.source.left a.source) (λ told. HasCause command g told (view.sink.held a.sink) (view.sink.held a.sink) status)
       → TakesInput command g (view.source.left a.source) (view.source.left source) status
       → LooksForEnd command g (view.source.ended a.source) (view.source.ended source) status
-      → PutsOut command g (view.sink.held a.sink) (view.sink.held a.sink) status → status ≢ Done → status ≢ InputFault → status ≢ OutputFault
-      → IfNothingIsPutOut status (a.sink ≡ a.sink) → IfRefusedAtOnce status (outside source a.sink a.counter ≡ a)
+      → PutsOut command g (view.sink.held a.sink) (view.sink.held a.sink) status → status ≢ Done → status ≢ OutputFault
+      → IfRefusedAtOnce status (outside source a.sink a.counter ≡ a)
       → Kept view command g status a (outside source a.sink a.counter)
-  kept_of status limits cause taken looked output not_done not_input not_output untouched refused = record {
+  kept_of status limits cause taken looked output not_done not_output refused = record {
     does = record {
       limits = limits;
       cause = cause;
@@ -393,13 +222,6 @@ module _ {S K : Type 0} (view : Views S K) (command : StripeCommand) (g : Geomet
       looked = looked;
       output = output;
       steps = uncounted command g status a.counter a.counter not_done not_output refl;
-    };
-    leaves = record {
-      input_fault = λ is. absurd (not_input is);
-      output_fault = λ is. absurd (not_output is);
-      input_count = all.count;
-      output_count = le_refl _;
-      untouched = untouched;
     };
     refused = refused;
   }
@@ -426,7 +248,7 @@ module _ {S K : Type 0} (view : Views S K) where
       as_is view Check g status (NotCodeword k) a (outside source a.sink a.counter) b ends.0 (ends.1 ∙ ap (λ (m : ℕ). outside source a.sink m) counts)
       (kept_of view Check g input a source all (NotCodeword k) (all.limits, tt)
       (refusal view Check g input a source all (NotCodeword k) told (λ x fact. fact)) (input, all.long, all.consumed) (all.running, all.ended)
-      (Keeps-refl (view.sink.held a.sink)) (λ is. cc) (λ is. cc) (λ is. cc) refl tt)
+      (Keeps-refl (view.sink.held a.sink)) (λ is. cc) (λ is. cc) tt)
   judged_kept Check g input a source all _ output status n b is counts means = absurd is.2
   judged_kept (Encode method) g input a source all Done output status n b is counts means =
       let encoding = is.2.1 in
@@ -443,7 +265,7 @@ module _ {S K : Type 0} (view : Views S K) where
       as_is view Restore g status NoCodeword a (outside source a.sink a.counter) b ends.0 (ends.1 ∙ ap (λ (m : ℕ). outside source a.sink m) counts)
       (kept_of view Restore g input a source all NoCodeword (all.limits, tt)
       (refusal view Restore g input a source all NoCodeword told (λ x fact. fact)) (input, all.long, all.consumed) (all.running, all.ended)
-      (Keeps-refl (view.sink.held a.sink)) (λ is. cc) (λ is. cc) (λ is. cc) refl tt)
+      (Keeps-refl (view.sink.held a.sink)) (λ is. cc) (λ is. cc) tt)
   judged_kept Restore g input a source all (Lost number counted m) output status n b is counts means =
       let ends = over_ends view (Lost number counted m) status (outside source a.sink n) b means in
       let told = judged_told view Restore g input a source all (Lost number counted m) []
@@ -453,7 +275,7 @@ module _ {S K : Type 0} (view : Views S K) where
       (ends.1 ∙ ap (λ (k : ℕ). outside source a.sink k) counts)
       (kept_of view Restore g input a source all (Lost number counted m) (all.limits, tt)
       (refusal view Restore g input a source all (Lost number counted m) told (λ x fact. fact)) (input, all.long, all.consumed)
-      (all.running, all.ended) (Keeps-refl (view.sink.held a.sink)) (λ is. cc) (λ is. cc) (λ is. cc) refl tt)
+      (all.running, all.ended) (Keeps-refl (view.sink.held a.sink)) (λ is. cc) (λ is. cc) tt)
   judged_kept Restore g input a source all _ output status n b is counts means = absurd is.4
 
   module _ (command : StripeCommand) (g : Geometry) (status : Status) where
@@ -477,7 +299,7 @@ module _ {S K : Type 0} (view : Views S K) where
               in
               as_is view command g status (Input n (n + 1)) a (outside end a.sink a.counter) b ends.0 ends.1
               (length_kept view command g (n + 1) (bytes ++ more) a end limits as_many consumed other
-              (match_false (n + 1 < n) (n + 1 ≡ n + 1) (view.source.ended end) gives'.2 refl) (omega (arith, gives.3, gives'.3)))
+              (match_false (n + 1 < n) (n + 1 ≡ n + 1) (view.source.ended end) gives'.2 refl))
           | GaveFewer none end few gives' later ↦
               let all : HasTakenAll view command g bytes a end = record {
                 limits = limits;
@@ -486,15 +308,13 @@ module _ {S K : Type 0} (view : Views S K) where
                 told = told_all (left a.source) (left mid) bytes gives.0 (none_told (left mid) none few gives'.1);
                 running = gives.1;
                 ended = gives'.2;
-                count = omega (arith, gives.3, gives'.3);
               } in
               let decided = ask_ends view (Judgement command g bytes) (λ reply. answer reply.0 reply.1) status (outside end a.sink a.counter) b later in
               judged_kept command g bytes a end all decided.reply.0 decided.reply.1 status decided.counter b decided.is decided.counts decided.later
           | GaveFault more end few gives' same ends ↦
               as_is view command g status InputFault a (outside end a.sink a.counter) b same ends
               (fault_kept view command g (bytes ++ more) a end limits (omega (arith, length-append bytes more, long, few))
-              (Consumes-trans (left a.source) (left mid) (left end) bytes more gives.0 gives'.0) (omega (arith, gives.3, gives'.3))
-              (kept-Rose (view.source.faults a.source) (view.source.faults mid) (view.source.faults end) gives.3 gives'.3 gives'.4))
+              (Consumes-trans (left a.source) (left mid) (left end) bytes more gives.0 gives'.0))
         ]
 
     input_kept : (a b : Outside S K) → IsWithinLimits g → Means view (input_plan command g) (Over status) a b → Kept view command g status a b
@@ -516,10 +336,10 @@ module _ {S K : Type 0} (view : Views S K) where
               in
               as_is view command g status (Input n (length bytes)) a (outside mid a.sink a.counter) b ends.0 ends.1
               (length_kept view command g (length bytes) bytes a mid limits refl gives.0 other
-              (match_true (length bytes < n) (length bytes ≡ n + 1) (view.source.ended mid) gives.2 few) gives.3)
+              (match_true (length bytes < n) (length bytes ≡ n + 1) (view.source.ended mid) gives.2 few))
           | GaveFault bytes mid few gives same ends ↦
               as_is view command g status InputFault a (outside mid a.sink a.counter) b same ends
-              (fault_kept view command g bytes a mid limits (omega (arith, few)) gives.0 gives.3 gives.4)
+              (fault_kept view command g bytes a mid limits (omega (arith, few)) gives.0)
         ]
 
     stripe_kept : (a b : Outside S K) → IsWithinLimits g → Means view (stripe_plan command g) (Over status) a b → Kept view command g status a b
@@ -559,29 +379,13 @@ status_of_cause command g input held held' input_rose output_rose NoCodeword cau
 status_of_cause command g input held held' input_rose output_rose (Limit k) cause on_input on_output sound_input sound_output memory = cause
 status_of_cause command g input held held' input_rose output_rose (Input needed took) cause on_input on_output sound_input sound_output memory = cause
 status_of_cause command g input held held' input_rose output_rose (Lost stripe counts n) cause on_input on_output sound_input sound_output memory = cause
-status_of_cause command g input held held' input_rose output_rose Usage cause on_input on_output sound_input sound_output memory = absurd cause
 status_of_cause command g input held held' input_rose output_rose InputFault cause on_input on_output sound_input sound_output memory =
     absurd (sound_input (on_input refl))
 status_of_cause command g input held held' input_rose output_rose OutputFault cause on_input on_output sound_input sound_output memory =
     absurd (sound_output (on_output refl))
-status_of_cause command g input held held' input_rose output_rose (Key key) cause on_input on_output sound_input sound_output memory = absurd cause
-status_of_cause command g input held held' input_rose output_rose NotToml cause on_input on_output sound_input sound_output memory = absurd cause
-status_of_cause command g input held held' input_rose output_rose NoArray cause on_input on_output sound_input sound_output memory = absurd cause
-status_of_cause command g input held held' input_rose output_rose (TwoArrays first second) cause on_input on_output sound_input sound_output memory =
-    absurd cause
-status_of_cause command g input held held' input_rose output_rose (TooFew whys) cause on_input on_output sound_input sound_output memory =
-    absurd cause
-status_of_cause command g input held held' input_rose output_rose (AlreadyArray slot) cause on_input on_output sound_input sound_output memory = absurd cause
-status_of_cause command g input held held' input_rose output_rose (SmallDevice slot has needs) cause on_input on_output sound_input sound_output memory = absurd cause
-status_of_cause command g input held held' input_rose output_rose (Gone slot) cause on_input on_output sound_input sound_output memory = absurd cause
 status_of_cause command g input held held' input_rose output_rose OutOfMemory cause on_input on_output sound_input sound_output memory =
     absurd (memory refl)
-
--- a sink that is left is one into which nothing was put
-pub not_put : {K : Type 0} (status : Status) (sink : K) → IfNothingIsPutOut status (sink ≡ sink)
-not_put Done sink = tt
-not_put OutputFault sink = tt
-not_put _ sink = refl
+status_of_cause command g input held held' input_rose output_rose _ cause on_input on_output sound_input sound_output memory = absurd cause
 
 module _ {S K : Type 0} (view : Views S K) where
   spelled_at : (words : List (List ℕ)) (status : Status) (reply : Option Job) (n : ℕ) (a b : Outside S K) → IsReply (Words words) reply
@@ -617,21 +421,11 @@ module _ {S K : Type 0} (view : Views S K) where
   pub words_are_done : WordsAreDone view
   words_are_done words command n m r e status a b spells means = (stripe_kept_by words command n m r e status a b spells means).does
 
-  -- these leave nothing but the status
-  pub same_kept : (status : Status) (a b : Outside S K) → b ≡ a → status ≢ InputFault → status ≢ OutputFault → Leaves view status a b
-  same_kept status a b ends not_input not_output =
-      subst (λ (x : Outside S K). Leaves view status a x) (sym ends) (record {
-        input_fault = λ is. absurd (not_input is);
-        output_fault = λ is. absurd (not_output is);
-        input_count = le_refl _;
-        output_count = le_refl _;
-        untouched = not_put status a.sink;
-      })
-
   pub bytes_are_answered : BytesAreAnswered view
   bytes_are_answered words command n m r e status a b spells means sound_input sound_output memory =
       let kept = stripe_kept_by words command n m r e status a b spells means in
+      let left = words_leave view words status a b means in
       IfSome_then (view.source.left a.source) kept.does.cause
       (λ bytes cause. status_of_cause command (one_stripe n m r e) bytes (view.sink.held a.sink) (view.sink.held b.sink)
       (Rose (view.source.faults a.source) (view.source.faults b.source)) (Rose (view.sink.faults a.sink) (view.sink.faults b.sink)) status cause
-      kept.leaves.input_fault kept.leaves.output_fault sound_input sound_output memory)
+      left.input_fault left.output_fault sound_input sound_output memory)

@@ -9,12 +9,12 @@ use lib.Seq.{drop-append-add}
 use Rattle.stair_model.specs.Geometry.{Geometry}
 use Rattle.stair_model.specs.Stripe.{Stripe, IsSector, cell}
 use Rattle.stair_model.specs.CellSet.{CellSet, HasCell}
-use Rattle.stair_engine.specs.declared.status.Status.{Status}
-use Rattle.stair_engine.specs.declared.status.Status.TheVariants.{Done, NotCodeword, NoCodeword, Usage, Limit, Key, NotToml, Input, InputFault, OutputFault, NoArray, TwoArrays, TooFew, Lost, AlreadyArray, SmallDevice, Gone, OutOfMemory}
+use Rattle.stair_story.specs.declared.status.Status.{Status}
+use Rattle.stair_story.specs.declared.status.Status.TheVariants.{Done, NotCodeword, NoCodeword, Limit, Input, Lost}
 use Rattle.stair_conf.specs.declared.job.StripeCommand.TheVariants.{Restore}
-use Rattle.stair_engine.specs.Answer.{HasBytes, IsAnswer, IsJudged, cell_bytes, map_bytes}
+use Rattle.stair_story.specs.Answer.{HasBytes, IsAnswer, IsJudged, cell_bytes, map_bytes}
 use Rattle.stair_engine.specs.Laws.{DifferAtErased, cell_of_input}
-use Rattle.stair_engine.specs.Restore.{HoldsCells, IsErasedBy, JudgesErased}
+use Rattle.stair_story.specs.Restore.{HoldsCells, IsErasedBy, JudgesErased}
 use Rattle.stair_model.proofs.StripeLaws.{number_in}
 use Rattle.stair_engine.proofs.CellLaws.{length-cells}
 
@@ -121,21 +121,7 @@ judges_same g erased x y NoCodeword output same judges = (
 )
 judges_same g erased x y Done output same judges =
     (judges.0, (judges.1.0, holds_same g erased x y judges.1.0 same judges.1.1, judges.1.2))
-judges_same g erased x y (NotCodeword b) output same judges = absurd judges
-judges_same g erased x y Usage output same judges = absurd judges
-judges_same g erased x y (Limit k) output same judges = absurd judges
-judges_same g erased x y (Input needed took) output same judges = absurd judges
-judges_same g erased x y InputFault output same judges = absurd judges
-judges_same g erased x y OutputFault output same judges = absurd judges
-judges_same g erased x y (Key key) output same judges = absurd judges
-judges_same g erased x y NotToml output same judges = absurd judges
-judges_same g erased x y NoArray output same judges = absurd judges
-judges_same g erased x y (TwoArrays first second) output same judges = absurd judges
-judges_same g erased x y (TooFew whys) output same judges = absurd judges
-judges_same g erased x y (AlreadyArray slot) output same judges = absurd judges
-judges_same g erased x y (SmallDevice slot has needs) output same judges = absurd judges
-judges_same g erased x y (Gone slot) output same judges = absurd judges
-judges_same g erased x y OutOfMemory output same judges = absurd judges
+judges_same g erased x y _ output same judges = absurd judges
 
 judged_same : (g : Geometry) (a b : List ℕ) (status : Status) (output : List ℕ) → DifferAtErased g a b
     → IsJudged Restore g a status output → IsJudged Restore g b status output
@@ -175,18 +161,7 @@ answer_same g a b differ Done output is = judged_same g a b Done output differ i
 answer_same g a b differ (NotCodeword k) output is = judged_same g a b (NotCodeword k) output differ is
 answer_same g a b differ NoCodeword output is = judged_same g a b NoCodeword output differ is
 answer_same g a b differ (Lost stripe counts n) output is = judged_same g a b (Lost stripe counts n) output differ is
-answer_same g a b differ Usage output is = absurd is
-answer_same g a b differ InputFault output is = absurd is
-answer_same g a b differ OutputFault output is = absurd is
-answer_same g a b differ (Key key) output is = absurd is
-answer_same g a b differ NotToml output is = absurd is
-answer_same g a b differ NoArray output is = absurd is
-answer_same g a b differ (TwoArrays first second) output is = absurd is
-answer_same g a b differ (TooFew whys) output is = absurd is
-answer_same g a b differ (AlreadyArray slot) output is = absurd is
-answer_same g a b differ (SmallDevice slot has needs) output is = absurd is
-answer_same g a b differ (Gone slot) output is = absurd is
-answer_same g a b differ OutOfMemory output is = absurd is
+answer_same g a b differ _ output is = absurd is
 
 -- the inputs differ the other way round too
 DifferAtErased-sym : (g : Geometry) (a b : List ℕ) → DifferAtErased g a b → DifferAtErased g b a

@@ -1,26 +1,24 @@
 -- How a call of `show` goes along its plan.
-use Rattle.std.proofs.Common.{◌≡◌, ◌≢◌, ◌∙◌, ℕ, ◌≤◌, le_refl, List, [], ◌∷◌, Result, Ok, Err, refl, sym, ap, subst}
+use Rattle.std.proofs.Common.{◌≡◌, ◌≢◌, ◌∙◌, ℕ, List, [], ◌∷◌, Result, Ok, Err, refl, sym, ap, subst}
 use Rattle.std.specs.Result.{IsErrAnd}
 use Rattle.stair_member.specs.Membership.{Membership}
 use Rattle.stair_member.specs.declared.fault.SurveyFault.{SurveyFault}
 use Rattle.stair_member.specs.declared.fault.SurveyFault.TheVariants as survey
-use Rattle.stair_engine.specs.Action.{Outcome, Survey, status_of_survey}
-use Rattle.stair_engine.specs.Cause.{IfNothingIsPutOut}
-use Rattle.stair_engine.specs.Does.{Leaves}
-use Rattle.stair_engine.specs.Means.{Bears, Holds}
-use Rattle.stair_engine.specs.Outside.{Outside, SinkView, Views, outside}
-use Rattle.stair_engine.specs.Plan.{Over, show_plan, showing_plan}
-use Rattle.stair_engine.specs.Rack.{MeansOver, RackView, Works}
+use Rattle.stair_story.specs.Action.{Outcome, Survey, status_of_survey}
+use Rattle.stair_story.specs.Means.{Bears, Holds}
+use Rattle.stair_story.specs.Outside.{Outside, SinkView, Views, outside}
+use Rattle.stair_story.specs.Plan.{Over}
+use Rattle.stair_engine.specs.Plans.{show_plan, showing_plan}
+use Rattle.stair_story.specs.Rack.{MeansOver, RackView, Works}
 use Rattle.stair_engine.specs.Show.{show_text}
 use Rattle.stair_engine.specs.ShowSteps.{PutsFound}
-use Rattle.stair_engine.specs.Streams.{PutsAll}
-use Rattle.stair_engine.specs.Story.{Deed, HasPut, PutFailed, Did, IsPart, Leads, Moves, after}
-use Rattle.stair_engine.specs.declared.fault.Fault.{Fault}
-use Rattle.stair_engine.specs.declared.fault.Fault.TheVariants.{Output}
-use Rattle.stair_engine.specs.declared.status.Status.{Status}
-use Rattle.stair_engine.specs.declared.status.Status.TheVariants.{Done, Usage, InputFault, OutputFault, OutOfMemory}
-use Rattle.stair_engine.proofs.MeaningLaws.{not_put}
-use Rattle.stair_engine.proofs.RackLaws.{behind_over, over_done}
+use Rattle.stair_story.specs.Streams.{PutsAll}
+use Rattle.stair_story.specs.Story.{Deed, HasPut, PutFailed, Did, IsPart, Leads, Moves, after}
+use Rattle.stair_story.specs.declared.fault.Fault.{Fault}
+use Rattle.stair_story.specs.declared.fault.Fault.TheVariants.{Output}
+use Rattle.stair_story.specs.declared.status.Status.{Status}
+use Rattle.stair_story.specs.declared.status.Status.TheVariants.{Done, Usage, InputFault, OutputFault, OutOfMemory}
+use Rattle.stair_story.proofs.RackLaws.{behind_over, over_done}
 
 -- a fault as the answer of a call
 abbrev answer_of : Fault → Result Status Fault
@@ -108,54 +106,6 @@ module _ {R S K : Type 0} (rack : RackView R) (view : Views S K) where
           (behind_over rack view (Did did came) story (after Survey showing_plan moved.0) follows.0 status a a b x works.0 y bears works
           bears.gives.1 bears.holds.1 bears.counts.1 refl moved.2 follows.2)
       at (_ ∷ story) follows bears works = absurd follows.1
-
-  pub show_leaves : (status : Status) (a b : Outside S K) (x y : R) → ShowWent rack view status a b x y → Leaves view status a b
-  show_leaves status a b x y went = of went.came
-    where
-      count : view.source.faults a.source ≤ view.source.faults b.source
-      count = subst (λ (s : S). view.source.faults a.source ≤ view.source.faults s) (sym went.source) (le_refl _)
-
-      of : ShowCame rack view status a b x y → Leaves view status a b
-      of (Refused fault did is sink) = record {
-        input_fault = λ other. absurd ((survey_status fault).0 (sym is ∙ other));
-        output_fault = λ other. absurd ((survey_status fault).1 (sym is ∙ other));
-        input_count = count;
-        output_count = subst (λ (k : K). view.sink.faults a.sink ≤ view.sink.faults k) (sym sink) (le_refl _);
-        untouched = subst (λ (k : K). IfNothingIsPutOut status (k ≡ a.sink)) (sym sink) (not_put status a.sink);
-      }
-      of (Shown member did held is) = record {
-        input_fault = λ other. let clash : Done ≡ InputFault = sym is ∙ other in cc;
-        output_fault = λ other. let clash : Done ≡ OutputFault = sym is ∙ other in cc;
-        input_count = count;
-        output_count = held.1;
-        untouched = subst (λ (s : Status). IfNothingIsPutOut s (b.sink ≡ a.sink)) (sym is) tt;
-      }
-      of (ShownUntold member part did all held is) = record {
-        input_fault = λ other. let clash : OutputFault ≡ InputFault = sym is ∙ other in cc;
-        output_fault = λ other. held.2;
-        input_count = count;
-        output_count = held.1;
-        untouched = subst (λ (s : Status). IfNothingIsPutOut s (b.sink ≡ a.sink)) (sym is) tt;
-      }
-
-  -- the source can't fail it, its words are spelled, and it takes no memory
-  pub show_status : (status : Status) (a b : Outside S K) (x y : R) → ShowWent rack view status a b x y
-      → (status ≢ InputFault) × (status ≢ Usage) × (status ≢ OutOfMemory)
-  show_status status a b x y went = of went.came
-    where
-      of : ShowCame rack view status a b x y → (status ≢ InputFault) × (status ≢ Usage) × (status ≢ OutOfMemory)
-      of (Refused fault did is sink) =
-          let not = survey_status fault in ((λ other. not.0 (sym is ∙ other)), (λ other. not.2 (sym is ∙ other)), (λ other. not.3 (sym is ∙ other)))
-      of (Shown member did held is) = (
-        (λ other. let clash : Done ≡ InputFault = sym is ∙ other in cc),
-        (λ other. let clash : Done ≡ Usage = sym is ∙ other in cc),
-        (λ other. let clash : Done ≡ OutOfMemory = sym is ∙ other in cc),
-      )
-      of (ShownUntold member part did all held is) = (
-        (λ other. let clash : OutputFault ≡ InputFault = sym is ∙ other in cc),
-        (λ other. let clash : OutputFault ≡ Usage = sym is ∙ other in cc),
-        (λ other. let clash : OutputFault ≡ OutOfMemory = sym is ∙ other in cc),
-      )
 
 -- ---- what the code did
 

@@ -1,39 +1,31 @@
 -- The deeds of `create` and of `show`, one after the other.
 use Rattle.std.proofs.Common.{◌≡◌, ◌≢◌, ℕ, ◌+◌, List, [], Result, Ok, Err, take, refl, sym, ap, subst, arith, length-take}
-use Rattle.std.specs.Result.{IsErrAnd}
 use Rattle.stair_model.specs.Geometry.{Geometry}
 use Rattle.stair_conf.specs.Config.{TextReadsAs}
 use Rattle.stair_conf.specs.declared.fault.ConfigFault.{ConfigFault}
 use Rattle.stair_conf.specs.declared.fault.ConfigFault.TheVariants as config
-use Rattle.stair_engine.specs.Action.{Create, Outcome, Survey}
-use Rattle.stair_engine.specs.declared.fault.Fault.{Fault}
-use Rattle.stair_engine.specs.declared.fault.Fault.TheVariants as fault
-use Rattle.stair_engine.specs.declared.status.Status.{Status}
-use Rattle.stair_engine.specs.declared.status.Status.TheVariants.{Done, Input, InputFault, OutputFault, OutOfMemory}
-use Rattle.stair_engine.specs.Fault.{status_of, status_of_config, status_of_fault}
-use Rattle.stair_engine.specs.Means.{Holds}
-use Rattle.stair_engine.specs.Outside.{Outside, Views, outside}
-use Rattle.stair_engine.specs.Plan.{Plan, Over, Ask, Put, Allocate, Do, TEXT_LIMIT, create_plan, created_line, making_plan, show_plan, showing_plan}
-use Rattle.stair_engine.specs.Question.{Text}
-use Rattle.stair_engine.specs.Rack.{MeansOver, RackView, Works}
-use Rattle.stair_engine.specs.Story.{Found, Took, TookLast, TakeFailed, HasPut, PutFailed, Grew, RanOut, Did, IsPart, after}
+use Rattle.stair_story.specs.Action.{Create, Outcome, Survey}
+use Rattle.stair_story.specs.declared.fault.Fault.{Fault}
+use Rattle.stair_story.specs.declared.fault.Fault.TheVariants as fault
+use Rattle.stair_story.specs.declared.status.Status.{Status}
+use Rattle.stair_story.specs.declared.status.Status.TheVariants.{Done, Input, InputFault}
+use Rattle.stair_story.specs.Fault.{status_of, status_of_config, status_of_fault}
+use Rattle.stair_story.specs.Outside.{Outside, Views, outside}
+use Rattle.stair_story.specs.Plan.{Plan, Over, Ask, Put, Allocate, Do}
+use Rattle.stair_engine.specs.Plans.{TEXT_LIMIT, create_plan, created_line, making_plan, show_plan, showing_plan}
+use Rattle.stair_story.specs.Question.{Text}
+use Rattle.stair_story.specs.Rack.{MeansOver, RackView, Works}
+use Rattle.stair_story.specs.Story.{Found, Took, TookLast, TakeFailed, Did, after}
 use Rattle.stair_engine.specs.Show.{show_text}
 use Rattle.stair_engine.specs.ShowSteps.{PutsFound, Shows}
 use Rattle.stair_engine.specs.Taking.{TakesText}
-use Rattle.stair_engine.proofs.RackLaws.{over_one, over_then}
+use Rattle.stair_story.proofs.RackLaws.{over_cannot_put, over_grows, over_one, over_puts, over_runs_out, over_then}
 
 -- a fault as the answer for a text
 abbrev answer_of : ConfigFault → Result Geometry ConfigFault
 answer_of fault = Err fault
 
 module _ {R S K : Type 0} (rack : RackView R) (view : Views S K) where
-  -- a fault that was handed on
-  pub over_hands_on : (plan : Plan) (a b : Outside S K) (x y : R) (result : Result Status Fault) (fault : Fault) → IsErrAnd result (λ f. f ≡ fault)
-      → MeansOver rack view plan (Over (status_of_fault fault)) a b x y → MeansOver rack view plan (Over (status_of result)) a b x y
-  over_hands_on plan a b x y (Ok status) fault is means = absurd is
-  over_hands_on plan a b x y (Err f) fault is means =
-      subst (λ (k : Fault). MeansOver rack view plan (Over (status_of_fault k)) a b x y) (sym is) means
-
   pub text_refused : (fault : Fault) (into : List ℕ) (source source' : S) (sink : K) (n : ℕ) (x : R) → TakesText view.source (Err fault) into source source'
       → MeansOver rack view create_plan (Over (status_of_fault fault)) (outside source sink n) (outside source' sink n) x x
   text_refused (fault.Length needed took) into source source' sink n x takes =
@@ -55,23 +47,17 @@ module _ {R S K : Type 0} (rack : RackView R) (view : Views S K) where
       over_one rack view (TookLast (take count into)) create_plan (Allocate (Ask (Text (take count into)) making_plan)) _ _ x x
       (omega (arith, length-take count into, takes.0), refl) takes.1 refl refl refl
 
-  pub over_grows : (plan : Plan) (a : Outside S K) (x : R) → MeansOver rack view (Allocate plan) plan a a x x
-  over_grows plan a x = over_one rack view Grew (Allocate plan) plan a a x x refl refl refl refl refl
-
-  pub over_runs_out : (plan : Plan) (a : Outside S K) (x : R) → MeansOver rack view (Allocate plan) (Over OutOfMemory) a a x x
-  over_runs_out plan a x = over_one rack view RanOut (Allocate plan) (Over OutOfMemory) a a x x refl refl refl refl refl
-
   -- a text says this
   pub reads_text : (text : List ℕ) (answer : Result Geometry ConfigFault) (a : Outside S K) (x : R) → TextReadsAs text answer
       → MeansOver rack view (Allocate (Ask (Text text) making_plan)) (making_plan answer) a a x x
   reads_text text answer a x reads =
-      over_then rack view (over_grows (Ask (Text text) making_plan) a x)
+      over_then rack view (over_grows rack view (Ask (Text text) making_plan) a x)
       (over_one rack view (Found (Text text)) (Ask (Text text) making_plan) (making_plan answer) a a x x (answer, refl, reads, refl) refl refl refl refl)
 
   -- a text was refused, or there was no memory to read it
   pub text_faulty : (text : List ℕ) (fault : ConfigFault) (a : Outside S K) (x : R) → (answer_of fault ≢ Err config.Memory → TextReadsAs text (Err fault))
       → MeansOver rack view (Allocate (Ask (Text text) making_plan)) (Over (status_of_config fault)) a a x x
-  text_faulty text config.Memory a x reads = over_runs_out (Ask (Text text) making_plan) a x
+  text_faulty text config.Memory a x reads = over_runs_out rack view (Ask (Text text) making_plan) a x
   text_faulty text config.NotToml a x reads = reads_text text (Err config.NotToml) a x (reads (λ is. cc))
   text_faulty text (config.Key key) a x reads = reads_text text (Err (config.Key key)) a x (reads (λ is. cc))
   text_faulty text (config.Limit k) a x reads = reads_text text (Err (config.Limit k)) a x (reads (λ is. cc))
@@ -80,19 +66,9 @@ module _ {R S K : Type 0} (rack : RackView R) (view : Views S K) where
   pub makes : (g : Geometry) (outcome : Outcome (Create g)) (a : Outside S K) (x y : R) → Works rack (Did (Create g) outcome) x y
       → MeansOver rack view (making_plan (Ok g)) (after (Create g) (λ done. Put (created_line g) (Over Done)) outcome) a a x y
   makes g outcome a x y works =
-      over_then rack view (over_grows (Do (Create g) (λ done. Put (created_line g) (Over Done))) a x)
+      over_then rack view (over_grows rack view (Do (Create g) (λ done. Put (created_line g) (Over Done))) a x)
       (over_one rack view (Did (Create g) outcome) (Do (Create g) (λ done. Put (created_line g) (Over Done)))
       (after (Create g) (λ done. Put (created_line g) (Over Done)) outcome) a a x y (outcome, refl, refl) refl refl refl works)
-
-  pub over_puts : (bytes : List ℕ) (source : S) (sink sink' : K) (n : ℕ) (x : R) → Holds view.sink (HasPut bytes) sink sink'
-      → MeansOver rack view (Put bytes (Over Done)) (Over Done) (outside source sink n) (outside source sink' n) x x
-  over_puts bytes source sink sink' n x holds =
-      over_one rack view (HasPut bytes) (Put bytes (Over Done)) (Over Done) _ _ x x (refl, refl) refl holds refl refl
-
-  pub over_cannot_put : (bytes part : List ℕ) (source : S) (sink sink' : K) (n : ℕ) (x : R) → IsPart part bytes → Holds view.sink (PutFailed part) sink sink'
-      → MeansOver rack view (Put bytes (Over Done)) (Over OutputFault) (outside source sink n) (outside source sink' n) x x
-  over_cannot_put bytes part source sink sink' n x is holds =
-      over_one rack view (PutFailed part) (Put bytes (Over Done)) (Over OutputFault) _ _ x x (is, refl) refl holds refl refl
 
   -- an array was found, or none
   surveys : (found : Outcome Survey) (a : Outside S K) (x y : R) → Works rack (Did Survey found) x y
@@ -106,10 +82,10 @@ module _ {R S K : Type 0} (rack : RackView R) (view : Views S K) where
       → MeansOver rack view (after Survey showing_plan found) (Over (status_of result)) (outside source sink n) (outside source sink' n) x x
   puts_found (Ok member) (Ok status) source sink sink' n x puts =
       subst (λ (s : Status). MeansOver rack view (showing_plan member) (Over s) (outside source sink n) (outside source sink' n) x x) (sym puts.1)
-      (over_puts (show_text member) source sink sink' n x puts.0)
+      (over_puts rack view (show_text member) source sink sink' n x puts.0)
   puts_found (Ok member) (Err fault) source sink sink' n x puts =
       subst (λ (f : Fault). MeansOver rack view (showing_plan member) (Over (status_of_fault f)) (outside source sink n) (outside source sink' n) x x)
-      (sym puts.1) (over_cannot_put (show_text member) puts.0.0 source sink sink' n x puts.0.1 puts.0.2)
+      (sym puts.1) (over_cannot_put rack view (show_text member) puts.0.0 source sink sink' n x puts.0.1 puts.0.2)
   puts_found (Err refusal) result source sink sink' n x puts = record {
     means = record {
       story = [];

@@ -5,12 +5,12 @@ use Rattle.std.specs.Io.KnownBytes.{Appends, Consumes, Keeps}
 use Rattle.stair_model.specs.Geometry.{Geometry, IsWithinLimits, IsFirstBrokenLimit}
 use Rattle.stair_model.specs.Stripe.{Stripe}
 use Rattle.stair_model.specs.Codeword.{IsCodeword}
-use Rattle.stair_engine.specs.declared.status.Status.{Status}
-use Rattle.stair_engine.specs.declared.status.Status.TheVariants.{Done, NotCodeword, NoCodeword, Usage, Limit, Key, NotToml, Input, InputFault, OutputFault, NoArray, TwoArrays, TooFew, Lost, AlreadyArray, SmallDevice, Gone, OutOfMemory}
+use Rattle.stair_story.specs.declared.status.Status.{Status}
+use Rattle.stair_story.specs.declared.status.Status.TheVariants.{Done, NotCodeword, NoCodeword, Usage, Limit, Input, InputFault, OutputFault, Lost, OutOfMemory}
 use Rattle.stair_conf.specs.declared.job.StripeCommand.{StripeCommand}
 use Rattle.stair_conf.specs.declared.job.StripeCommand.TheVariants.{Check, Encode, Restore}
-use Rattle.stair_engine.specs.Answer.{HasBytes, IsAnswer, bytes_needed, codeword_line}
-use Rattle.stair_engine.specs.Encode.{TakesSteps}
+use Rattle.stair_story.specs.Answer.{HasBytes, IsAnswer, bytes_needed, codeword_line}
+use Rattle.stair_story.specs.Encode.{TakesSteps}
 
 -- held bytes grow by the first of the bytes, and not by all
 abbrev pub PutsPart : Option (List ℕ) → Option (List ℕ) → List ℕ → Type 0
@@ -38,15 +38,7 @@ HasCause command g input old new (Input needed took) =
     Answers command g input old new (Input needed took)
 HasCause command g input old new (Lost stripe counts n) =
     Answers command g input old new (Lost stripe counts n)
-HasCause command g input old new Usage = ⊥
-HasCause command g input old new (Key key) = ⊥
-HasCause command g input old new NotToml = ⊥
-HasCause command g input old new NoArray = ⊥
-HasCause command g input old new (TwoArrays first second) = ⊥
-HasCause command g input old new (TooFew whys) = ⊥
-HasCause command g input old new (AlreadyArray slot) = ⊥
-HasCause command g input old new (SmallDevice slot has needs) = ⊥
-HasCause command g input old new (Gone slot) = ⊥
+HasCause command g input old new _ = ⊥
 
 -- an equation is told by `check` alone, and erased cells and held ones by `restore` alone
 abbrev pub IsToldBy : Status → StripeCommand → Type 0
@@ -64,17 +56,17 @@ IsToldBy _ command = ⊤
 -- the limits are tested before the input, whatever the source tells
 abbrev pub LimitsComeFirst : StripeCommand → Geometry → Status → Type 0
 LimitsComeFirst command g (Limit k) = IsFirstBrokenLimit g k
-LimitsComeFirst command g Usage = ⊥
-LimitsComeFirst command g (Key key) = ⊥
-LimitsComeFirst command g NotToml = ⊥
-LimitsComeFirst command g NoArray = ⊥
-LimitsComeFirst command g (TwoArrays first second) = ⊥
-LimitsComeFirst command g (TooFew whys) = ⊥
-LimitsComeFirst command g (AlreadyArray slot) = ⊥
-LimitsComeFirst command g (SmallDevice slot has needs) = ⊥
-LimitsComeFirst command g (Gone slot) = ⊥
 LimitsComeFirst command g OutOfMemory = ⊤
-LimitsComeFirst command g status = IsWithinLimits g × IsToldBy status command
+LimitsComeFirst command g Done = IsWithinLimits g × IsToldBy Done command
+LimitsComeFirst command g (NotCodeword b) = IsWithinLimits g × IsToldBy (NotCodeword b) command
+LimitsComeFirst command g NoCodeword = IsWithinLimits g × IsToldBy NoCodeword command
+LimitsComeFirst command g (Input needed took) =
+    IsWithinLimits g × IsToldBy (Input needed took) command
+LimitsComeFirst command g InputFault = IsWithinLimits g × IsToldBy InputFault command
+LimitsComeFirst command g OutputFault = IsWithinLimits g × IsToldBy OutputFault command
+LimitsComeFirst command g (Lost stripe counts n) =
+    IsWithinLimits g × IsToldBy (Lost stripe counts n) command
+LimitsComeFirst command g _ = ⊥
 
 -- what holds after a refusal that comes before the input is taken
 abbrev pub IfRefusedAtOnce : Status → Type 0 → Type 0
@@ -82,12 +74,6 @@ IfRefusedAtOnce Usage fact = fact
 IfRefusedAtOnce (Limit k) fact = fact
 IfRefusedAtOnce OutOfMemory fact = fact
 IfRefusedAtOnce _ fact = ⊤
-
--- what holds of every status at which nothing is put out
-abbrev pub IfNothingIsPutOut : Status → Type 0 → Type 0
-IfNothingIsPutOut Done fact = ⊤
-IfNothingIsPutOut OutputFault fact = ⊤
-IfNothingIsPutOut _ fact = fact
 
 -- told bytes lose the first `count`
 abbrev pub TakesCount : Option (List ℕ) → Option (List ℕ) → ℕ → Type 0

@@ -12,15 +12,15 @@ use Rattle.stair_conf.specs.declared.job.Job.{Job}
 use Rattle.stair_conf.specs.declared.job.Job.TheVariants as job
 use Rattle.stair_conf.specs.declared.job.StripeCommand.{StripeCommand}
 use Rattle.stair_conf.specs.declared.job.StripeCommand.TheVariants.{Check, Encode, Restore}
-use Rattle.stair_engine.specs.Answer.{HasBytes, bytes_needed, map_bytes}
-use Rattle.stair_engine.specs.Outside.{Outside, Views}
-use Rattle.stair_engine.specs.Plan.{TEXT_LIMIT}
-use Rattle.stair_engine.specs.Rack.{RackView}
-use Rattle.stair_engine.specs.Restore.{HoldsCells, IsErasedBy}
+use Rattle.stair_story.specs.Answer.{HasBytes, bytes_needed, map_bytes}
+use Rattle.stair_story.specs.Outside.{Outside, Views}
+use Rattle.stair_engine.specs.Plans.{TEXT_LIMIT}
+use Rattle.stair_story.specs.Rack.{RackView}
+use Rattle.stair_story.specs.Restore.{HoldsCells, IsErasedBy}
 use Rattle.stair_engine.specs.Stands.{StandsThroughout}
 use Rattle.stair_engine.specs.Task.{one_stripe}
-use Rattle.stair_engine.specs.declared.status.Status.{Status}
-use Rattle.stair_engine.specs.declared.status.Status.TheVariants.{Done, OutOfMemory}
+use Rattle.stair_story.specs.declared.status.Status.{Status}
+use Rattle.stair_story.specs.declared.status.Status.TheVariants.{Done, OutOfMemory}
 
 -- what is judged Done: the cells of a codeword, any blocks, and cells of which the erased ones are covered and the others are
 -- those of some codeword

@@ -9,17 +9,19 @@ use Rattle.stair_conf.specs.Words.{IsSpelled, Spells}
 use Rattle.stair_conf.specs.declared.job.Job.{Job}
 use Rattle.stair_conf.specs.declared.job.Job.TheVariants.{OneStripe, Create, Show}
 use Rattle.stair_conf.specs.declared.job.StripeCommand.{StripeCommand}
-use Rattle.stair_engine.specs.declared.status.Status.{Status}
-use Rattle.stair_engine.specs.declared.status.Status.TheVariants.{Usage, InputFault, OutOfMemory}
-use Rattle.stair_engine.specs.Answer.{map_bytes}
+use Rattle.stair_story.specs.declared.status.Status.{Status}
+use Rattle.stair_story.specs.declared.status.Status.TheVariants.{Usage, InputFault, OutOfMemory}
+use Rattle.stair_story.specs.Answer.{map_bytes}
 use Rattle.stair_engine.specs.Cause.{Answers, IfRefusedAtOnce}
 use Rattle.stair_engine.specs.Complete.{IsComplete}
 use Rattle.stair_engine.specs.Create.{IsOnceMade, MakesArray, SparesArrays}
-use Rattle.stair_engine.specs.Does.{Does, Leaves}
-use Rattle.stair_engine.specs.Means.{Means}
-use Rattle.stair_engine.specs.Outside.{Outside, Views}
-use Rattle.stair_engine.specs.Plan.{Over, plan_of}
-use Rattle.stair_engine.specs.Rack.{MeansOver, RackView}
+use Rattle.stair_engine.specs.Does.{Does}
+use Rattle.stair_story.specs.Ending.{Leaves}
+use Rattle.stair_story.specs.Means.{Means}
+use Rattle.stair_story.specs.Outside.{Outside, Views}
+use Rattle.stair_story.specs.Plan.{Over}
+use Rattle.stair_engine.specs.Plans.{plan_of}
+use Rattle.stair_story.specs.Rack.{MeansOver, RackView}
 use Rattle.stair_engine.specs.Stands.{ArrayStands}
 use Rattle.stair_engine.specs.Task.{one_stripe}
 

@@ -1,22 +1,10 @@
 -- What the top call does.
 pub mod Task
-pub mod Status
-pub mod Action
-pub mod Fault
-pub mod Restore
-pub mod Encode
-pub mod Answer
-pub mod Question
-pub mod Plan
-pub mod Story
-pub mod Outside
-pub mod Means
-pub mod Rack
+pub mod Plans
 pub mod Create
 pub mod Show
 pub mod Stands
 pub mod Complete
-pub mod Streams
 pub mod ShowSteps
 pub mod Taking
 pub mod Cause

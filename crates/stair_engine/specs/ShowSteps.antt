@@ -3,14 +3,14 @@ use Rattle.std.specs.Prelude.{◌≡◌, Result, Ok, Err, MatchResult}
 use Rattle.stair_member.specs.Membership.{Membership}
 use Rattle.stair_member.specs.Survey.{Surveys}
 use Rattle.stair_member.specs.declared.fault.SurveyFault.{SurveyFault}
-use Rattle.stair_engine.specs.Outside.{SinkView}
-use Rattle.stair_engine.specs.Rack.{RackView, told_of}
+use Rattle.stair_story.specs.Outside.{SinkView}
+use Rattle.stair_story.specs.Rack.{RackView, told_of}
 use Rattle.stair_engine.specs.Show.{show_text}
-use Rattle.stair_engine.specs.Streams.{PutsAll}
-use Rattle.stair_engine.specs.declared.fault.Fault.{Fault}
-use Rattle.stair_engine.specs.declared.fault.Fault.TheVariants.{Output, Survey}
-use Rattle.stair_engine.specs.declared.status.Status.{Status}
-use Rattle.stair_engine.specs.declared.status.Status.TheVariants.{Done}
+use Rattle.stair_story.specs.Streams.{PutsAll}
+use Rattle.stair_story.specs.declared.fault.Fault.{Fault}
+use Rattle.stair_story.specs.declared.fault.Fault.TheVariants.{Output, Survey}
+use Rattle.stair_story.specs.declared.status.Status.{Status}
+use Rattle.stair_story.specs.declared.status.Status.TheVariants.{Done}
 
 -- the array that was found is put out; where none was, nothing is
 abbrev pub PutsFound : {K : Type 0} → SinkView K → Result Membership SurveyFault → Result Status Fault → K → K →

@@ -1,21 +1,19 @@
 ghost use Rattle.std.specs.Prelude.{ℕ};
 ghost use Rattle.stair_model.specs.Geometry.{IsWithinLimits};
 ghost use Rattle.stair_model.specs.Stripe.{IsStripeOf, IsWellFormed};
-ghost use Rattle.stair_engine.specs.Answer.{HasBytes, bytes_needed};
-ghost use Rattle.stair_engine.specs.Fault.{status_of};
-ghost use Rattle.stair_engine.specs.Means.{Means};
-ghost use Rattle.stair_engine.specs.Outside.{outside, source_view, views};
-ghost use Rattle.stair_engine.specs.Plan.{Over, stripe_plan};
-ghost use Rattle.stair_engine.specs.Taking.{TakesWhole};
+ghost use Rattle.stair_story.specs.Answer.{HasBytes, bytes_needed};
+ghost use Rattle.stair_story.specs.Fault.{status_of};
+ghost use Rattle.stair_story.specs.Means.{Means};
+ghost use Rattle.stair_story.specs.Outside.{outside, source_view, views};
+ghost use Rattle.stair_story.specs.Plan.{Over};
+ghost use Rattle.stair_engine.specs.Plans.{stripe_plan};
+ghost use Rattle.stair_story.specs.Taking.{TakesWhole};
 ghost use Rattle.stair_conf.specs.declared.job.StripeCommand.TheVariants.{Check};
 
 use crate::cells::{cell_bytes, take_stripe};
-use crate::fault::Fault;
-use crate::intake::Intake;
-use crate::status::Status;
-use crate::streams::put_all;
 use stair_base::{Geometry, Stripe, first_broken};
 use stair_rack::{Sink, Source};
+use stair_story::{Fault, Intake, Status, put_all};
 use std::alloc::Global;
 
 /// Takes the cells of a stripe row by row, and tells whether they are a codeword.

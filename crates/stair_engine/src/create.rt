@@ -1,21 +1,15 @@
 ghost use Rattle.std.specs.Prelude.{◌≡◌, ◌+◌, ℕ, IfOk, IfErr, length, string_bytes};
-ghost use Rattle.stair_engine.specs.Fault.{status_of};
-ghost use Rattle.stair_engine.specs.Outside.{outside, source_view, views};
-ghost use Rattle.stair_engine.specs.Plan.{
-  Over,
-  TEXT_LIMIT as LIMIT,
-  create_plan,
-  created_line as line_of_created,
-};
-ghost use Rattle.stair_engine.specs.Rack.{MeansOver, rack_view};
+ghost use Rattle.stair_story.specs.Fault.{status_of};
+ghost use Rattle.stair_story.specs.Outside.{outside, source_view, views};
+ghost use Rattle.stair_story.specs.Plan.{Over};
+ghost use Rattle.stair_engine.specs.Plans.{TEXT_LIMIT as LIMIT, create_plan, created_line as line_of_created};
+ghost use Rattle.stair_story.specs.Rack.{MeansOver, rack_view};
 ghost use Rattle.stair_engine.specs.Taking.{TakesText};
 
-use crate::fault::Fault;
-use crate::status::Status;
-use crate::streams::{Filled, fill, put_all};
 use stair_base::Geometry;
 use stair_conf::read_config;
 use stair_rack::{Rack, Sink, Source};
+use stair_story::{Fault, Filled, Status, fill, put_all};
 use std::alloc::{AllocError, Global};
 
 // A geometry text has at most so many bytes.

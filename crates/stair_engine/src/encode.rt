@@ -1,25 +1,25 @@
 ghost use Rattle.stair_model.specs.Geometry.{IsWithinLimits};
 ghost use Rattle.stair_model.specs.Stripe.{IsStripeOf, IsWellFormed};
-ghost use Rattle.stair_engine.specs.Answer.{block_bytes as block_bytes_of};
-ghost use Rattle.stair_engine.specs.Encode.{IsCostOfMethod};
-ghost use Rattle.stair_engine.specs.Fault.{status_of};
-ghost use Rattle.stair_engine.specs.Means.{Means};
-ghost use Rattle.stair_engine.specs.Outside.{outside, source_view, views};
-ghost use Rattle.stair_engine.specs.Plan.{Over, input_plan, stripe_plan};
-ghost use Rattle.stair_engine.specs.Taking.{HoldsInput, TakesWhole};
+ghost use Rattle.stair_story.specs.Answer.{block_bytes as block_bytes_of};
+ghost use Rattle.stair_story.specs.Encode.{IsCostOfMethod};
+ghost use Rattle.stair_story.specs.Fault.{status_of};
+ghost use Rattle.stair_story.specs.Means.{Means};
+ghost use Rattle.stair_story.specs.Outside.{outside, source_view, views};
+ghost use Rattle.stair_story.specs.Plan.{Over};
+ghost use Rattle.stair_engine.specs.Plans.{input_plan, stripe_plan};
+ghost use Rattle.stair_story.specs.Taking.{TakesWhole};
+ghost use Rattle.stair_engine.specs.Taking.{HoldsInput};
 ghost use Rattle.stair_conf.specs.declared.job.StripeCommand.TheVariants.{Encode};
 
 use crate::blocks::{block_bytes, take_blocks};
 use crate::cells::put_stripe;
-use crate::fault::Fault;
-use crate::intake::Intake;
-use crate::status::Status;
 use crate::task::by_of;
 use stair_base::{Geometry, Stripe, StripeCode};
 use stair_codec::Codec;
 use stair_conf::Method;
 use stair_gf::Steps;
 use stair_rack::{Sink, Source};
+use stair_story::{Fault, Intake, Status};
 use std::alloc::Global;
 use std::sync::ledger::Ledger;
 

@@ -2,7 +2,7 @@
 
 ghost use Rattle.std.specs.Prelude.{ℕ, ◌↔◌, List};
 ghost use Rattle.stair_model.specs.Geometry.{Geometry};
-ghost use Rattle.stair_engine.specs.Answer.{IsAnswer};
+ghost use Rattle.stair_story.specs.Answer.{IsAnswer};
 ghost use Rattle.stair_engine.specs.Laws.{
   AllIsComplete,
   AllIsKept,
@@ -17,9 +17,9 @@ ghost use Rattle.stair_engine.specs.Laws.{
   UsageIsExact,
   WordsAreDone,
 };
-ghost use Rattle.stair_engine.specs.Outside.{views};
-ghost use Rattle.stair_engine.specs.Rack.{rack_view};
-ghost use Rattle.stair_engine.specs.declared.status.Status.{Status};
+ghost use Rattle.stair_story.specs.Outside.{views};
+ghost use Rattle.stair_story.specs.Rack.{rack_view};
+ghost use Rattle.stair_story.specs.declared.status.Status.{Status};
 ghost use Rattle.stair_conf.specs.declared.job.StripeCommand.TheVariants.{Restore};
 
 use stair_rack::{Rack, Sink, Source};

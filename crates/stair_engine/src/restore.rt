@@ -1,22 +1,22 @@
 ghost use Rattle.std.specs.Prelude.{ℕ};
 ghost use Rattle.stair_model.specs.Geometry.{IsWithinLimits};
 ghost use Rattle.stair_model.specs.Stripe.{IsStripeOf, IsWellFormed};
-ghost use Rattle.stair_engine.specs.Answer.{bytes_needed};
-ghost use Rattle.stair_engine.specs.Fault.{status_of};
-ghost use Rattle.stair_engine.specs.Means.{Means};
-ghost use Rattle.stair_engine.specs.Outside.{outside, source_view, views};
-ghost use Rattle.stair_engine.specs.Plan.{Over, input_plan, stripe_plan};
-ghost use Rattle.stair_engine.specs.Taking.{IsMapAndCells, TakesWhole};
+ghost use Rattle.stair_story.specs.Answer.{bytes_needed};
+ghost use Rattle.stair_story.specs.Fault.{status_of};
+ghost use Rattle.stair_story.specs.Means.{Means};
+ghost use Rattle.stair_story.specs.Outside.{outside, source_view, views};
+ghost use Rattle.stair_story.specs.Plan.{Over};
+ghost use Rattle.stair_engine.specs.Plans.{input_plan, stripe_plan};
+ghost use Rattle.stair_story.specs.Taking.{TakesWhole};
+ghost use Rattle.stair_engine.specs.Taking.{IsMapAndCells};
 ghost use Rattle.stair_conf.specs.declared.job.StripeCommand.TheVariants.{Restore};
 
 use crate::cells::{cell_bytes, put_stripe, take_stripe};
-use crate::fault::Fault;
-use crate::intake::Intake;
 use crate::map::take_map;
-use crate::status::Status;
 use stair_base::{CellSet, Geometry, Stripe, StripeCode, first_broken};
 use stair_codec::{By, Codec};
 use stair_rack::{Sink, Source};
+use stair_story::{Fault, Intake, Status};
 use std::alloc::Global;
 
 /// Takes a map and the cells of a stripe row by row, and puts out the codeword that has those cells of it that are held.

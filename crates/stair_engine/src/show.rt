@@ -1,6 +1,6 @@
 ghost use Rattle.std.specs.Prelude.{◌≡◌, ◌+◌, ◌<◌, ◌≤◌, ◌++◌, length, IfErr};
-ghost use Rattle.stair_engine.specs.Outside.{sink_view};
-ghost use Rattle.stair_engine.specs.Rack.{rack_view};
+ghost use Rattle.stair_story.specs.Outside.{sink_view};
+ghost use Rattle.stair_story.specs.Rack.{rack_view};
 ghost use Rattle.stair_engine.specs.Show.{
   array_line as line_of_array,
   array_text,
@@ -15,17 +15,14 @@ ghost use Rattle.stair_engine.specs.Show.{
   spaced,
 };
 ghost use Rattle.stair_engine.specs.ShowSteps.{Shows};
-ghost use Rattle.stair_engine.specs.Streams.{PutsAll};
+ghost use Rattle.stair_story.specs.Streams.{PutsAll};
 ghost use Rattle.stair_engine.specs.declared.line.TheConstants.{LINE_LIMIT};
 
-use crate::fault::Fault;
 use crate::line::Line;
-use crate::status::Status;
-use crate::streams::put_all;
-use crate::text::identity_digits;
 use stair_base::Geometry;
 use stair_member::{Member, Why, survey};
 use stair_rack::{Rack, Sink};
+use stair_story::{Fault, Status, identity_digits, put_all};
 use stair_super::{Label, Mark};
 
 /// Looks for the array of the rack, and puts out what it is and what its slots are.

@@ -215,36 +215,6 @@ const CALLS: [(&str, Bytes, Ends, Status, Bytes); 34] = [
     ("show 4", TEXT, WHOLE, Status::Usage, NOTHING),
 ];
 
-// Each row is a status, the exit status of the program, and the line on standard error.
-const LINES: [(Status, u8, &str); 18] = [
-    (Status::Done, 0, ""),
-    (IN_ROW, 1, "not a codeword: row 0 parity 0 byte 0"),
-    (IN_GLOBAL, 1, "not a codeword: global 0 0 byte 0"),
-    (Status::NoCodeword, 1, "no codeword holds these cells"),
-    (
-        Status::Usage,
-        2,
-        "usage: stair FOLDER check|stripe|restore|create|show",
-    ),
-    (Status::Limit(3), 3, "geometry: limit 3"),
-    (Status::Key(Key::Stripes), 3, "geometry: key stripes"),
-    (Status::NotToml, 3, "geometry: not TOML"),
-    (SHORT, 4, "input: needed 4096, took 2560"),
-    (Status::InputFault, 5, "input failed"),
-    (Status::OutputFault, 6, "output failed"),
-    (Status::NoArray, 7, "no array"),
-    (
-        Status::TwoArrays([0x0A; 16], [0xB9; 16]),
-        8,
-        "two arrays: 0a0a0a0a0a0a0a0a0a0a0a0a0a0a0a0a b9b9b9b9b9b9b9b9b9b9b9b9b9b9b9b9",
-    ),
-    (LOST, 10, "lost: stripe 0 counts 2 0 1 1"),
-    (Status::AlreadyArray(31), 12, "array already: slot 31"),
-    (SMALL, 13, "small device: slot 0 has 17 of 19 sectors"),
-    (Status::Gone(4), 15, "gone: slot 4"),
-    (Status::OutOfMemory, 17, "out of memory"),
-];
-
 fn words_of(alloc: Global, line: &str) -> Result<Vec<String>, AllocError> {
     let mut words = Vec::new(alloc);
     for word in line.split(' ') {
@@ -405,28 +375,4 @@ fn too_few(first: &[Why]) -> Status {
         *slot = *why;
     }
     Status::TooFew(whys)
-}
-
-#[test]
-fn each_status_has_its_code_and_line(rt: HostRuntime) -> Result<(), Fail> {
-    for (status, code, line) in LINES {
-        assert_eq!(rt; status.code(), code, "{line}");
-        assert_eq!(rt; format!(in rt.alloc(); "{status}")?.as_str(), line);
-    }
-    let few = too_few(&[
-        Why::Gone,
-        Why::Here,
-        Why::NoSuper,
-        Why::OtherArray,
-        Why::OtherSlot,
-        Why::MarkedDown,
-        Why::OtherJoined,
-        Why::Rebuilding,
-    ]);
-    assert_eq!(rt; few.code(), 9);
-    assert_eq!(rt;
-        format!(in rt.alloc(); "{few}")?.as_str(),
-        "too few devices: 0 gone, 2 no superblock, 3 other array, 4 other slot, 5 marked down, 6 other joined, 7 rebuilding"
-    );
-    Ok(())
 }

@@ -3,17 +3,17 @@ use Rattle.std.proofs.Common.{◌≡◌, inl, inr, Err, None, Some, map, refl, s
 use Rattle.stair_conf.proofs.WordsLemmas.{job_line}
 use Rattle.stair_conf.specs.declared.fault.WordsFault.{WordsFault}
 use Rattle.stair_conf.specs.declared.fault.WordsFault.TheVariants.{Usage}
-use Rattle.stair_engine.specs.Outside.{outside, views}
-use Rattle.stair_engine.specs.Plan.{Over, Ask, if_spelled, plan_of}
-use Rattle.stair_engine.specs.Question.{Words}
-use Rattle.stair_engine.specs.Rack.{MeansOver, rack_view}
-use Rattle.stair_engine.specs.Story.{Found}
+use Rattle.stair_story.specs.Outside.{outside, views}
+use Rattle.stair_story.specs.Plan.{Over, Ask}
+use Rattle.stair_engine.specs.Plans.{if_spelled, plan_of}
+use Rattle.stair_story.specs.Question.{Words}
+use Rattle.stair_story.specs.Rack.{MeansOver, rack_view}
+use Rattle.stair_story.specs.Story.{Found}
 use Rattle.stair_engine.proofs.CallLaws.{array_is_left, array_is_made, arrays_are_spared, still_spared}
 use Rattle.stair_engine.proofs.CompleteLaws.{all_is_complete}
-use Rattle.stair_engine.proofs.RackLaws.{over_one, over_then}
 use Rattle.stair_engine.proofs.StandLaws.{still_stands}
-use Rattle.stair_engine.proofs.StepLaws.{over_grows, over_runs_out}
 use Rattle.stair_engine.proofs.stair.Goals as goal
+use Rattle.stair_story.proofs.RackLaws.{over_one, over_then, over_grows, over_runs_out}
 
 pub returns-in-Ok : goal.returns-in-Ok
 returns-in-Ok g c =

@@ -3,20 +3,22 @@ use Rattle.std.proofs.Common.{◌≡◌, None, Some, Result, Ok, Err, refl, subs
 use Rattle.std.specs.Prelude.{MatchResult}
 use Rattle.stair_model.specs.Geometry.{Geometry}
 use Rattle.stair_conf.specs.declared.job.Job.{Job}
-use Rattle.stair_engine.specs.Fault.{status_of, status_of_fault}
-use Rattle.stair_engine.specs.Means.{Means}
-use Rattle.stair_engine.specs.Outside.{outside, views}
-use Rattle.stair_engine.specs.Plan.{Over, create_plan, job_plan, show_plan, stripe_plan, tested_plan, within_limits}
-use Rattle.stair_engine.specs.Question.{Limits}
-use Rattle.stair_engine.specs.Rack.{MeansOver, rack_view}
+use Rattle.stair_story.specs.Fault.{status_of, status_of_fault}
+use Rattle.stair_story.specs.Means.{Means}
+use Rattle.stair_story.specs.Outside.{outside, views}
+use Rattle.stair_story.specs.Plan.{Over}
+use Rattle.stair_engine.specs.Plans.{create_plan, job_plan, show_plan, stripe_plan, tested_plan, within_limits}
+use Rattle.stair_story.specs.Question.{Limits}
+use Rattle.stair_story.specs.Rack.{MeansOver, rack_view}
 use Rattle.stair_engine.specs.Task.{one_stripe}
-use Rattle.stair_engine.specs.declared.fault.Fault.{Fault}
-use Rattle.stair_engine.specs.declared.status.Status.{Status}
-use Rattle.stair_engine.specs.declared.status.Status.TheVariants.{Limit}
-use Rattle.stair_engine.proofs.PlanLaws.{and_then, finds}
-use Rattle.stair_engine.proofs.RackLaws.{over_still, stripe_calls_none}
+use Rattle.stair_story.specs.declared.fault.Fault.{Fault}
+use Rattle.stair_story.specs.declared.status.Status.{Status}
+use Rattle.stair_story.specs.declared.status.Status.TheVariants.{Limit}
 use Rattle.stair_engine.proofs.StepLaws.{shows}
 use Rattle.stair_engine.proofs.work.Goals as goal
+use Rattle.stair_story.proofs.PlanLaws.{and_then, finds}
+use Rattle.stair_story.proofs.RackLaws.{over_still}
+use Rattle.stair_engine.proofs.StripeLaws.{stripe_calls_none}
 
 status_is : (status : Status) (done : Result Status Fault) → MatchResult done (λ answer. status ≡ answer) (λ fault. status ≡ status_of_fault fault)
     → status ≡ status_of done

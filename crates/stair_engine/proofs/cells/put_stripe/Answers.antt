@@ -2,9 +2,9 @@
 use Rattle.std.proofs.Common.{◌<◌, arith}
 use Rattle.std.proofs.KnownBytes.{Appends-trans}
 use Rattle.stair_rack.specs.Count.{kept-Rose}
-use Rattle.stair_engine.specs.Outside.{sink_view}
+use Rattle.stair_story.specs.Outside.{sink_view}
 use Rattle.stair_engine.proofs.CellLaws.{puts_cell, puts_part}
-use Rattle.stair_engine.proofs.StreamLaws.{PutsAll-err}
+use Rattle.stair_story.proofs.StreamLaws.{PutsAll-err}
 use Rattle.stair_engine.proofs.cells.put_stripe.Goals as goal
 
 pub returns-in_err-put_all-clause-puts : goal.returns-in_err-put_all-clause-puts

@@ -1,8 +1,8 @@
 -- One cell more; a piece that was cut short behind the cells so far; and all cells.
 use Rattle.std.proofs.Common.{◌<◌, arith}
-use Rattle.stair_engine.specs.Outside.{source_view}
+use Rattle.stair_story.specs.Outside.{source_view}
 use Rattle.stair_engine.proofs.CellLaws.{HasTaken-more}
-use Rattle.stair_engine.proofs.IntakeLaws.{CutsShort-later, if_err_of}
+use Rattle.stair_story.proofs.IntakeLaws.{CutsShort-later, if_err_of}
 use Rattle.stair_engine.proofs.cells.take_stripe.Goals as goal
 
 pub returns-in_err-fill-clause-cut : goal.returns-in_err-fill-clause-cut

@@ -1,14 +1,16 @@
 -- Each return, by its deeds.
 use Rattle.std.proofs.Common.{[], refl, rules}
 use Rattle.std.specs.Prelude.{IsNone}
-use Rattle.stair_engine.specs.Answer.{codeword_line}
-use Rattle.stair_engine.specs.declared.fault.Fault.TheVariants.{Memory, Output}
-use Rattle.stair_engine.specs.declared.status.Status.TheVariants.{Done, NotCodeword}
-use Rattle.stair_engine.specs.Outside.{views}
-use Rattle.stair_engine.specs.Plan.{Over, input_plan}
+use Rattle.stair_story.specs.Answer.{codeword_line}
+use Rattle.stair_story.specs.declared.fault.Fault.TheVariants.{Memory, Output}
+use Rattle.stair_story.specs.declared.status.Status.TheVariants.{Done, NotCodeword}
+use Rattle.stair_story.specs.Outside.{views}
+use Rattle.stair_story.specs.Plan.{Over}
+use Rattle.stair_engine.specs.Plans.{input_plan}
 use Rattle.stair_conf.specs.declared.job.StripeCommand.TheVariants.{Check}
-use Rattle.stair_engine.proofs.PlanLaws.{and_then, cannot_put, grows, hands_on, puts, runs_out, takes_judged, takes_whole}
 use Rattle.stair_engine.proofs.check.check.Goals as goal
+use Rattle.stair_story.proofs.PlanLaws.{and_then, cannot_put, grows, hands_on, puts, runs_out, takes_whole}
+use Rattle.stair_engine.proofs.StripeLaws.{takes_judged}
 
 pub returns-in_err-stripe : goal.returns-in_err-stripe
 returns-in_err-stripe g c counter =

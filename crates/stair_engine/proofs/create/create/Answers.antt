@@ -1,14 +1,14 @@
 -- Each return, by its deeds.
 use Rattle.std.proofs.Common.{◌≡◌, ℕ, List, Ok, Err, rules, subst}
-use Rattle.stair_engine.specs.Means.{Holds}
-use Rattle.stair_engine.specs.Outside.{views}
-use Rattle.stair_engine.specs.Plan.{created_line}
-use Rattle.stair_engine.specs.Rack.{rack_view}
-use Rattle.stair_engine.specs.Story.{HasPut, IsPart}
-use Rattle.stair_engine.specs.declared.fault.Fault.TheVariants.{Memory, Output}
-use Rattle.stair_engine.proofs.StepLaws.{makes, over_cannot_put, over_hands_on, over_puts, over_runs_out, reads_text, takes_text, text_faulty, text_refused}
-use Rattle.stair_engine.proofs.RackLaws.{over_then}
+use Rattle.stair_story.specs.Means.{Holds}
+use Rattle.stair_story.specs.Outside.{views}
+use Rattle.stair_engine.specs.Plans.{created_line}
+use Rattle.stair_story.specs.Rack.{rack_view}
+use Rattle.stair_story.specs.Story.{HasPut, IsPart}
+use Rattle.stair_story.specs.declared.fault.Fault.TheVariants.{Memory, Output}
+use Rattle.stair_engine.proofs.StepLaws.{makes, reads_text, takes_text, text_faulty, text_refused}
 use Rattle.stair_engine.proofs.create.create.Goals as goal
+use Rattle.stair_story.proofs.RackLaws.{over_cannot_put, over_hands_on, over_puts, over_runs_out, over_then}
 
 pub returns-in_err-length : goal.returns-in_err-length
 returns-in_err-length g c counter =

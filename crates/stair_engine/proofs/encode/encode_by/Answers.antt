@@ -1,13 +1,14 @@
 -- Each return, by its deeds.
 use Rattle.std.specs.List.{concat}
-use Rattle.stair_engine.specs.declared.fault.Fault.TheVariants.{Output}
-use Rattle.stair_engine.specs.declared.status.Status.TheVariants.{Done}
-use Rattle.stair_engine.specs.Outside.{views}
-use Rattle.stair_engine.specs.Plan.{Over}
+use Rattle.stair_story.specs.declared.fault.Fault.TheVariants.{Output}
+use Rattle.stair_story.specs.declared.status.Status.TheVariants.{Done}
+use Rattle.stair_story.specs.Outside.{views}
+use Rattle.stair_story.specs.Plan.{Over}
 use Rattle.stair_conf.specs.declared.job.StripeCommand.TheVariants.{Encode}
 use Rattle.stair_engine.proofs.AnswerLaws.{judged_blocks}
-use Rattle.stair_engine.proofs.PlanLaws.{and_then, cannot_put, hands_on, of_geometry, puts, takes_judged, takes_whole}
 use Rattle.stair_engine.proofs.encode.encode_by.Goals as goal
+use Rattle.stair_story.proofs.PlanLaws.{and_then, cannot_put, hands_on, puts, takes_whole}
+use Rattle.stair_engine.proofs.StripeLaws.{of_geometry, takes_judged}
 
 pub returns-in_err-take_input : goal.returns-in_err-take_input
 returns-in_err-take_input g c =

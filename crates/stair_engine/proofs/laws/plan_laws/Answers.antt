@@ -1,5 +1,5 @@
-use Rattle.stair_engine.specs.Outside.{views}
-use Rattle.stair_engine.specs.Rack.{rack_view}
+use Rattle.stair_story.specs.Outside.{views}
+use Rattle.stair_story.specs.Rack.{rack_view}
 use Rattle.stair_engine.proofs.MeaningLaws.{bytes_are_answered, words_are_done}
 use Rattle.stair_engine.proofs.CallLaws.{all_is_kept, array_is_left, array_is_made, arrays_are_spared, memory_comes_first, rack_is_left, show_only_looks, usage_is_exact}
 use Rattle.stair_engine.proofs.CompleteLaws.{all_is_complete}

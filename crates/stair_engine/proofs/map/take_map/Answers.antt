@@ -1,7 +1,7 @@
 -- One row more; a row that was cut short behind the rows so far; and all rows.
 use Rattle.std.proofs.Common.{◌≡◌, arith, rules, length}
-use Rattle.stair_engine.specs.Outside.{source_view}
-use Rattle.stair_engine.proofs.IntakeLaws.{CutsShort-later, if_err_of}
+use Rattle.stair_story.specs.Outside.{source_view}
+use Rattle.stair_story.proofs.IntakeLaws.{CutsShort-later, if_err_of}
 use Rattle.stair_engine.proofs.MapLaws.{HasMapped-all, HasMapped-more, HasMapped-none}
 use Rattle.stair_engine.proofs.map.take_map.Goals as goal
 

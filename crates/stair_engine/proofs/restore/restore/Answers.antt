@@ -1,10 +1,11 @@
 -- There was no memory; or what was done with the code that was made.
-use Rattle.stair_engine.specs.declared.fault.Fault.TheVariants.{Memory}
-use Rattle.stair_engine.specs.Outside.{views}
-use Rattle.stair_engine.specs.Plan.{input_plan}
+use Rattle.stair_story.specs.declared.fault.Fault.TheVariants.{Memory}
+use Rattle.stair_story.specs.Outside.{views}
+use Rattle.stair_engine.specs.Plans.{input_plan}
 use Rattle.stair_conf.specs.declared.job.StripeCommand.TheVariants.{Restore}
-use Rattle.stair_engine.proofs.PlanLaws.{and_then, grows, hands_on, of_geometry, runs_out}
 use Rattle.stair_engine.proofs.restore.restore.Goals as goal
+use Rattle.stair_story.proofs.PlanLaws.{and_then, grows, hands_on, runs_out}
+use Rattle.stair_engine.proofs.StripeLaws.{of_geometry}
 
 pub returns-in_err-stripe : goal.returns-in_err-stripe
 returns-in_err-stripe g c counter =

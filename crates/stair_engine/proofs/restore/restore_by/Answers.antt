@@ -4,14 +4,15 @@ use Rattle.std.specs.Prelude.{IsErr, IsNone, IsOk, IsSome}
 use Rattle.std.specs.List.{concat}
 use Rattle.stair_model.specs.CellSet.{IsInStripe}
 use Rattle.stair_model.specs.Geometry.{Geometry}
-use Rattle.stair_engine.specs.declared.fault.Fault.TheVariants.{Output}
-use Rattle.stair_engine.specs.declared.status.Status.TheVariants.{Done, Lost, NoCodeword}
-use Rattle.stair_engine.specs.Outside.{views}
-use Rattle.stair_engine.specs.Plan.{Over}
+use Rattle.stair_story.specs.declared.fault.Fault.TheVariants.{Output}
+use Rattle.stair_story.specs.declared.status.Status.TheVariants.{Done, Lost, NoCodeword}
+use Rattle.stair_story.specs.Outside.{views}
+use Rattle.stair_story.specs.Plan.{Over}
 use Rattle.stair_conf.specs.declared.job.StripeCommand.TheVariants.{Restore}
 use Rattle.stair_engine.proofs.AnswerLaws.{judged_lost, judged_none, judged_restored}
-use Rattle.stair_engine.proofs.PlanLaws.{and_then, cannot_put, hands_on, of_geometry, puts, takes_judged, takes_whole}
 use Rattle.stair_engine.proofs.restore.restore_by.Goals as goal
+use Rattle.stair_story.proofs.PlanLaws.{and_then, cannot_put, hands_on, puts, takes_whole}
+use Rattle.stair_engine.proofs.StripeLaws.{of_geometry, takes_judged}
 
 pub restore-requires-clause-cells : goal.restore-requires-clause-cells
 restore-requires-clause-cells g c =

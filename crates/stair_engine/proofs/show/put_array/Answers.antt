@@ -1,8 +1,8 @@
 -- Each line.
 use Rattle.std.proofs.Common.{ap, ◌∙◌}
-use Rattle.stair_engine.specs.Outside.{sink_view}
+use Rattle.stair_story.specs.Outside.{sink_view}
 use Rattle.stair_engine.specs.Show.{array_line, epoch_line, frozen_line, geometry_line, label_line}
-use Rattle.stair_engine.proofs.TextLaws.{puts_first, puts_then}
+use Rattle.stair_story.proofs.TextLaws.{puts_first, puts_then}
 use Rattle.stair_engine.proofs.show.put_array.Goals as goal
 
 pub returns-in_err-put_all-clause-puts : goal.returns-in_err-put_all-clause-puts

@@ -1,0 +1,156 @@
+-- What a rack shows of a call.
+use Rattle.std.proofs.Common.{◌≡◌, ◌∙◌, ℕ, List, [], ◌∷◌, refl, sym, subst, Result, Ok, Err}
+use Rattle.stair_story.specs.Means.{Bears, Counts, Gives, Holds, Means}
+use Rattle.stair_story.specs.Outside.{Outside, Views, outside}
+use Rattle.stair_story.specs.Plan.{Plan, Over, Ask, Take, Put, Allocate, Do, Try, RebuildAll}
+use Rattle.stair_story.specs.Rack.{MeansOver, RackView, Works}
+use Rattle.stair_story.specs.Story.{Deed, Found, Took, TookLast, TakeFailed, HasPut, PutFailed, Grew, RanOut, Did, Stepped, Leads, Moves, IsPart}
+use Rattle.stair_story.specs.declared.status.Status.{Status}
+use Rattle.stair_story.specs.declared.status.Status.TheVariants.{Done, OutputFault, OutOfMemory}
+use Rattle.stair_story.proofs.PlanLaws.{and_then, does, leads_then}
+use Rattle.stair_story.proofs.EndLaws.{no_move}
+use Rattle.std.specs.Result.{IsErrAnd}
+use Rattle.stair_story.specs.declared.fault.Fault.{Fault}
+use Rattle.stair_story.specs.Fault.{status_of, status_of_fault}
+use Rattle.stair_story.specs.Ending.{MakesNoCall}
+
+-- ---- deeds that make no call
+
+-- a deed that isn't one on an array
+abbrev pub IsOffDevices : Deed → Type 0
+IsOffDevices (Did action outcome) = ⊥
+IsOffDevices (Stepped step answer events left) = ⊥
+IsOffDevices _ = Unit {0}
+
+pub works_still : {R : Type 0} (rack : RackView R) (deed : Deed) (x y : R) → IsOffDevices deed → Works rack deed x y → y ≡ x
+works_still rack (Did action outcome) x y off works = absurd off
+works_still rack (Stepped step answer events left) x y off works = absurd off
+works_still rack (Found question) x y off works = works
+works_still rack (Took bytes) x y off works = works
+works_still rack (TookLast bytes) x y off works = works
+works_still rack (TakeFailed bytes) x y off works = works
+works_still rack (HasPut bytes) x y off works = works
+works_still rack (PutFailed bytes) x y off works = works
+works_still rack Grew x y off works = works
+works_still rack RanOut x y off works = works
+
+still_works : {R : Type 0} (rack : RackView R) (deed : Deed) (x : R) → IsOffDevices deed → Works rack deed x x
+still_works rack (Did action outcome) x off = absurd off
+still_works rack (Stepped step answer events left) x off = absurd off
+still_works rack (Found question) x off = refl
+still_works rack (Took bytes) x off = refl
+still_works rack (TookLast bytes) x off = refl
+still_works rack (TakeFailed bytes) x off = refl
+still_works rack (HasPut bytes) x off = refl
+still_works rack (PutFailed bytes) x off = refl
+still_works rack Grew x off = refl
+still_works rack RanOut x off = refl
+
+-- ---- plans that make no call
+
+-- one move of such a plan
+no_call_moves : (deed : Deed) (plan rest : Plan) → MakesNoCall plan → Moves deed plan rest → IsOffDevices deed × MakesNoCall rest
+no_call_moves (Found asked) (Ask question k) rest none moves = (tt, subst MakesNoCall (sym moves.3) (none moves.0))
+no_call_moves (Took bytes) (Take n k short) rest none moves = (tt, subst MakesNoCall (sym moves.1) (none.0 bytes))
+no_call_moves (TookLast bytes) (Take n k short) rest none moves = (tt, subst MakesNoCall (sym moves.1) (none.1 bytes))
+no_call_moves (TakeFailed bytes) (Take n k short) rest none moves = (tt, subst MakesNoCall (sym moves.1) tt)
+no_call_moves (HasPut bytes) (Put all plan) rest none moves = (tt, subst MakesNoCall (sym moves.1) none)
+no_call_moves (PutFailed part) (Put all plan) rest none moves = (tt, subst MakesNoCall (sym moves.1) tt)
+no_call_moves Grew (Allocate plan) rest none moves = (tt, subst MakesNoCall (sym moves) none)
+no_call_moves RanOut (Allocate plan) rest none moves = (tt, subst MakesNoCall (sym moves) tt)
+no_call_moves (Did did came) (Do action k) rest none moves = absurd none
+no_call_moves (Stepped did came events left) (Try step k) rest none moves = absurd none
+no_call_moves (Stepped did came events left) (RebuildAll slots done k) rest none moves = absurd none
+no_call_moves _ _ rest none moves = absurd moves
+
+-- a story along such a plan leaves a rack
+still_along : {R : Type 0} (rack : RackView R) (story : List Deed) (plan rest : Plan) (x : R) → MakesNoCall plan → Leads Moves story plan rest
+    → Leads (Works rack) story x x
+still_along rack [] plan rest x none follows = refl
+still_along rack (deed ∷ story) plan rest x none follows =
+    let moved = no_call_moves deed plan follows.0 none follows.1 in
+    (x, still_works rack deed x moved.0, still_along rack story follows.0 rest x moved.1 follows.2)
+
+pub left_along : {R : Type 0} (rack : RackView R) (story : List Deed) (plan rest : Plan) (x y : R) → MakesNoCall plan → Leads Moves story plan rest
+    → Leads (Works rack) story x y → y ≡ x
+left_along rack [] plan rest x y none follows works = works
+left_along rack (deed ∷ story) plan rest x y none follows works =
+    let moved = no_call_moves deed plan follows.0 none follows.1 in
+    left_along rack story follows.0 rest works.0 y moved.1 follows.2 works.2 ∙ works_still rack deed x works.0 moved.0 works.1
+
+-- ---- calls over a rack
+
+module _ {R S K : Type 0} (rack : RackView R) (view : Views S K) where
+  pub over_then : {plan mid rest : Plan} {a b c : Outside S K} {x y z : R} → MeansOver rack view plan mid a b x y
+      → MeansOver rack view mid rest b c y z → MeansOver rack view plan rest a c x z
+  over_then {plan} {mid} {rest} {a} {b} {c} {x} {y} {z} first later = record {
+    means = and_then view first.means later.means;
+    works = leads_then (Works rack) first.means.story later.means.story x y z first.works later.works;
+  }
+
+  -- one deed
+  pub over_one : (deed : Deed) (plan rest : Plan) (a b : Outside S K) (x y : R) → Moves deed plan rest → Gives view.source deed a.source b.source
+      → Holds view.sink deed a.sink b.sink → Counts deed a.counter b.counter → Works rack deed x y → MeansOver rack view plan rest a b x y
+  over_one deed plan rest a b x y moves gives holds counts works = record {
+    means = does view deed plan rest a b moves gives holds counts;
+    works = (y, works, refl);
+  }
+
+  -- a plan that makes no call
+  pub over_still : (plan rest : Plan) (a b : Outside S K) (x : R) → MakesNoCall plan → Means view plan rest a b → MeansOver rack view plan rest a b x x
+  over_still plan rest a b x none means = record { means = means; works = still_along rack means.story plan rest x none means.follows }
+
+  pub over_left : (plan rest : Plan) (a b : Outside S K) (x y : R) → MakesNoCall plan → MeansOver rack view plan rest a b x y → y ≡ x
+  over_left plan rest a b x y none over = left_along rack over.means.story plan rest x y none over.means.follows over.works
+
+  -- what comes behind the first deed
+  pub behind_over : (deed : Deed) (story : List Deed) (plan from : Plan) (status : Status) (a mid b : Outside S K) (x z y : R)
+      (bears : Bears view (deed ∷ story) a b) (works : Leads (Works rack) (deed ∷ story) x y)
+      → bears.gives.0 ≡ mid.source → bears.holds.0 ≡ mid.sink → bears.counts.0 ≡ mid.counter → works.0 ≡ z
+      → from ≡ plan → Leads Moves story from (Over status) → MeansOver rack view plan (Over status) mid b z y
+  behind_over deed story plan from status a mid b x z y bears works source sink counter at same follows = record {
+    means = record {
+      story = story;
+      follows = subst (λ (p : Plan). Leads Moves story p (Over status)) same follows;
+      bears = record {
+        gives = subst (λ (s : S). Leads (Gives view.source) story s b.source) source bears.gives.2;
+        holds = subst (λ (k : K). Leads (Holds view.sink) story k b.sink) sink bears.holds.2;
+        counts = subst (λ (n : ℕ). Leads Counts story n b.counter) counter bears.counts.2;
+      };
+    };
+    works = subst (λ (w : R). Leads (Works rack) story w y) at works.2;
+  }
+
+  pub over_done : (from status : Status) (a b : Outside S K) (x y : R) → MeansOver rack view (Over from) (Over status) a b x y
+      → (status ≡ from) × (b ≡ a) × (y ≡ x)
+  over_done from status a b x y over = at over.means.story over.means.follows over.means.bears over.works
+    where
+      at : (story : List Deed) → Leads Moves story (Over from) (Over status) → Bears view story a b → Leads (Works rack) story x y
+          → (status ≡ from) × (b ≡ a) × (y ≡ x)
+      at [] follows bears works =
+          let same : Over status ≡ Over from = follows in
+          (cc, λ i. record { source = bears.gives i; sink = bears.holds i; counter = bears.counts i }, works)
+      at (deed ∷ story) follows bears works = absurd (no_move deed from follows.0 follows.1)
+
+  -- a fault that was handed on
+  pub over_hands_on : (plan : Plan) (a b : Outside S K) (x y : R) (result : Result Status Fault) (fault : Fault) → IsErrAnd result (λ f. f ≡ fault)
+      → MeansOver rack view plan (Over (status_of_fault fault)) a b x y → MeansOver rack view plan (Over (status_of result)) a b x y
+  over_hands_on plan a b x y (Ok status) fault is means = absurd is
+  over_hands_on plan a b x y (Err f) fault is means =
+      subst (λ (k : Fault). MeansOver rack view plan (Over (status_of_fault k)) a b x y) (sym is) means
+
+  pub over_grows : (plan : Plan) (a : Outside S K) (x : R) → MeansOver rack view (Allocate plan) plan a a x x
+  over_grows plan a x = over_one Grew (Allocate plan) plan a a x x refl refl refl refl refl
+
+  pub over_runs_out : (plan : Plan) (a : Outside S K) (x : R) → MeansOver rack view (Allocate plan) (Over OutOfMemory) a a x x
+  over_runs_out plan a x = over_one RanOut (Allocate plan) (Over OutOfMemory) a a x x refl refl refl refl refl
+
+  pub over_puts : (bytes : List ℕ) (source : S) (sink sink' : K) (n : ℕ) (x : R) → Holds view.sink (HasPut bytes) sink sink'
+      → MeansOver rack view (Put bytes (Over Done)) (Over Done) (outside source sink n) (outside source sink' n) x x
+  over_puts bytes source sink sink' n x holds =
+      over_one (HasPut bytes) (Put bytes (Over Done)) (Over Done) _ _ x x (refl, refl) refl holds refl refl
+
+  pub over_cannot_put : (bytes part : List ℕ) (source : S) (sink sink' : K) (n : ℕ) (x : R) → IsPart part bytes → Holds view.sink (PutFailed part) sink sink'
+      → MeansOver rack view (Put bytes (Over Done)) (Over OutputFault) (outside source sink n) (outside source sink' n) x x
+  over_cannot_put bytes part source sink sink' n x is holds =
+      over_one (PutFailed part) (Put bytes (Over Done)) (Over OutputFault) _ _ x x (is, refl) refl holds refl refl

@@ -1,0 +1,20 @@
+-- Each law, by the induction on stories.
+use Rattle.std.proofs.Common.{◌≢◌}
+use Rattle.stair_story.proofs.DeviceLaws.{over_rack}
+use Rattle.stair_story.proofs.EndingLaws.{ends_otherwise, leaves, none_taken, short_first}
+use Rattle.stair_story.proofs.RackLaws.{left_along}
+use Rattle.stair_story.specs.Ending.{IsNoFault}
+use Rattle.stair_story.proofs.laws.story_laws.Goals as goal
+
+pub returns : goal.returns
+returns g c = record {
+  faults = λ view plan status old new ends last means. leaves view IsNoFault (λ end is. is) plan status old new ends last means;
+  others = λ view plan status other old new fault memory ends means.
+      ends_otherwise view (λ end. end ≢ other) other (λ end is. is) fault.0 fault.1 memory plan status old new ends means;
+  untaken = λ view plan status old new none means.
+      none_taken view.source means.story plan status old.source new.source none means.follows means.bears.gives;
+  still = λ rack view plan rest old new first last none over.
+      left_along rack over.means.story plan rest first last none over.means.follows over.works;
+  memory = λ rack view plan old new first last asks over. short_first rack over.means.story plan first last asks over.means.follows over.works;
+  rack = λ devices view plan rest old new first last none over. over_rack devices view plan rest old new first last none over;
+}

@@ -1,0 +1,66 @@
+-- What a rack, the array of a session and the watchers show of a call.
+use Rattle.std.specs.Prelude.{◌≡◌, Bool, List, Result, Ok, Err, length, not, nat_le}
+use Rattle.stair_rack.specs.Watching.{WatcherView}
+use Rattle.stair_watch.specs.WatcherList.{TellsAll}
+use Rattle.stair_member.specs.Membership.{Membership}
+use Rattle.stair_member.specs.Survey.{Surveys}
+use Rattle.stair_member.specs.declared.fault.SurveyFault.{SurveyFault}
+use Rattle.stair_array.specs.Creates.{Creates}
+use Rattle.stair_array.specs.Promise.{Begun, Closed, DoesStep, Found, Seen, Session}
+use Rattle.stair_story.specs.Action.{Create, Survey}
+use Rattle.stair_story.specs.Means.{Means}
+use Rattle.stair_story.specs.Outside.{Outside, Views}
+use Rattle.stair_story.specs.Plan.{Plan}
+use Rattle.stair_story.specs.Rack.{RackView, told_of}
+use Rattle.stair_story.specs.Story.{Deed, Did, Stepped, Leads}
+
+pub record DeviceView (R W : Type 0) : Type 0 where
+  pub rack : RackView R
+  pub watcher : WatcherView W
+
+abbrev pub device_view : {R W : Type 0} → RackView R → WatcherView W → DeviceView R W
+device_view rack watcher = record { rack = rack; watcher = watcher }
+
+-- them, at a moment: the rack, how far the session has come, and the watchers that are left
+pub record Devices (R W : Type 0) : Type 0 where
+  pub rack : R
+  pub session : Session
+  pub watchers : List W
+
+abbrev pub devices : {R W : Type 0} → R → Session → List W → Devices R W
+devices rack session watchers = record { rack = rack; session = session; watchers = watchers }
+
+abbrev pub seen_of : {R W : Type 0} → DeviceView R W → Devices R W → Seen
+seen_of view x = record { told = told_of view.rack x.rack; session = x.session }
+
+-- a session after an array was looked for
+abbrev pub session_after : Result Membership SurveyFault → Session
+session_after (Ok member) = Found member
+session_after (Err fault) = Closed
+
+-- a watcher left, or none did
+abbrev pub SomeLeft : {W : Type 0} → Bool → List W → List W → Type 0
+SomeLeft left old new = left ≡ not (nat_le (length old) (length new))
+
+-- What they show of a deed: what was done to an array came so; and a step is what a call of the session's array promises, whose
+-- events were told, one after the other, to all that were left. A deed of another kind leaves them as they were, so no call was
+-- made on them.
+abbrev pub WorksAll : {R W : Type 0} → DeviceView R W → Deed → Devices R W → Devices R W → Type 0
+WorksAll view (Did (Create g) outcome) old new =
+    Creates g outcome (told_of view.rack old.rack) (told_of view.rack new.rack)
+    × (new.session ≡ old.session) × (new.watchers ≡ old.watchers)
+WorksAll view (Did Survey outcome) old new =
+    Surveys outcome (told_of view.rack old.rack) (told_of view.rack new.rack)
+    × (old.session ≡ Begun) × (new.session ≡ session_after outcome)
+    × (new.watchers ≡ old.watchers)
+WorksAll view (Stepped step answer events left) old new =
+    DoesStep step answer events (seen_of view old) (seen_of view new)
+    × TellsAll view.watcher events old.watchers new.watchers
+    × SomeLeft left old.watchers new.watchers
+WorksAll view _ old new = new ≡ old
+
+-- The call went from this plan to that rest, and they bear out the same story.
+pub record MeansWith {R W S K : Type 0} (devices : DeviceView R W) (view : Views S K)
+    (plan rest : Plan) (old new : Outside S K) (first last : Devices R W) : Type 0 where
+  pub means : Means view plan rest old new
+  pub works : Leads (WorksAll devices) means.story first last

@@ -1,0 +1,130 @@
+-- How a call ends, and predicates on plans by which that is told for all commands at once.
+use Rattle.std.specs.Prelude.{◌≡◌, ◌≢◌, ◌≤◌, ℕ, Bool, List, ⊤}
+use Rattle.stair_array.specs.Machine.{Answer, Refusal}
+use Rattle.stair_rack.specs.Count.{Rose}
+use Rattle.stair_story.specs.declared.status.Status.{Status}
+use Rattle.stair_story.specs.declared.status.Status.TheVariants.{Done, InputFault, OutputFault, OutOfMemory}
+use Rattle.stair_story.specs.Action.{OkOf, RefusalOf, refused}
+use Rattle.stair_story.specs.Outside.{Outside, Views}
+use Rattle.stair_story.specs.Plan.{Plan, Over, Ask, Take, Put, Allocate, Do, Try, RebuildAll}
+use Rattle.stair_story.specs.Question.{IsReply, Reply}
+use Rattle.stair_story.specs.Refused.{status_of_refusal}
+
+-- by itself the plan ends with such a status alone
+abbrev pub EndsIn : (Status → Type 0) → Plan → Type 0
+EndsIn P (Over status) = P status
+EndsIn P (Ask question k) = (reply : Reply question) → IsReply question reply → EndsIn P (k reply)
+EndsIn P (Take n k short) =
+    ((bytes : List ℕ) → EndsIn P (k bytes)) × ((bytes : List ℕ) → EndsIn P (short bytes))
+EndsIn P (Put bytes plan) = EndsIn P plan
+EndsIn P (Allocate plan) = EndsIn P plan
+EndsIn P (Do action k) = ((done : OkOf action) → EndsIn P (k done))
+    × ((refusal : RefusalOf action) → P (refused action refusal))
+EndsIn P (Try step k) = (answer : Answer step) (left : Bool) → EndsIn P (k answer left)
+EndsIn P (RebuildAll slots done k) = ((count : ℕ) → EndsIn P (k count))
+    × ((refusal : Refusal) → P (status_of_refusal slots refusal))
+
+-- a fault is no status that a plan ends with by itself
+abbrev pub IsNoFault : Status → Type 0
+IsNoFault status = (status ≢ InputFault) × (status ≢ OutputFault)
+
+-- what is put out is put out at once, where all was done
+abbrev pub PutsLast : Plan → Type 0
+PutsLast (Over status) = ⊤
+PutsLast (Ask question k) = (reply : Reply question) → PutsLast (k reply)
+PutsLast (Take n k short) =
+    ((bytes : List ℕ) → PutsLast (k bytes)) × ((bytes : List ℕ) → PutsLast (short bytes))
+PutsLast (Put bytes plan) = plan ≡ Over Done
+PutsLast (Allocate plan) = PutsLast plan
+PutsLast (Do action k) = (done : OkOf action) → PutsLast (k done)
+PutsLast (Try step k) = (answer : Answer step) (left : Bool) → PutsLast (k answer left)
+PutsLast (RebuildAll slots done k) = (count : ℕ) → PutsLast (k count)
+
+-- nothing is taken, so the source can't fail it
+abbrev pub TakesNothing : Plan → Type 0
+TakesNothing (Over status) = status ≢ InputFault
+TakesNothing (Ask question k) = (reply : Reply question) → TakesNothing (k reply)
+TakesNothing (Take n k short) = ⊥
+TakesNothing (Put bytes plan) = TakesNothing plan
+TakesNothing (Allocate plan) = TakesNothing plan
+TakesNothing (Do action k) = ((done : OkOf action) → TakesNothing (k done))
+    × ((refusal : RefusalOf action) → refused action refusal ≢ InputFault)
+TakesNothing (Try step k) = (answer : Answer step) (left : Bool) → TakesNothing (k answer left)
+TakesNothing (RebuildAll slots done k) = (count : ℕ) → TakesNothing (k count)
+
+-- no call is made on a rack
+abbrev pub MakesNoCall : Plan → Type 0
+MakesNoCall (Over status) = ⊤
+MakesNoCall (Ask question k) = (reply : Reply question) → MakesNoCall (k reply)
+MakesNoCall (Take n k short) = ((bytes : List ℕ) → MakesNoCall (k bytes)) × ((bytes : List ℕ) → MakesNoCall (short bytes))
+MakesNoCall (Put bytes plan) = MakesNoCall plan
+MakesNoCall (Allocate plan) = MakesNoCall plan
+MakesNoCall (Do action k) = ⊥
+MakesNoCall (Try step k) = ⊥
+MakesNoCall (RebuildAll slots done k) = ⊥
+
+-- no step of a session's array is taken
+abbrev pub TakesNoStep : Plan → Type 0
+TakesNoStep (Over status) = ⊤
+TakesNoStep (Ask question k) = (reply : Reply question) → TakesNoStep (k reply)
+TakesNoStep (Take n k short) =
+    ((bytes : List ℕ) → TakesNoStep (k bytes)) × ((bytes : List ℕ) → TakesNoStep (short bytes))
+TakesNoStep (Put bytes plan) = TakesNoStep plan
+TakesNoStep (Allocate plan) = TakesNoStep plan
+TakesNoStep (Do action k) = (done : OkOf action) → TakesNoStep (k done)
+TakesNoStep (Try step k) = ⊥
+TakesNoStep (RebuildAll slots done k) = ⊥
+
+-- memory isn't asked for, so it can't be short
+abbrev pub AsksForNone : Plan → Type 0
+AsksForNone (Over status) = status ≢ OutOfMemory
+AsksForNone (Ask question k) = (reply : Reply question) → AsksForNone (k reply)
+AsksForNone (Take n k short) =
+    ((bytes : List ℕ) → AsksForNone (k bytes)) × ((bytes : List ℕ) → AsksForNone (short bytes))
+AsksForNone (Put bytes plan) = AsksForNone plan
+AsksForNone (Allocate plan) = ⊥
+AsksForNone (Do action k) = ((done : OkOf action) → AsksForNone (k done))
+    × ((refusal : RefusalOf action) → refused action refusal ≢ OutOfMemory)
+AsksForNone (Try step k) = (answer : Answer step) (left : Bool) → AsksForNone (k answer left)
+AsksForNone (RebuildAll slots done k) = (count : ℕ) → AsksForNone (k count)
+
+-- memory is asked for before anything is done to an array, and not after it
+abbrev pub AsksFirst : Plan → Type 0
+AsksFirst (Over status) = ⊤
+AsksFirst (Ask question k) = (reply : Reply question) → AsksFirst (k reply)
+AsksFirst (Take n k short) =
+    ((bytes : List ℕ) → AsksFirst (k bytes)) × ((bytes : List ℕ) → AsksFirst (short bytes))
+AsksFirst (Put bytes plan) = AsksFirst plan
+AsksFirst (Allocate plan) = AsksFirst plan
+AsksFirst (Do action k) = AsksForNone (Do action k)
+AsksFirst (Try step k) = AsksForNone (Try step k)
+AsksFirst (RebuildAll slots done k) = AsksForNone (RebuildAll slots done k)
+
+-- how a call ended: by its plan, by a fault of its source or of its sink, or since memory was short
+pub data Ended {S K : Type 0} (view : Views S K) (P : Status → Type 0) (status : Status)
+    (old new : Outside S K) : Type 0 where
+  ByPlan : P status → Ended view P status old new
+  BySource : status ≡ InputFault
+      → Rose (view.source.faults old.source) (view.source.faults new.source)
+      → Ended view P status old new
+  BySink : status ≡ OutputFault → Rose (view.sink.faults old.sink) (view.sink.faults new.sink)
+      → Ended view P status old new
+  ByMemory : status ≡ OutOfMemory → Ended view P status old new
+
+-- what holds of every status at which nothing is put out
+abbrev pub IfNothingIsPutOut : Status → Type 0 → Type 0
+IfNothingIsPutOut Done fact = ⊤
+IfNothingIsPutOut OutputFault fact = ⊤
+IfNothingIsPutOut _ fact = fact
+
+-- A fault comes only where the count of faults of that source or sink rose, no count falls, and but at Done and at a fault of the
+-- sink nothing is put out.
+pub record Leaves {S K : Type 0} (view : Views S K) (status : Status) (old new : Outside S K)
+    : Type 0 where
+  pub input_fault : status ≡ InputFault →
+      Rose (view.source.faults old.source) (view.source.faults new.source)
+  pub output_fault : status ≡ OutputFault →
+      Rose (view.sink.faults old.sink) (view.sink.faults new.sink)
+  pub input_count : view.source.faults old.source ≤ view.source.faults new.source
+  pub output_count : view.sink.faults old.sink ≤ view.sink.faults new.sink
+  pub untouched : IfNothingIsPutOut status (new.sink ≡ old.sink)

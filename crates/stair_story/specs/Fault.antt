@@ -1,0 +1,31 @@
+-- The status of a call that ended with a fault.
+use Rattle.std.specs.Prelude.{Result, Ok, Err}
+use Rattle.stair_conf.specs.declared.fault.ConfigFault.{ConfigFault}
+use Rattle.stair_conf.specs.declared.fault.ConfigFault.TheVariants as config
+use Rattle.stair_story.specs.declared.fault.Fault.{Fault}
+use Rattle.stair_story.specs.declared.fault.Fault.TheVariants as fault
+use Rattle.stair_story.specs.Action.{status_of_create, status_of_survey}
+use Rattle.stair_story.specs.declared.status.Status.{Status}
+use Rattle.stair_story.specs.declared.status.Status.TheVariants.{Key, Limit, NotToml, Input, InputFault, OutputFault, OutOfMemory}
+
+-- the status of a geometry text
+abbrev pub status_of_config : ConfigFault → Status
+status_of_config config.NotToml = NotToml
+status_of_config (config.Key key) = Key key
+status_of_config (config.Limit k) = Limit k
+status_of_config config.Memory = OutOfMemory
+
+-- the status after a fault
+abbrev pub status_of_fault : Fault → Status
+status_of_fault fault.Memory = OutOfMemory
+status_of_fault (fault.Length needed took) = Input needed took
+status_of_fault fault.Input = InputFault
+status_of_fault fault.Output = OutputFault
+status_of_fault (fault.Text fault) = status_of_config fault
+status_of_fault (fault.Create fault) = status_of_create fault
+status_of_fault (fault.Survey fault) = status_of_survey fault
+
+-- the status of a call that may have ended with a fault
+abbrev pub status_of : Result Status Fault → Status
+status_of (Ok status) = status
+status_of (Err fault) = status_of_fault fault

@@ -1,0 +1,19 @@
+-- What a command does, and what a call did.
+pub mod Status
+pub mod Action
+pub mod Refused
+pub mod Fault
+pub mod Restore
+pub mod Encode
+pub mod Answer
+pub mod Question
+pub mod Plan
+pub mod Story
+pub mod Outside
+pub mod Means
+pub mod Rack
+pub mod Ending
+pub mod Devices
+pub mod Streams
+pub mod Taking
+pub mod Laws

@@ -1,0 +1,58 @@
+-- What a command does, whatever comes of it.
+use Rattle.std.specs.Prelude.{ℕ, ◌+◌, Bool, List, length, Result, Ok, Err}
+use Rattle.stair_array.specs.Machine.{Answer, GivenBy, Nothing, Progress, Refusal, Step}
+use Rattle.stair_story.specs.declared.status.Status.{Status}
+use Rattle.stair_story.specs.declared.status.Status.TheVariants.{Done, Input}
+use Rattle.stair_story.specs.Action.{Action, OkOf}
+use Rattle.stair_story.specs.Question.{Question, Reply}
+use Rattle.stair_story.specs.Refused.{status_of_refusal}
+
+pub data Plan : Type 0 where
+  -- the call ends so
+  Over : Status → Plan
+  -- a question is decided, and the reply says how to go on
+  Ask : (question : Question) → (Reply question → Plan) → Plan
+  -- so many bytes of the input, at least one, and then the first; or fewer, where the end comes
+  -- before, and then the second
+  Take : ℕ → (List ℕ → Plan) → (List ℕ → Plan) → Plan
+  -- these bytes are put out
+  Put : List ℕ → Plan → Plan
+  -- memory may be short here
+  Allocate : Plan → Plan
+  -- this is done to an array, and what it gives says how to go on; a refusal ends the call
+  Do : (action : Action) → (OkOf action → Plan) → Plan
+  -- A step is taken, and its answer says how to go on, a refusal too; and so does whether a watcher left at it.
+  Try : (step : Step) → (Answer step → Bool → Plan) → Plan
+  -- In an array of so many slots steps of a rebuild are taken until there is nothing, after so many, and the rest takes their
+  -- number. A refusal ends the call.
+  RebuildAll : (slots done : ℕ) → (ℕ → Plan) → Plan
+
+-- All of the input is so many bytes, behind which one more is looked for.
+abbrev pub whole_input : ℕ → (List ℕ → Plan) → Plan
+whole_input needed k = Take needed
+    (λ bytes. Take 1 (λ more. Over (Input needed (needed + 1))) (λ none. k bytes))
+    (λ bytes. Over (Input needed (length bytes)))
+
+-- where a step is refused by an array of so many slots the call ends
+abbrev pub unless_refused : {X : Type 0} → ℕ → (X → Bool → Plan) → Result X Refusal → Bool → Plan
+unless_refused slots k (Ok x) left = k x left
+unless_refused slots k (Err refusal) left = Over (status_of_refusal slots refusal)
+
+-- a step, which ends the call where it is refused
+abbrev pub take_step : ℕ → (step : Step) → (GivenBy step → Plan) → Plan
+take_step slots step k = Try step (unless_refused slots (λ x left. k x))
+
+-- the same, where it matters whether a watcher left
+abbrev pub watch_step : ℕ → (step : Step) → (GivenBy step → Bool → Plan) → Plan
+watch_step slots step k = Try step (unless_refused slots k)
+
+-- how a rebuild goes on after this answer
+abbrev pub after_rebuild : (slots done : ℕ) → (ℕ → Plan) → Result Progress Refusal → Plan
+after_rebuild slots done k (Ok Nothing) = k done
+after_rebuild slots done k (Ok progress) = RebuildAll slots (done + 1) k
+after_rebuild slots done k (Err refusal) = Over (status_of_refusal slots refusal)
+
+-- the output is put out where all was done
+abbrev pub answer : Status → List ℕ → Plan
+answer Done output = Put output (Over Done)
+answer status output = Over status

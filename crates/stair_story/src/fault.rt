@@ -1,0 +1,58 @@
+ghost use Rattle.std.specs.Prelude.{◌≡◌};
+ghost use Rattle.stair_story.specs.declared.fault.Fault.TheVariants.{Memory, Text, Create, Survey};
+
+use stair_array::CreateFault;
+use stair_conf::ConfigFault;
+use stair_member::SurveyFault;
+use std::alloc::AllocError;
+
+/// Why a call ended before the answer was known or put out.
+#[derive(Clone, Copy, Debug, PartialEq, Eq)]
+pub enum Fault {
+    /// There was no memory.
+    Memory,
+    /// The input had another length, in bytes, than the command needs.
+    Length { needed: u64, took: u64 },
+    /// The source failed.
+    Input,
+    /// The sink failed.
+    Output,
+    /// The geometry text was refused, or there was no memory to read it.
+    Text(ConfigFault),
+    /// No array was made.
+    Create(CreateFault),
+    /// No array was found.
+    Survey(SurveyFault),
+}
+
+impl From<AllocError> for Fault {
+    ghost from_gives = { λ _ fault. fault ≡ Memory };
+
+    fn from(_error: AllocError) -> Fault {
+        Fault::Memory
+    }
+}
+
+impl From<ConfigFault> for Fault {
+    ghost from_gives = { λ config fault. fault ≡ Text config };
+
+    fn from(fault: ConfigFault) -> Fault {
+        Fault::Text(fault)
+    }
+}
+
+impl From<CreateFault> for Fault {
+    ghost from_gives = { λ refusal fault. fault ≡ Create refusal };
+
+    fn from(fault: CreateFault) -> Fault {
+        Fault::Create(fault)
+    }
+}
+
+impl From<SurveyFault> for Fault {
+    ghost from_gives = { λ refusal fault. fault ≡ Survey refusal };
+
+    fn from(fault: SurveyFault) -> Fault {
+        Fault::Survey(fault)
+    }
+}

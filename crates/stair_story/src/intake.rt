@@ -1,0 +1,66 @@
+ghost use Rattle.std.specs.Prelude.{◌≡◌, ◌+◌, ◌^◌, ◌<◌, ◌≤◌, [], length, OnOk, IfErr};
+ghost use Rattle.stair_story.specs.Means.{Gives};
+ghost use Rattle.stair_story.specs.Outside.{source_view};
+ghost use Rattle.stair_story.specs.Story.{TookLast};
+ghost use Rattle.stair_story.specs.Taking.{CutsShort, GoesOn, TakesBytes, intake_of};
+
+use crate::fault::Fault;
+use crate::streams::{Filled, fill};
+use stair_rack::{Source, Taken};
+
+/// How many bytes a command needs from its source, and how many of them were taken.
+#[derive(Clone, Copy, Debug, PartialEq, Eq)]
+pub struct Intake {
+    needed: u64,
+    took: u64,
+}
+
+impl Intake {
+    /// No byte of those needed was taken yet.
+    pub fn new(needed: u64) -> Intake
+        ensures { result ≡ intake_of needed }
+    {
+        Intake { needed, took: 0 }
+    }
+
+    /// Fills the piece from the source.
+    pub fn fill<S: Source>(&mut self, input: &mut S, into: &mut [u8]) -> Result<(), Fault>
+        requires piece { 0 < length into.old }
+        requires room { self.old.took + length into.old ≤ self.old.needed }
+        ensures ok { OnOk result (TakesBytes (source_view S.left S.ended S.faults)
+            self.old self.new into.new input.old input.new) }
+        ensures cut { IfErr result (CutsShort (source_view S.left S.ended S.faults)
+            self.old input.old input.new) }
+    {
+        match fill(input, into) {
+            Filled::Whole => {
+                self.took += into.len() as u64;
+                Ok(())
+            }
+            Filled::Short(count) => Err(Fault::Length {
+                needed: self.needed,
+                took: self.took + count as u64,
+            }),
+            Filled::Failed => Err(Fault::Input),
+        }
+    }
+
+    /// Looks for the end behind all the bytes that are needed.
+    pub fn end<S: Source>(&self, input: &mut S) -> Result<(), Fault>
+        requires all { self.now.took ≡ self.now.needed }
+        requires fits { self.now.needed < 2 ^ 63 }
+        ensures ok { OnOk result (Gives (source_view S.left S.ended S.faults)
+            (TookLast []) input.old input.new) }
+        ensures more { IfErr result (GoesOn (source_view S.left S.ended S.faults)
+            self.now.needed input.old input.new) }
+    {
+        match input.take(&mut [0]) {
+            Taken::End => Ok(()),
+            Taken::Bytes(_) => Err(Fault::Length {
+                needed: self.needed,
+                took: self.needed + 1,
+            }),
+            Taken::Failed => Err(Fault::Input),
+        }
+    }
+}

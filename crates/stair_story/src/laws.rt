@@ -1,0 +1,26 @@
+//! The laws of all calls, whatever their plans are.
+
+ghost use Rattle.stair_story.specs.Laws.{
+  FaultsAreTold,
+  MemoryIsAskedFirst,
+  OthersNeverCome,
+  RacksAreLeft,
+  RacksSuffice,
+  SourcesAreLeft,
+};
+
+/// What follows of every call that means its plan, by a predicate on the plan. It does nothing.
+pub fn story_laws<R, W, S, K>()
+    // a fault comes only where its count rose, no count falls, and nothing is put out of what isn't done
+    ensures faults { FaultsAreTold S K }
+    // no status comes that is no fault, no want of memory, and none of the plan's own
+    ensures others { OthersNeverCome S K }
+    // a plan that takes nothing leaves the source, which can't fail it
+    ensures untaken { SourcesAreLeft S K }
+    // a plan that makes no call leaves the rack
+    ensures still { RacksAreLeft R S K }
+    // where memory was short no call was made, if it is asked for before anything is done to an array
+    ensures memory { MemoryIsAskedFirst R S K }
+    // of a plan that takes no step all holds that holds over a rack alone
+    ensures rack { RacksSuffice R W S K }
+{}

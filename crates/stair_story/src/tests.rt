@@ -1,0 +1,127 @@
+//! The codes and lines of statuses, as the formats have them.
+
+use super::*;
+use stair_base::Broken;
+use stair_conf::Key;
+use stair_member::Why;
+use stair_super::Mark;
+use std::test::Fail;
+
+const IN_ROW: Status = Status::NotCodeword(Broken::Row {
+    row: 0,
+    parity: 0,
+    byte: 0,
+});
+
+const IN_GLOBAL: Status = Status::NotCodeword(Broken::Global {
+    l: 0,
+    h: 0,
+    byte: 0,
+});
+
+const SHORT: Status = Status::Input {
+    needed: 4096,
+    took: 2560,
+};
+
+const LOST: Status = Status::Lost {
+    stripe: 0,
+    counts: [
+        2, 0, 1, 1, 0, 0, 0, 0, 0, 0, 0, 0, 0, 0, 0, 0, 0, 0, 0, 0, 0, 0, 0, 0, 0, 0, 0, 0, 0, 0,
+        0, 0,
+    ],
+    n: 4,
+};
+
+const SMALL: Status = Status::SmallDevice {
+    slot: 0,
+    has: 17,
+    needs: 19,
+};
+
+const OUT_OF_RANGE: Status = Status::OutOfRange {
+    asked: 15,
+    limit: 15,
+};
+
+const LIVE: Status = Status::SlotBusy {
+    slot: 2,
+    mark: Mark::Live,
+};
+
+const REBUILDING: Status = Status::SlotBusy {
+    slot: 2,
+    mark: Mark::Rebuilding,
+};
+
+// Each row is a status, the exit status of the program, and the line on standard error.
+const LINES: [(Status, u8, &str); 24] = [
+    (Status::Done, 0, ""),
+    (IN_ROW, 1, "not a codeword: row 0 parity 0 byte 0"),
+    (IN_GLOBAL, 1, "not a codeword: global 0 0 byte 0"),
+    (Status::NoCodeword, 1, "no codeword holds these cells"),
+    (
+        Status::Usage,
+        2,
+        "usage: stair FOLDER check|stripe|restore|create|show",
+    ),
+    (Status::Limit(3), 3, "geometry: limit 3"),
+    (Status::Key(Key::Stripes), 3, "geometry: key stripes"),
+    (Status::NotToml, 3, "geometry: not TOML"),
+    (SHORT, 4, "input: needed 4096, took 2560"),
+    (Status::InputFault, 5, "input failed"),
+    (Status::OutputFault, 6, "output failed"),
+    (Status::NoArray, 7, "no array"),
+    (
+        Status::TwoArrays([0x0A; 16], [0xB9; 16]),
+        8,
+        "two arrays: 0a0a0a0a0a0a0a0a0a0a0a0a0a0a0a0a b9b9b9b9b9b9b9b9b9b9b9b9b9b9b9b9",
+    ),
+    (LOST, 10, "lost: stripe 0 counts 2 0 1 1"),
+    (OUT_OF_RANGE, 11, "out of range: 15 of 15"),
+    (Status::AlreadyArray(31), 12, "array already: slot 31"),
+    (SMALL, 13, "small device: slot 0 has 17 of 19 sectors"),
+    (LIVE, 14, "slot busy: slot 2 is live"),
+    (REBUILDING, 14, "slot busy: slot 2 is rebuilding"),
+    (Status::Gone(4), 15, "gone: slot 4"),
+    (Status::EpochsSpent, 16, "epochs spent"),
+    (Status::OutOfMemory, 17, "out of memory"),
+    (
+        Status::JournalLost { sector: 3 },
+        19,
+        "journal lost: sector 3",
+    ),
+    (Status::Frozen, 20, "frozen"),
+];
+
+fn too_few(first: &[Why]) -> Status {
+    let mut whys = [Why::Here; 32];
+    for (slot, why) in whys.iter_mut().zip(first.iter()) {
+        *slot = *why;
+    }
+    Status::TooFew(whys)
+}
+
+#[test]
+fn each_status_has_its_code_and_line(rt: HostRuntime) -> Result<(), Fail> {
+    for (status, code, line) in LINES {
+        assert_eq!(rt; status.code(), code);
+        assert_eq!(rt; format!(in rt.alloc(); "{status}")?.as_str(), line);
+    }
+    let few = too_few(&[
+        Why::Gone,
+        Why::Here,
+        Why::NoSuper,
+        Why::OtherArray,
+        Why::OtherSlot,
+        Why::MarkedDown,
+        Why::OtherJoined,
+        Why::Rebuilding,
+    ]);
+    assert_eq!(rt; few.code(), 9);
+    assert_eq!(rt;
+        format!(in rt.alloc(); "{few}")?.as_str(),
+        "too few devices: 0 gone, 2 no superblock, 3 other array, 4 other slot, 5 marked down, 6 other joined, 7 rebuilding"
+    );
+    Ok(())
+}
