@@ -10,6 +10,8 @@ use stair_engine::{Status, stair};
 use stair_filerack::{Access, FileRack};
 use stair_gf::Steps;
 use stair_rack::{FromRead, FromWrite};
+use stair_watch::{Printer, Tally, add};
+use std::alloc::AllocError;
 use std::fs::File;
 use std::marker::Brand;
 use std::process::ExitCode;
@@ -92,22 +94,29 @@ fn run<L: Ledger>(rt: &HostRuntime, blank: Blank) -> Result<Status, Refusal>
         tell_reason(rt, &refused);
         return Ok(Status::Gone(refused.slot));
     }
-    Ok(call::<L>(rt, &mut rack, &command, blank))
+    let called = call::<L>(rt, &mut rack, &command, blank);
+    Ok(called.unwrap_or(Status::OutOfMemory))
 }
 
-/// Makes the call, and tells of the devices that were gone why.
+/// Makes the call, and tells of the devices that were gone why. What happens to an array is printed on standard error as it
+/// comes, and counted. The only error is want of memory before the call.
 fn call<L: Ledger>(
     rt: &HostRuntime,
     rack: &mut FileRack<&HostRuntime>,
     command: &[String],
     blank: Blank,
-) -> Status
+) -> Result<Status, AllocError>
     requires name { blank.name ≡ L.name }
     requires parts { blank.parts ≡ L.parts }
     requires some { 0 < L.parts }
 {
     let mut input = FromRead::new(rt.stdin());
     let mut output = FromWrite::new(rt.stdout());
+    let mut watchers = Vec::new(rt.alloc());
+    let printer = Printer::new(FromWrite::new(rt.stderr()));
+    add(&mut watchers, Box::new(rt.alloc(), printer)?)?;
+    let tally = Tally::new(u64::MAX);
+    add(&mut watchers, Box::new(rt.alloc(), tally)?)?;
     let mut steps = Steps::<L>::new(blank);
     let status = stair(
         rt.alloc(),
@@ -115,10 +124,11 @@ fn call<L: Ledger>(
         rack,
         &mut input,
         &mut output,
+        &mut watchers,
         &mut steps,
     );
     tell_reasons(rt, rack);
-    status
+    Ok(status)
 }
 
 /// Tells the status, and gives its code.

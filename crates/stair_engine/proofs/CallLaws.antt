@@ -1,5 +1,5 @@
 -- What follows from a call that means what its words say, whatever they are.
-use Rattle.std.proofs.Common.{◌≡◌, ◌≢◌, ◌∙◌, ◌↔◌, ℕ, List, [], ◌∷◌, inl, inr, Option, None, Some, IfSome, IsTrue, Result, Ok, Err, false, true, sym, ap, subst}
+use Rattle.std.proofs.Common.{◌≡◌, ◌≢◌, ◌↔◌, ℕ, List, inl, inr, Option, None, Some, IfSome, IsTrue, Result, Ok, Err, false, true, refl, subst}
 use Rattle.std.specs.Prelude.{IsErr}
 use Rattle.stair_model.specs.Geometry.{Geometry}
 use Rattle.stair_rack.specs.Answers.{Ran}
@@ -7,115 +7,49 @@ use Rattle.stair_rack.specs.History.{Happening}
 use Rattle.stair_rack.proofs.MomentLemmas.{ran_none}
 use Rattle.stair_rack.proofs.StretchLemmas.{each_none}
 use Rattle.stair_member.specs.Asked.{LeavesSectors}
-use Rattle.stair_member.specs.Survey.{Surveys}
 use Rattle.stair_array.specs.Creates.{Creates}
 use Rattle.stair_array.specs.declared.fault.CreateFault.{CreateFault}
-use Rattle.stair_array.specs.declared.fault.CreateFault.TheVariants as fault
 use Rattle.stair_array.proofs.KeepLemmas.{arrays_kept, no_writes}
 use Rattle.stair_state.proofs.OutsideLemmas.{unwritten_ran}
-use Rattle.stair_member.proofs.AskedLemmas.{asked_ran}
 use Rattle.stair_conf.specs.Config.{TextReadsAs}
 use Rattle.stair_conf.specs.Words.{IsSpelled, Spells}
 use Rattle.stair_conf.specs.declared.fault.ConfigFault.{ConfigFault}
-use Rattle.stair_conf.specs.declared.fault.ConfigFault.TheVariants as config
+use Rattle.stair_conf.proofs.WordsLemmas.{spells_once}
 use Rattle.stair_conf.specs.declared.job.Job.{Job}
 use Rattle.stair_conf.specs.declared.job.Job.TheVariants.{OneStripe, Create, Show}
-use Rattle.stair_conf.proofs.WordsLemmas.{spells_once}
 use Rattle.stair_story.specs.Action.{status_of_create}
+use Rattle.stair_story.specs.Action as action
+use Rattle.stair_story.specs.Story.{Did}
 use Rattle.stair_engine.specs.Cause.{IfRefusedAtOnce}
 use Rattle.stair_story.specs.Fault.{status_of_config}
 use Rattle.stair_engine.specs.Laws.{AllIsKept, ArrayIsLeft, ArrayIsMade, ArraysAreSpared, MemoryComesFirst, RackIsLeft, ShowOnlyLooks, UsageIsExact}
-use Rattle.stair_story.specs.Means.{Bears, Counts}
 use Rattle.stair_engine.specs.Create.{IsOnceMade, MakesArray, SparesArrays}
-use Rattle.stair_story.specs.Outside.{Outside, Views}
-use Rattle.stair_story.specs.Plan.{Over, Ask}
-use Rattle.stair_engine.specs.Plans.{create_plan, if_spelled, job_plan, plan_of, show_plan}
-use Rattle.stair_story.specs.Question.{Question, IsReply, Words}
+use Rattle.stair_story.specs.Outside.{Outside, Views, outside}
+use Rattle.stair_engine.specs.Plans.{create_plan, job_plan, making_plan, plan_of, show_plan}
+use Rattle.stair_story.specs.Plan.{Over}
 use Rattle.stair_story.specs.Rack.{MeansOver, RackView, Works, told_of}
-use Rattle.stair_engine.specs.Stands.{ArrayStands}
-use Rattle.stair_story.specs.Story.{Deed, Found, Grew, RanOut, Leads, Moves}
 use Rattle.stair_engine.specs.Task.{one_stripe}
 use Rattle.stair_story.specs.declared.status.Status.{Status}
 use Rattle.stair_story.specs.declared.status.Status.TheVariants.{Done, Usage, InputFault, OutputFault, OutOfMemory}
-use Rattle.stair_engine.proofs.CreateLaws.{CreateWent, create_went}
-use Rattle.stair_engine.proofs.CreateLaws.CreateWent.{Long, Failed, Whole}
-use Rattle.stair_engine.proofs.CreateLaws.Reading.{Unread, Faulty, Says}
-use Rattle.stair_engine.proofs.CreateLaws.Making.{ShortOfMemory, NotMade, Made, MadeUntold}
-use Rattle.stair_engine.proofs.MeaningLaws.{tested_kept}
-use Rattle.stair_engine.proofs.ShowLaws.{ShowCame, show_went}
-use Rattle.stair_engine.proofs.ShowLaws.ShowCame.{Refused, Shown, ShownUntold}
+use Rattle.stair_engine.proofs.JobLaws.{IsOfJob, config_own, create_own, job_looks, job_own, survey_own, words_first, words_leave}
+use Rattle.stair_engine.proofs.MeaningLaws.{tested_all}
 use Rattle.stair_engine.proofs.StandLaws.{looked_stands, still_stands}
-use Rattle.stair_story.proofs.RackLaws.{behind_over, left_along, over_done, works_still}
-use Rattle.stair_engine.proofs.StripeLaws.{stripe_calls_none}
-use Rattle.stair_story.proofs.EndingLaws.{none_taken, short_first}
-use Rattle.stair_engine.proofs.JobLaws.{job_no_usage, show_takes, words_first, words_leave}
+use Rattle.stair_engine.proofs.WordLaws.{over_spelled, over_words}
+use Rattle.stair_story.proofs.AllEnds.{AllEnd, ends_all}
+use Rattle.stair_story.proofs.EndingLaws.{short_first, weaker}
+use Rattle.stair_story.proofs.LookLaws.{looks_all}
 
--- how a call of these words went, over a rack
-pub data CalledOver {R S K : Type 0} (rack : RackView R) (view : Views S K) (words : List (List ℕ)) (status : Status) (old new : Outside S K) (first last : R) : Type 0 where
-  NoMemory : status ≡ OutOfMemory → new ≡ old → last ≡ first → CalledOver rack view words status old new first last
-  NotSpelled : (IsSpelled words → ⊥) → status ≡ Usage → new ≡ old → last ≡ first → CalledOver rack view words status old new first last
-  Spelled : (job : Job) → Spells words job → MeansOver rack view (job_plan job) (Over status) old new first last
-      → CalledOver rack view words status old new first last
+-- ---- how `create` ends where it made nothing
 
-module _ {R S K : Type 0} (rack : RackView R) (view : Views S K) where
-  spelled_over : (words : List (List ℕ)) (status : Status) (reply : Option Job) (a b : Outside S K) (x y : R) → IsReply (Words words) reply
-      → MeansOver rack view (if_spelled reply) (Over status) a b x y → CalledOver rack view words status a b x y
-  spelled_over words status None a b x y not over =
-      let ends = over_done rack view Usage status a b x y over in NotSpelled not ends.0 ends.1 ends.2
-  spelled_over words status (Some job) a b x y spells over = Spelled job spells over
+never : {status : Status} → status ≢ Done → status ≢ OutputFault → ¬ IsOnceMade status
+never not_done not_fault (inl done) = not_done done
+never not_done not_fault (inr fault) = not_fault fault
 
-  asked_over : (words : List (List ℕ)) (status : Status) (a b : Outside S K) (x y : R) → MeansOver rack view (Ask (Words words) if_spelled) (Over status) a b x y
-      → CalledOver rack view words status a b x y
-  asked_over words status a b x y over = at over.means.story over.means.follows over.means.bears over.works
-    where
-      at : (story : List Deed) → Leads Moves story (Ask (Words words) if_spelled) (Over status) → Bears view story a b → Leads (Works rack) story x y
-          → CalledOver rack view words status a b x y
-      at [] follows bears works = let same : Over status ≡ Ask (Words words) if_spelled = follows in absurd cc
-      at (Found asked ∷ story) follows bears works =
-          let moved = follows.1 in
-          let uncounted : bears.counts.0 ≡ a.counter = subst (λ (q : Question). Counts (Found q) a.counter bears.counts.0) moved.1 bears.counts.1 in
-          spelled_over words status moved.0 a b x y moved.2
-          (behind_over rack view (Found asked) story (if_spelled moved.0) follows.0 status a a b x x y bears works bears.gives.1 bears.holds.1
-          uncounted works.1 moved.3 follows.2)
-      at (_ ∷ story) follows bears works = absurd follows.1
+config_never : (fault : ConfigFault) → ¬ IsOnceMade (status_of_config fault)
+config_never fault = let own = config_own fault in never own.1 own.0.0.1
 
-  pub called_over : (words : List (List ℕ)) (status : Status) (a b : Outside S K) (x y : R) → MeansOver rack view (plan_of words) (Over status) a b x y
-      → CalledOver rack view words status a b x y
-  called_over words status a b x y over = at over.means.story over.means.follows over.means.bears over.works
-    where
-      at : (story : List Deed) → Leads Moves story (plan_of words) (Over status) → Bears view story a b → Leads (Works rack) story x y
-          → CalledOver rack view words status a b x y
-      at [] follows bears works = let same : Over status ≡ plan_of words = follows in absurd cc
-      at (Grew ∷ story) follows bears works =
-          asked_over words status a b x y
-          (behind_over rack view Grew story (Ask (Words words) if_spelled) follows.0 status a a b x x y bears works bears.gives.1 bears.holds.1
-          bears.counts.1 works.1 follows.1 follows.2)
-      at (RanOut ∷ story) follows bears works =
-          let ends = over_done rack view OutOfMemory status a b x y
-          (behind_over rack view RanOut story (Over OutOfMemory) follows.0 status a a b x x y bears works bears.gives.1 bears.holds.1 bears.counts.1
-          works.1 follows.1 follows.2) in
-          NoMemory ends.0 ends.1 ends.2
-      at (_ ∷ story) follows bears works = absurd follows.1
-
--- ---- how `create` ends
-
--- the statuses of a refused text
-config_status : (fault : ConfigFault) → (status_of_config fault ≢ Done) × (status_of_config fault ≢ OutputFault)
-config_status config.NotToml = ((λ is. cc), (λ is. cc))
-config_status (config.Key key) = ((λ is. cc), (λ is. cc))
-config_status (config.Limit k) = ((λ is. cc), (λ is. cc))
-config_status config.Memory = ((λ is. cc), (λ is. cc))
-
--- those of a refused array
-create_status : (fault : CreateFault) → (status_of_create fault ≢ Done) × (status_of_create fault ≢ OutputFault)
-create_status (fault.Gone slot) = ((λ is. cc), (λ is. cc))
-create_status (fault.SmallDevice slot has needs) = ((λ is. cc), (λ is. cc))
-create_status (fault.AlreadyArray slot) = ((λ is. cc), (λ is. cc))
-
--- `create` was not begun, or was refused
-never : {status named : Status} → status ≡ named → named ≢ Done → named ≢ OutputFault → ¬ IsOnceMade status
-never is not_done not_fault (inl done) = not_done (sym is ∙ done)
-never is not_done not_fault (inr fault) = not_fault (sym is ∙ fault)
+create_never : (fault : CreateFault) → ¬ IsOnceMade (status_of_create fault)
+create_never fault = let own = create_own fault in never own.1 own.0.0.1
 
 -- where no call was made on a rack all is as it was
 pub still_spared : (status : Status) (h : List Happening) → ¬ IsOnceMade status → SparesArrays status h h
@@ -128,169 +62,142 @@ all_told : (told : Option (List ℕ)) (text : List ℕ) (g : Geometry) → IfSom
 all_told None text g same reads = tt
 all_told (Some all) text g same reads = subst (λ (t : List ℕ). TextReadsAs t (Ok g)) same reads
 
-module _ {R S K : Type 0} (rack : RackView R) (view : Views S K) where
-  pub went_over : (status : Status) (a b : Outside S K) (x y : R) → MeansOver rack view create_plan (Over status) a b x y
-      → CreateWent view (Works rack) status a b x y
-  went_over status a b x y over = create_went view (Works rack) (works_still rack) status a b x y over.means over.works
+-- ---- every end of a job
 
+-- the status is Usage where the words spell no job, and only there
+abbrev IsExact : List (List ℕ) → Status → Type 0
+IsExact words end = end ≢ OutOfMemory → ((end ≡ Usage) ↔ (IsSpelled words → ⊥)) × (end ≢ Usage → IsSpelled words)
+
+other_than : (words : List (List ℕ)) → IsSpelled words → (end : Status) → end ≢ Usage → IsExact words end
+other_than words spelled end not memory = ((λ is. absurd (not is), λ none. absurd (none spelled)), λ other. spelled)
+
+module _ {R S K : Type 0} (rack : RackView R) (view : Views S K) (a : Outside S K) (x : R) where
+  exact_all : (words : List (List ℕ)) (job : Job) → IsSpelled words → AllEnd (Works rack) view (λ end o z. IsExact words end) (job_plan job) a x
+  exact_all words job spelled =
+      ends_all (Works rack) view (IsExact words) (other_than words spelled InputFault (λ is. cc)) (other_than words spelled OutputFault (λ is. cc))
+      (λ memory. absurd (memory refl)) (job_plan job) a x
+      (weaker IsOfJob (IsExact words) (λ end is. other_than words spelled end is.1) (job_plan job) (job_own job))
+
+  -- no call was made, and what was refused at once left all
+  abbrev Left : Status → Outside S K → R → Type 0
+  Left end o z = (z ≡ x) × IfRefusedAtOnce end (o ≡ a)
+
+  left_all : (job : Job) → job ≢ Create → job ≢ Show → AllEnd (Works rack) view Left (job_plan job) a x
+  left_all (OneStripe command n m r e) other no_show =
+      tested_all (Works rack) view (one_stripe n m r e) a x Left command (λ end o does refused. (refl, refused))
+  left_all Create other no_show = absurd (other refl)
+  left_all Show other no_show = absurd (no_show refl)
+
+  -- the source and the counter are left, and the source can't fail the call
+  abbrev Untaken : Status → Outside S K → R → Type 0
+  Untaken end o z = (end ≢ InputFault) × (o.source ≡ a.source) × (o.counter ≡ a.counter)
+
+  untaken_all : AllEnd (Works rack) view Untaken show_plan a x
+  untaken_all = (
+    λ member z did. (λ sink holds. ((λ is. cc), refl, refl), λ part sink is holds. ((λ is. cc), refl, refl)),
+    λ fault z did. ((survey_own fault).0.0.0, refl, refl),
+  )
+
+  -- what `create` made, and the arrays that it spared
+  abbrev Owes : Status → R → Type 0
+  Owes end z = (IsOnceMade end → MakesArray (view.source.left a.source) (rack.history x) (rack.history z))
+      × SparesArrays end (rack.history x) (rack.history z)
+
+  not_begun : (end : Status) → ¬ IsOnceMade end → Owes end x
+  not_begun end not = (λ once. absurd (not once), still_spared end (rack.history x) not)
+
+  module _ (honest : IsTrue rack.honest) where
+    -- where an array is within tolerance `create` is refused
+    call_spared : (g : Geometry) (answer : Result (Unit {0}) CreateFault) (end : Status) (z : R) → Works rack (Did (action.Create g) answer) x z
+        → (IsErr answer → ¬ IsOnceMade end) → SparesArrays end (rack.history x) (rack.history z)
+    call_spared g answer end z did refused array before returned tolerated =
+        let creates : Creates g answer (told_of rack x) (told_of rack z) = did in
+        let kept = arrays_kept array g answer before (told_of rack x) (told_of rack z) honest creates returned tolerated in
+        record {
+          none = refused kept.0;
+          unwritten = kept.1;
+          stands = looked_stands (rack.history x) (rack.history z) (no_writes (creates.ran honest) kept.1);
+        }
+
+    making_owes : (text : List ℕ) (reply : Result Geometry ConfigFault) (o : Outside S K) → IfSome (view.source.left a.source) (λ all. text ≡ all)
+        → TextReadsAs text reply → AllEnd (Works rack) view (λ end p z. Owes end z) (making_plan reply) o x
+    making_owes text (Ok g) o told reads = (
+      (
+        λ done z did.
+            let made : (end : Status) → Owes end z = λ end. (
+              λ once. record { geometry = g; said = all_told (view.source.left a.source) text g told reads; made = did.made honest },
+              call_spared g (Ok tt) end z did (λ (refused : false ≡ true). absurd cc),
+            ) in
+            (λ sink holds. made Done, λ part sink is holds. made OutputFault),
+        λ fault z did. (
+          λ once. absurd (create_never fault once),
+          call_spared g (Err fault) (status_of_create fault) z did (λ refused. create_never fault),
+        ),
+      ),
+      not_begun OutOfMemory (never (λ is. cc) (λ is. cc)),
+    )
+    making_owes text (Err fault) o told reads = not_begun (status_of_config fault) (config_never fault)
+
+    create_owes : AllEnd (Works rack) view (λ end o z. Owes end z) create_plan a x
+    create_owes = (
+      λ bytes source long gives. not_begun _ (never (λ is. cc) (λ is. cc)),
+      λ text source few gives. (
+        λ reply n reads counts. making_owes text reply (outside source a.sink n) gives.1 reads,
+        not_begun OutOfMemory (never (λ is. cc) (λ is. cc)),
+      ),
+      λ bytes source few gives. not_begun InputFault (never (λ is. cc) (λ is. cc)),
+    )
+
+-- ---- so of every call
+
+module _ {R S K : Type 0} (rack : RackView R) (view : Views S K) where
   pub all_is_kept : AllIsKept rack view
   all_is_kept words status a b x y over = words_leave view words status a b over.means
-
-  pub rack_is_left : RackIsLeft rack view
-  rack_is_left words status a b x y over other no_show =
-      elim (called_over rack view words status a b x y over) as (λ _. (y ≡ x) × IfRefusedAtOnce status (b ≡ a)) [
-        | NoMemory out ends still ↦ (still, subst (λ (s : Status). IfRefusedAtOnce s (b ≡ a)) (sym out) ends)
-        | NotSpelled not usage ends still ↦ (still, subst (λ (s : Status). IfRefusedAtOnce s (b ≡ a)) (sym usage) ends)
-        | Spelled job spells later ↦ job_left job spells later
-      ]
-    where
-      job_left : (job : Job) → Spells words job → MeansOver rack view (job_plan job) (Over status) a b x y → (y ≡ x) × IfRefusedAtOnce status (b ≡ a)
-      job_left (OneStripe command n m r e) spells later = (
-        left_along rack later.means.story _ (Over status) x y (stripe_calls_none command (one_stripe n m r e)) later.means.follows later.works,
-        (tested_kept view command (one_stripe n m r e) status a b later.means).refused,
-      )
-      job_left Create spells later = absurd (other spells)
-      job_left Show spells later = absurd (no_show spells)
 
   pub memory_comes_first : MemoryComesFirst rack view
   memory_comes_first words a b x y over = short_first rack over.means.story (plan_of words) x y (words_first words) over.means.follows over.works
 
-  made_of : (text : List ℕ) (g : Geometry) (a : Outside S K) (x y : R) → IfSome (view.source.left a.source) (λ all. text ≡ all) → TextReadsAs text (Ok g)
-      → Creates g (Ok tt) (told_of rack x) (told_of rack y) → IsTrue rack.honest
-      → MakesArray (view.source.left a.source) (rack.history x) (rack.history y)
-  made_of text g a x y told reads creates honest =
-      record { geometry = g; said = all_told (view.source.left a.source) text g told reads; made = creates.made honest }
-
-  made_so : (status : Status) (a b : Outside S K) (x y : R) → CreateWent view (Works rack) status a b x y → IsTrue rack.honest
-      → IsOnceMade status → MakesArray (view.source.left a.source) (rack.history x) (rack.history y)
-  made_so status a b x y (Long bytes long gives is sink same) honest once = absurd (never is (λ clash. cc) (λ clash. cc) once)
-  made_so status a b x y (Failed bytes gives is sink same) honest once = absurd (never is (λ clash. cc) (λ clash. cc) once)
-  made_so status a b x y (Whole text short gives (Unread is sink same)) honest once = absurd (never is (λ clash. cc) (λ clash. cc) once)
-  made_so status a b x y (Whole text short gives (Faulty fault reads is sink same)) honest once =
-      absurd (never is (config_status fault).0 (config_status fault).1 once)
-  made_so status a b x y (Whole text short gives (Says g reads (ShortOfMemory is sink same))) honest once =
-      absurd (never is (λ clash. cc) (λ clash. cc) once)
-  made_so status a b x y (Whole text short gives (Says g reads (NotMade refusal did is sink))) honest once =
-      absurd (never is (create_status refusal).0 (create_status refusal).1 once)
-  made_so status a b x y (Whole text short gives (Says g reads (Made did held is))) honest once = made_of text g a x y gives.1 reads did honest
-  made_so status a b x y (Whole text short gives (Says g reads (MadeUntold part did all held is))) honest once =
-      made_of text g a x y gives.1 reads did honest
-
-  pub array_is_made : ArrayIsMade rack view
-  array_is_made words status a b x y over spells honest once =
-      elim (called_over rack view words status a b x y over) as (λ _. MakesArray (view.source.left a.source) (rack.history x) (rack.history y)) [
-        | NoMemory out ends still ↦ absurd (never out (λ clash. cc) (λ clash. cc) once)
-        | NotSpelled not usage ends still ↦ absurd (not (Create, spells))
-        | Spelled job read later ↦
-            made_so status a b x y (went_over status a b x y
-            (subst (λ (j : Job). MeansOver rack view (job_plan j) (Over status) a b x y) (spells_once words job Create read spells) later)) honest once
-      ]
-
-  -- no call was made on the rack
-  left_spared : {status named : Status} (x y : R) → status ≡ named → named ≢ Done → named ≢ OutputFault → y ≡ x
-      → SparesArrays status (rack.history x) (rack.history y)
-  left_spared {status} x y is not_done not_fault same =
-      subst (λ (z : R). SparesArrays status (rack.history x) (rack.history z)) (sym same)
-      (still_spared status (rack.history x) (never is not_done not_fault))
-
-  -- where an array is within tolerance a call of `create` is refused
-  call_spared : (g : Geometry) (answer : Result (Unit {0}) CreateFault) (status : Status) (x y : R)
-      → Creates g answer (told_of rack x) (told_of rack y) → IsTrue rack.honest → (IsErr answer → ¬ IsOnceMade status)
-      → SparesArrays status (rack.history x) (rack.history y)
-  call_spared g answer status x y creates honest refused array before returned tolerated =
-      let kept = arrays_kept array g answer before (told_of rack x) (told_of rack y) honest creates returned tolerated in
-      record {
-        none = refused kept.0;
-        unwritten = kept.1;
-        stands = looked_stands (rack.history x) (rack.history y) (no_writes (creates.ran honest) kept.1);
-      }
-
-  spared_so : (status : Status) (a b : Outside S K) (x y : R) → CreateWent view (Works rack) status a b x y → IsTrue rack.honest
-      → SparesArrays status (rack.history x) (rack.history y)
-  spared_so status a b x y (Long bytes long gives is sink same) honest = left_spared x y is (λ clash. cc) (λ clash. cc) same
-  spared_so status a b x y (Failed bytes gives is sink same) honest = left_spared x y is (λ clash. cc) (λ clash. cc) same
-  spared_so status a b x y (Whole text short gives (Unread is sink same)) honest = left_spared x y is (λ clash. cc) (λ clash. cc) same
-  spared_so status a b x y (Whole text short gives (Faulty fault reads is sink same)) honest =
-      left_spared x y is (config_status fault).0 (config_status fault).1 same
-  spared_so status a b x y (Whole text short gives (Says g reads (ShortOfMemory is sink same))) honest =
-      left_spared x y is (λ clash. cc) (λ clash. cc) same
-  spared_so status a b x y (Whole text short gives (Says g reads (NotMade refusal did is sink))) honest =
-      call_spared g (Err refusal) status x y did honest (λ refused. never is (create_status refusal).0 (create_status refusal).1)
-  spared_so status a b x y (Whole text short gives (Says g reads (Made did held is))) honest =
-      call_spared g (Ok tt) status x y did honest (λ (refused : false ≡ true). absurd cc)
-  spared_so status a b x y (Whole text short gives (Says g reads (MadeUntold part did all held is))) honest =
-      call_spared g (Ok tt) status x y did honest (λ (refused : false ≡ true). absurd cc)
-
-  pub arrays_are_spared : ArraysAreSpared rack view
-  arrays_are_spared words status a b x y over spells honest =
-      elim (called_over rack view words status a b x y over) as (λ _. SparesArrays status (rack.history x) (rack.history y)) [
-        | NoMemory out ends still ↦ left_spared x y out (λ clash. cc) (λ clash. cc) still
-        | NotSpelled not usage ends still ↦ absurd (not (Create, spells))
-        | Spelled job read later ↦
-            spared_so status a b x y (went_over status a b x y
-            (subst (λ (j : Job). MeansOver rack view (job_plan j) (Over status) a b x y) (spells_once words job Create read spells) later)) honest
-      ]
-
   pub usage_is_exact : UsageIsExact rack view
-  usage_is_exact words status a b x y over memory =
-      elim (called_over rack view words status a b x y over) as (λ _. ((status ≡ Usage) ↔ (IsSpelled words → ⊥)) × (status ≢ Usage → IsSpelled words)) [
-        | NoMemory out ends still ↦ absurd (memory out)
-        | NotSpelled not usage ends still ↦ ((λ is. not, λ none. usage), λ other. absurd (other usage))
-        | Spelled job spells later ↦
-            let not = job_no_usage view job status a b later.means in
-            ((λ is. absurd (not is), λ none. absurd (none (job, spells))), λ other. (job, spells))
-      ]
+  usage_is_exact words status a b x y over =
+      over_words rack view (λ end o z. IsExact words end) words status a b x y over (λ memory. absurd (memory refl))
+      (λ not memory. ((λ is. not, λ none. refl), λ other. absurd (other refl))) (λ job spells. exact_all rack view a x words job (job, spells))
 
-  -- the calls that were made
-  came_ran : (status : Status) (a b : Outside S K) (x y : R) → ShowCame rack view status a b x y → IsTrue rack.honest
+  pub rack_is_left : RackIsLeft rack view
+  rack_is_left words status a b x y over other no_show =
+      over_words rack view (Left rack view a x) words status a b x y over (refl, refl) (λ not. (refl, refl))
+      (λ job spells. left_all rack view a x job (λ is. other (subst (Spells words) is spells)) (λ is. no_show (subst (Spells words) is spells)))
+
+  -- every command but `create` only looks
+  no_sector_changed : (words : List (List ℕ)) (status : Status) (a b : Outside S K) (x y : R)
+      → MeansOver rack view (plan_of words) (Over status) a b x y → (Spells words Create → ⊥) → IsTrue rack.honest
       → Ran LeavesSectors (rack.history x) (rack.history y)
-  came_ran status a b x y (Refused fault did is sink) honest =
-      let surveys : Surveys (Err fault) (told_of rack x) (told_of rack y) = did in
-      asked_ran 32 (rack.history x) (rack.history y) (surveys.asked honest)
-  came_ran status a b x y (Shown member did held is) honest =
-      let surveys : Surveys (Ok member) (told_of rack x) (told_of rack y) = did in
-      asked_ran 32 (rack.history x) (rack.history y) (surveys.asked honest)
-  came_ran status a b x y (ShownUntold member part did all held is) honest =
-      let surveys : Surveys (Ok member) (told_of rack x) (told_of rack y) = did in
-      asked_ran 32 (rack.history x) (rack.history y) (surveys.asked honest)
+  no_sector_changed words status a b x y over other honest =
+      over_words rack view (λ end o z. Ran LeavesSectors (rack.history x) (rack.history z)) words status a b x y over (ran_none (rack.history x))
+      (λ not. ran_none (rack.history x))
+      (λ job spells. looks_all rack view honest x (job_plan job) a x (job_looks job (λ is. other (subst (Spells words) is spells))) (ran_none (rack.history x)))
 
   pub show_only_looks : ShowOnlyLooks rack view
   show_only_looks words status a b x y over spells =
-      elim (called_over rack view words status a b x y over) as (λ _.
-      (status ≢ InputFault) × (b.source ≡ a.source) × (b.counter ≡ a.counter)
-      × (IsTrue rack.honest → Ran LeavesSectors (rack.history x) (rack.history y))) [
-        | NoMemory out ends still ↦ (
-          (λ is. let clash : OutOfMemory ≡ InputFault = sym out ∙ is in cc),
-          ap (λ (o : Outside S K). o.source) ends,
-          ap (λ (o : Outside S K). o.counter) ends,
-          (λ honest. subst (λ (z : R). Ran LeavesSectors (rack.history x) (rack.history z)) (sym still) (ran_none (rack.history x))),
-        )
-        | NotSpelled not usage ends still ↦ absurd (not (Show, spells))
-        | Spelled job read later ↦
-            let shown : MeansOver rack view show_plan (Over status) a b x y =
-            subst (λ (j : Job). MeansOver rack view (job_plan j) (Over status) a b x y) (spells_once words job Show read spells) later in
-            let went = show_went rack view status a b x y shown in
-            let taken = none_taken view.source shown.means.story show_plan status a.source b.source show_takes shown.means.follows shown.means.bears.gives in
-            (taken.1, taken.0, went.counter, came_ran status a b x y went.came)
-      ]
+      let untaken = over_spelled rack view (Untaken rack view a x) words status a b x y over Show spells ((λ is. cc), refl, refl)
+      (untaken_all rack view a x) in (
+        untaken.0,
+        untaken.1,
+        untaken.2,
+        no_sector_changed words status a b x y over (λ create. let clash : Create ≡ Show = spells_once words Create Show create spells in cc),
+      )
 
   pub array_is_left : ArrayIsLeft rack view
   array_is_left words status a b x y over other honest =
-      elim (called_over rack view words status a b x y over) as (λ _. ArrayStands (rack.history x) (rack.history y)) [
-        | NoMemory out ends still ↦ at_rest still
-        | NotSpelled not usage ends still ↦ at_rest still
-        | Spelled job spells later ↦ job_stands job spells later
-      ]
-    where
-      at_rest : y ≡ x → ArrayStands (rack.history x) (rack.history y)
-      at_rest still = subst (λ (z : R). ArrayStands (rack.history x) (rack.history z)) (sym still) (still_stands (rack.history x))
+      looked_stands (rack.history x) (rack.history y) (unwritten_ran (no_sector_changed words status a b x y over other honest))
 
-      job_stands : (job : Job) → Spells words job → MeansOver rack view (job_plan job) (Over status) a b x y
-          → ArrayStands (rack.history x) (rack.history y)
-      job_stands (OneStripe command n m r e) spells later =
-          at_rest
-          (left_along rack later.means.story _ (Over status) x y (stripe_calls_none command (one_stripe n m r e)) later.means.follows later.works)
-      job_stands Create spells later = absurd (other spells)
-      job_stands Show spells later =
-          let went = show_went rack view status a b x y later in
-          looked_stands (rack.history x) (rack.history y) (unwritten_ran (came_ran status a b x y went.came honest))
+  created : (words : List (List ℕ)) (status : Status) (a b : Outside S K) (x y : R) → MeansOver rack view (plan_of words) (Over status) a b x y
+      → Spells words Create → IsTrue rack.honest → Owes rack view a x status y
+  created words status a b x y over spells honest =
+      over_spelled rack view (λ end o z. Owes rack view a x end z) words status a b x y over Create spells
+      (not_begun rack view a x OutOfMemory (never (λ is. cc) (λ is. cc))) (create_owes rack view a x honest)
+
+  pub array_is_made : ArrayIsMade rack view
+  array_is_made words status a b x y over spells honest = (created words status a b x y over spells honest).0
+
+  pub arrays_are_spared : ArraysAreSpared rack view
+  arrays_are_spared words status a b x y over spells honest = (created words status a b x y over spells honest).1

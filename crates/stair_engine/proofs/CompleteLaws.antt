@@ -1,5 +1,5 @@
 -- Where a job can be done it is done, if there was memory.
-use Rattle.std.proofs.Common.{◌≡◌, ◌∙◌, inl, inr, ℕ, ◌*◌, ◌≤◌, List, [], ◌∷◌, ◌++◌, All, Option, Some, IfSome, Ok, Err, length, take, drop, true, false, refl, sym, ap, subst, arith}
+use Rattle.std.proofs.Common.{◌≡◌, ◌∙◌, inl, inr, ℕ, ◌*◌, ◌≤◌, List, [], ◌∷◌, ◌++◌, All, Option, None, Some, IfSome, Result, Ok, Err, length, take, drop, true, false, refl, sym, ap, subst, arith}
 use Rattle.std.specs.List.{concat}
 use lib.Seq.{drop-append_seam, take-append_seam}
 use Rattle.std.proofs.lemmas.List.Elements.{All-head, All-tail}
@@ -12,36 +12,35 @@ use Rattle.stair_model.proofs.RestLaws.{subset_covered}
 use Rattle.stair_base.specs.Equations.{equation_of}
 use Rattle.stair_base.proofs.EquationLaws.{not_codeword}
 use Rattle.stair_array.specs.Creates.{CanBeMade, Creates}
-use Rattle.stair_state.proofs.SurveyedLemmas.{finds_array}
+use Rattle.stair_model.specs.Slots.{no_slots}
+use Rattle.stair_state.specs.State.{State, without_seats}
 use Rattle.stair_conf.specs.Config.{TextReadsAs}
+use Rattle.stair_conf.specs.declared.fault.ConfigFault.{ConfigFault}
 use Rattle.stair_conf.specs.declared.job.Job.{Job}
 use Rattle.stair_conf.specs.declared.job.Job.TheVariants.{OneStripe, Create, Show}
 use Rattle.stair_conf.specs.declared.job.StripeCommand.{StripeCommand}
 use Rattle.stair_conf.specs.declared.job.StripeCommand.TheVariants.{Check, Encode, Restore}
+use Rattle.stair_conf.specs.Words.{Spells}
 use Rattle.stair_conf.proofs.ConfigLaws.{one_answer}
 use Rattle.stair_conf.proofs.WordsLemmas.{spells_once}
-use Rattle.stair_story.specs.Answer.{HasBytes, IsJudged}
+use Rattle.stair_story.specs.Answer.{HasBytes, Judges}
 use Rattle.stair_engine.specs.Cause.{HasCause}
-use Rattle.stair_engine.specs.Complete.{CanBeDone, HasNoFault, IsDone, IsValidInput}
+use Rattle.stair_engine.specs.Complete.{IsComplete, IsValidInput}
 use Rattle.stair_engine.specs.Laws.{AllIsComplete}
-use Rattle.stair_story.specs.Outside.{Outside, Views}
-use Rattle.stair_story.specs.Plan.{Over}
-use Rattle.stair_engine.specs.Plans.{job_plan}
-use Rattle.stair_story.specs.Rack.{MeansOver, RackView, Works, told_of}
+use Rattle.stair_story.specs.Outside.{Outside, Views, outside}
+use Rattle.stair_engine.specs.Plans.{create_plan, job_plan, making_plan, plan_of}
+use Rattle.stair_engine.specs.Show.{show_text}
+use Rattle.stair_story.specs.Rack.{RackView, Works, told_of}
 use Rattle.stair_story.specs.Restore.{HoldsCells, IsErasedBy}
 use Rattle.stair_engine.specs.Task.{one_stripe}
 use Rattle.stair_story.specs.declared.status.Status.{Status}
 use Rattle.stair_story.specs.declared.status.Status.TheVariants.{Done, NotCodeword, NoCodeword, Limit, Input, InputFault, OutputFault, Lost, OutOfMemory}
-use Rattle.stair_engine.proofs.CallLaws.{called_over, went_over}
-use Rattle.stair_engine.proofs.CallLaws.CalledOver.{NoMemory, NotSpelled, Spelled}
-use Rattle.stair_engine.proofs.CreateLaws.{CreateWent}
-use Rattle.stair_engine.proofs.CreateLaws.CreateWent.{Long, Failed, Whole}
-use Rattle.stair_engine.proofs.CreateLaws.Reading.{Unread, Faulty, Says}
-use Rattle.stair_engine.proofs.CreateLaws.Making.{ShortOfMemory, NotMade, Made, MadeUntold}
-use Rattle.stair_engine.proofs.MeaningLaws.{tested_kept, told_more}
-use Rattle.stair_engine.proofs.ShowLaws.{ShowCame, show_went}
-use Rattle.stair_engine.proofs.ShowLaws.ShowCame.{Refused, Shown, ShownUntold}
-use Rattle.stair_engine.proofs.JobLaws.{job_leaves}
+use Rattle.stair_engine.proofs.MeaningLaws.{told_more, words_are_done}
+use Rattle.stair_engine.proofs.JobLaws.{words_leave}
+use Rattle.stair_engine.proofs.WordLaws.{over_spelled}
+use Rattle.stair_story.specs.Sure.{Assurance, IsDone, IsSure}
+use Rattle.stair_story.proofs.AllEnds.{AllEnd}
+use Rattle.stair_story.proofs.SureLaws.{look_sure, stepless_done}
 
 -- ---- bytes make one stripe
 
@@ -84,43 +83,34 @@ holds_also g map a b stripe codeword x y holds = record {
   held = λ i j row_in slot_in not. holds.held i j row_in slot_in (λ has. not (same_erased g map a b x y i j has));
 }
 
--- no equation is told of a valid input
-no_equation : (command : StripeCommand) (g : Geometry) (input output : List ℕ) (b : _) → IsValidInput command g input
-    → IsJudged command g input (NotCodeword b) output → ⊥
-no_equation Check g input output b valid judged =
-    let same = stripe_once g judged.judged.0 valid.fits.0 input judged.judged.1 valid.fits.1 in
-    let broken = judged.judged.2.0 in
-    not_codeword g judged.judged.0 (equation_of b) broken (subst (λ (s : Stripe). IsCodeword g s) (sym same) valid.fits.2)
-no_equation (Encode method) g input output b valid judged = judged.judged.2
-no_equation Restore g input output b valid judged = judged.judged.4
-
-no_lack : (command : StripeCommand) (g : Geometry) (input output : List ℕ) → IsValidInput command g input → IsJudged command g input NoCodeword output → ⊥
-no_lack Check g input output valid judged = judged.judged.2
-no_lack (Encode method) g input output valid judged = judged.judged.2
-no_lack Restore g input output valid judged =
+-- a valid input is judged so alone
+valid_done : (command : StripeCommand) (g : Geometry) (input : List ℕ) (status : Status) (output : List ℕ) → IsValidInput command g input
+    → Judges command g input status output → status ≡ Done
+valid_done Check g input Done output valid is = refl
+valid_done Check g input (NotCodeword b) output valid is =
+    let same = stripe_once g is.0 valid.fits.0 input is.1 valid.fits.1 in
+    absurd (not_codeword g is.0 (equation_of b) is.2.0 (subst (λ (s : Stripe). IsCodeword g s) (sym same) valid.fits.2))
+valid_done Check g input _ output valid is = absurd is.2
+valid_done (Encode method) g input Done output valid is = refl
+valid_done (Encode method) g input _ output valid is = absurd is.2
+valid_done Restore g input Done output valid is = refl
+valid_done Restore g input NoCodeword output valid is =
     let f = valid.fits in
-    let j = judged.judged in
-    let same = stripe_once g j.1 f.1 _ j.3 f.4 in
-    j.4.1 f.2 (subst (λ (s : Stripe). HoldsCells g j.0 s f.2) (sym same) (holds_also g _ f.0 j.0 f.1 f.2 f.3 j.2 f.6))
-
-no_loss : (command : StripeCommand) (g : Geometry) (input output : List ℕ) (stripe : ℕ) (counts : List ℕ) (n : ℕ) → IsValidInput command g input
-    → IsJudged command g input (Lost stripe counts n) output → ⊥
-no_loss Check g input output stripe counts n valid judged = judged.judged.2
-no_loss (Encode method) g input output stripe counts n valid judged = judged.judged.2
-no_loss Restore g input output stripe counts n valid judged =
-    let f = valid.fits in
-    let j = judged.judged in
-    j.4.0 (subset_covered g j.0 f.0 (same_erased g _ j.0 f.0 j.2 f.3) f.5)
+    let same = stripe_once g is.1 f.1 _ is.3 f.4 in
+    absurd (is.4.1 f.2 (subst (λ (s : Stripe). HoldsCells g is.0 s f.2) (sym same) (holds_also g _ f.0 is.0 f.1 f.2 f.3 is.2 f.6)))
+valid_done Restore g input (Lost stripe counts n) output valid is =
+    absurd (is.4.0 (subset_covered g is.0 valid.fits.0 (same_erased g _ is.0 valid.fits.0 is.2 valid.fits.3) valid.fits.5))
+valid_done Restore g input _ output valid is = absurd is.4
 
 -- a valid input is done
 stripe_done : (command : StripeCommand) (g : Geometry) (input : List ℕ) (held held' : Option (List ℕ)) (status : Status) → IsValidInput command g input
     → HasCause command g input held held' status → (status ≡ InputFault → ⊥) → (status ≡ OutputFault → ⊥) → IsDone status
 stripe_done command g input held held' Done valid cause no_input no_output = inl refl
 stripe_done command g input held held' OutOfMemory valid cause no_input no_output = inr refl
-stripe_done command g input held held' (NotCodeword b) valid cause no_input no_output = absurd (no_equation command g input cause.0 b valid cause.1)
-stripe_done command g input held held' NoCodeword valid cause no_input no_output = absurd (no_lack command g input cause.0 valid cause.1)
+stripe_done command g input held held' (NotCodeword b) valid cause no_input no_output = inl (valid_done command g input _ _ valid cause.1.judged)
+stripe_done command g input held held' NoCodeword valid cause no_input no_output = inl (valid_done command g input _ _ valid cause.1.judged)
 stripe_done command g input held held' (Lost stripe counts n) valid cause no_input no_output =
-    absurd (no_loss command g input cause.0 stripe counts n valid cause.1)
+    inl (valid_done command g input _ _ valid cause.1.judged)
 stripe_done command g input held held' (Limit k) valid cause no_input no_output = absurd (none_broken g k cause.1.0 valid.limits)
 stripe_done command g input held held' (Input needed took) valid cause no_input no_output = absurd (cause.1.1.other valid.whole)
 stripe_done command g input held held' InputFault valid cause no_input no_output = absurd (no_input refl)
@@ -131,63 +121,70 @@ stripe_done command g input held held' _ valid cause no_input no_output = absurd
 of_told : (told : Option (List ℕ)) (input : List ℕ) (P : List ℕ → Type 0) → told ≡ Some input → IfSome told P → P input
 of_told told input P is fact = subst (λ (t : Option (List ℕ)). IfSome t P) is fact
 
+-- what was taken is the text that was told
+text_is : (told : Option (List ℕ)) (text input : List ℕ) (reply said : Result Geometry ConfigFault) → told ≡ Some input → IfSome told (λ all. text ≡ all)
+    → TextReadsAs text reply → TextReadsAs input said → reply ≡ said
+text_is told text input reply said is same reads of =
+    one_answer text reply said reads
+    (subst (λ (t : List ℕ). TextReadsAs t said) (sym (of_told told input (λ all. text ≡ all) is same)) of)
+
+module _ {R S K : Type 0} (rack : RackView R) (view : Views S K) (a : Outside S K) (x : R) where
+  abbrev Complete : Job → Status → Outside S K → R → Type 0
+  Complete job end o z = IsComplete rack view job end a o x z
+
+  making_done : (text : List ℕ) (reply : Result Geometry ConfigFault) (source : S) (n : ℕ) → IfSome (view.source.left a.source) (λ all. text ≡ all)
+      → TextReadsAs text reply → AllEnd (Works rack) view (Complete Create) (making_plan reply) (outside source a.sink n) x
+  making_done text (Ok g) source n told reads = (
+    (
+      λ done z did. (λ sink holds none can. inl refl, λ part sink is holds none can. absurd (none.sink holds.2)),
+      λ fault z did none can.
+          let answers : Ok g ≡ Ok can.2.0 = text_is (view.source.left a.source) text can.0 (Ok g) (Ok can.2.0) can.1 told reads can.2.1 in
+          let same : g ≡ can.2.0 = cc in
+          let creates : Creates g (Err fault) (told_of rack x) (told_of rack z) = did in
+          let clash : false ≡ true =
+          creates.complete can.2.3 (subst (λ (k : Geometry). CanBeMade k (rack.history x) (rack.history z)) (sym same) can.2.4) in
+          absurd cc,
+    ),
+    λ none can. inr refl,
+  )
+  making_done text (Err fault) source n told reads =
+      λ none can. let clash = text_is (view.source.left a.source) text can.0 (Err fault) (Ok can.2.0) can.1 told reads can.2.1 in absurd cc
+
+  create_done : AllEnd (Works rack) view (Complete Create) create_plan a x
+  create_done = (
+    λ bytes source long gives none can.
+        let taken = of_told (view.source.left a.source) can.0 (λ all. length bytes ≤ length all) can.1
+        (told_more (view.source.left a.source) (view.source.left source) bytes gives.0) in
+        absurd (omega (arith, can.2.2, long.enough, taken)),
+    λ text source few gives. (
+      λ reply n reads counts. making_done text reply source n gives.1 reads,
+      λ none can. inr refl,
+    ),
+    λ bytes source few gives none can. absurd (none.source gives.4),
+  )
+
+-- The plan of `show` is sure in every state, and counts on no slot.
+none_assured : Assurance
+none_assured = record { kept = no_slots; away = no_slots }
+
+show_sure : (words : List (List ℕ)) (s : State) (left : Option (List ℕ)) → Spells words Show → IsSure none_assured (plan_of words) s left
+show_sure words s left spells None not = absurd (not (Show, spells))
+show_sure words s left spells (Some job) read =
+    subst (λ (j : Job). IsSure none_assured (job_plan j) s left) (spells_once words Show job spells read) (look_sure none_assured show_text s left)
+
 module _ {R S K : Type 0} (rack : RackView R) (view : Views S K) where
-  create_done : (status : Status) (a b : Outside S K) (x y : R) → HasNoFault view a b → CanBeDone rack Create (view.source.left a.source) x y
-      → CreateWent view (Works rack) status a b x y → IsDone status
-  create_done status a b x y none can (Long bytes long gives is sink same) =
-      let taken = of_told (view.source.left a.source) can.0 (λ all. length bytes ≤ length all) can.1
-      (told_more (view.source.left a.source) (view.source.left b.source) bytes gives.0) in
-      absurd (omega (arith, can.2.2, long, taken))
-  create_done status a b x y none can (Failed bytes gives is sink same) = absurd (none.source gives.4)
-  create_done status a b x y none can (Whole text short gives (Unread is sink same)) = inr is
-  create_done status a b x y none can (Whole text short gives (Faulty fault reads is sink same)) =
-      let said : TextReadsAs text (Ok can.2.0) =
-      subst (λ (t : List ℕ). TextReadsAs t (Ok can.2.0))
-      (sym (of_told (view.source.left a.source) can.0 (λ all. text ≡ all) can.1 gives.1)) can.2.1 in
-      let clash = one_answer text _ _ reads said in
-      cc
-  create_done status a b x y none can (Whole text short gives (Says g reads (ShortOfMemory is sink same))) = inr is
-  create_done status a b x y none can (Whole text short gives (Says g reads (NotMade refusal did is sink))) =
-      let said : TextReadsAs text (Ok can.2.0) =
-      subst (λ (t : List ℕ). TextReadsAs t (Ok can.2.0))
-      (sym (of_told (view.source.left a.source) can.0 (λ all. text ≡ all) can.1 gives.1)) can.2.1 in
-      let answers : Ok g ≡ Ok can.2.0 = one_answer text _ _ reads said in
-      let same : g ≡ can.2.0 = cc in
-      let creates : Creates g (Err refusal) (told_of rack x) (told_of rack y) = did in
-      let clash : false ≡ true =
-      creates.complete can.2.3 (subst (λ (k : Geometry). CanBeMade k (rack.history x) (rack.history y)) (sym same) can.2.4) in
-      absurd cc
-  create_done status a b x y none can (Whole text short gives (Says g reads (Made did held is))) = inl is
-  create_done status a b x y none can (Whole text short gives (Says g reads (MadeUntold part did all held is))) = absurd (none.sink held.2)
-
-  show_done : (status : Status) (a b : Outside S K) (x y : R) → HasNoFault view a b → CanBeDone rack Show (view.source.left a.source) x y
-      → ShowCame rack view status a b x y → IsDone status
-  show_done status a b x y none can (Refused fault did is sink) =
-      let since = can.1 in
-      let finds = finds_array since.state since.before (told_of rack x) (told_of rack y) (Err fault) did can.0 since.since since.represents
-      since.returned since.tolerated in
-      let clash : Err fault ≡ Ok finds.member = finds.found in
-      absurd cc
-  show_done status a b x y none can (Shown member did held is) = inl is
-  show_done status a b x y none can (ShownUntold member part did all held is) = absurd (none.sink held.2)
-
   pub all_is_complete : AllIsComplete rack view
-  all_is_complete words job status a b x y spells over none can =
-      elim (called_over rack view words status a b x y over) as (λ _. IsDone status) [
-        | NoMemory out ends still ↦ inr out
-        | NotSpelled not usage ends still ↦ absurd (not (job, spells))
-        | Spelled read spelled later ↦
-            job_done job can (subst (λ (j : Job). MeansOver rack view (job_plan j) (Over status) a b x y) (spells_once words read job spelled spells) later)
-      ]
-    where
-      job_done : (job : Job) → CanBeDone rack job (view.source.left a.source) x y → MeansOver rack view (job_plan job) (Over status) a b x y
-          → IsDone status
-      job_done (OneStripe command n m r e) can later =
-          let kept = tested_kept view command (one_stripe n m r e) status a b later.means in
-          let left = job_leaves view (OneStripe command n m r e) status a b later.means in
-          stripe_done command (one_stripe n m r e) can.0 (view.sink.held a.sink) (view.sink.held b.sink) status can.2
-          (of_told (view.source.left a.source) can.0
-          (λ bytes. HasCause command (one_stripe n m r e) bytes (view.sink.held a.sink) (view.sink.held b.sink) status) can.1 kept.does.cause)
-          (λ is. none.source (left.input_fault is)) (λ is. none.sink (left.output_fault is))
-      job_done Create can later = create_done status a b x y none can (went_over rack view status a b x y later)
-      job_done Show can later = show_done status a b x y none can (show_went rack view status a b x y later).came
+  all_is_complete words (OneStripe command n m r e) status a b x y spells over none can =
+      let of = one_stripe n m r e in
+      let does = words_are_done view words command n m r e status a b spells over.means in
+      let left = words_leave view words status a b over.means in
+      stripe_done command of can.0 (view.sink.held a.sink) (view.sink.held b.sink) status can.2
+      (of_told (view.source.left a.source) can.0 (λ bytes. HasCause command of bytes (view.sink.held a.sink) (view.sink.held b.sink) status) can.1 does.cause)
+      (λ is. none.source (left.input_fault is)) (λ is. none.sink (left.output_fault is))
+  all_is_complete words Create status a b x y spells over none can =
+      over_spelled rack view (Complete rack view a x Create) words status a b x y over Create spells (λ no input. inr refl) (create_done rack view a x)
+      none can
+  all_is_complete words Show status a b x y spells over none can =
+      let since = can.1 in
+      stepless_done rack can.0 none_assured since.before view (plan_of words) status since.state a b x y over since.since since.represents
+      since.tolerated since.returned none (show_sure words (without_seats since.state) (view.source.left a.source) spells)

@@ -12,20 +12,24 @@ use Rattle.stair_conf.specs.declared.job.StripeCommand.TheVariants.{Check, Encod
 use Rattle.stair_member.specs.declared.fault.SurveyFault.{SurveyFault}
 use Rattle.stair_member.specs.declared.fault.SurveyFault.TheVariants as survey
 use Rattle.stair_story.specs.declared.status.Status.{Status}
-use Rattle.stair_story.specs.declared.status.Status.TheVariants.{Done, NotCodeword, NoCodeword, Lost, Usage, InputFault, OutOfMemory}
+use Rattle.stair_story.specs.declared.status.Status.TheVariants.{Done, NotCodeword, NoCodeword, Lost, Usage, OutOfMemory}
 use Rattle.stair_story.specs.Action.{status_of_create, status_of_survey}
 use Rattle.stair_story.specs.Answer.{Judges}
-use Rattle.stair_story.specs.Ending.{AsksFirst, EndsIn, IsNoFault, Leaves, PutsLast, TakesNothing}
+use Rattle.stair_story.specs.Ending.{AsksFirst, EndsIn, IsNoFault, Leaves, OnlyLooks, PutsLast, TakesNoStep}
 use Rattle.stair_story.specs.Fault.{status_of_config}
 use Rattle.stair_story.specs.Means.{Means}
 use Rattle.stair_story.specs.Outside.{Outside, Views}
 use Rattle.stair_story.specs.Plan.{Over, answer}
-use Rattle.stair_story.proofs.EndingLaws.{ends_otherwise, leaves, weaker}
-use Rattle.stair_engine.specs.Plans.{job_plan, making_plan, plan_of, show_plan, stripe_plan, within_limits}
+use Rattle.stair_story.proofs.DeviceLaws.{ActsOnce, calls_once, once_no_step}
+use Rattle.stair_story.proofs.EndingLaws.{leaves, weaker}
+use Rattle.stair_story.proofs.LookLaws.{calls_look}
+use Rattle.stair_engine.proofs.StripeLaws.{stripe_calls_none}
+use Rattle.stair_engine.specs.Plans.{job_plan, making_plan, plan_of, stripe_plan, tested_plan, within_limits}
+use Rattle.stair_engine.specs.Task.{one_stripe}
 
 -- ---- no plan ends by itself with a fault, and none of a job with Usage
 
-abbrev IsOfJob : Status → Type 0
+abbrev pub IsOfJob : Status → Type 0
 IsOfJob status = IsNoFault status × (status ≢ Usage)
 
 judged_own : (command : StripeCommand) (g : Geometry) (input : List ℕ) (status : Status) (output : List ℕ) → Judges command g input status output
@@ -45,30 +49,32 @@ stripe_own command g None = (
 )
 stripe_own command g (Some k) = ((λ is. cc, λ is. cc), λ is. cc)
 
-config_own : (fault : ConfigFault) → IsOfJob (status_of_config fault)
-config_own config.NotToml = ((λ is. cc, λ is. cc), λ is. cc)
-config_own (config.Key key) = ((λ is. cc, λ is. cc), λ is. cc)
-config_own (config.Limit k) = ((λ is. cc, λ is. cc), λ is. cc)
-config_own config.Memory = ((λ is. cc, λ is. cc), λ is. cc)
+-- those of a refused text are of no call that was done
+pub config_own : (fault : ConfigFault) → IsOfJob (status_of_config fault) × (status_of_config fault ≢ Done)
+config_own config.NotToml = (((λ is. cc, λ is. cc), λ is. cc), λ is. cc)
+config_own (config.Key key) = (((λ is. cc, λ is. cc), λ is. cc), λ is. cc)
+config_own (config.Limit k) = (((λ is. cc, λ is. cc), λ is. cc), λ is. cc)
+config_own config.Memory = (((λ is. cc, λ is. cc), λ is. cc), λ is. cc)
 
-create_own : (fault : CreateFault) → IsOfJob (status_of_create fault)
-create_own (create.Gone slot) = ((λ is. cc, λ is. cc), λ is. cc)
-create_own (create.SmallDevice slot has needs) = ((λ is. cc, λ is. cc), λ is. cc)
-create_own (create.AlreadyArray slot) = ((λ is. cc, λ is. cc), λ is. cc)
+-- nor are those of a refused array, and memory was not short there
+pub create_own : (fault : CreateFault) → IsOfJob (status_of_create fault) × (status_of_create fault ≢ Done) × (status_of_create fault ≢ OutOfMemory)
+create_own (create.Gone slot) = (((λ is. cc, λ is. cc), λ is. cc), λ is. cc, λ is. cc)
+create_own (create.SmallDevice slot has needs) = (((λ is. cc, λ is. cc), λ is. cc), λ is. cc, λ is. cc)
+create_own (create.AlreadyArray slot) = (((λ is. cc, λ is. cc), λ is. cc), λ is. cc, λ is. cc)
 
-survey_own : (fault : SurveyFault) → IsOfJob (status_of_survey fault)
-survey_own survey.NoArray = ((λ is. cc, λ is. cc), λ is. cc)
-survey_own (survey.TwoArrays first second) = ((λ is. cc, λ is. cc), λ is. cc)
-survey_own (survey.TooFew whys) = ((λ is. cc, λ is. cc), λ is. cc)
+pub survey_own : (fault : SurveyFault) → IsOfJob (status_of_survey fault) × (status_of_survey fault ≢ OutOfMemory)
+survey_own survey.NoArray = (((λ is. cc, λ is. cc), λ is. cc), λ is. cc)
+survey_own (survey.TwoArrays first second) = (((λ is. cc, λ is. cc), λ is. cc), λ is. cc)
+survey_own (survey.TooFew whys) = (((λ is. cc, λ is. cc), λ is. cc), λ is. cc)
 
 making_own : (reply : Result Geometry ConfigFault) → EndsIn IsOfJob (making_plan reply)
-making_own (Ok g) = (λ done. ((λ is. cc, λ is. cc), λ is. cc), create_own)
-making_own (Err fault) = config_own fault
+making_own (Ok g) = (λ done. ((λ is. cc, λ is. cc), λ is. cc), λ fault. (create_own fault).0)
+making_own (Err fault) = (config_own fault).0
 
 pub job_own : (job : Job) → EndsIn IsOfJob (job_plan job)
 job_own (job.OneStripe command n m r e) = λ reply is. stripe_own command _ reply
 job_own job.Create = (λ more. ((λ is. cc, λ is. cc), λ is. cc), λ text reply reads. making_own reply)
-job_own job.Show = (λ member. ((λ is. cc, λ is. cc), λ is. cc), survey_own)
+job_own job.Show = (λ member. ((λ is. cc, λ is. cc), λ is. cc), λ fault. (survey_own fault).0)
 
 -- ---- what is put out is put out last
 
@@ -99,43 +105,51 @@ stripe_first : (command : StripeCommand) (g : Geometry) (reply : Option ℕ) →
 stripe_first command g None = (λ bytes. (λ more. tt, λ none reply. judged_first reply.0 reply.1), λ bytes. tt)
 stripe_first command g (Some k) = tt
 
-create_asks : (fault : CreateFault) → status_of_create fault ≢ OutOfMemory
-create_asks (create.Gone slot) = λ is. cc
-create_asks (create.SmallDevice slot has needs) = λ is. cc
-create_asks (create.AlreadyArray slot) = λ is. cc
-
-survey_asks : (fault : SurveyFault) → status_of_survey fault ≢ OutOfMemory
-survey_asks survey.NoArray = λ is. cc
-survey_asks (survey.TwoArrays first second) = λ is. cc
-survey_asks (survey.TooFew whys) = λ is. cc
-
 making_first : (reply : Result Geometry ConfigFault) → AsksFirst (making_plan reply)
-making_first (Ok g) = (λ done is. cc, create_asks)
+making_first (Ok g) = (λ done is. cc, λ fault. (create_own fault).2)
 making_first (Err fault) = tt
 
 job_first : (job : Job) → AsksFirst (job_plan job)
 job_first (job.OneStripe command n m r e) = λ reply. stripe_first command _ reply
 job_first job.Create = (λ more. tt, λ text reply. making_first reply)
-job_first job.Show = (λ member is. cc, survey_asks)
+job_first job.Show = (λ member is. cc, λ fault. (survey_own fault).1)
 
 pub words_first : (words : List (List ℕ)) → AsksFirst (plan_of words)
 words_first words None = tt
 words_first words (Some job) = job_first job
 
--- ---- nothing is taken
+-- ---- one thing at most is done to an array, and no step is taken
 
-survey_takes : (fault : SurveyFault) → status_of_survey fault ≢ InputFault
-survey_takes fault = (survey_own fault).0.0
+making_once : (reply : Result Geometry ConfigFault) → ActsOnce (making_plan reply)
+making_once (Ok g) = λ done. tt
+making_once (Err fault) = tt
 
-pub show_takes : TakesNothing show_plan
-show_takes = (λ member is. cc, survey_takes)
+pub job_once : (job : Job) → ActsOnce (job_plan job)
+job_once (job.OneStripe command n m r e) =
+    let of = one_stripe n m r e in
+    calls_once (tested_plan command of) (stripe_calls_none command of)
+job_once job.Create = (λ more. tt, λ text reply. making_once reply)
+job_once job.Show = λ member. tt
+
+pub words_once : (words : List (List ℕ)) → ActsOnce (plan_of words)
+words_once words None = tt
+words_once words (Some job) = job_once job
+
+pub words_no_step : (words : List (List ℕ)) → TakesNoStep (plan_of words)
+words_no_step words = once_no_step (plan_of words) (words_once words)
+
+-- ---- every command but `create` only looks at the rack
+
+pub job_looks : (of : Job) → of ≢ job.Create → OnlyLooks (job_plan of)
+job_looks (job.OneStripe command n m r e) other =
+    let of = one_stripe n m r e in
+    calls_look (tested_plan command of) (stripe_calls_none command of)
+job_looks job.Create other = absurd (other refl)
+job_looks job.Show other = λ member. tt
 
 -- ---- so of every call
 
 module _ {S K : Type 0} (view : Views S K) where
-  pub job_leaves : (job : Job) (status : Status) (a b : Outside S K) → Means view (job_plan job) (Over status) a b → Leaves view status a b
-  job_leaves job status a b means = leaves view IsOfJob (λ end is. is.0) (job_plan job) status a b (job_own job) (job_last job) means
-
   pub words_leave : (words : List (List ℕ)) (status : Status) (a b : Outside S K) → Means view (plan_of words) (Over status) a b → Leaves view status a b
   words_leave words status a b means =
       leaves view IsNoFault (λ end is. is) (plan_of words) status a b (own words) (last words) means
@@ -147,7 +161,3 @@ module _ {S K : Type 0} (view : Views S K) where
       last : (words : List (List ℕ)) → PutsLast (plan_of words)
       last words None = tt
       last words (Some job) = job_last job
-
-  pub job_no_usage : (job : Job) (status : Status) (a b : Outside S K) → Means view (job_plan job) (Over status) a b → status ≢ Usage
-  job_no_usage job status a b means =
-      ends_otherwise view IsOfJob Usage (λ end is. is.1) (λ is. cc) (λ is. cc) (λ is. cc) (job_plan job) status a b (job_own job) means

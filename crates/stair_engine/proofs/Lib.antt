@@ -1,13 +1,12 @@
 mod StripeLaws
 mod JobLaws
+mod WordLaws
 pub mod CellLaws
 pub mod BlockLaws
 pub mod MapLaws
 pub mod AnswerLaws
 pub mod RestoreLaws
 pub mod MeaningLaws
-mod CreateLaws
-mod ShowLaws
 mod StandLaws
 mod CallLaws
 mod CompleteLaws

@@ -1,6 +1,8 @@
 -- The deeds of `create` and of `show`, one after the other.
-use Rattle.std.proofs.Common.{◌≡◌, ◌≢◌, ℕ, ◌+◌, List, [], Result, Ok, Err, take, refl, sym, ap, subst, arith, length-take}
+use Rattle.std.proofs.Common.{◌≡◌, ◌≢◌, ◌∙◌, ℕ, ◌+◌, List, [], Result, Ok, Err, take, refl, sym, ap, subst, arith, length-take}
+use Rattle.std.specs.Result.{IsErrAnd}
 use Rattle.stair_model.specs.Geometry.{Geometry}
+use Rattle.stair_member.specs.Membership.{Membership}
 use Rattle.stair_conf.specs.Config.{TextReadsAs}
 use Rattle.stair_conf.specs.declared.fault.ConfigFault.{ConfigFault}
 use Rattle.stair_conf.specs.declared.fault.ConfigFault.TheVariants as config
@@ -10,7 +12,7 @@ use Rattle.stair_story.specs.declared.fault.Fault.TheVariants as fault
 use Rattle.stair_story.specs.declared.status.Status.{Status}
 use Rattle.stair_story.specs.declared.status.Status.TheVariants.{Done, Input, InputFault}
 use Rattle.stair_story.specs.Fault.{status_of, status_of_config, status_of_fault}
-use Rattle.stair_story.specs.Outside.{Outside, Views, outside}
+use Rattle.stair_story.specs.Outside.{Outside, SinkView, Views, outside}
 use Rattle.stair_story.specs.Plan.{Plan, Over, Ask, Put, Allocate, Do}
 use Rattle.stair_engine.specs.Plans.{TEXT_LIMIT, create_plan, created_line, making_plan, show_plan, showing_plan}
 use Rattle.stair_story.specs.Question.{Text}
@@ -18,12 +20,18 @@ use Rattle.stair_story.specs.Rack.{MeansOver, RackView, Works}
 use Rattle.stair_story.specs.Story.{Found, Took, TookLast, TakeFailed, Did, after}
 use Rattle.stair_engine.specs.Show.{show_text}
 use Rattle.stair_engine.specs.ShowSteps.{PutsFound, Shows}
+use Rattle.stair_story.specs.Streams.{PutsAll}
 use Rattle.stair_engine.specs.Taking.{TakesText}
+use Rattle.stair_story.proofs.IntakeLaws.{are_all}
 use Rattle.stair_story.proofs.RackLaws.{over_cannot_put, over_grows, over_one, over_puts, over_runs_out, over_then}
 
 -- a fault as the answer for a text
 abbrev answer_of : ConfigFault → Result Geometry ConfigFault
 answer_of fault = Err fault
+
+-- a fault as the answer of a call
+abbrev fault_of : Fault → Result Status Fault
+fault_of fault = Err fault
 
 module _ {R S K : Type 0} (rack : RackView R) (view : Views S K) where
   pub text_refused : (fault : Fault) (into : List ℕ) (source source' : S) (sink : K) (n : ℕ) (x : R) → TakesText view.source (Err fault) into source source'
@@ -31,7 +39,8 @@ module _ {R S K : Type 0} (rack : RackView R) (view : Views S K) where
   text_refused (fault.Length needed took) into source source' sink n x takes =
       let same : Over (Input TEXT_LIMIT (TEXT_LIMIT + 1)) ≡ Over (Input needed took) = λ i. Over (Input (sym takes.0 i) (sym takes.1 i)) in
       subst (λ (rest : Plan). MeansOver rack view create_plan rest (outside source sink n) (outside source' sink n) x x) same
-      (over_one rack view (Took into) create_plan (Over (Input TEXT_LIMIT (TEXT_LIMIT + 1))) _ _ x x (takes.2, refl) takes.3 refl refl refl)
+      (over_one rack view (Took takes.2.0) create_plan (Over (Input TEXT_LIMIT (TEXT_LIMIT + 1))) _ _ x x
+      (are_all (TEXT_LIMIT + 1) takes.2.0 takes.2.1, refl) takes.2.2 refl refl refl)
   text_refused fault.Input into source source' sink n x takes =
       over_one rack view (TakeFailed takes.0) create_plan (Over InputFault) _ _ x x (takes.1, refl) takes.2 refl refl refl
   text_refused fault.Memory into source source' sink n x takes = absurd takes
@@ -99,3 +108,17 @@ module _ {R S K : Type 0} (rack : RackView R) (view : Views S K) where
       → MeansOver rack view show_plan (Over (status_of result)) (outside source sink n) (outside source sink' n) x y
   shows result source sink sink' n x y did =
       over_then rack view (surveys did.found (outside source sink n) x y did.surveys) (puts_found did.found result source sink sink' n y did.puts)
+
+-- ---- what the code of `show` did
+
+-- a fault that was handed on
+pub handed_on : (result : Result Status Fault) (fault : Fault) → IsErrAnd result (λ y. y ≡ fault) → result ≡ Err fault
+handed_on (Ok status) fault is = absurd is
+handed_on (Err y) fault is = ap (λ (f : Fault). fault_of f) is
+
+-- a part was put out
+pub puts_part : {K : Type 0} (view : SinkView K) (member : Membership) (why : Fault) (result : Result Status Fault) (old new : K)
+    → PutsAll view (fault_of why) (show_text member) old new → why ≡ fault.Output → IsErrAnd result (λ y. y ≡ why)
+    → PutsFound view (Ok member) result old new
+puts_part view member why (Ok status) old new puts failed is = absurd is
+puts_part view member why (Err y) old new puts failed is = (puts, is ∙ failed)

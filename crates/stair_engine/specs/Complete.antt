@@ -1,11 +1,10 @@
 -- When a command is sure to be done.
-use Rattle.std.specs.Prelude.{◌≡◌, ◌⊎◌, ◌≤◌, ℕ, IsTrue, List, length, drop, take, Option, Some, Ok}
+use Rattle.std.specs.Prelude.{◌≡◌, ◌≤◌, ℕ, IsTrue, List, length, drop, take, Option, Some, Ok}
 use Rattle.stair_model.specs.CellSet.{CellSet}
 use Rattle.stair_model.specs.Codeword.{IsCodeword}
 use Rattle.stair_model.specs.Coverage.{IsCovered}
 use Rattle.stair_model.specs.Geometry.{Geometry, IsWithinLimits}
 use Rattle.stair_model.specs.Stripe.{Stripe}
-use Rattle.stair_rack.specs.Count.{Rose}
 use Rattle.stair_array.specs.Creates.{CanBeMade}
 use Rattle.stair_conf.specs.Config.{TextReadsAs}
 use Rattle.stair_conf.specs.declared.job.Job.{Job}
@@ -17,10 +16,11 @@ use Rattle.stair_story.specs.Outside.{Outside, Views}
 use Rattle.stair_engine.specs.Plans.{TEXT_LIMIT}
 use Rattle.stair_story.specs.Rack.{RackView}
 use Rattle.stair_story.specs.Restore.{HoldsCells, IsErasedBy}
+use Rattle.stair_story.specs.Sure.{HasNoFault, IsDone}
 use Rattle.stair_engine.specs.Stands.{StandsThroughout}
 use Rattle.stair_engine.specs.Task.{one_stripe}
 use Rattle.stair_story.specs.declared.status.Status.{Status}
-use Rattle.stair_story.specs.declared.status.Status.TheVariants.{Done, OutOfMemory}
+use Rattle.stair_story.specs.declared.status.Status.TheVariants.{Done}
 
 -- what is judged Done: the cells of a codeword, any blocks, and cells of which the erased ones are covered and the others are
 -- those of some codeword
@@ -52,14 +52,6 @@ CanBeDone rack job.Create told first last = TellsInput told (λ input.
     × CanBeMade g (rack.history first) (rack.history last))
 CanBeDone rack job.Show told first last =
     IsTrue rack.honest × StandsThroughout (rack.history first) (rack.history last)
-
--- no fault of the source or of the sink was counted
-pub record HasNoFault {S K : Type 0} (view : Views S K) (old new : Outside S K) : Type 0 where
-  pub source : ¬ Rose (view.source.faults old.source) (view.source.faults new.source)
-  pub sink : ¬ Rose (view.sink.faults old.sink) (view.sink.faults new.sink)
-
-abbrev pub IsDone : Status → Type 0
-IsDone status = (status ≡ Done) ⊎ (status ≡ OutOfMemory)
 
 -- The job is done, if there was memory, where it can be and neither source nor sink failed.
 abbrev pub IsComplete : {R S K : Type 0} → RackView R → Views S K → Job → Status → Outside S K →

@@ -12,7 +12,7 @@ use Rattle.stair_story.specs.declared.status.Status.TheVariants.{Done, Usage, Li
 use Rattle.stair_story.specs.Action.{Create, Survey}
 use Rattle.stair_story.specs.Answer.{bytes_needed}
 use Rattle.stair_story.specs.Fault.{status_of_config}
-use Rattle.stair_story.specs.Plan.{Plan, Over, Ask, Take, Put, Allocate, Do, answer, whole_input}
+use Rattle.stair_story.specs.Plan.{Plan, Over, Ask, Put, Allocate, Do, answer, take_exactly, whole_input}
 use Rattle.stair_story.specs.Question.{Words, Limits, Text, Judgement}
 use Rattle.stair_engine.specs.Show.{show_text}
 use Rattle.stair_engine.specs.Task.{one_stripe}
@@ -49,7 +49,7 @@ making_plan (Ok g) = Allocate (Do (Create g) (λ done. Put (created_line g) (Ove
 making_plan (Err fault) = Over (status_of_config fault)
 
 abbrev pub create_plan : Plan
-create_plan = Take (TEXT_LIMIT + 1) (λ more. Over (Input TEXT_LIMIT (TEXT_LIMIT + 1)))
+create_plan = take_exactly (TEXT_LIMIT + 1) (λ more. Over (Input TEXT_LIMIT (TEXT_LIMIT + 1)))
     (λ text. Allocate (Ask (Text text) making_plan))
 
 -- what was found is put out

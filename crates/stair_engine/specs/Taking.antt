@@ -47,8 +47,8 @@ abbrev pub TakesText : {S : Type 0} → SourceView S → Result ℕ Fault → Li
 TakesText view (Ok count) into old new = (count < TEXT_LIMIT + 1)
     × Gives view (TookLast (take count into)) old new
 TakesText view (Err (fault.Length needed took)) into old new =
-    (needed ≡ TEXT_LIMIT) × (took ≡ TEXT_LIMIT + 1) × (length into ≡ TEXT_LIMIT + 1)
-    × Gives view (Took into) old new
+    (needed ≡ TEXT_LIMIT) × (took ≡ TEXT_LIMIT + 1) × ((bytes : List ℕ)
+    × (length bytes ≡ TEXT_LIMIT + 1) × Gives view (Took bytes) old new)
 TakesText view (Err fault.Input) into old new =
     (taken : List ℕ) × (length taken < TEXT_LIMIT + 1) × Gives view (TakeFailed taken) old new
 TakesText view (Err _) into old new = ⊥

@@ -9,7 +9,7 @@ ghost use Rattle.stair_engine.specs.Taking.{TakesText};
 use stair_base::Geometry;
 use stair_conf::read_config;
 use stair_rack::{Rack, Sink, Source};
-use stair_story::{Fault, Filled, Status, fill, put_all};
+use stair_story::{Fault, Filled, Status, put_all, take_at_least};
 use std::alloc::{AllocError, Global};
 
 // A geometry text has at most so many bytes.
@@ -43,9 +43,9 @@ fn take_text<S: Source>(input: &mut S, into: &mut [u8]) -> Result<usize, Fault>
     ensures { TakesText (source_view S.left S.ended S.faults) result into.new
         input.old input.new }
 {
-    match fill(input, into) {
+    match take_at_least(input, into.len(), into) {
         Filled::Short(count) => Ok(count),
-        Filled::Whole => Err(Fault::Length {
+        Filled::Enough(_) => Err(Fault::Length {
             needed: TEXT_LIMIT as u64,
             took: TEXT_LIMIT as u64 + 1,
         }),

@@ -7,7 +7,6 @@ mod check;
 mod create;
 mod encode;
 pub mod laws;
-mod line;
 mod map;
 mod restore;
 mod show;
@@ -22,12 +21,16 @@ ghost use Rattle.stair_conf.specs.declared.job.Job.TheVariants.{Create};
 ghost use Rattle.stair_engine.specs.Complete.{IsComplete};
 ghost use Rattle.stair_engine.specs.Create.{IsOnceMade, MakesArray, SparesArrays};
 ghost use Rattle.stair_story.specs.Fault.{status_of};
+ghost use Rattle.stair_rack.specs.Watching.{watcher_view};
+ghost use Rattle.stair_story.specs.Devices.{device_view};
+ghost use Rattle.stair_story.specs.Headline.{IsBorneOut};
 ghost use Rattle.stair_story.specs.Means.{Means};
 ghost use Rattle.stair_story.specs.Outside.{outside, views};
 ghost use Rattle.stair_story.specs.Plan.{Over};
 ghost use Rattle.stair_engine.specs.Plans.{job_plan, plan_of, stripe_plan};
 ghost use Rattle.stair_story.specs.Rack.{MeansOver, rack_view};
 ghost use Rattle.stair_engine.specs.Stands.{ArrayStands};
+ghost use Rattle.stair_watch.specs.WatcherList.{AllStay};
 
 use check::check;
 use create::create;
@@ -37,62 +40,53 @@ use show::show;
 use stair_base::Geometry;
 use stair_conf::{Job, StripeCommand, WordsFault, read_words};
 use stair_gf::Steps;
-use stair_rack::{Rack, Sink, Source};
+use stair_rack::{Rack, Sink, Source, Watcher};
 use stair_story::Fault;
 pub use stair_story::Status;
 use std::alloc::Global;
 use std::sync::ledger::Ledger;
 use task::one_stripe;
 
-/// Does what the words say, over this input and output, and tells what came of it.
+/// Does what the words say, over this input and output and the devices of the rack, and tells what came of it.
 ///
-/// `check N M R E..` takes the n·r cells of a stripe from the input, row by row, each of 512 bytes, and looks for one
-/// more byte. Where they are a codeword it puts out `codeword` and a newline; otherwise the status is the first equation
-/// that they break.
-///
-/// `stripe METHOD N M R E..` takes the u blocks of a stripe, in the order of its data cells, each of 512 bytes, and looks for
-/// one more byte. It puts out the n·r cells of the codeword of these blocks, row by row. METHOD is `standard`, `up`, `down` or
-/// `fewest` and chooses the encoder, not the cells: the counter rises by exactly that encoder's steps. No other command
-/// counts.
-///
-/// `restore N M R E..` takes n·r bytes of a map, row by row, and then the n·r cells of a stripe, and looks for one more byte.
-/// A cell whose byte is 2E (`.`) is held, and every other is erased: what stands in its place isn't used. Where the erased
-/// cells are covered and a codeword has the held ones, it puts out the n·r cells of that codeword. `Lost`, with stripe 0,
-/// comes where the erased cells are not covered, and `NoCodeword` where they are and no codeword has the held ones.
-///
-/// These three commands make no call on the rack.
-///
-/// `create` takes a geometry text from the input, of at most 4,096 bytes, and makes the array that it says on the devices of
-/// slots 0 to n-1, as [`stair_array::create`] tells. Then it puts out `created`, the array's identity in lower case,
-/// `blocks`, the number of its blocks, and a newline. `NotToml`, `Key` and `Limit` come before any device is looked at;
-/// `Gone`, `SmallDevice` and `AlreadyArray` before any is written, but for a slot that goes meanwhile. After `OutputFault`
-/// there is an array.
-///
-/// `show` looks for an array on the rack, as [`stair_member::survey`] tells, and puts out its identity, its geometry, its
-/// epoch, its label and whether it is frozen, and for each of its slots the mark, the epoch of its admission, and why it isn't
-/// what the mark says. It takes nothing from the input and changes nothing on a device. `NoArray`, `TwoArrays` and `TooFew`
-/// come before anything is put out.
-///
-/// `OutOfMemory` may come in place of any other answer, once a command's word came first and no word begins with a hyphen.
-/// No device was written then.
+/// `docs/formats.md` has what each command takes, does and puts out, and when each status comes. In short: `check`, `stripe` and
+/// `restore` work on one stripe of n·r cells of 512 bytes and make no call on the rack; `create` takes a geometry text, of at
+/// most 4,096 bytes, and makes an array of it ([`stair_array::create`]); `show` looks for an array ([`stair_member::survey`]),
+/// takes nothing and changes nothing on a device.
 ///
 /// The words are tested first, then the limits of the geometry of a stripe, then the input: what is refused before the input
 /// is taken leaves input, output and counter as they were, and nothing is put out before the answer is known. `InputFault`
-/// leaves the output as it was, and after `OutputFault` a part of the output stands.
+/// leaves the output as it was, and after `OutputFault` a part of the output stands; after that of `create` there is an array.
+///
+/// The counter rises by exactly the steps of the encoder that METHOD of `stripe` chooses. No other command counts.
+///
+/// The watchers are told, in order, of each event of an array in the steps of the call; one that leaves is taken out and
+/// dropped. No command takes a step yet, so they are told nothing.
+///
+/// `OutOfMemory` may come in place of any other answer, once a command's word came first and no word begins with a hyphen.
+/// No device was written then.
 pub fn stair<R: Rack, S: Source, K: Sink, L: Ledger>(
     alloc: Global,
     words: &[String],
     rack: &mut R,
     input: &mut S,
     output: &mut K,
+    watchers: &mut Vec<Box<dyn Watcher>>,
     steps: &mut Steps<L>,
 ) -> Status
-    // The call went as the plan of the words says, and source, sink, counter and rack bear it out.
-    ensures means { MeansOver (rack_view R.is_honest R.history R.bads R.gones)
+    // None of the watchers has left.
+    requires { AllStay (watcher_view told count (λ w. (Watcher-box w).left w.value) patience) watchers.old.items }
+
+    // The call went as the plan of the words says, and source, sink, counter, rack and watchers bear it out.
+    ensures borne_out { IsBorneOut (device_view (rack_view R.is_honest R.history R.bads R.gones)
+        (watcher_view told count (λ w. (Watcher-box w).left w.value) patience))
         (views S.left S.ended S.faults K.held K.faults)
         (plan_of (map string_bytes words.now)) (Over result)
         (outside input.old output.old steps.old) (outside input.new output.new steps.new)
-        rack.old rack.new }
+        rack.old rack.new watchers.old.items watchers.new.items }
+
+    // Those that are left haven't left, so they may be told of what the next call does.
+    ensures stay { AllStay (watcher_view told count (λ w. (Watcher-box w).left w.value) patience) watchers.new.items }
 
     // Want of memory: only where a command's word comes first and no word begins with a hyphen.
     ensures memory { result ≡ Status.OutOfMemory → IsCommandLine (map string_bytes words.now) }

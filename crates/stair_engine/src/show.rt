@@ -16,14 +16,14 @@ ghost use Rattle.stair_engine.specs.Show.{
 };
 ghost use Rattle.stair_engine.specs.ShowSteps.{Shows};
 ghost use Rattle.stair_story.specs.Streams.{PutsAll};
-ghost use Rattle.stair_engine.specs.declared.line.TheConstants.{LINE_LIMIT};
+ghost use Rattle.stair_watch.specs.declared.line.TheConstants.{LINE_LIMIT};
 
-use crate::line::Line;
 use stair_base::Geometry;
 use stair_member::{Member, Why, survey};
 use stair_rack::{Rack, Sink};
 use stair_story::{Fault, Status, identity_digits, put_all};
 use stair_super::{Label, Mark};
+use stair_watch::Line;
 
 /// Looks for the array of the rack, and puts out what it is and what its slots are.
 pub(crate) fn show<R: Rack, K: Sink>(rack: &mut R, output: &mut K) -> Result<Status, Fault>

@@ -8,6 +8,7 @@ use stair_conf::Key;
 use stair_member::Why;
 use stair_memrack::{Act, MemRack, What};
 use stair_rack::{MemSink, MemSource, Put};
+use stair_watch::{Tally, add};
 use std::alloc::AllocError;
 use std::marker::Brand;
 use std::sync::ledger::Blank;
@@ -269,7 +270,17 @@ fn run_on<L: Ledger>(
     let mut input = MemSource::new(alloc, bytes, 100, fail_at)?;
     let mut output = MemSink::new(alloc, room)?;
     let mut steps = Steps::<L>::new(blank);
-    let status = stair(alloc, words, rack, &mut input, &mut output, &mut steps);
+    let mut watchers = Vec::new(alloc);
+    add(&mut watchers, Box::new(alloc, Tally::new(1))?)?;
+    let status = stair(
+        alloc,
+        words,
+        rack,
+        &mut input,
+        &mut output,
+        &mut watchers,
+        &mut steps,
+    );
     let put = output.bytes().to_vec(alloc)?;
     Ok(Outcome { status, put })
 }

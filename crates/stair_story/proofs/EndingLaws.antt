@@ -91,9 +91,9 @@ module _ (P : Status → Type 0) where
 
   move_ends : (deed : Deed) (plan rest : Plan) → EndsIn P plan → Moves deed plan rest → Led (EndsIn P) deed rest
   move_ends (Found asked) (Ask question k) rest ends moves = On (subst (EndsIn P) (sym moves.3) (ends moves.0 moves.2))
-  move_ends (Took bytes) (Take n k short) rest ends moves = On (subst (EndsIn P) (sym moves.1) (ends.0 bytes))
-  move_ends (TookLast bytes) (Take n k short) rest ends moves = On (subst (EndsIn P) (sym moves.1) (ends.1 bytes))
-  move_ends (TakeFailed bytes) (Take n k short) rest ends moves = Faulty bytes refl moves.1
+  move_ends (Took bytes) (Take least most k short) rest ends moves = On (subst (EndsIn P) (sym moves.1) (ends.0 bytes))
+  move_ends (TookLast bytes) (Take least most k short) rest ends moves = On (subst (EndsIn P) (sym moves.1) (ends.1 bytes))
+  move_ends (TakeFailed bytes) (Take least most k short) rest ends moves = Faulty bytes refl moves.1
   move_ends (HasPut bytes) (Put all plan) rest ends moves = On (subst (EndsIn P) (sym moves.1) ends)
   move_ends (PutFailed part) (Put all plan) rest ends moves = Unput part refl moves.1
   move_ends Grew (Allocate plan) rest ends moves = On (subst (EndsIn P) (sym moves) ends)
@@ -179,13 +179,13 @@ puts_last view [] plan status k k' last follows holds = if_none_put status k k' 
 puts_last view (Found asked ∷ story) (Ask question h) status k k' last follows holds =
     none_put_then status k holds.0 k' holds.1
     (puts_last view story follows.0 status holds.0 k' (subst PutsLast (sym follows.1.3) (last follows.1.0)) follows.2 holds.2)
-puts_last view (Took bytes ∷ story) (Take n h short) status k k' last follows holds =
+puts_last view (Took bytes ∷ story) (Take least most h short) status k k' last follows holds =
     none_put_then status k holds.0 k' holds.1
     (puts_last view story follows.0 status holds.0 k' (subst PutsLast (sym follows.1.1) (last.0 bytes)) follows.2 holds.2)
-puts_last view (TookLast bytes ∷ story) (Take n h short) status k k' last follows holds =
+puts_last view (TookLast bytes ∷ story) (Take least most h short) status k k' last follows holds =
     none_put_then status k holds.0 k' holds.1
     (puts_last view story follows.0 status holds.0 k' (subst PutsLast (sym follows.1.1) (last.1 bytes)) follows.2 holds.2)
-puts_last view (TakeFailed bytes ∷ story) (Take n h short) status k k' last follows holds =
+puts_last view (TakeFailed bytes ∷ story) (Take least most h short) status k k' last follows holds =
     none_put_then status k holds.0 k' holds.1
     (puts_last view story follows.0 status holds.0 k' (subst PutsLast (sym follows.1.1) tt) follows.2 holds.2)
 puts_last {K} view (HasPut bytes ∷ story) (Put all plan) status k k' last follows holds =
@@ -250,7 +250,7 @@ ends_otherwise view P other never not_input not_output not_memory plan status a 
 pub weaker : (P Q : Status → Type 0) → ((end : Status) → P end → Q end) → (plan : Plan) → EndsIn P plan → EndsIn Q plan
 weaker P Q so (Over status) ends = so status ends
 weaker P Q so (Ask question k) ends = λ reply is. weaker P Q so (k reply) (ends reply is)
-weaker P Q so (Take n k short) ends = (λ bytes. weaker P Q so (k bytes) (ends.0 bytes), λ bytes. weaker P Q so (short bytes) (ends.1 bytes))
+weaker P Q so (Take least most k short) ends = (λ bytes. weaker P Q so (k bytes) (ends.0 bytes), λ bytes. weaker P Q so (short bytes) (ends.1 bytes))
 weaker P Q so (Put bytes plan) ends = weaker P Q so plan ends
 weaker P Q so (Allocate plan) ends = weaker P Q so plan ends
 weaker P Q so (Do action k) ends = (λ done. weaker P Q so (k done) (ends.0 done), λ refusal. so (refused action refusal) (ends.1 refusal))
@@ -299,9 +299,9 @@ move_takes view (Stepped did came events left) (Try step k) rest s s' none moves
     (gives, subst TakesNothing (sym moves.2) (none moves.0 left))
 move_takes view (Stepped did came events left) (RebuildAll slots done k) rest s s' none moves gives =
     (gives, subst TakesNothing (sym moves.2) (rebuilt_takes slots done k moves.0 none))
-move_takes view (Took bytes) (Take n k short) rest s s' none moves gives = absurd none
-move_takes view (TookLast bytes) (Take n k short) rest s s' none moves gives = absurd none
-move_takes view (TakeFailed bytes) (Take n k short) rest s s' none moves gives = absurd none
+move_takes view (Took bytes) (Take least most k short) rest s s' none moves gives = absurd none
+move_takes view (TookLast bytes) (Take least most k short) rest s s' none moves gives = absurd none
+move_takes view (TakeFailed bytes) (Take least most k short) rest s s' none moves gives = absurd none
 move_takes view _ _ rest s s' none moves gives = absurd moves
 
 -- The source is left, and can't fail the call.
@@ -327,11 +327,11 @@ rebuilt_asks slots done k (Ok (Promoted j)) none = none
 rebuilt_asks slots done k (Ok (Dropped j)) none = none
 rebuilt_asks slots done k (Err refusal) none = (refusals_are slots refusal).1
 
-move_asks : (deed : Deed) (plan rest : Plan) → AsksForNone plan → Moves deed plan rest → AsksForNone rest
+pub move_asks : (deed : Deed) (plan rest : Plan) → AsksForNone plan → Moves deed plan rest → AsksForNone rest
 move_asks (Found asked) (Ask question k) rest none moves = subst AsksForNone (sym moves.3) (none moves.0)
-move_asks (Took bytes) (Take n k short) rest none moves = subst AsksForNone (sym moves.1) (none.0 bytes)
-move_asks (TookLast bytes) (Take n k short) rest none moves = subst AsksForNone (sym moves.1) (none.1 bytes)
-move_asks (TakeFailed bytes) (Take n k short) rest none moves = subst AsksForNone (sym moves.1) (λ is. cc)
+move_asks (Took bytes) (Take least most k short) rest none moves = subst AsksForNone (sym moves.1) (none.0 bytes)
+move_asks (TookLast bytes) (Take least most k short) rest none moves = subst AsksForNone (sym moves.1) (none.1 bytes)
+move_asks (TakeFailed bytes) (Take least most k short) rest none moves = subst AsksForNone (sym moves.1) (λ is. cc)
 move_asks (HasPut bytes) (Put all plan) rest none moves = subst AsksForNone (sym moves.1) none
 move_asks (PutFailed part) (Put all plan) rest none moves = subst AsksForNone (sym moves.1) (λ is. cc)
 move_asks Grew (Allocate plan) rest none moves = absurd none
@@ -343,7 +343,7 @@ move_asks (Stepped did came events left) (RebuildAll slots done k) rest none mov
 move_asks _ _ rest none moves = absurd moves
 
 -- such a plan doesn't end for want of memory
-never_short : (story : List Deed) (plan : Plan) (status : Status) → AsksForNone plan → Leads Moves story plan (Over status) → status ≢ OutOfMemory
+pub never_short : (story : List Deed) (plan : Plan) (status : Status) → AsksForNone plan → Leads Moves story plan (Over status) → status ≢ OutOfMemory
 never_short [] plan status none follows = subst AsksForNone (sym follows) none
 never_short (deed ∷ story) plan status none follows =
     never_short story follows.0 status (move_asks deed plan follows.0 none follows.1) follows.2
@@ -360,13 +360,13 @@ module _ {R : Type 0} (rack : RackView R) where
   short_first (Found asked ∷ story) (Ask question k) x y first follows works =
       left_then x works.0 y works.1
       (short_first story follows.0 works.0 y (subst AsksFirst (sym follows.1.3) (first follows.1.0)) follows.2 works.2)
-  short_first (Took bytes ∷ story) (Take n k short) x y first follows works =
+  short_first (Took bytes ∷ story) (Take least most k short) x y first follows works =
       left_then x works.0 y works.1
       (short_first story follows.0 works.0 y (subst AsksFirst (sym follows.1.1) (first.0 bytes)) follows.2 works.2)
-  short_first (TookLast bytes ∷ story) (Take n k short) x y first follows works =
+  short_first (TookLast bytes ∷ story) (Take least most k short) x y first follows works =
       left_then x works.0 y works.1
       (short_first story follows.0 works.0 y (subst AsksFirst (sym follows.1.1) (first.1 bytes)) follows.2 works.2)
-  short_first (TakeFailed bytes ∷ story) (Take n k short) x y first follows works =
+  short_first (TakeFailed bytes ∷ story) (Take least most k short) x y first follows works =
       left_then x works.0 y works.1
       (short_first story follows.0 works.0 y (subst AsksFirst (sym follows.1.1) tt) follows.2 works.2)
   short_first (HasPut bytes ∷ story) (Put all plan) x y first follows works =

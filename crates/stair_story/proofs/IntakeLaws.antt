@@ -12,9 +12,13 @@ use Rattle.stair_story.specs.declared.fault.Fault.TheVariants as fault
 use Rattle.stair_story.specs.Means.{Gives}
 use Rattle.stair_story.specs.Outside.{SourceView}
 use Rattle.stair_story.specs.declared.status.Status.TheVariants.{Input, InputFault}
-use Rattle.stair_story.specs.Plan.{Over, Take}
-use Rattle.stair_story.specs.Story.{Took, TookLast, TakeFailed}
+use Rattle.stair_story.specs.Plan.{Over, take_exactly}
+use Rattle.stair_story.specs.Story.{AreEnough, Took, TookLast, TakeFailed}
 use Rattle.stair_story.specs.Taking.{CutsShort, GoesOn, TakesBytes, TakesWhole, TookSoFar, intake_of}
+
+-- exactly as many as were asked for
+pub are_all : (n : ℕ) (bytes : List ℕ) → length bytes ≡ n → AreEnough n n bytes
+are_all n bytes long = record { enough = omega (arith, long); within = omega (arith, long) }
 
 -- a fact of the error that was handed on
 pub if_err_of : {T E : Type 0} (r : Result T E) (e : E) (P : E → Type 0) → IsErrAnd r (λ y. y ≡ e) → P e → IfErr r P
@@ -196,7 +200,11 @@ module _ {S T : Type 0} (view : SourceView S) (needed : ℕ) (IsInput : T → Li
     is_input = is;
     story = Took bytes ∷ TookLast [] ∷ [];
     takes_only = tt;
-    follows = λ k. (Take 1 (λ more. Over (Input needed (needed + 1))) (λ none. k bytes), (long, refl), (k bytes, (omega arith, refl), refl));
+    follows = λ k. (
+      take_exactly 1 (λ more. Over (Input needed (needed + 1))) (λ none. k bytes),
+      (are_all needed bytes long, refl),
+      (k bytes, (omega arith, refl), refl),
+    );
     gives = (b, Gives-took view bytes a b (omega (arith, some, long)) took, (c, last, refl));
   }
 
@@ -214,9 +222,9 @@ module _ {S T : Type 0} (view : SourceView S) (needed : ℕ) (IsInput : T → Li
     story = Took bytes ∷ Took more.2.0 ∷ [];
     takes_only = tt;
     follows = λ k. (
-      Take 1 (λ more. Over (Input needed (needed + 1))) (λ none. k bytes),
-      (long, refl),
-      (Over (Input needed (needed + 1)), (more.2.1, refl), ap₂ (λ (n t : ℕ). Over (Input n t)) (more.0 ∙ same) (more.1 ∙ ap (λ (n : ℕ). n + 1) same)),
+      take_exactly 1 (λ more. Over (Input needed (needed + 1))) (λ none. k bytes),
+      (are_all needed bytes long, refl),
+      (Over (Input needed (needed + 1)), (are_all 1 more.2.0 more.2.1, refl), ap₂ (λ (n t : ℕ). Over (Input n t)) (more.0 ∙ same) (more.1 ∙ ap (λ (n : ℕ). n + 1) same)),
     );
     gives = (b, Gives-took view bytes a b (omega (arith, some, long)) took, (c, more.2.2, refl));
   }
@@ -225,7 +233,11 @@ module _ {S T : Type 0} (view : SourceView S) (needed : ℕ) (IsInput : T → Li
     is_input = tt;
     story = Took bytes ∷ TakeFailed [] ∷ [];
     takes_only = tt;
-    follows = λ k. (Take 1 (λ more. Over (Input needed (needed + 1))) (λ none. k bytes), (long, refl), (Over InputFault, (omega arith, refl), refl));
+    follows = λ k. (
+      take_exactly 1 (λ more. Over (Input needed (needed + 1))) (λ none. k bytes),
+      (are_all needed bytes long, refl),
+      (Over InputFault, (omega arith, refl), refl),
+    );
     gives = (b, Gives-took view bytes a b (omega (arith, some, long)) took, (c, more, refl));
   }
 

@@ -1,6 +1,6 @@
 -- What a rack shows of a call.
 use Rattle.std.proofs.Common.{◌≡◌, ◌∙◌, ℕ, List, [], ◌∷◌, refl, sym, subst, Result, Ok, Err}
-use Rattle.stair_story.specs.Means.{Bears, Counts, Gives, Holds, Means}
+use Rattle.stair_story.specs.Means.{Counts, Gives, Holds, Means}
 use Rattle.stair_story.specs.Outside.{Outside, Views, outside}
 use Rattle.stair_story.specs.Plan.{Plan, Over, Ask, Take, Put, Allocate, Do, Try, RebuildAll}
 use Rattle.stair_story.specs.Rack.{MeansOver, RackView, Works}
@@ -8,7 +8,6 @@ use Rattle.stair_story.specs.Story.{Deed, Found, Took, TookLast, TakeFailed, Has
 use Rattle.stair_story.specs.declared.status.Status.{Status}
 use Rattle.stair_story.specs.declared.status.Status.TheVariants.{Done, OutputFault, OutOfMemory}
 use Rattle.stair_story.proofs.PlanLaws.{and_then, does, leads_then}
-use Rattle.stair_story.proofs.EndLaws.{no_move}
 use Rattle.std.specs.Result.{IsErrAnd}
 use Rattle.stair_story.specs.declared.fault.Fault.{Fault}
 use Rattle.stair_story.specs.Fault.{status_of, status_of_fault}
@@ -49,11 +48,11 @@ still_works rack RanOut x off = refl
 -- ---- plans that make no call
 
 -- one move of such a plan
-no_call_moves : (deed : Deed) (plan rest : Plan) → MakesNoCall plan → Moves deed plan rest → IsOffDevices deed × MakesNoCall rest
+pub no_call_moves : (deed : Deed) (plan rest : Plan) → MakesNoCall plan → Moves deed plan rest → IsOffDevices deed × MakesNoCall rest
 no_call_moves (Found asked) (Ask question k) rest none moves = (tt, subst MakesNoCall (sym moves.3) (none moves.0))
-no_call_moves (Took bytes) (Take n k short) rest none moves = (tt, subst MakesNoCall (sym moves.1) (none.0 bytes))
-no_call_moves (TookLast bytes) (Take n k short) rest none moves = (tt, subst MakesNoCall (sym moves.1) (none.1 bytes))
-no_call_moves (TakeFailed bytes) (Take n k short) rest none moves = (tt, subst MakesNoCall (sym moves.1) tt)
+no_call_moves (Took bytes) (Take least most k short) rest none moves = (tt, subst MakesNoCall (sym moves.1) (none.0 bytes))
+no_call_moves (TookLast bytes) (Take least most k short) rest none moves = (tt, subst MakesNoCall (sym moves.1) (none.1 bytes))
+no_call_moves (TakeFailed bytes) (Take least most k short) rest none moves = (tt, subst MakesNoCall (sym moves.1) tt)
 no_call_moves (HasPut bytes) (Put all plan) rest none moves = (tt, subst MakesNoCall (sym moves.1) none)
 no_call_moves (PutFailed part) (Put all plan) rest none moves = (tt, subst MakesNoCall (sym moves.1) tt)
 no_call_moves Grew (Allocate plan) rest none moves = (tt, subst MakesNoCall (sym moves) none)
@@ -64,7 +63,7 @@ no_call_moves (Stepped did came events left) (RebuildAll slots done k) rest none
 no_call_moves _ _ rest none moves = absurd moves
 
 -- a story along such a plan leaves a rack
-still_along : {R : Type 0} (rack : RackView R) (story : List Deed) (plan rest : Plan) (x : R) → MakesNoCall plan → Leads Moves story plan rest
+pub still_along : {R : Type 0} (rack : RackView R) (story : List Deed) (plan rest : Plan) (x : R) → MakesNoCall plan → Leads Moves story plan rest
     → Leads (Works rack) story x x
 still_along rack [] plan rest x none follows = refl
 still_along rack (deed ∷ story) plan rest x none follows =
@@ -99,38 +98,6 @@ module _ {R S K : Type 0} (rack : RackView R) (view : Views S K) where
   -- a plan that makes no call
   pub over_still : (plan rest : Plan) (a b : Outside S K) (x : R) → MakesNoCall plan → Means view plan rest a b → MeansOver rack view plan rest a b x x
   over_still plan rest a b x none means = record { means = means; works = still_along rack means.story plan rest x none means.follows }
-
-  pub over_left : (plan rest : Plan) (a b : Outside S K) (x y : R) → MakesNoCall plan → MeansOver rack view plan rest a b x y → y ≡ x
-  over_left plan rest a b x y none over = left_along rack over.means.story plan rest x y none over.means.follows over.works
-
-  -- what comes behind the first deed
-  pub behind_over : (deed : Deed) (story : List Deed) (plan from : Plan) (status : Status) (a mid b : Outside S K) (x z y : R)
-      (bears : Bears view (deed ∷ story) a b) (works : Leads (Works rack) (deed ∷ story) x y)
-      → bears.gives.0 ≡ mid.source → bears.holds.0 ≡ mid.sink → bears.counts.0 ≡ mid.counter → works.0 ≡ z
-      → from ≡ plan → Leads Moves story from (Over status) → MeansOver rack view plan (Over status) mid b z y
-  behind_over deed story plan from status a mid b x z y bears works source sink counter at same follows = record {
-    means = record {
-      story = story;
-      follows = subst (λ (p : Plan). Leads Moves story p (Over status)) same follows;
-      bears = record {
-        gives = subst (λ (s : S). Leads (Gives view.source) story s b.source) source bears.gives.2;
-        holds = subst (λ (k : K). Leads (Holds view.sink) story k b.sink) sink bears.holds.2;
-        counts = subst (λ (n : ℕ). Leads Counts story n b.counter) counter bears.counts.2;
-      };
-    };
-    works = subst (λ (w : R). Leads (Works rack) story w y) at works.2;
-  }
-
-  pub over_done : (from status : Status) (a b : Outside S K) (x y : R) → MeansOver rack view (Over from) (Over status) a b x y
-      → (status ≡ from) × (b ≡ a) × (y ≡ x)
-  over_done from status a b x y over = at over.means.story over.means.follows over.means.bears over.works
-    where
-      at : (story : List Deed) → Leads Moves story (Over from) (Over status) → Bears view story a b → Leads (Works rack) story x y
-          → (status ≡ from) × (b ≡ a) × (y ≡ x)
-      at [] follows bears works =
-          let same : Over status ≡ Over from = follows in
-          (cc, λ i. record { source = bears.gives i; sink = bears.holds i; counter = bears.counts i }, works)
-      at (deed ∷ story) follows bears works = absurd (no_move deed from follows.0 follows.1)
 
   -- a fault that was handed on
   pub over_hands_on : (plan : Plan) (a b : Outside S K) (x y : R) (result : Result Status Fault) (fault : Fault) → IsErrAnd result (λ f. f ≡ fault)

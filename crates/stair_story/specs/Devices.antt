@@ -42,13 +42,13 @@ session_after (Err fault) = Closed
 abbrev pub SomeLeft : {W : Type 0} → Bool → List W → List W → Type 0
 SomeLeft left old new = left ≡ not (nat_le (length old) (length new))
 
--- What they show of a deed: what was done to an array came so; and a step is what a call of the session's array promises, whose
--- events were told, one after the other, to all that were left. A deed of another kind leaves them as they were, so no call was
--- made on them.
+-- What they show of a deed: what was done to an array came so, where nothing was done before in the session, which has then
+-- found it or is closed; and a step is what a call of the session's array promises, whose events were told, one after the
+-- other, to all that were left. A deed of another kind leaves them as they were, so no call was made on them.
 abbrev pub WorksAll : {R W : Type 0} → DeviceView R W → Deed → Devices R W → Devices R W → Type 0
 WorksAll view (Did (Create g) outcome) old new =
     Creates g outcome (told_of view.rack old.rack) (told_of view.rack new.rack)
-    × (new.session ≡ old.session) × (new.watchers ≡ old.watchers)
+    × (old.session ≡ Begun) × (new.session ≡ Closed) × (new.watchers ≡ old.watchers)
 WorksAll view (Did Survey outcome) old new =
     Surveys outcome (told_of view.rack old.rack) (told_of view.rack new.rack)
     × (old.session ≡ Begun) × (new.session ≡ session_after outcome)
@@ -60,7 +60,7 @@ WorksAll view (Stepped step answer events left) old new =
 WorksAll view _ old new = new ≡ old
 
 -- The call went from this plan to that rest, and they bear out the same story.
-pub record MeansWith {R W S K : Type 0} (devices : DeviceView R W) (view : Views S K)
+pub record MeansWith {R W S K : Type 0} (view : DeviceView R W) (streams : Views S K)
     (plan rest : Plan) (old new : Outside S K) (first last : Devices R W) : Type 0 where
-  pub means : Means view plan rest old new
-  pub works : Leads (WorksAll devices) means.story first last
+  pub means : Means streams plan rest old new
+  pub works : Leads (WorksAll view) means.story first last

@@ -4,7 +4,8 @@ use Rattle.stair_array.specs.Machine.{Answer, Refusal}
 use Rattle.stair_rack.specs.Count.{Rose}
 use Rattle.stair_story.specs.declared.status.Status.{Status}
 use Rattle.stair_story.specs.declared.status.Status.TheVariants.{Done, InputFault, OutputFault, OutOfMemory}
-use Rattle.stair_story.specs.Action.{OkOf, RefusalOf, refused}
+use Rattle.stair_member.specs.Membership.{Membership}
+use Rattle.stair_story.specs.Action.{Create, OkOf, RefusalOf, Survey, refused}
 use Rattle.stair_story.specs.Outside.{Outside, Views}
 use Rattle.stair_story.specs.Plan.{Plan, Over, Ask, Take, Put, Allocate, Do, Try, RebuildAll}
 use Rattle.stair_story.specs.Question.{IsReply, Reply}
@@ -14,7 +15,7 @@ use Rattle.stair_story.specs.Refused.{status_of_refusal}
 abbrev pub EndsIn : (Status → Type 0) → Plan → Type 0
 EndsIn P (Over status) = P status
 EndsIn P (Ask question k) = (reply : Reply question) → IsReply question reply → EndsIn P (k reply)
-EndsIn P (Take n k short) =
+EndsIn P (Take least most k short) =
     ((bytes : List ℕ) → EndsIn P (k bytes)) × ((bytes : List ℕ) → EndsIn P (short bytes))
 EndsIn P (Put bytes plan) = EndsIn P plan
 EndsIn P (Allocate plan) = EndsIn P plan
@@ -32,7 +33,7 @@ IsNoFault status = (status ≢ InputFault) × (status ≢ OutputFault)
 abbrev pub PutsLast : Plan → Type 0
 PutsLast (Over status) = ⊤
 PutsLast (Ask question k) = (reply : Reply question) → PutsLast (k reply)
-PutsLast (Take n k short) =
+PutsLast (Take least most k short) =
     ((bytes : List ℕ) → PutsLast (k bytes)) × ((bytes : List ℕ) → PutsLast (short bytes))
 PutsLast (Put bytes plan) = plan ≡ Over Done
 PutsLast (Allocate plan) = PutsLast plan
@@ -44,7 +45,7 @@ PutsLast (RebuildAll slots done k) = (count : ℕ) → PutsLast (k count)
 abbrev pub TakesNothing : Plan → Type 0
 TakesNothing (Over status) = status ≢ InputFault
 TakesNothing (Ask question k) = (reply : Reply question) → TakesNothing (k reply)
-TakesNothing (Take n k short) = ⊥
+TakesNothing (Take least most k short) = ⊥
 TakesNothing (Put bytes plan) = TakesNothing plan
 TakesNothing (Allocate plan) = TakesNothing plan
 TakesNothing (Do action k) = ((done : OkOf action) → TakesNothing (k done))
@@ -56,18 +57,31 @@ TakesNothing (RebuildAll slots done k) = (count : ℕ) → TakesNothing (k count
 abbrev pub MakesNoCall : Plan → Type 0
 MakesNoCall (Over status) = ⊤
 MakesNoCall (Ask question k) = (reply : Reply question) → MakesNoCall (k reply)
-MakesNoCall (Take n k short) = ((bytes : List ℕ) → MakesNoCall (k bytes)) × ((bytes : List ℕ) → MakesNoCall (short bytes))
+MakesNoCall (Take least most k short) = ((bytes : List ℕ) → MakesNoCall (k bytes)) × ((bytes : List ℕ) → MakesNoCall (short bytes))
 MakesNoCall (Put bytes plan) = MakesNoCall plan
 MakesNoCall (Allocate plan) = MakesNoCall plan
 MakesNoCall (Do action k) = ⊥
 MakesNoCall (Try step k) = ⊥
 MakesNoCall (RebuildAll slots done k) = ⊥
 
+-- a rack is only looked at: no array is made, and no step is taken
+abbrev pub OnlyLooks : Plan → Type 0
+OnlyLooks (Over status) = ⊤
+OnlyLooks (Ask question k) = (reply : Reply question) → OnlyLooks (k reply)
+OnlyLooks (Take least most k short) =
+    ((bytes : List ℕ) → OnlyLooks (k bytes)) × ((bytes : List ℕ) → OnlyLooks (short bytes))
+OnlyLooks (Put bytes plan) = OnlyLooks plan
+OnlyLooks (Allocate plan) = OnlyLooks plan
+OnlyLooks (Do (Create g) k) = ⊥
+OnlyLooks (Do Survey k) = (member : Membership) → OnlyLooks (k member)
+OnlyLooks (Try step k) = ⊥
+OnlyLooks (RebuildAll slots done k) = ⊥
+
 -- no step of a session's array is taken
 abbrev pub TakesNoStep : Plan → Type 0
 TakesNoStep (Over status) = ⊤
 TakesNoStep (Ask question k) = (reply : Reply question) → TakesNoStep (k reply)
-TakesNoStep (Take n k short) =
+TakesNoStep (Take least most k short) =
     ((bytes : List ℕ) → TakesNoStep (k bytes)) × ((bytes : List ℕ) → TakesNoStep (short bytes))
 TakesNoStep (Put bytes plan) = TakesNoStep plan
 TakesNoStep (Allocate plan) = TakesNoStep plan
@@ -79,7 +93,7 @@ TakesNoStep (RebuildAll slots done k) = ⊥
 abbrev pub AsksForNone : Plan → Type 0
 AsksForNone (Over status) = status ≢ OutOfMemory
 AsksForNone (Ask question k) = (reply : Reply question) → AsksForNone (k reply)
-AsksForNone (Take n k short) =
+AsksForNone (Take least most k short) =
     ((bytes : List ℕ) → AsksForNone (k bytes)) × ((bytes : List ℕ) → AsksForNone (short bytes))
 AsksForNone (Put bytes plan) = AsksForNone plan
 AsksForNone (Allocate plan) = ⊥
@@ -92,13 +106,26 @@ AsksForNone (RebuildAll slots done k) = (count : ℕ) → AsksForNone (k count)
 abbrev pub AsksFirst : Plan → Type 0
 AsksFirst (Over status) = ⊤
 AsksFirst (Ask question k) = (reply : Reply question) → AsksFirst (k reply)
-AsksFirst (Take n k short) =
+AsksFirst (Take least most k short) =
     ((bytes : List ℕ) → AsksFirst (k bytes)) × ((bytes : List ℕ) → AsksFirst (short bytes))
 AsksFirst (Put bytes plan) = AsksFirst plan
 AsksFirst (Allocate plan) = AsksFirst plan
 AsksFirst (Do action k) = AsksForNone (Do action k)
 AsksFirst (Try step k) = AsksForNone (Try step k)
 AsksFirst (RebuildAll slots done k) = AsksForNone (RebuildAll slots done k)
+
+-- memory is asked for before an array is made or a step is taken, and not after it
+abbrev pub AsksUnwritten : Plan → Type 0
+AsksUnwritten (Over status) = ⊤
+AsksUnwritten (Ask question k) = (reply : Reply question) → AsksUnwritten (k reply)
+AsksUnwritten (Take least most k short) = ((bytes : List ℕ) → AsksUnwritten (k bytes))
+    × ((bytes : List ℕ) → AsksUnwritten (short bytes))
+AsksUnwritten (Put bytes plan) = AsksUnwritten plan
+AsksUnwritten (Allocate plan) = AsksUnwritten plan
+AsksUnwritten (Do (Create g) k) = AsksForNone (Do (Create g) k)
+AsksUnwritten (Do Survey k) = (member : Membership) → AsksUnwritten (k member)
+AsksUnwritten (Try step k) = AsksForNone (Try step k)
+AsksUnwritten (RebuildAll slots done k) = AsksForNone (RebuildAll slots done k)
 
 -- how a call ended: by its plan, by a fault of its source or of its sink, or since memory was short
 pub data Ended {S K : Type 0} (view : Views S K) (P : Status → Type 0) (status : Status)

@@ -14,6 +14,15 @@ pub mod Means
 pub mod Rack
 pub mod Ending
 pub mod Devices
+pub mod Run
+pub mod Headline
+pub mod Sure
 pub mod Streams
 pub mod Taking
 pub mod Laws
+pub mod Lives
+pub mod Sessions
+pub mod LifeExample
+pub mod Kept
+pub mod Drawn
+pub mod Rebuilt

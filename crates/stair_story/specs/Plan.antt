@@ -12,9 +12,9 @@ pub data Plan : Type 0 where
   Over : Status → Plan
   -- a question is decided, and the reply says how to go on
   Ask : (question : Question) → (Reply question → Plan) → Plan
-  -- so many bytes of the input, at least one, and then the first; or fewer, where the end comes
-  -- before, and then the second
-  Take : ℕ → (List ℕ → Plan) → (List ℕ → Plan) → Plan
+  -- At least so many bytes of the input are taken, which is one at least, and at most so many, as the source gives them, and
+  -- then comes the first; or fewer, where the end comes before, and then the second.
+  Take : (least most : ℕ) → (List ℕ → Plan) → (List ℕ → Plan) → Plan
   -- these bytes are put out
   Put : List ℕ → Plan → Plan
   -- memory may be short here
@@ -27,10 +27,14 @@ pub data Plan : Type 0 where
   -- number. A refusal ends the call.
   RebuildAll : (slots done : ℕ) → (ℕ → Plan) → Plan
 
+-- exactly so many bytes
+abbrev pub take_exactly : ℕ → (List ℕ → Plan) → (List ℕ → Plan) → Plan
+take_exactly n k short = Take n n k short
+
 -- All of the input is so many bytes, behind which one more is looked for.
 abbrev pub whole_input : ℕ → (List ℕ → Plan) → Plan
-whole_input needed k = Take needed
-    (λ bytes. Take 1 (λ more. Over (Input needed (needed + 1))) (λ none. k bytes))
+whole_input needed k = take_exactly needed
+    (λ bytes. take_exactly 1 (λ more. Over (Input needed (needed + 1))) (λ none. k bytes))
     (λ bytes. Over (Input needed (length bytes)))
 
 -- where a step is refused by an array of so many slots the call ends

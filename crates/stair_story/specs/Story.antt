@@ -1,5 +1,5 @@
 -- What a call did: a story, whose first deed comes first, and how it follows a plan.
-use Rattle.std.specs.Prelude.{◌≡◌, ℕ, ◌<◌, List, [], ◌∷◌, ◌++◌, Bool, length, Ok, Err}
+use Rattle.std.specs.Prelude.{◌≡◌, ℕ, ◌<◌, ◌≤◌, List, [], ◌∷◌, ◌++◌, Bool, length, Ok, Err}
 use Rattle.stair_rack.specs.declared.watcher.Event.{Event}
 use Rattle.stair_array.specs.Machine.{Answer, RebuildNext, Step}
 use Rattle.stair_story.specs.Action.{Action, OkOf, Outcome, refused}
@@ -10,7 +10,7 @@ use Rattle.stair_story.specs.Plan.{Plan, Over, Ask, Take, Put, Allocate, Do, Try
 pub data Deed : Type 0 where
   -- a question was decided
   Found : Question → Deed
-  -- all that was asked for was taken; fewer, and then the end came; fewer, and then a fault
+  -- as many as were asked for at least were taken; fewer, and then the end came; fewer, and then a fault
   Took TookLast TakeFailed : List ℕ → Deed
   -- all of it was put out; a part, and then a fault came
   HasPut PutFailed : List ℕ → Deed
@@ -25,6 +25,11 @@ pub data Deed : Type 0 where
 abbrev pub IsPart : List ℕ → List ℕ → Type 0
 IsPart part all = (rest : List ℕ) × (all ≡ part ++ rest) × (0 < length rest)
 
+-- as many bytes as are asked for
+pub record AreEnough (least most : ℕ) (bytes : List ℕ) : Type 0 where
+  pub enough : least ≤ length bytes
+  pub within : length bytes ≤ most
+
 -- how a plan goes on after this came of an action
 abbrev pub after : (action : Action) → (OkOf action → Plan) → Outcome action → Plan
 after action k (Ok done) = k done
@@ -34,9 +39,10 @@ after action k (Err refusal) = Over (refused action refusal)
 abbrev pub Moves : Deed → Plan → Plan → Type 0
 Moves (Found asked) (Ask question k) rest =
     (reply : Reply question) × (asked ≡ question) × IsReply question reply × (rest ≡ k reply)
-Moves (Took bytes) (Take n k short) rest = (length bytes ≡ n) × (rest ≡ k bytes)
-Moves (TookLast bytes) (Take n k short) rest = (length bytes < n) × (rest ≡ short bytes)
-Moves (TakeFailed bytes) (Take n k short) rest = (length bytes < n) × (rest ≡ Over InputFault)
+Moves (Took bytes) (Take least most k short) rest = AreEnough least most bytes × (rest ≡ k bytes)
+Moves (TookLast bytes) (Take least most k short) rest = (length bytes < least) × (rest ≡ short bytes)
+Moves (TakeFailed bytes) (Take least most k short) rest =
+    (length bytes < least) × (rest ≡ Over InputFault)
 Moves (HasPut bytes) (Put all plan) rest = (bytes ≡ all) × (rest ≡ plan)
 Moves (PutFailed part) (Put all plan) rest = IsPart part all × (rest ≡ Over OutputFault)
 Moves Grew (Allocate plan) rest = rest ≡ plan

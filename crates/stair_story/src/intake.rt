@@ -5,7 +5,7 @@ ghost use Rattle.stair_story.specs.Story.{TookLast};
 ghost use Rattle.stair_story.specs.Taking.{CutsShort, GoesOn, TakesBytes, intake_of};
 
 use crate::fault::Fault;
-use crate::streams::{Filled, fill};
+use crate::streams::{Filled, take_at_least};
 use stair_rack::{Source, Taken};
 
 /// How many bytes a command needs from its source, and how many of them were taken.
@@ -32,8 +32,8 @@ impl Intake {
         ensures cut { IfErr result (CutsShort (source_view S.left S.ended S.faults)
             self.old input.old input.new) }
     {
-        match fill(input, into) {
-            Filled::Whole => {
+        match take_at_least(input, into.len(), into) {
+            Filled::Enough(_) => {
                 self.took += into.len() as u64;
                 Ok(())
             }

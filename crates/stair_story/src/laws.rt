@@ -3,10 +3,13 @@
 ghost use Rattle.stair_story.specs.Laws.{
   FaultsAreTold,
   MemoryIsAskedFirst,
+  MemoryIsAskedUnwritten,
   OthersNeverCome,
   RacksAreLeft,
+  RacksAreLookedAt,
   RacksSuffice,
   SourcesAreLeft,
+  WatchersAreTold,
 };
 
 /// What follows of every call that means its plan, by a predicate on the plan. It does nothing.
@@ -21,6 +24,12 @@ pub fn story_laws<R, W, S, K>()
     ensures still { RacksAreLeft R S K }
     // where memory was short no call was made, if it is asked for before anything is done to an array
     ensures memory { MemoryIsAskedFirst R S K }
+    // a plan that only looks at an honest rack changes no sector of it
+    ensures looks { RacksAreLookedAt R S K }
+    // where memory was short nothing was written, if it is asked for before an array is made or a step is taken
+    ensures unwritten { MemoryIsAskedUnwritten R W S K }
+    // all watchers were told the events of a call's steps, in order
+    ensures watched { WatchersAreTold R W S K }
     // of a plan that takes no step all holds that holds over a rack alone
     ensures rack { RacksSuffice R W S K }
 {}

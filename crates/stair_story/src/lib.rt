@@ -4,8 +4,12 @@
 mod fault;
 mod intake;
 pub mod laws;
+pub mod lives;
+pub mod runs;
+pub mod session;
 mod status;
 mod streams;
+pub mod sure;
 #[cfg(test)]
 mod tests;
 mod text;
@@ -13,5 +17,5 @@ mod text;
 pub use fault::Fault;
 pub use intake::Intake;
 pub use status::Status;
-pub use streams::{Filled, fill, put_all};
+pub use streams::{Filled, put_all, take_at_least};
 pub use text::identity_digits;

@@ -1,4 +1,4 @@
 pub mod TellLemmas
 pub mod WatchLemmas
-pub mod LineLemmas
+pub mod PutLemmas
 pub mod TallyLemmas

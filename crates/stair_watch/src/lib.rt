@@ -5,12 +5,15 @@ mod kept;
 pub mod laws;
 mod line;
 mod printer;
+mod put;
 mod tally;
 #[cfg(test)]
 mod tests;
 mod told;
 
 pub use kept::Kept;
+pub use line::{LINE_LIMIT, Line};
 pub use printer::Printer;
+pub use put::put_until_fault;
 pub use tally::Tally;
-pub use told::tell;
+pub use told::{add, tell};

@@ -1,17 +1,15 @@
-// The line of an event, made on the stack before it is put out.
+// A line of text that is made on the stack, so that it takes no memory and is put out in one piece.
 ghost use Rattle.std.specs.Prelude.{◌≡◌, ◌+◌, ◌≤◌, ◌++◌, [], length};
 ghost use Rattle.std.specs.Fmt.{decimal};
-ghost use Rattle.stair_watch.specs.Lines.{event_line};
 
-use stair_rack::Event;
 use std::marker::Model;
 
-// A line has at most so many bytes: the longest names are those of a repair, and each of its two numbers has at most 20 digits.
-pub(crate) const LINE_LIMIT: usize = 64;
+/// A line has at most so many bytes. The longest one, of a geometry with 31 entries of coverage, has fewer.
+pub const LINE_LIMIT: usize = 1024;
 
 /// A line of text, as far as it is made.
 #[derive(Drop)]
-pub(crate) struct Line {
+pub struct Line {
     bytes: [u8; LINE_LIMIT],
     len: usize,
 }
@@ -28,7 +26,8 @@ impl Model for Line {
 }
 
 impl Line {
-    fn new() -> Line
+    /// A line of no bytes.
+    pub fn new() -> Line
         ensures text { result ≡ [] }
         ensures len { length result ≡ 0 }
     {
@@ -38,7 +37,8 @@ impl Line {
         }
     }
 
-    fn push(&mut self, piece: &[u8])
+    /// Appends the bytes, for which there is room.
+    pub fn push(&mut self, piece: &[u8])
         requires { length self.old + length piece.now ≤ LINE_LIMIT }
         ensures text { self.new ≡ self.old ++ piece.now }
         ensures len { length self.new ≡ length self.old + length piece.now }
@@ -48,8 +48,8 @@ impl Line {
         self.len = end;
     }
 
-    // Appends a name, and a number, which has at most 20 digits.
-    fn push_named(&mut self, name: &[u8], number: u64)
+    /// Appends a name, and a number in decimal digits, of which there are at most 20.
+    pub fn push_named(&mut self, name: &[u8], number: u64)
         requires { length self.old + length name.now + 20 ≤ LINE_LIMIT }
         ensures text { self.new ≡ self.old ++ (name.now ++ decimal number) }
         ensures short { length self.new ≤ length self.old + length name.now + 20 }
@@ -59,27 +59,9 @@ impl Line {
     }
 
     /// The bytes.
-    pub(crate) fn bytes(&self) -> &[u8]
+    pub fn bytes(&self) -> &[u8]
         ensures { result.now ≡ self.now }
     {
         &self.bytes[..self.len]
     }
-}
-
-/// The line that is printed for an event.
-pub(crate) fn line_of(event: Event) -> Line
-    ensures { result ≡ event_line event }
-{
-    let mut line = Line::new();
-    match event {
-        Event::Fenced { slot } => line.push_named(b"fenced ", u64::from(slot)),
-        Event::Repaired { stripe, cells } => {
-            line.push_named(b"repaired stripe ", u64::from(stripe));
-            line.push_named(b" cells ", u64::from(cells));
-        }
-        Event::Admitted { slot } => line.push_named(b"admitted ", u64::from(slot)),
-        Event::Promoted { slot } => line.push_named(b"promoted ", u64::from(slot)),
-    }
-    line.push(b"\n");
-    line
 }

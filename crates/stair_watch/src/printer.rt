@@ -13,9 +13,10 @@ ghost use Rattle.stair_watch.specs.Watchers.{
   waits_on,
 };
 
-use crate::line::line_of;
+use crate::line::Line;
+use crate::put::put_until_fault;
 use crate::tally::Tally;
-use stair_rack::{Counts, Event, Next, Put, Sink, Watcher};
+use stair_rack::{Counts, Event, Next, Sink, Watcher};
 use std::marker::Model;
 
 /// A watcher that prints a line for each event to its sink, and leaves at event number 2^64 - 1.
@@ -69,7 +70,7 @@ impl<K: Sink + Drop> Watcher for Printer<K> {
         ensures full { 2 ^ 64 - 1 ≤ sum_in self.new.counts → result ≡ Next.Leave }
         ensures printed { Prints K.held K.faults (event_line event) self.old.sink self.new.sink }
     {
-        put_line(&mut self.sink, line_of(event).bytes());
+        put_until_fault(&mut self.sink, line_of(event).bytes());
         self.tally.notice(event)
     }
 
@@ -82,17 +83,22 @@ impl<K: Sink + Drop> Watcher for Printer<K> {
     }
 }
 
-// Puts the bytes into the sink, up to a fault.
-fn put_line<K: Sink>(sink: &mut K, bytes: &[u8])
-    ensures { Prints K.held K.faults bytes.now sink.old sink.new }
+// The line that is printed for an event.
+fn line_of(event: Event) -> Line
+    ensures { result ≡ event_line event }
 {
-    let mut put = 0;
-    while put < bytes.len() {
-        match sink.put(&bytes[put..]) {
-            Put::Bytes(count) => put += count,
-            Put::Failed => return,
+    let mut line = Line::new();
+    match event {
+        Event::Fenced { slot } => line.push_named(b"fenced ", u64::from(slot)),
+        Event::Repaired { stripe, cells } => {
+            line.push_named(b"repaired stripe ", u64::from(stripe));
+            line.push_named(b" cells ", u64::from(cells));
         }
+        Event::Admitted { slot } => line.push_named(b"admitted ", u64::from(slot)),
+        Event::Promoted { slot } => line.push_named(b"promoted ", u64::from(slot)),
     }
+    line.push(b"\n");
+    line
 }
 
 #[cfg(test)]

@@ -1,4 +1,3 @@
-ghost use Rattle.std.specs.Prelude.{◌≡◌, OnOk, false};
 ghost use Rattle.stair_rack.specs.Watching.{watcher_view};
 ghost use Rattle.stair_watch.specs.WatcherList.{AllStay};
 
@@ -15,15 +14,6 @@ pub(crate) const EVENTS: [Event; 4] = [
     Event::Admitted { slot: 0 },
     Event::Promoted { slot: 7 },
 ];
-
-// Puts a watcher that hasn't left behind the others.
-fn add(watchers: &mut Vec<Box<dyn Watcher>>, watcher: Box<dyn Watcher>) -> Result<(), AllocError>
-    requires others { AllStay (watcher_view told count left patience) watchers.old.items }
-    requires stays { left watcher ≡ false }
-    ensures { OnOk result (AllStay (watcher_view told count left patience) watchers.new.items) }
-{
-    Ok(watchers.push(watcher)?)
-}
 
 // How many are left after the event.
 fn left_after(watchers: &mut Vec<Box<dyn Watcher>>, event: Event) -> usize

@@ -1,10 +1,27 @@
-// Telling a list of watchers of an event.
-ghost use Rattle.std.specs.Prelude.{◌≡◌, false, true};
+// A list of watchers, and telling it of an event.
+ghost use Rattle.std.specs.Prelude.{◌≡◌, ◌++◌, ◌∷◌, [], IsErr, OnOk, false, true};
 ghost use Rattle.stair_rack.specs.Watching.{HearsOne, watcher_view};
 ghost use Rattle.stair_rack.specs.declared.watcher.Next.{Next};
 ghost use Rattle.stair_watch.specs.WatcherList.{AllStay, Tells};
 
 use stair_rack::{Event, Next, Watcher};
+use std::alloc::AllocError;
+
+/// Puts a watcher that hasn't left behind the others. The only error is want of memory: the list is then as it was, and the
+/// watcher is dropped.
+pub fn add(
+    watchers: &mut Vec<Box<dyn Watcher>>,
+    watcher: Box<dyn Watcher>,
+) -> Result<(), AllocError>
+    requires others { AllStay (watcher_view told count left patience) watchers.old.items }
+    requires stays { left watcher ≡ false }
+    ensures added { OnOk result (watchers.new.items ≡ watchers.old.items ++ watcher ∷ []) }
+    ensures refused { IsErr result → watchers.new.items ≡ watchers.old.items }
+    // None of those in the list has left, so they may be told of an event.
+    ensures stay { AllStay (watcher_view told count left patience) watchers.new.items }
+{
+    Ok(watchers.push(watcher)?)
+}
 
 /// Tells each watcher of the event, in order. One that answers `Leave` is taken out and dropped, and the others keep their
 /// order. It takes no memory.

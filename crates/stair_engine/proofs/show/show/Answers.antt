@@ -1,7 +1,7 @@
 -- Each return, by what the survey found.
 use Rattle.std.proofs.Common.{Ok, Err, refl}
 use Rattle.stair_story.specs.Outside.{sink_view}
-use Rattle.stair_engine.proofs.ShowLaws.{handed_on, puts_part}
+use Rattle.stair_engine.proofs.StepLaws.{handed_on, puts_part}
 use Rattle.stair_engine.proofs.show.show.Goals as goal
 
 pub returns-in_err-member : goal.returns-in_err-member

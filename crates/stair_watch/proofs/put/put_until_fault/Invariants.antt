@@ -1,7 +1,7 @@
 -- The bytes so far were put into the sink.
 use Rattle.std.proofs.Common.{◌-◌, ◌≤◌, length, take}
 use Rattle.std.specs.Io.KnownBytes.{Appends}
-use Rattle.stair_watch.proofs.printer.put_line.Given as goal
+use Rattle.stair_watch.proofs.put.put_until_fault.Given as goal
 
 abbrev pub invariant-loop-put : goal.invariant-loop-put
 invariant-loop-put g l = record {

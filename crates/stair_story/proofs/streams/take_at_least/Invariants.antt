@@ -2,7 +2,7 @@
 use Rattle.std.proofs.Common.{◌-◌, ◌≤◌, length, take}
 use Rattle.stair_story.specs.Outside.{source_view}
 use Rattle.stair_story.specs.Taking.{TookSoFar}
-use Rattle.stair_story.proofs.streams.fill.Given as goal
+use Rattle.stair_story.proofs.streams.take_at_least.Given as goal
 
 abbrev pub invariant-loop-filled : goal.invariant-loop-filled
 invariant-loop-filled g l = record {

@@ -1,10 +1,10 @@
 -- The new one stands behind the others.
 use Rattle.stair_rack.specs.Watching.{watcher_view}
 use Rattle.stair_watch.proofs.WatchLemmas.{AllStay-more}
-use Rattle.stair_watch.proofs.tests.add.Goals as goal
+use Rattle.stair_watch.proofs.told.add.Goals as goal
 
-pub returns : goal.returns
-returns g c = rw c.in_ok-push.ensures.items (AllStay-more (watcher_view
+pub returns-clause-stay : goal.returns-clause-stay
+returns-clause-stay g c = rw c.in_ok-push.ensures.items (AllStay-more (watcher_view
     (λ b. (goal.Watcher-dyn g (b.vtable, b.value)).told b.value)
     (λ b. (goal.Watcher-dyn g (b.vtable, b.value)).count b.value)
     (λ b. (goal.Watcher-dyn g (b.vtable, b.value)).left b.value)

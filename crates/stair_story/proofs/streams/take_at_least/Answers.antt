@@ -5,7 +5,7 @@ use Rattle.stair_story.specs.Outside.{source_view}
 use Rattle.stair_story.specs.Taking.{TookSoFar}
 use Rattle.stair_story.proofs.IntakeLaws.{Gives-take, TookSoFar-more, TookSoFar-took}
 use Rattle.stair_story.proofs.StreamLaws.{take-put_mid_more}
-use Rattle.stair_story.proofs.streams.fill.Goals as goal
+use Rattle.stair_story.proofs.streams.take_at_least.Goals as goal
 
 pub loop-filled-preserved : goal.loop-filled-preserved
 loop-filled-preserved g c =

@@ -1,0 +1,176 @@
+-- Sessions as parts of a life: one turn a step, and one call after the other.
+use Rattle.std.proofs.Common.{◌≡◌, ◌∙◌, List, [], ◌∷◌, None, inl, inr, refl, sym, ap, subst}
+use Rattle.std.specs.Prelude.{IsTrue}
+use Rattle.stair_model.specs.Geometry.{Geometry}
+use Rattle.stair_rack.specs.Answers.{IsHistory}
+use Rattle.stair_rack.specs.Crash.{CrashMayLeave}
+use Rattle.stair_rack.specs.History.{Happening, Made}
+use Rattle.stair_rack.specs.Media.{Image}
+use Rattle.stair_rack.proofs.TidyLemmas.{history_made, history_on}
+use Rattle.stair_state.specs.State.{State, without_seats}
+use Rattle.stair_state.specs.Tolerance.{IsTolerated, ToleratedSince}
+use Rattle.stair_state.proofs.OutsideLemmas.{looks_stand}
+use Rattle.stair_session.specs.Returning.{NoneReturns, Returning, StandsForAlone}
+use Rattle.stair_array.specs.Promise.{Begun}
+use Rattle.stair_story.specs.Devices.{DeviceView, Devices, devices}
+use Rattle.stair_story.specs.Lives.{Ended, Lives, Took, Turn, Turns, WasCut}
+use Rattle.stair_story.specs.Outside.{Views}
+use Rattle.stair_story.specs.Plan.{Plan}
+use Rattle.stair_story.specs.Run.{Goes, IsRun, IsSafe, Now, history_of, now}
+use Rattle.stair_story.specs.Sessions.{Between, Calls, Cut, Ends, IsLived, NextSession, RunsAreLived, Starts, TurnsOfCut, Within, turns_of, with_turn}
+use Rattle.stair_story.specs.Story.{Deed, Found, Took as TookBytes, TookLast, TakeFailed, HasPut, PutFailed, Grew, RanOut, Did, Stepped}
+use Rattle.stair_story.proofs.LifeLaws.{reads_are_explained}
+use Rattle.stair_story.proofs.RunLaws.{forgets, works_ran}
+
+-- ---- a run
+
+same_lives : (life : List Turn) (first : State) (old new : Now) → new ≡ old → Lives life first old.state → Lives life first new.state
+same_lives life first old new same lives = subst (λ (n : Now). Lives life first n.state) (sym same) lives
+
+one_lived : (before : List Happening) (deed : Deed) (old new : Now) (life : List Turn) (first : State) (goes : Goes before deed old new)
+    → Lives life first old.state → Lives (with_turn before deed old new goes life) first new.state
+one_lived before (Stepped step answer events left) old new life first (inl taken) lives =
+    (old.state, lives, (taken.is_step.begun, taken.is_step.row))
+one_lived before (Stepped step answer events left) old new life first (inr again) lives = same_lives life first old new again.same lives
+one_lived before (Did action outcome) old new life first goes lives = subst (λ (s : State). Lives life first s) (sym goes.state) lives
+one_lived before (Found question) old new life first goes lives = same_lives life first old new goes lives
+one_lived before (TookBytes bytes) old new life first goes lives = same_lives life first old new goes lives
+one_lived before (TookLast bytes) old new life first goes lives = same_lives life first old new goes lives
+one_lived before (TakeFailed bytes) old new life first goes lives = same_lives life first old new goes lives
+one_lived before (HasPut bytes) old new life first goes lives = same_lives life first old new goes lives
+one_lived before (PutFailed bytes) old new life first goes lives = same_lives life first old new goes lives
+one_lived before Grew old new life first goes lives = same_lives life first old new goes lives
+one_lived before RanOut old new life first goes lives = same_lives life first old new goes lives
+
+pub runs_are_lived : RunsAreLived
+runs_are_lived before [] old new life first runs lives = same_lives life first old new runs lives
+runs_are_lived before (deed ∷ story) old new life first runs lives =
+    runs_are_lived before story runs.0 new (with_turn before deed old runs.0 runs.1 life) first runs.2
+    (one_lived before deed old runs.0 life first runs.1 lives)
+
+-- ---- a crash
+
+-- what a crash left of a session, with its turns
+record IsCutSo {R W : Type 0} (view : DeviceView R W) (returning : Returning) (before : List Happening) (s : State) (plan : Plan) (story : List Deed)
+    (x y : Devices R W) (c : List Happening) (safe : IsSafe view returning before s plan story x y c) (life : List Turn) (first : State) (image : Image) : Type 0 where
+  pub turns : List Turn
+  pub are_of : TurnsOfCut view returning before s plan story x y c safe life turns
+  pub state : State
+  pub lives : Lives turns first state
+  pub stands : StandsForAlone returning state image
+
+module _ {R W : Type 0} (view : DeviceView R W) where
+  cut_so : (returning : Returning) (before c : List Happening) (s first : State) (plan : Plan) (story : List Deed) (x y : Devices R W)
+      (life : List Turn) (image : Image) → Lives life first s → (safe : IsSafe view returning before s plan story x y c) → CrashMayLeave c image
+      → IsCutSo view returning before s plan story x y c safe life first image
+  cut_so returning before c s first plan story x y life image lives safe left =
+      let so_far = runs_are_lived before safe.done (now s (history_of view x) None) (now safe.state (history_of view safe.mid) safe.stopped) life first
+      safe.runs lives in
+      let turns = turns_of before safe.done (now s (history_of view x) None) (now safe.state (history_of view safe.mid) safe.stopped) safe.runs life in
+      elim (safe.images image left) as (λ _. IsCutSo view returning before s plan story x y c safe life first image) [
+        | inl stands ↦ record { turns = turns; are_of = Between; state = safe.state; lives = so_far; stands = stands }
+        | inr next ↦ record {
+          turns = WasCut next.step ∷ turns;
+          are_of = Within next.step;
+          state = next.left.state;
+          lives = (safe.state, so_far, (next.left.cut.begun, next.left.cut.within));
+          stands = next.left.stands;
+        }
+      ]
+
+  pub crashes_are_lived : (returning : Returning) (before c : List Happening) (s first : State) (plan : Plan) (story : List Deed)
+      (x y : Devices R W) (life : List Turn) (image : Image) → Lives life first s → IsSafe view returning before s plan story x y c
+      → CrashMayLeave c image → NextSession returning first image
+  crashes_are_lived returning before c s first plan story x y life image lives safe left =
+      let cut = cut_so returning before c s first plan story x y life image lives safe left in
+      record {
+        life = Ended ∷ cut.turns;
+        state = without_seats cut.state;
+        lives = (cut.state, cut.lives, refl);
+        unknown = refl;
+        stands = forgets returning cut.state (Made image ∷ []) cut.stands;
+      }
+
+-- ---- calls, one after the other
+
+turn_geometry : (turn : Turn) (old new : State) → Turns turn old new → new.geometry ≡ old.geometry
+turn_geometry (Took step answer) old new turns = turns.1.geometry
+turn_geometry (WasCut step) old new turns =
+    elim turns.1 as (λ _. new.geometry ≡ old.geometry) [
+      | inl same ↦ ap (λ (s : State). s.geometry) same
+      | inr row ↦ row.1.geometry
+    ]
+turn_geometry Ended old new turns = ap (λ (s : State). s.geometry) turns
+
+-- the geometry stays over a life
+pub life_geometry : (life : List Turn) (first s : State) → Lives life first s → s.geometry ≡ first.geometry
+life_geometry [] first s lives = ap (λ (t : State). t.geometry) lives
+life_geometry (turn ∷ life) first s lives = turn_geometry turn lives.0 s lives.2 ∙ life_geometry life first lives.0 lives.1
+
+-- a state whose seats aren't known is as it is without them
+forgotten : (s : State) → s.seats ≡ None → without_seats s ≡ s
+forgotten s unknown = λ i. record s { seats = sym unknown i }
+
+module _ {R W S K : Type 0} (view : DeviceView R W) (streams : Views S K) (first : State) (honest : IsTrue view.rack.honest) where
+  -- what has happened is a history of an honest rack
+  calls_history : (h : List Happening) → Calls view streams first h → IsHistory h
+  calls_history h (Starts h' history stands) = history
+  calls_history h (Ends later plan rest old new x y watchers left calls borne within none acted kept tolerated) =
+      history_on (history_on (calls_history (view.rack.history x) calls)
+      (works_ran view honest borne.over.means.story (devices x Begun watchers) (devices y borne.session left) borne.over.works)) acted
+  calls_history h (Cut c image plan rest old new x y watchers left calls borne at within none crash) = history_made image
+
+  pub calls_are_lived : (h : List Happening) (calls : Calls view streams first h) → IsLived view streams first h calls
+  calls_are_lived h (Starts h' history stands) = record {
+    life = [];
+    state = without_seats first;
+    is_of = (refl, refl);
+    lives = refl;
+    unknown = refl;
+    stands = forgets NoneReturns first h' stands;
+    explained = λ certain. reads_are_explained (without_seats first) (without_seats first) [] certain refl;
+  }
+  calls_are_lived h (Ends later plan rest old new x y watchers left calls borne within none acted kept tolerated) =
+      let before = calls_are_lived (view.rack.history x) calls in
+      let history = calls_history (view.rack.history x) calls in
+      let same = life_geometry before.life (without_seats first) before.state before.lives in
+      let run = subst (λ (s : State). IsRun view NoneReturns (view.rack.history x) s borne.over.means.story (devices x Begun watchers)
+      (devices y borne.session left)) (forgotten before.state before.unknown)
+      (borne.runs honest before.state history before.stands
+      (subst (λ (g : Geometry). ToleratedSince g (view.rack.history x) (view.rack.history y)) (sym same) within) none) in
+      let lived = runs_are_lived (view.rack.history x) borne.over.means.story (now before.state (view.rack.history x) None)
+      (now run.state (view.rack.history y) run.stopped) before.life (without_seats first) run.runs before.lives in
+      let turns = turns_of (view.rack.history x) borne.over.means.story (now before.state (view.rack.history x) None)
+      (now run.state (view.rack.history y) run.stopped) run.runs before.life in
+      let last = life_geometry turns (without_seats first) run.state lived in
+      record {
+        life = Ended ∷ turns;
+        state = without_seats run.state;
+        is_of = (before.life, before.state, before.is_of, run, refl, refl);
+        lives = (run.state, lived, refl);
+        unknown = refl;
+        stands = looks_stand run.state (view.rack.history y) (view.rack.history y) later run.is_in.stands acted kept
+            (subst (λ (g : Geometry). IsTolerated g (view.rack.history y) later) (sym last) tolerated);
+        explained = λ certain.
+            reads_are_explained (without_seats first) (without_seats run.state) (Ended ∷ turns) certain (run.state, lived, refl);
+      }
+  calls_are_lived h (Cut c image plan rest old new x y watchers left calls borne at within none crash) =
+      let before = calls_are_lived (view.rack.history x) calls in
+      let history = calls_history (view.rack.history x) calls in
+      let same = life_geometry before.life (without_seats first) before.state before.lives in
+      let safe = subst (λ (s : State). IsSafe view NoneReturns (view.rack.history x) s plan borne.over.means.story (devices x Begun watchers)
+      (devices y borne.session left) c) (forgotten before.state before.unknown)
+      (borne.cuts honest before.state c history before.stands at
+      (subst (λ (g : Geometry). ToleratedSince g (view.rack.history x) c) (sym same) within) none) in
+      let cut = cut_so view NoneReturns (view.rack.history x) c before.state (without_seats first) plan borne.over.means.story (devices x Begun watchers)
+      (devices y borne.session left) before.life image before.lives safe crash in
+      record {
+        life = Ended ∷ cut.turns;
+        state = without_seats cut.state;
+        is_of = (before.life, before.state, before.is_of, safe, cut.turns, cut.are_of, refl, refl);
+        lives = (cut.state, cut.lives, refl);
+        unknown = refl;
+        stands = forgets NoneReturns cut.state (Made image ∷ []) cut.stands;
+        explained = λ certain.
+            reads_are_explained (without_seats first) (without_seats cut.state) (Ended ∷ cut.turns) certain (cut.state, cut.lives, refl);
+      }

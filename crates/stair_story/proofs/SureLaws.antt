@@ -1,0 +1,310 @@
+-- A plan that is sure to end with Done ends so, where memory isn't short and neither source nor sink fails: one induction on the
+-- story, whatever bears it out, and what follows over a rack alone.
+use Rattle.std.proofs.Common.{◌≡◌, ◌∙◌, ℕ, ◌<◌, ◌≤◌, List, [], ◌∷◌, ◌++◌, length, length-append, Option, None, Some, Ok, inl, inr, refl, sym, ap, subst, arith}
+use Rattle.std.proofs.lemmas.List.{nil_from_length}
+use Rattle.std.specs.Prelude.{Bool, IfSome, IsTrue}
+use Rattle.std.specs.Io.KnownBytes.{Consumes}
+use Rattle.stair_rack.specs.Answers.{Ran, any_call}
+use Rattle.stair_rack.specs.Count.{Rose, Rose-kept, kept-Rose}
+use Rattle.stair_rack.specs.History.{Happening}
+use Rattle.stair_rack.specs.Moments.{IsMoment}
+use Rattle.stair_rack.specs.Stretch.{NothingReturned}
+use Rattle.stair_rack.specs.declared.watcher.Event.{Event}
+use Rattle.stair_rack.proofs.MomentLemmas.{moment_between, moment_sooner, ran_any, ran_join, ran_none}
+use Rattle.stair_rack.proofs.StretchLemmas.{each_after, each_before}
+use Rattle.stair_member.specs.Membership.{Membership}
+use Rattle.stair_member.proofs.AskedLemmas.{asked_ran}
+use Rattle.stair_state.specs.Represents.{Represents}
+use Rattle.stair_state.specs.State.{State, without_seats}
+use Rattle.stair_state.specs.Tolerance.{ToleratedSince}
+use Rattle.stair_state.proofs.OutsideLemmas.{looks_stand, unwritten_ran}
+use Rattle.stair_state.proofs.SurveyedLemmas.{finds_array}
+use Rattle.stair_session.specs.Returning.{NoneReturns}
+use Rattle.stair_array.specs.Machine.{Answer, Chunk, Dropped, GivenBy, Nothing, PassesTests, Progress, Promoted, RebuildNext, Step}
+use Rattle.stair_member.specs.Seats.{Seats}
+use Rattle.stair_story.specs.declared.status.Status.{Status}
+use Rattle.stair_story.specs.declared.status.Status.TheVariants.{Done, OutOfMemory}
+use Rattle.stair_story.specs.Action.{Action, Create, OkOf, Outcome, Survey}
+use Rattle.stair_story.specs.Means.{Gives, Holds}
+use Rattle.stair_story.specs.Outside.{Outside, Views}
+use Rattle.stair_story.specs.Plan.{Plan, Over, Ask, Take, Put, Allocate, Do, Try, RebuildAll, after_rebuild}
+use Rattle.stair_story.specs.Rack.{MeansOver, RackView, Works, told_of}
+use Rattle.stair_story.specs.Story.{AreEnough, Deed, Found, Took, TookLast, TakeFailed, HasPut, PutFailed, Grew, RanOut, Did, Stepped, Leads, Moves, after}
+use Rattle.stair_story.specs.Sure.{Assurance, HasNoFault, IsDone, IsDoneFrom, IsSure, Last, More}
+use Rattle.stair_story.proofs.EndLaws.{no_move}
+use Rattle.stair_story.proofs.EndingLaws.{sink_on, source_on}
+use Rattle.stair_story.proofs.RackLaws.{IsOffDevices, works_still}
+use Rattle.stair_story.proofs.RunLaws.{forgets}
+
+-- what is over stays over
+ends_so : (story : List Deed) (end status : Status) → Leads Moves story (Over end) (Over status) → status ≡ end
+ends_so [] end status follows = let same : Over status ≡ Over end = follows in cc
+ends_so (deed ∷ story) end status follows = absurd (no_move deed end follows.0 follows.1)
+
+-- ---- what is taken
+
+module _ (assured : Assurance) (s : State) where
+  -- a piece came
+  took_sure : (least most : ℕ) (k short : List ℕ → Plan) (bytes : List ℕ) (left later : Option (List ℕ)) → AreEnough least most bytes
+      → Consumes left later bytes → IsSure assured (Take least most k short) s left → IsSure assured (k bytes) s later
+  took_sure least most k short bytes None later enough consumes sure = absurd sure
+  took_sure least most k short bytes (Some told) None enough consumes sure = absurd consumes
+  took_sure least most k short bytes (Some told) (Some rest) enough consumes sure = sure.0 bytes rest consumes enough
+
+  -- the end came
+  none_left : (told rest : List ℕ) → told ≡ told ++ rest → rest ≡ []
+  none_left told rest same = nil_from_length rest (omega (arith, ap (λ (bytes : List ℕ). length bytes) same, length-append told rest))
+
+  took_last_sure : (least most : ℕ) (k short : List ℕ → Plan) (bytes : List ℕ) (left later : Option (List ℕ)) → length bytes < least
+      → Consumes left later bytes → IfSome left (λ all. bytes ≡ all) → IsSure assured (Take least most k short) s left → IsSure assured (short bytes) s later
+  took_last_sure least most k short bytes None later few consumes all sure = absurd sure
+  took_last_sure least most k short bytes (Some told) None few consumes all sure = absurd consumes
+  took_last_sure least most k short bytes (Some told) (Some rest) few consumes all sure =
+      let same : told ≡ told ++ rest = subst (λ (piece : List ℕ). told ≡ piece ++ rest) all consumes in
+      subst (λ (piece : List ℕ). IsSure assured (short piece) s (Some rest)) (sym all)
+      (subst (λ (none : List ℕ). IsSure assured (short told) s (Some none)) (sym (none_left told rest same))
+      (sure.1 (subst (λ (piece : List ℕ). length piece < least) all few)))
+
+-- ---- a story, whatever bears it out
+
+-- An array that is looked for was found.
+pub record IsFoundOn {X : Type 0} (One : Deed → X → X → Type 0) (IsReady : State → (story : List Deed) → (x y : X) → Leads One story x y → Type 0)
+    (s : State) (came : Outcome Survey) (story : List Deed) (x y : X) (works : Leads One (Did Survey came ∷ story) x y) : Type 0 where
+  pub member : Membership
+  pub found : came ≡ Ok member
+  pub geometry : member.array.geometry ≡ s.geometry
+  pub ready : IsReady s story works.0 y works.2
+
+-- A step was done.
+pub record IsSteppedOn {X : Type 0} (assured : Assurance) (One : Deed → X → X → Type 0) (IsReady : State → (story : List Deed) → (x y : X) → Leads One story x y → Type 0)
+    (s : State) (step : Step) (answer : Answer step) (events : List Event) (left : Bool) (story : List Deed) (x y : X)
+    (works : Leads One (Stepped step answer events left ∷ story) x y) : Type 0 where
+  pub given : GivenBy step
+  pub is : answer ≡ Ok given
+  pub later : State
+  pub done : IsDoneFrom assured step given s later
+  pub ready : IsReady later story works.0 y works.2
+
+-- What holds as a story begins goes on behind each of its deeds, and what can be done there is done.
+pub record CarriesOn {X : Type 0} (assured : Assurance) (One : Deed → X → X → Type 0) (IsReady : State → (story : List Deed) → (x y : X) → Leads One story x y → Type 0)
+    : Type 0 where
+  pub still : (s : State) (deed : Deed) (story : List Deed) (x y : X) (works : Leads One (deed ∷ story) x y) → IsOffDevices deed
+      → IsReady s (deed ∷ story) x y works → IsReady s story works.0 y works.2
+  pub found : (s : State) (came : Outcome Survey) (story : List Deed) (x y : X) (works : Leads One (Did Survey came ∷ story) x y)
+      → IsReady s (Did Survey came ∷ story) x y works → IsFoundOn One IsReady s came story x y works
+  pub stepped : (s : State) (step : Step) (answer : Answer step) (events : List Event) (left : Bool) (story : List Deed) (x y : X)
+      (works : Leads One (Stepped step answer events left ∷ story) x y)
+      → ((seats : Seats) → s.seats ≡ Some seats → PassesTests step s seats)
+      → IsReady s (Stepped step answer events left ∷ story) x y works
+      → IsSteppedOn assured One IsReady s step answer events left story x y works
+
+module _ {X S K : Type 0} (assured : Assurance) (One : Deed → X → X → Type 0)
+    (IsReady : State → (story : List Deed) → (x y : X) → Leads One story x y → Type 0) (carries : CarriesOn assured One IsReady) (streams : Views S K) where
+  -- behind a deed the rest of the plan is sure, or memory was short
+  data GoesSure (rest : Plan) (story : List Deed) (x y : X) (works : Leads One story x y) (left : Option (List ℕ)) : Type 0 where
+    StaysSure : (later : State) → IsReady later story x y works → IsSure assured rest later left → GoesSure rest story x y works left
+    Short : rest ≡ Over OutOfMemory → GoesSure rest story x y works left
+
+  -- the source and the plan that is left are the same
+  same_sure : (s : State) (rest next : Plan) (a b : S) → rest ≡ next → b ≡ a → IsSure assured next s (streams.source.left a)
+      → IsSure assured rest s (streams.source.left b)
+  same_sure s rest next a b same kept sure =
+      subst (λ (plan : Plan). IsSure assured plan s (streams.source.left b)) (sym same)
+      (subst (λ (source : S). IsSure assured next s (streams.source.left source)) (sym kept) sure)
+
+  -- an array was looked for
+  did_sure : (s : State) (action : Action) (outcome : Outcome action) (k : OkOf action → Plan) (rest : Plan) (story : List Deed) (x y : X) (a b : S)
+      → rest ≡ after action k outcome → b ≡ a → IsSure assured (Do action k) s (streams.source.left a)
+      → (works : Leads One (Did action outcome ∷ story) x y) → IsReady s (Did action outcome ∷ story) x y works
+      → GoesSure rest story works.0 y works.2 (streams.source.left b)
+  did_sure s (Create g) outcome k rest story x y a b goes kept sure works ready = absurd sure
+  did_sure s Survey came k rest story x y a b goes kept sure works ready =
+      let finds = carries.found s came story x y works ready in
+      StaysSure s finds.ready
+      (same_sure s rest (k finds.member) a b (goes ∙ ap (after Survey k) finds.found) kept (sure finds.member finds.geometry))
+
+  -- what is left of a rebuild is sure
+  rebuild_sure : (slots done : ℕ) (k : ℕ → Plan) (progress : Progress) (s later : State) (left : Option (List ℕ))
+      → IsSure assured (RebuildAll slots done k) s left → IsDoneFrom assured RebuildNext progress s later
+      → IsSure assured (after_rebuild slots done k (Ok progress)) later left
+  rebuild_sure slots done k Nothing s later left sure did = sure done later (Last s did)
+  rebuild_sure slots done k (Chunk j t) s later left sure did = λ count end rebuilt. sure count end (More s later (Chunk j t) did rebuilt)
+  rebuild_sure slots done k (Promoted j) s later left sure did = λ count end rebuilt. sure count end (More s later (Promoted j) did rebuilt)
+  rebuild_sure slots done k (Dropped j) s later left sure did = λ count end rebuilt. sure count end (More s later (Dropped j) did rebuilt)
+
+  -- a step was taken, which passes its tests, and behind which the rest is sure
+  stepped_sure : (s : State) (step : Step) (answer : Answer step) (events : List Event) (left : Bool) (goes_on : Answer step → Plan) (rest : Plan)
+      (story : List Deed) (x y : X) (a b : S) → rest ≡ goes_on answer → b ≡ a → ((seats : Seats) → s.seats ≡ Some seats → PassesTests step s seats)
+      → ((given : GivenBy step) (later : State) → IsDoneFrom assured step given s later → IsSure assured (goes_on (Ok given)) later (streams.source.left a))
+      → (works : Leads One (Stepped step answer events left ∷ story) x y) → IsReady s (Stepped step answer events left ∷ story) x y works
+      → GoesSure rest story works.0 y works.2 (streams.source.left b)
+  stepped_sure s step answer events left goes_on rest story x y a b goes kept passes sure works ready =
+      let stepped = carries.stepped s step answer events left story x y works passes ready in
+      StaysSure stepped.later stepped.ready
+      (same_sure stepped.later rest (goes_on (Ok stepped.given)) a b (goes ∙ ap goes_on stepped.is) kept (sure stepped.given stepped.later stepped.done))
+
+  one_sure : (s : State) (deed : Deed) (plan rest : Plan) (story : List Deed) (x y : X) (works : Leads One (deed ∷ story) x y) (a b : S) (k l : K)
+      → Moves deed plan rest → Gives streams.source deed a b → Holds streams.sink deed k l
+      → ¬ Rose (streams.source.faults a) (streams.source.faults b) → ¬ Rose (streams.sink.faults k) (streams.sink.faults l)
+      → IsReady s (deed ∷ story) x y works → IsSure assured plan s (streams.source.left a)
+      → GoesSure rest story works.0 y works.2 (streams.source.left b)
+  one_sure s (Found asked) (Ask question next) rest story x y works a b k l moves gives holds sound whole ready sure =
+      StaysSure s (carries.still s (Found asked) story x y works tt ready)
+      (same_sure s rest (next moves.0) a b moves.3 gives (sure moves.0 moves.2))
+  one_sure s (Took bytes) (Take least most next short) rest story x y works a b k l moves gives holds sound whole ready sure =
+      StaysSure s (carries.still s (Took bytes) story x y works tt ready)
+      (same_sure s rest (next bytes) b b moves.1 refl
+      (took_sure assured s least most next short bytes (streams.source.left a) (streams.source.left b) moves.0 gives.0 sure))
+  one_sure s (TookLast bytes) (Take least most next short) rest story x y works a b k l moves gives holds sound whole ready sure =
+      StaysSure s (carries.still s (TookLast bytes) story x y works tt ready)
+      (same_sure s rest (short bytes) b b moves.1 refl
+      (took_last_sure assured s least most next short bytes (streams.source.left a) (streams.source.left b) moves.0 gives.0 gives.1 sure))
+  one_sure s (TakeFailed bytes) (Take least most next short) rest story x y works a b k l moves gives holds sound whole ready sure =
+      absurd (sound gives.4)
+  one_sure s (HasPut bytes) (Put all plan) rest story x y works a b k l moves gives holds sound whole ready sure =
+      StaysSure s (carries.still s (HasPut bytes) story x y works tt ready) (same_sure s rest plan a b moves.1 gives sure)
+  one_sure s (PutFailed part) (Put all plan) rest story x y works a b k l moves gives holds sound whole ready sure = absurd (whole holds.2)
+  one_sure s Grew (Allocate plan) rest story x y works a b k l moves gives holds sound whole ready sure =
+      StaysSure s (carries.still s Grew story x y works tt ready) (same_sure s rest plan a b moves gives sure)
+  one_sure s RanOut (Allocate plan) rest story x y works a b k l moves gives holds sound whole ready sure = Short moves
+  one_sure s (Did did came) (Do action next) rest story x y works a b k l moves gives holds sound whole ready sure =
+      subst
+      (λ (deed : Deed). (works : Leads One (deed ∷ story) x y) → IsReady s (deed ∷ story) x y works → GoesSure rest story works.0 y works.2 (streams.source.left b))
+      (sym moves.1) (did_sure s action moves.0 next rest story x y a b moves.2 gives sure) works ready
+  one_sure s (Stepped did came events left) (Try step next) rest story x y works a b k l moves gives holds sound whole ready sure =
+      subst
+      (λ (deed : Deed). (works : Leads One (deed ∷ story) x y) → IsReady s (deed ∷ story) x y works → GoesSure rest story works.0 y works.2 (streams.source.left b))
+      (sym moves.1)
+      (stepped_sure s step moves.0 events left (λ answer. next answer left) rest story x y a b moves.2 gives sure.0
+      (λ given later done. sure.1 given left later done)) works ready
+  one_sure s (Stepped did came events left) (RebuildAll slots done next) rest story x y works a b k l moves gives holds sound whole ready sure =
+      subst
+      (λ (deed : Deed). (works : Leads One (deed ∷ story) x y) → IsReady s (deed ∷ story) x y works → GoesSure rest story works.0 y works.2 (streams.source.left b))
+      (sym moves.1)
+      (stepped_sure s RebuildNext moves.0 events left (after_rebuild slots done next) rest story x y a b moves.2 gives (λ seats is. tt)
+      (λ given later did. rebuild_sure slots done next given s later (streams.source.left a) sure did)) works ready
+  one_sure s _ _ rest story x y works a b k l moves gives holds sound whole ready sure = absurd moves
+
+  -- a sure plan ends with Done, or for want of memory
+  pub ends_done : (story : List Deed) (plan : Plan) (status : Status) (s : State) (x y : X) (works : Leads One story x y) (a b : S) (k l : K)
+      → Leads Moves story plan (Over status) → Leads (Gives streams.source) story a b → Leads (Holds streams.sink) story k l
+      → ¬ Rose (streams.source.faults a) (streams.source.faults b) → ¬ Rose (streams.sink.faults k) (streams.sink.faults l)
+      → IsReady s story x y works → IsSure assured plan s (streams.source.left a) → IsDone status
+  ends_done [] plan status s x y works a b k l follows gives holds sound whole ready sure =
+      let over : IsSure assured (Over status) s (streams.source.left a) = subst (λ (p : Plan). IsSure assured p s (streams.source.left a)) (sym follows) sure in
+      inl over
+  ends_done (deed ∷ story) plan status s x y works a b k l follows gives holds sound whole ready sure =
+      elim (one_sure s deed plan follows.0 story x y works a gives.0 k holds.0 follows.1 gives.1 holds.1
+      (λ rose. sound (Rose-kept _ _ _ rose source_later)) (λ rose. whole (Rose-kept _ _ _ rose sink_later)) ready sure) as (λ _. IsDone status) [
+        | StaysSure later on still ↦
+            ends_done story follows.0 status later works.0 y works.2 gives.0 b holds.0 l follows.2 gives.2 holds.2
+            (λ rose. sound (kept-Rose _ _ _ source_first source_later rose)) (λ rose. whole (kept-Rose _ _ _ sink_first sink_later rose)) on still
+        | Short out ↦ inr (ends_so story OutOfMemory status (subst (λ (p : Plan). Leads Moves story p (Over status)) out follows.2))
+      ]
+    where
+      source_first : streams.source.faults a ≤ streams.source.faults gives.0
+      source_first = source_on streams.source (deed ∷ []) a gives.0 (gives.0, gives.1, refl)
+
+      source_later : streams.source.faults gives.0 ≤ streams.source.faults b
+      source_later = source_on streams.source story gives.0 b gives.2
+
+      sink_first : streams.sink.faults k ≤ streams.sink.faults holds.0
+      sink_first = sink_on streams.sink (deed ∷ []) k holds.0 (holds.0, holds.1, refl)
+
+      sink_later : streams.sink.faults holds.0 ≤ streams.sink.faults l
+      sink_later = sink_on streams.sink story holds.0 l holds.2
+
+-- ---- over a rack alone
+
+module _ {R : Type 0} (rack : RackView R) (honest : IsTrue rack.honest) (assured : Assurance) (before : List Happening) where
+  abbrev h_of : R → List Happening
+  h_of x = rack.history x
+
+  same_ran : {x y : R} → y ≡ x → Ran any_call (h_of x) (h_of y)
+  same_ran {x} {y} same = subst (λ (z : R). Ran any_call (h_of x) (h_of z)) (sym same) (ran_none (h_of x))
+
+  deed_ran : (deed : Deed) (x y : R) → Works rack deed x y → Ran any_call (h_of x) (h_of y)
+  deed_ran (Did (Create g) came) x y works = ran_any (works.ran honest)
+  deed_ran (Did Survey came) x y works = ran_any (asked_ran 32 (h_of x) (h_of y) (works.asked honest))
+  deed_ran (Stepped step answer events left) x y works = absurd works
+  deed_ran deed x y works = same_ran works
+
+  all_ran : (story : List Deed) (x y : R) → Leads (Works rack) story x y → Ran any_call (h_of x) (h_of y)
+  all_ran [] x y works = same_ran works
+  all_ran (deed ∷ story) x y works = ran_join (deed_ran deed x works.0 works.1) (all_ran story works.0 y works.2)
+
+  -- The rack represents a state whose seats aren't known, and is within tolerance from here to the end.
+  pub record IsReadyOver (s : State) (story : List Deed) (x y : R) (works : Leads (Works rack) story x y) : Type 0 where
+    pub since : Ran any_call before (h_of x)
+    pub represents : Represents s (h_of x)
+    pub unknown : s.seats ≡ None
+    pub tolerated : ToleratedSince s.geometry before (h_of y)
+    pub returned : NothingReturned (h_of x) (h_of y)
+
+  over_still : (s : State) (deed : Deed) (story : List Deed) (x y : R) (works : Leads (Works rack) (deed ∷ story) x y) → IsOffDevices deed
+      → IsReadyOver s (deed ∷ story) x y works → IsReadyOver s story works.0 y works.2
+  over_still s deed story x y works off ready =
+      let same : works.0 ≡ x = works_still rack deed x works.0 off works.1 in
+      record {
+        since = subst (λ (z : R). Ran any_call before (h_of z)) (sym same) ready.since;
+        represents = subst (λ (z : R). Represents s (h_of z)) (sym same) ready.represents;
+        unknown = ready.unknown;
+        tolerated = ready.tolerated;
+        returned = subst (λ (z : R). NothingReturned (h_of z) (h_of y)) (sym same) ready.returned;
+      }
+
+  over_found : (s : State) (came : Outcome Survey) (story : List Deed) (x y : R) (works : Leads (Works rack) (Did Survey came ∷ story) x y)
+      → IsReadyOver s (Did Survey came ∷ story) x y works → IsFoundOn (Works rack) IsReadyOver s came story x y works
+  over_found s came story x y works ready =
+      let looked = asked_ran 32 (h_of x) (h_of works.0) (works.1.asked honest) in
+      let ran : Ran any_call (h_of x) (h_of works.0) = ran_any looked in
+      let later = all_ran story works.0 y works.2 in
+      let until : IsMoment (h_of x) (h_of works.0) (h_of y) = moment_between ran later in
+      let returned : NothingReturned (h_of x) (h_of works.0) = each_before ready.returned until in
+      let at : IsMoment before (h_of works.0) (h_of y) = moment_between (ran_join ready.since ran) later in
+      let finds =
+      finds_array s before (told_of rack x) (told_of rack works.0) came works.1 honest ready.since ready.represents returned
+      (λ h is. ready.tolerated h (moment_sooner is at)) in
+      record {
+        member = finds.member;
+        found = finds.found;
+        geometry = finds.identity;
+        ready = record {
+          since = ran_join ready.since ran;
+          represents = subst (λ (t : State). Represents t (h_of works.0)) (λ i. record s { seats = sym ready.unknown i })
+              (looks_stand s before (h_of x) (h_of works.0) ready.represents (unwritten_ran looked) returned (ready.tolerated (h_of works.0) at));
+          unknown = ready.unknown;
+          tolerated = ready.tolerated;
+          returned = each_after ready.returned until;
+        };
+      }
+
+  over_carries : CarriesOn assured (Works rack) IsReadyOver
+  over_carries = record {
+    still = over_still;
+    found = over_found;
+    stepped = λ s step answer events left story x y works passes ready. absurd works.1;
+  }
+
+  -- a sure plan is done
+  pub stepless_done : {S K : Type 0} (streams : Views S K) (plan : Plan) (status : Status) (s : State) (a b : Outside S K) (x y : R)
+      → MeansOver rack streams plan (Over status) a b x y → Ran any_call before (h_of x) → Represents s (h_of x)
+      → ToleratedSince s.geometry before (h_of y) → NothingReturned (h_of x) (h_of y) → HasNoFault streams a b
+      → IsSure assured plan (without_seats s) (streams.source.left a.source) → IsDone status
+  stepless_done streams plan status s a b x y over since represents tolerated returned none sure =
+      ends_done assured (Works rack) IsReadyOver over_carries streams over.means.story plan status (without_seats s) x y over.works a.source b.source
+      a.sink b.sink over.means.follows over.means.bears.gives over.means.bears.holds none.source none.sink
+      (record {
+        since = since;
+        represents = forgets NoneReturns s (h_of x) represents;
+        unknown = refl;
+        tolerated = tolerated;
+        returned = returned;
+      }) sure
+
+-- ---- plans
+
+-- A command that looks for the array and puts out what it found is sure, in every state and of any source.
+pub look_sure : (assured : Assurance) (text : Membership → List ℕ) (s : State) (left : Option (List ℕ))
+    → IsSure assured (Do Survey (λ member. Put (text member) (Over Done))) s left
+look_sure assured text s left = λ member same. refl

@@ -1,0 +1,11 @@
+-- Each by the laws of sessions.
+use Rattle.stair_story.proofs.SessionLaws.{calls_are_lived, crashes_are_lived, runs_are_lived}
+use Rattle.stair_story.proofs.lives.session_lives.Goals as goal
+
+pub returns : goal.returns
+returns g c = record {
+  runs = runs_are_lived;
+  crashes = λ view returning before c s first plan story x y life image lives safe left.
+      crashes_are_lived view returning before c s first plan story x y life image lives safe left;
+  calls = λ view streams first h calls honest. calls_are_lived view streams first honest h calls;
+}

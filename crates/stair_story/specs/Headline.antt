@@ -1,0 +1,132 @@
+-- What a whole call of the program means: a story that the outside bears out, and that is a run of the machine on an honest
+-- rack that is an array in a state.
+use Rattle.std.specs.Prelude.{◌≡◌, Bool, false, IsErr, IsTrue, List, Ok, Result}
+use Rattle.stair_model.specs.Geometry.{Geometry}
+use Rattle.stair_rack.specs.Answers.{IsHistory}
+use Rattle.stair_rack.specs.History.{Happening}
+use Rattle.stair_rack.specs.Moments.{IsMoment}
+use Rattle.stair_rack.specs.Stretch.{NothingReturned, NothingWritten}
+use Rattle.stair_rack.specs.Telling.{Telling}
+use Rattle.stair_rack.specs.declared.watcher.Event.{Event}
+use Rattle.stair_state.specs.Represents.{Represents}
+use Rattle.stair_state.specs.State.{State, without_seats}
+use Rattle.stair_state.specs.Tolerance.{ToleratedSince}
+use Rattle.stair_session.specs.Returning.{IsCalm, NoneReturns, Returning, StandsFor}
+use Rattle.stair_array.specs.Creates.{Creates}
+use Rattle.stair_array.specs.declared.fault.CreateFault.{CreateFault}
+use Rattle.stair_array.specs.Machine.{Answer, GivenBy, Step}
+use Rattle.stair_array.specs.Promise.{Begun, LeadsStep, Performs, Seen, Session}
+use Rattle.stair_story.specs.Devices.{DeviceView, Devices, MeansWith, WorksAll, devices}
+use Rattle.stair_story.specs.Ending.{TakesNoStep}
+use Rattle.stair_story.specs.Outside.{Outside, Views}
+use Rattle.stair_story.specs.Plan.{Plan}
+use Rattle.stair_story.specs.Run.{Goes, IsCalmUpTo, IsRun, IsSafe, Now, StoryLeads, TakesStep, history_of}
+use Rattle.stair_story.specs.Story.{Deed, Stepped, Leads, Moves}
+
+-- On an honest rack that represents a state, to which no medium comes back, and within tolerance from the beginning to the end,
+-- the story is a run of the machine.
+abbrev pub RunsInTolerance : {R W : Type 0} → DeviceView R W → List Deed → Devices R W
+    → Devices R W → Type 0
+RunsInTolerance view story x y = IsTrue view.rack.honest → (s : State)
+    → IsHistory (history_of view x) → Represents s (history_of view x)
+    → ToleratedSince s.geometry (history_of view x) (history_of view y)
+    → NothingReturned (history_of view x) (history_of view y)
+    → IsRun view NoneReturns (history_of view x) (without_seats s) story x y
+
+-- And where a crash comes, at any moment up to which that was so, it cuts the run within a step or between two.
+abbrev pub IsSafeInTolerance : {R W : Type 0} → DeviceView R W → Plan → List Deed
+    → Devices R W → Devices R W → Type 0
+IsSafeInTolerance view plan story x y = IsTrue view.rack.honest → (s : State)
+    (c : List Happening) → IsHistory (history_of view x) → Represents s (history_of view x)
+    → IsMoment (history_of view x) c (history_of view y)
+    → ToleratedSince s.geometry (history_of view x) c
+    → NothingReturned (history_of view x) c
+    → IsSafe view NoneReturns (history_of view x) (without_seats s) plan story x y c
+
+-- both, of a story from a session's beginning on
+pub record IsRunOf {R W : Type 0} (view : DeviceView R W) (plan : Plan) (story : List Deed)
+    (x y : Devices R W) : Type 0 where
+  pub runs : RunsInTolerance view story x y
+  pub cuts : IsSafeInTolerance view plan story x y
+
+-- A whole call: a session of its own, from its beginning on. What it has of an array in the end is let go.
+pub record IsBorneOut {R W S K : Type 0} (view : DeviceView R W) (streams : Views S K)
+    (plan rest : Plan) (old new : Outside S K) (first last : R) (watchers left : List W) : Type 0
+  where
+    pub session : Session
+    -- on any rack, source and sink
+    pub over : MeansWith view streams plan rest old new (devices first Begun watchers)
+        (devices last session left)
+    -- on an honest rack that is an array in a state, within tolerance
+    pub runs : RunsInTolerance view over.means.story (devices first Begun watchers)
+        (devices last session left)
+    pub cuts : IsSafeInTolerance view plan over.means.story (devices first Begun watchers)
+        (devices last session left)
+
+-- LAWS
+
+-- A step that was acknowledged is one of the machine, so none is missing from a run.
+abbrev pub AcknowledgedAreTaken : Type 0
+AcknowledgedAreTaken = (before : List Happening) (step : Step) (given : GivenBy step)
+    (events : List Event) (left : Bool) (old new : Now)
+    → Goes before (Stepped step (Ok given) events left) old new
+    → TakesStep before step (Ok given) old new
+
+-- A story from the beginning of a session on an honest rack that is an array in a state is a run of the machine, where its
+-- steps lead on and all of it was calm.
+abbrev pub StoriesAreRuns : (R W : Type 0) → Type 0
+StoriesAreRuns R W = (returning : Returning) (view : DeviceView R W) (s : State)
+    (story : List Deed) (x y : Devices R W) (works : Leads (WorksAll view) story x y)
+    → IsTrue view.rack.honest → IsHistory (history_of view x) → x.session ≡ Begun
+    → StandsFor returning s (history_of view x) → StoryLeads returning view story x y works
+    → IsCalmUpTo view returning s.geometry (history_of view x) (history_of view y) story x y works
+    → IsRun view returning (history_of view x) (without_seats s) story x y
+
+-- A crash cuts it within a step or between two, at any moment up to which it was calm.
+abbrev pub StoriesAreCutSafely : (R W : Type 0) → Type 0
+StoriesAreCutSafely R W = (returning : Returning) (view : DeviceView R W) (s : State)
+    (plan rest : Plan) (story : List Deed) (x y : Devices R W)
+    (works : Leads (WorksAll view) story x y) (c : List Happening) → Leads Moves story plan rest
+    → IsTrue view.rack.honest → IsHistory (history_of view x) → x.session ≡ Begun
+    → StandsFor returning s (history_of view x) → StoryLeads returning view story x y works
+    → IsMoment (history_of view x) c (history_of view y)
+    → IsCalmUpTo view returning s.geometry (history_of view x) c story x y works
+    → IsSafe view returning (history_of view x) (without_seats s) plan story x y c
+
+-- While an array is within tolerance none is made on an honest rack, and no device is written, whether media come back or not.
+-- The session is that of the call.
+abbrev pub CreatesAreRefused : Type 0
+CreatesAreRefused = (returning : Returning) (array g : Geometry)
+    (came : Result (Unit {0}) CreateFault) (old new : Telling) → IsTrue new.honest
+    → Creates g came old new
+    → ((h : List Happening) → IsMoment old.history h new.history
+    → IsCalm returning array false old.history h)
+    → IsErr came × NothingWritten old.history new.history
+
+-- Without media that come back, what a call means over the devices of a session gives both.
+abbrev pub CallsAreRuns : (R W S K : Type 0) → Type 0
+CallsAreRuns R W S K = (view : DeviceView R W) (streams : Views S K) (plan rest : Plan)
+    (old new : Outside S K) (first last : Devices R W)
+    (with : MeansWith view streams plan rest old new first last) → first.session ≡ Begun
+    → StoryLeads NoneReturns view with.means.story first last with.works
+    → IsRunOf view plan with.means.story first last
+
+-- all that is performed leads on
+abbrev pub PerformedLeads : Returning → Type 0
+PerformedLeads returning = (step : Step) (answer : Answer step) (events : List Event) (x y : Seen)
+    (performs : Performs step answer events x y)
+    → LeadsStep returning performs.was.member step answer x y
+
+-- Then every story does.
+abbrev pub StoriesLead : (R W : Type 0) → Type 0
+StoriesLead R W = (returning : Returning) → PerformedLeads returning → (view : DeviceView R W)
+    (story : List Deed) (x y : Devices R W) (works : Leads (WorksAll view) story x y)
+    → StoryLeads returning view story x y works
+
+-- A call whose plan takes no step is borne out, whatever is proved of steps.
+abbrev pub SteplessIsBorneOut : (R W S K : Type 0) → Type 0
+SteplessIsBorneOut R W S K = (view : DeviceView R W) (streams : Views S K) (plan rest : Plan)
+    (old new : Outside S K) (first last : R) (watchers left : List W) (session : Session)
+    → TakesNoStep plan → MeansWith view streams plan rest old new (devices first Begun watchers)
+    (devices last session left)
+    → IsBorneOut view streams plan rest old new first last watchers left

@@ -1,0 +1,123 @@
+-- In which order the chunks of a rebuild come.
+use Rattle.std.specs.Prelude.{◌≡◌, ◌+◌, ◌-◌, ◌<◌, ◌≤◌, ◌&&◌, ℕ, zero, suc, Bool, true, false, List, [], ◌∷◌, ◌++◌, Option, None, Some, Ok, if◌then◌else◌, nat_lt, ⊤}
+use Rattle.std.specs.Option.{option_map_or}
+use Rattle.stair_member.specs.Membership.{Membership, why_of}
+use Rattle.stair_member.specs.declared.why.Why.{Why}
+use Rattle.stair_member.specs.declared.why.Why.TheVariants as why
+use Rattle.stair_array.specs.Causes.{IsLowestRebuilt}
+use Rattle.stair_array.specs.Machine.{Chunk, Dropped, Nothing, Progress, Promoted, RebuildNext}
+use Rattle.stair_array.specs.Promise.{Opened, Session}
+use Rattle.stair_story.specs.Devices.{DeviceView, Devices, WorksAll}
+use Rattle.stair_story.specs.Story.{Deed, Stepped, Leads}
+
+-- WHERE A REBUILD STANDS
+
+-- the chunk of a slot that comes next
+pub record NextChunk : Type 0 where
+  pub slot : ℕ
+  pub stripe : ℕ
+
+abbrev pub next_chunk : ℕ → ℕ → NextChunk
+next_chunk slot stripe = record { slot = slot; stripe = stripe }
+
+-- the slot that is under way in a session, and how far it has come
+abbrev pub stands_in : Session → Option NextChunk
+stands_in (Opened array) =
+    option_map_or (λ rebuild. Some (next_chunk rebuild.slot rebuild.stripe)) array.rebuild None
+stands_in _ = None
+
+abbrev pub is_rebuilding : Why → Bool
+is_rebuilding why.Rebuilding = true
+is_rebuilding _ = false
+
+-- the slot is rebuilt
+abbrev pub is_rebuilt : Membership → ℕ → Bool
+is_rebuilt m j = nat_lt j m.array.geometry.n && is_rebuilding (why_of m j)
+
+-- a slot stays under way as long as it is rebuilt
+abbrev pub still_in : Session → Option NextChunk → Option NextChunk
+still_in (Opened array) (Some next) = if is_rebuilt array.member next.slot then Some next else None
+still_in _ next = None
+
+-- Where it stands behind a deed, which left the session so: a chunk leads to the next stripe of its slot; a promotion ends it,
+-- and so does the loss of its slot, at any step; and what is no step leaves it.
+abbrev pub next_behind : Deed → Session → Option NextChunk → Option NextChunk
+next_behind (Stepped RebuildNext (Ok (Chunk j t)) events left) later next = Some (next_chunk j (t + 1))
+next_behind (Stepped RebuildNext (Ok (Promoted j)) events left) later next = None
+next_behind (Stepped RebuildNext (Ok (Dropped j)) events left) later next = None
+next_behind (Stepped step answer events left) later next = still_in later next
+next_behind _ later next = next
+
+-- THE ORDER
+
+-- this chunk comes next: that of the slot that is under way, else the first one of the lowest slot that is rebuilt
+abbrev pub ComesNext : Option NextChunk → Membership → ℕ → ℕ → Type 0
+ComesNext (Some next) m j t = (j ≡ next.slot) × (t ≡ next.stripe)
+ComesNext None m j t = IsLowestRebuilt m j × (t ≡ 0)
+
+-- What is answered of a rebuild is in turn where it stands so: a chunk is the one that comes next, with another stripe behind
+-- it; a promotion comes with the chunk of the last stripe; and it is the slot of the next chunk that is dropped.
+abbrev pub IsInTurn : Deed → Option NextChunk → Session → Type 0
+IsInTurn (Stepped RebuildNext (Ok (Chunk j t)) events left) next (Opened array) =
+    ComesNext next array.member j t × (t + 1 < array.member.array.geometry.stripes)
+IsInTurn (Stepped RebuildNext (Ok (Promoted j)) events left) next (Opened array) =
+    (t : ℕ) × ComesNext next array.member j t × (array.member.array.geometry.stripes ≤ t + 1)
+IsInTurn (Stepped RebuildNext (Ok (Dropped j)) events left) next (Opened array) =
+    (t : ℕ) × ComesNext next array.member j t
+IsInTurn (Stepped RebuildNext (Ok progress) events left) next (Opened array) = ⊤
+IsInTurn (Stepped RebuildNext (Ok progress) events left) next session = ⊥
+IsInTurn _ next session = ⊤
+
+-- each answer of the story is in turn
+abbrev pub AreInOrder : {R W : Type 0} → (view : DeviceView R W) → Option NextChunk
+    → (story : List Deed) → (old new : Devices R W) → Leads (WorksAll view) story old new → Type 0
+AreInOrder view next [] old new works = ⊤
+AreInOrder view next (deed ∷ story) old new works = IsInTurn deed next old.session
+    × AreInOrder view (next_behind deed works.0.session next) story works.0 new works.2
+
+-- The chunks of each slot come in order, on from where its rebuild stood as the story began, else from stripe 0, one after the
+-- other, until the slot is promoted with the last one or isn't rebuilt any more. None of another slot come between.
+abbrev pub ChunksInOrder : (R W : Type 0) → Type 0
+ChunksInOrder R W = (view : DeviceView R W) (story : List Deed) (old new : Devices R W)
+    (works : Leads (WorksAll view) story old new)
+    → AreInOrder view (stands_in old.session) story old new works
+
+-- RUNS
+
+-- what a step of a rebuild answered, but that there was nothing
+abbrev pub progress_at : Deed → List Progress
+progress_at (Stepped RebuildNext (Ok Nothing) events left) = []
+progress_at (Stepped RebuildNext (Ok progress) events left) = progress ∷ []
+progress_at _ = []
+
+abbrev pub progress_of : List Deed → List Progress
+progress_of [] = []
+progress_of (deed ∷ story) = progress_at deed ++ progress_of story
+
+-- the chunks of slot j below stripe t, in order
+abbrev pub chunks_below : ℕ → ℕ → List Progress
+chunks_below j zero = []
+chunks_below j (suc t) = chunks_below j t ++ Chunk j t ∷ []
+
+-- these are the last answers of a rebuild in the story
+pub record EndsWith (answers : List Progress) (story : List Deed) : Type 0 where
+  pub before : List Deed
+  pub run : List Deed
+  pub joined : story ≡ before ++ run
+  pub answered : progress_of run ≡ answers
+
+-- A chunk comes behind all chunks of its slot that are below it, in order and with nothing else of a rebuild between; and a
+-- promotion behind all chunks but that of the last stripe, with which it comes.
+abbrev pub ComesBehind : Deed → List Deed → Session → Type 0
+ComesBehind (Stepped RebuildNext (Ok (Chunk j t)) events left) story session =
+    EndsWith (chunks_below j t) story
+ComesBehind (Stepped RebuildNext (Ok (Promoted j)) events left) story (Opened array) =
+    EndsWith (chunks_below j (array.member.array.geometry.stripes - 1)) story
+ComesBehind (Stepped RebuildNext (Ok (Promoted j)) events left) story session = ⊥
+ComesBehind _ story session = ⊤
+
+-- So it is of a deed behind any story that began where no slot was under way, as a call begins, and an array once it is open.
+abbrev pub RunsAreWhole : (R W : Type 0) → Type 0
+RunsAreWhole R W = (view : DeviceView R W) (story : List Deed) (deed : Deed)
+    (old mid new : Devices R W) → Leads (WorksAll view) story old mid → WorksAll view deed mid new
+    → stands_in old.session ≡ None → ComesBehind deed story mid.session

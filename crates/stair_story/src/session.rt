@@ -1,0 +1,23 @@
+//! The laws of a session within a call, on any rack, honest or not.
+
+ghost use Rattle.stair_story.specs.Drawn.{DrawsAreFew, DrawsAreWithin, SpentAtTheEnd};
+ghost use Rattle.stair_story.specs.Kept.{NoneIsGivenUp, NoneIsLeftOut};
+ghost use Rattle.stair_story.specs.Rebuilt.{ChunksInOrder, RunsAreWhole};
+
+/// What follows over a story of steps of one array, whatever the rack is. It does nothing.
+pub fn session_laws<R, W>()
+    // a slot of an open array goes Down only where a step found it gone
+    ensures kept { NoneIsGivenUp R W }
+    // and at the opening only where it didn't take part as the array was found
+    ensures opened { NoneIsLeftOut R W }
+    // the chunks of a rebuild come in order, and a promotion with the last of them
+    ensures rebuilt { ChunksInOrder R W }
+    // so a chunk comes behind all that are below it, and a promotion behind all but the last
+    ensures whole { RunsAreWhole R W }
+    // the greatest draw rises by no more than the weights of the slots and the steps allow
+    ensures drawn { DrawsAreFew R W }
+    // which in plain numbers is 64 and an allowance for each step
+    ensures within { DrawsAreWithin R W }
+    // no step is refused for want of epochs before nearly all numbers were drawn
+    ensures spent { SpentAtTheEnd }
+{}
