@@ -3,9 +3,10 @@ use Rattle.std.specs.Prelude.{◌≡◌, ◌≢◌, ◌<◌, ◌⊎◌, ℕ, Boo
 use Rattle.stair_model.specs.Geometry.{Geometry, block_count}
 use Rattle.stair_super.specs.declared.mark.Mark.{Mark}
 use Rattle.stair_super.specs.declared.mark.Mark.TheVariants.{Live, Down, Rebuilding}
-use Rattle.stair_member.specs.Seats.{Seat, Seats}
+use Rattle.stair_member.specs.Seats.{Seats}
 use Rattle.stair_member.specs.declared.why.Why.{Why}
 use Rattle.stair_state.specs.Blocks.{AreOfOneStripe}
+use Rattle.stair_session.specs.SeatSteps.{EachMayDrop, SeatGoes}
 use Rattle.stair_state.specs.State.{BlocksAre, Change, FrozenIs, LabelIs, State, changed_if}
 
 pub data Step : Type 0 where
@@ -113,23 +114,6 @@ HoldsAfter step (Err refusal) old new =
     IsAsItWas old new ⊎ (IsFinal refusal × MayBeCut (change_of step) old new)
 
 -- SEATS
-
--- a slot stays as it was, or is dropped
-abbrev pub MayDrop : Seat → Seat → Type 0
-MayDrop old new = (new ≡ old)
-    ⊎ ((old.mark ≢ Down) × (new ≡ record { mark = Down; joined = 0 }))
-
-abbrev pub EachMayDrop : Seats → Seats → Type 0
-EachMayDrop old new = (j : ℕ) → MayDrop (old j) (new j)
-
--- This slot goes from the one mark to the other; each other one may be dropped. Its joined number changes with the mark alone,
--- is 0 where it is Down, and a promotion keeps it.
-pub record SeatGoes (j : ℕ) (from to : Mark) (old new : Seats) : Type 0 where
-  pub was : (old j).mark ≡ from
-  pub is : (new j).mark ≡ to
-  pub joined : from ≢ Down → to ≢ Down → (new j).joined ≡ (old j).joined
-  pub down : to ≡ Down → (new j).joined ≡ 0
-  pub others : (i : ℕ) → i ≢ j → MayDrop (old i) (new i)
 
 abbrev pub SeatsRebuilt : Progress → Seats → Seats → Type 0
 SeatsRebuilt Nothing old new = ((j : ℕ) → (old j).mark ≢ Rebuilding) × EachMayDrop old new

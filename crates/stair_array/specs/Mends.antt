@@ -32,6 +32,7 @@ use Rattle.stair_stripes.specs.Gathering.{IsCellOf}
 use Rattle.stair_stripes.specs.Placing.{cell_writes}
 use Rattle.stair_stripes.specs.declared.gathering.Gathered.{Gathered}
 use Rattle.stair_state.specs.Redoing.{AtRest}
+use Rattle.stair_session.specs.Chunks.{AreOfChunk}
 use Rattle.stair_session.specs.Courses.{LeavesOut, Loads, Point, Redoes}
 use Rattle.stair_session.specs.Session.{ArrayState, IsLiveIn, IsRebuiltIn}
 use Rattle.stair_array.specs.Calls.{IsLoaded, LoadsStripe, answer_of, refused}
@@ -154,10 +155,6 @@ pub data Replaces (slot : ℕ) : Result (Unit {0}) Refusal → Point → Point �
       → Replaces slot (joined_as answer) x z
 
 -- REBUILDING
-
--- these cells are those of slot j's chunk
-abbrev pub AreOfChunk : Geometry → ℕ → CellSet → Type 0
-AreOfChunk g j cells = (i k : ℕ) → HasCell cells i k ↔ ((i < g.r) × (k ≡ j))
 
 -- Slot j's chunk of stripe t is written, up to the first sector that is gone; nothing is synced.
 pub record WritesChunk (j t : ℕ) (stripe : Stripe) (answer : Reply) (x y : Point) : Type 0 where

@@ -1,1 +1,32 @@
--- This crate has no lemmas of its own yet.
+-- Lemmas of this crate.
+pub mod RebaseLemmas
+pub mod RebuildingLemmas
+pub mod KnownLemmas
+pub mod ThereLemmas
+pub mod ChangingLemmas
+pub mod EachAloneLemmas
+pub mod MidwayLemmas
+pub mod AmidLemmas
+pub mod InSessionLemmas
+pub mod EstablishingLemmas
+pub mod SessionLemmas
+pub mod BesideLemmas
+pub mod ReadyLemmas
+pub mod AfterLemmas
+pub mod OwnLaws
+pub mod OpenLaws
+pub mod SeatLemmas
+pub mod NewSessionLemmas
+pub mod NewKnownLemmas
+pub mod LeavingOutLemmas
+pub mod UnderWayLemmas
+pub mod UnderWayImages
+pub mod LeavingOutImages
+pub mod RedoingLemmas
+pub mod RedoMoments
+pub mod LeftOutLemmas
+pub mod OpenWithLemmas
+pub mod SawMoreLemmas
+pub mod FencesLemmas
+pub mod StageBesideLemmas
+pub mod AmidRedoLemmas

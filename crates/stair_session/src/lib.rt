@@ -2,4 +2,11 @@
 //! nothing.
 #![tactic(auto)]
 
+pub mod epochs;
+pub mod keeping;
 pub mod laws;
+pub mod open;
+pub mod own;
+pub mod rebuilds;
+pub mod redo;
+pub mod seats;

@@ -63,7 +63,7 @@ sink_on view (deed ∷ story) x y holds =
 -- ---- one deed
 
 -- a plan that is over ends as it says
-ends_so : (story : List Deed) (end status : Status) → Leads Moves story (Over end) (Over status) → status ≡ end
+pub ends_so : (story : List Deed) (end status : Status) → Leads Moves story (Over end) (Over status) → status ≡ end
 ends_so [] end status follows = let same : Over status ≡ Over end = follows in cc
 ends_so (deed ∷ story) end status follows = absurd (no_move deed end follows.0 follows.1)
 

@@ -6,7 +6,8 @@ use Rattle.stair_model.specs.Geometry.{IsWithinLimits}
 use Rattle.stair_member.specs.Seats.{Seats}
 use Rattle.stair_state.specs.Blocks.{AreOfOneStripe, zero_block}
 use Rattle.stair_state.specs.State.{BlocksAre, Content, State, created_state, first_content, first_seats, without_seats}
-use Rattle.stair_array.specs.Machine.{Answer, AreKnown, CutWithin, EachMayDrop, HoldsAfter, InDoubt, IsAsItWas, IsDecided, Made, MayBegin, PassesTests, ReadBlock, Recover, Row, SeatsAfter, Step, WasBegun, WriteBlocks, change_of}
+use Rattle.stair_session.specs.SeatSteps.{EachMayDrop}
+use Rattle.stair_array.specs.Machine.{Answer, AreKnown, CutWithin, HoldsAfter, InDoubt, IsAsItWas, IsDecided, Made, MayBegin, PassesTests, ReadBlock, Recover, Row, SeatsAfter, Step, WasBegun, WriteBlocks, change_of}
 use Rattle.stair_story.specs.LifeExample.{Course, IsExample, LeftInDoubt, LeftNew, LeftOld, block_of, cut_write, example_geometry, example_life, fates_with, first_session, held_after, held_between, held_last, is_made, left_by, open_with, opening, read_first, read_then, refused_write, second_session, third_session, two_gone}
 use Rattle.stair_story.specs.Lives.{EachReadsLast, Lives, Took, Turns, WasCut, after_turn, read_of}
 use Rattle.stair_story.proofs.LifeLaws.{Came, Changed, Doubted, Kept, Settled, came_row, kept_whole, lives_then, other_step, some_none}

@@ -20,4 +20,8 @@ pub mod SessionLaws
 pub mod ExampleLaws
 pub mod KeptLaws
 pub mod DrawnLaws
+pub mod BoundedLaws
+pub mod BoundedStepLaws
+pub mod BoundedStoryLaws
+pub mod BoundedCallLaws
 pub mod RebuiltLaws

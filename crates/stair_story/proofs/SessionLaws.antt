@@ -146,13 +146,13 @@ module _ {R W S K : Type 0} (view : DeviceView R W) (streams : Views S K) (first
       record {
         life = Ended ∷ turns;
         state = without_seats run.state;
-        is_of = (before.life, before.state, before.is_of, run, refl, refl);
+        is_of = (before.life, before.state, before.is_of, run, refl {a = Ended ∷ turns}, refl);
         lives = (run.state, lived, refl);
         unknown = refl;
         stands = looks_stand run.state (view.rack.history y) (view.rack.history y) later run.is_in.stands acted kept
             (subst (λ (g : Geometry). IsTolerated g (view.rack.history y) later) (sym last) tolerated);
         explained = λ certain.
-            reads_are_explained (without_seats first) (without_seats run.state) (Ended ∷ turns) certain (run.state, lived, refl);
+            reads_are_explained (without_seats first) (without_seats run.state) (Ended ∷ turns) certain (run.state, lived, refl {a = without_seats run.state});
       }
   calls_are_lived h (Cut c image plan rest old new x y watchers left calls borne at within none crash) =
       let before = calls_are_lived (view.rack.history x) calls in
@@ -172,5 +172,5 @@ module _ {R W S K : Type 0} (view : DeviceView R W) (streams : Views S K) (first
         unknown = refl;
         stands = forgets NoneReturns cut.state (Made image ∷ []) cut.stands;
         explained = λ certain.
-            reads_are_explained (without_seats first) (without_seats cut.state) (Ended ∷ cut.turns) certain (cut.state, cut.lives, refl);
+            reads_are_explained (without_seats first) (without_seats cut.state) (Ended ∷ cut.turns) certain (cut.state, cut.lives, refl {a = without_seats cut.state});
       }

@@ -1,7 +1,7 @@
 -- A slot that is never offline in the session, and whose medium is large enough, is given up at no step.
 use Rattle.std.proofs.Common.{◌≡◌, ◌≢◌, ◌∙◌, ◌⊎◌, ℕ, ◌<◌, List, [], ◌∷◌, None, Option, Some, inl, inr, refl, sym, ap, subst, arith}
-use Rattle.std.proofs.lemmas.Bool.{false≢true, ltb-true}
-use Rattle.std.specs.Prelude.{Bool, IsSome, IsTrue}
+use Rattle.std.proofs.lemmas.Bool.{ltb-true}
+use Rattle.std.specs.Prelude.{Bool, IsTrue}
 use Rattle.stair_model.specs.Geometry.{Geometry, sectors_needed}
 use Rattle.stair_model.specs.Slots.{HasSlot, Slots}
 use Rattle.stair_rack.specs.Answers.{IsHistory, Ran, any_call}
@@ -16,7 +16,6 @@ use Rattle.stair_super.specs.Superblock.{mark_in}
 use Rattle.stair_super.specs.declared.mark.Mark.TheVariants.{Down, Live, Rebuilding}
 use Rattle.stair_member.specs.Aims.{mark_for}
 use Rattle.stair_member.specs.Membership.{IsHere, why_of}
-use Rattle.stair_member.specs.declared.fault.FenceFault.{FenceFault}
 use Rattle.stair_member.specs.declared.why.Why.{Why}
 use Rattle.stair_member.specs.declared.why.Why.TheVariants as why
 use Rattle.stair_state.specs.Represents.{IsLargeEnough, Represents}
@@ -33,7 +32,7 @@ use Rattle.stair_story.specs.Story.{Deed, Stepped, Leads}
 use Rattle.stair_story.specs.Sure.{EachKeeps, KeepsAt, NoneGoesDown, StaysIn}
 use Rattle.stair_story.proofs.HeadlineLaws.{calm_story}
 use Rattle.stair_story.proofs.RunLaws.{IsAt, one_goes, one_ran, upto_end, works_ran}
-use Rattle.stair_story.proofs.SureStepLaws.{begins_at}
+use Rattle.stair_story.proofs.SureStepLaws.{begins_at, none_some}
 
 -- ---- sessions
 
@@ -58,10 +57,6 @@ open_for : (before : List Happening) (s : State) (array : ArrayState) (x : Seen)
     → ServesState NoneReturns before s x.session x.told → IsOpenFor NoneReturns before s array x.told.history
 open_for before s array x opened unstopped serves = at (subst (λ (session : Session). ServesState NoneReturns before s session x.told) opened serves)
   where
-    none_some : (fault : Option FenceFault) → fault ≡ None → IsSome fault → ⊥
-    none_some None none some = false≢true some
-    none_some (Some fault) none some = let same : Some fault ≡ None = none in cc
-
     at : ServesState NoneReturns before s (Opened array) x.told → IsOpenFor NoneReturns before s array x.told.history
     at (inl serving) = serving
     at (inr stopped) = absurd (none_some array.stopped unstopped stopped)

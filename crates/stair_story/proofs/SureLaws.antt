@@ -31,15 +31,10 @@ use Rattle.stair_story.specs.Plan.{Plan, Over, Ask, Take, Put, Allocate, Do, Try
 use Rattle.stair_story.specs.Rack.{MeansOver, RackView, Works, told_of}
 use Rattle.stair_story.specs.Story.{AreEnough, Deed, Found, Took, TookLast, TakeFailed, HasPut, PutFailed, Grew, RanOut, Did, Stepped, Leads, Moves, after}
 use Rattle.stair_story.specs.Sure.{Assurance, HasNoFault, IsDone, IsDoneFrom, IsSure, Last, More}
-use Rattle.stair_story.proofs.EndLaws.{no_move}
 use Rattle.stair_story.proofs.EndingLaws.{sink_on, source_on}
+use Rattle.stair_story.proofs.EndingLaws.{ends_so}
 use Rattle.stair_story.proofs.RackLaws.{IsOffDevices, works_still}
 use Rattle.stair_story.proofs.RunLaws.{forgets}
-
--- what is over stays over
-ends_so : (story : List Deed) (end status : Status) → Leads Moves story (Over end) (Over status) → status ≡ end
-ends_so [] end status follows = let same : Over status ≡ Over end = follows in cc
-ends_so (deed ∷ story) end status follows = absurd (no_move deed end follows.0 follows.1)
 
 -- ---- what is taken
 

@@ -71,16 +71,17 @@ opened_kept : (is : ArrayState) (session : Session) → IsOpened is session → 
 opened_kept is session opened =
     subst (λ (end : Session). IsStoppedBy end None) (sym opened.is_open) (sym (ap refusal_kept opened.unstopped))
 
+-- where there is none there isn't one
+pub none_some : (fault : Option FenceFault) → fault ≡ None → IsSome fault → ⊥
+none_some None none some = false≢true some
+none_some (Some fault) none some = let same : Some fault ≡ None = none in cc
+
 -- the seats that an array which isn't stopped knows are those of the state
 opened_seats : (before : List Happening) (s : State) (is : ArrayState) (session : Session) (told : Telling) → IsOpened is session
     → ServesState NoneReturns before s session told → s.seats ≡ Some (seats_in is.member.array)
 opened_seats before s is session told opened serves =
     at (subst (λ (end : Session). ServesState NoneReturns before s end told) opened.is_open serves)
   where
-    none_some : (fault : Option FenceFault) → fault ≡ None → IsSome fault → ⊥
-    none_some None none some = false≢true some
-    none_some (Some fault) none some = let same : Some fault ≡ None = none in cc
-
     at : ServesState NoneReturns before s (Opened is) told → s.seats ≡ Some (seats_in is.member.array)
     at (inl serving) = serving.seats
     at (inr stopped) = absurd (none_some is.stopped opened.unstopped stopped)

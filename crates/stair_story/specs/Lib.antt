@@ -25,4 +25,5 @@ pub mod Sessions
 pub mod LifeExample
 pub mod Kept
 pub mod Drawn
+pub mod Bounded
 pub mod Rebuilt

@@ -1,6 +1,7 @@
 //! What a command does, step by step, and what a call did: plans, stories, and the streams of a call.
 #![tactic(auto)]
 
+pub mod draws;
 mod fault;
 mod intake;
 pub mod laws;

@@ -1,0 +1,148 @@
+-- What the contract of a fence says, and of slots that are left out, leads the record of a session on.
+use Rattle.std.proofs.Common.{ℕ, ◌<◌, ◌∙◌, ◌≡◌, ◌≤◌, List, None, Option, Result, ap, arith, inl, inr, refl, subst, sym}
+use Rattle.std.specs.Prelude.{◌^◌, IsTrue, length, slice_index}
+use Rattle.stair_model.specs.Geometry.{Geometry}
+use Rattle.stair_model.specs.Slots.{HasSlot, Slots}
+use Rattle.stair_rack.specs.Answers.{Ran, any_call}
+use Rattle.stair_rack.specs.History.{Happening, stopped}
+use Rattle.stair_rack.specs.Moments.{IsMoment}
+use Rattle.stair_rack.specs.Stretch.{NothingReturned}
+use Rattle.stair_rack.specs.Telling.{Telling}
+use Rattle.stair_rack.proofs.MomentLemmas.{moment_between}
+use Rattle.stair_rack.proofs.StretchLemmas.{each_after, each_before}
+use Rattle.stair_super.specs.Label.{IsLabel}
+use Rattle.stair_super.specs.Superblock.{IsConfiguration, mark_in}
+use Rattle.stair_super.specs.declared.configuration.Configuration.{Configuration}
+use Rattle.stair_member.specs.Epochs.{IsIssuing}
+use Rattle.stair_member.specs.Establishing.{Establishes, Fences, Leaves, refusal_of}
+use Rattle.stair_member.specs.Fencing.{HasStood, IsBegun}
+use Rattle.stair_member.specs.Membership.{IsMarkedFor, IsMembership, Membership, why_of}
+use Rattle.stair_member.specs.declared.aim.Aim.TheVariants.{Fence}
+use Rattle.stair_member.specs.declared.fault.FenceFault.{FenceFault}
+use Rattle.stair_member.specs.declared.why.Why.{Why}
+use Rattle.stair_member.proofs.CountingLemmas.{has_or_not}
+use Rattle.stair_member.proofs.LeavingLemmas.{left}
+use Rattle.stair_state.specs.Blocks.{Codewords}
+use Rattle.stair_session.specs.Courses.{Fenced, LeavesOut, NoneWas, Point, point}
+use Rattle.stair_session.specs.Leading.{IsOpenAmid, led_to}
+use Rattle.stair_session.specs.Session.{ArrayState, IsOpenWith}
+use Rattle.stair_session.proofs.LeftOutLemmas.{start_geometry, stood_by}
+use Rattle.stair_session.proofs.OpenWithLemmas.{fenced_amid, fenced_open, goes_on_from, keeps_rebuilds, rebuilds_on}
+
+-- the member that slots of its array left is one still
+module _ (leaving : Slots) (m start : Membership) (leaves : Leaves leaving m start) (below : (j : ℕ) → HasSlot leaving j → j < m.array.geometry.n) where
+  pub start_rules : IsMembership m → IsMembership start
+  start_rules is = record {
+    sizes = record {
+      id = ap (λ (c : Configuration). length c.geometry.id) leaves.array ∙ is.sizes.id;
+      drawn = subst (λ (n : ℕ). n < 2 ^ 64) (sym leaves.drawn) is.sizes.drawn;
+      marks = ap (λ (c : Configuration). length c.marks) leaves.array ∙ is.sizes.marks;
+      joins = ap (λ (c : Configuration). length c.joins) leaves.array ∙ is.sizes.joins;
+      label = subst (λ (c : Configuration). IsLabel c.label) (sym leaves.array) is.sizes.label;
+      whys = leaves.size ∙ is.sizes.whys;
+      places = ap (λ (l : List ℕ). length l) leaves.places ∙ is.sizes.places;
+    };
+    array = subst IsConfiguration (sym leaves.array) is.array;
+    known =
+        subst (λ (c : Configuration). c.epoch ≤ start.drawn) (sym leaves.array) (subst (λ (n : ℕ). m.array.epoch ≤ n) (sym leaves.drawn) is.known);
+    absent = λ j past small.
+        let out : m.array.geometry.n ≤ j = subst (λ (g : Geometry). g.n ≤ j) (start_geometry leaving m start leaves) past in
+        leaves.others j (λ has. let inside = below j has in omega (arith, out, inside)) ∙ is.absent j out small;
+    marked = λ j inside. marked j (subst (λ (g : Geometry). j < g.n) (start_geometry leaving m start leaves) inside);
+    places = λ j small. subst (λ (l : List ℕ). slice_index l j < 2) (sym leaves.places) (is.places j small);
+  }
+    where
+      marked : (j : ℕ) → j < m.array.geometry.n → IsMarkedFor (why_of start j) (mark_in start.array j)
+      marked j inside =
+          subst (λ (c : Configuration). IsMarkedFor (why_of start j) (mark_in c j)) (sym leaves.array)
+          (elim (has_or_not leaving j) [
+            | inl has ↦ subst (λ (w : Why). IsMarkedFor w (mark_in m.array j)) (sym (leaves.left j has)) tt
+            | inr out ↦ subst (λ (w : Why). IsMarkedFor w (mark_in m.array j)) (sym (leaves.others j out)) (is.marked j inside)
+          ])
+
+-- A FENCE THAT WAS DONE, on an honest rack
+
+module _ (leaving : Slots) (before : List Happening) (a : ArrayState) (last : Membership) (answer : Result Slots FenceFault) (x y : Telling)
+    (does : Fences leaving a.member last answer x y) (fine : refusal_of answer ≡ None) (honest : IsTrue y.honest)
+    (below : (j : ℕ) → HasSlot leaving j → j < a.member.array.geometry.n) (begun : IsBegun None a.member x.history)
+    (none : NothingReturned before y.history) (rules : IsMembership last) (going : ¬ IsTrue (stopped y.history)) where
+  establishes : Establishes Fence does.start last None x y
+  establishes = subst (λ (r : Option FenceFault). Establishes Fence does.start last r x y) fine does.establishes
+
+  -- the fence lies in the session
+  at : Ran any_call before x.history → IsMoment before x.history y.history
+  at ran =
+      moment_between {a = any_call} {b = IsIssuing (establishes.issued honest).slots (establishes.issued honest).editions} ran
+      (establishes.issued honest).ran
+
+  stands : Ran any_call before x.history → HasStood Fence establishes.gone does.start last x.history y.history
+  stands ran =
+      stood_by Fence does.start last x y establishes honest
+      (left None leaving a.member does.start does.leaves x.history (start_rules leaving a.member does.start does.leaves below begun.member) begun)
+      (each_after none (at ran)) rules (λ slot never. absurd (cc))
+
+  geometry_kept : last.array.geometry ≡ a.member.array.geometry
+  geometry_kept = establishes.geometry ∙ start_geometry leaving a.member does.start does.leaves
+
+  pub fences_amid : IsOpenAmid before a x.history → IsOpenAmid before (led_to a last) y.history × IsBegun None last y.history
+  fences_amid is =
+      fenced_amid leaving establishes.gone before a (led_to a last) does.start x.history y.history (each_before none (at is.ran)) does.leaves
+      (stands is.ran) going (keeps_rebuilds a last is.array geometry_kept) is
+
+  pub fences_open : (words : Codewords) → IsOpenWith before a words x.history
+      → IsOpenWith before (led_to a last) words y.history × IsBegun None last y.history
+  fences_open words is =
+      fenced_open leaving establishes.gone before a (led_to a last) does.start x.history y.history (each_before none (at is.ran)) does.leaves
+      (stands is.ran) going (keeps_rebuilds a last is.array geometry_kept) words is
+
+-- SLOTS THAT ARE LEFT OUT
+
+-- where nothing is done the array goes on as it was
+stays_open : (before : List Happening) (a : ArrayState) (words : Codewords) (h : List Happening) → IsOpenWith before a words h
+    → IsOpenWith before (led_to a a.member) words h
+stays_open before a words h is =
+    rebuilds_on before a (led_to a a.member) words h is refl
+    (λ rebuild of.
+    let was = (goes_on_from a.member a.rebuild rebuild of).0 in
+    ((is.array.rebuilds rebuild was).0, ((is.array.rebuilds rebuild was).1, is.rebuilt rebuild was)))
+
+stays_amid : (before : List Happening) (a : ArrayState) (h : List Happening) → IsOpenAmid before a h → IsOpenAmid before (led_to a a.member) h
+stays_amid before a h is = record {
+  array = record {
+    member = is.array.member;
+    marks = is.array.marks;
+    enough = is.array.enough;
+    rebuilds = λ rebuild of. is.array.rebuilds rebuild (goes_on_from a.member a.rebuild rebuild of).0;
+  };
+  ran = is.ran;
+  held = is.held;
+  own = is.own;
+  shut = is.shut;
+}
+
+module _ (leaving : Slots) (before : List Happening) (a : ArrayState) (x : Telling) (y : Point) (leaves : LeavesOut leaving None (point a.member x) y)
+    (honest : IsTrue y.told.honest) (below : (j : ℕ) → HasSlot leaving j → j < a.member.array.geometry.n)
+    (begun : IsBegun None a.member x.history) (none : NothingReturned before y.told.history) (rules : IsMembership y.member)
+    (going : ¬ IsTrue (stopped y.told.history)) where
+  pub leaves_open : (words : Codewords) → IsOpenWith before a words x.history
+      → IsOpenWith before (led_to a y.member) words y.told.history × IsBegun None y.member y.told.history
+  leaves_open words is = by leaves
+    where
+      by : LeavesOut leaving None (point a.member x) y
+          → IsOpenWith before (led_to a y.member) words y.told.history × IsBegun None y.member y.told.history
+      by (NoneWas out same quiet) =
+          subst (λ (p : Point). IsOpenWith before (led_to a p.member) words p.told.history × IsBegun None p.member p.told.history) (sym same)
+          (stays_open before a words x.history is, begun)
+      by (Fenced j has answer fine does) =
+          fences_open leaving before a y.member answer x y.told does (sym fine) honest below begun none rules going words is
+
+  pub leaves_amid : IsOpenAmid before a x.history → IsOpenAmid before (led_to a y.member) y.told.history × IsBegun None y.member y.told.history
+  leaves_amid is = by leaves
+    where
+      by : LeavesOut leaving None (point a.member x) y
+          → IsOpenAmid before (led_to a y.member) y.told.history × IsBegun None y.member y.told.history
+      by (NoneWas out same quiet) =
+          subst (λ (p : Point). IsOpenAmid before (led_to a p.member) p.told.history × IsBegun None p.member p.told.history) (sym same)
+          (stays_amid before a x.history is, begun)
+      by (Fenced j has answer fine does) =
+          fences_amid leaving before a y.member answer x y.told does (sym fine) honest below begun none rules going is

@@ -1,0 +1,164 @@
+-- How great the draws in an image become over a call.
+use Rattle.std.proofs.Common.{◌≡◌, ◌∙◌, ◌*◌, ◌+◌, ◌<◌, ◌≤◌, ℕ, List, [], ◌∷◌, Ok, Err, inl, inr, sym, ap, subst, arith}
+use Rattle.std.specs.Prelude.{IsTrue}
+use Rattle.stair_model.specs.Geometry.{Geometry}
+use Rattle.stair_rack.specs.History.{Attach, Happening, Read, Sectors, SlotCall, Sync, Write}
+use Rattle.stair_rack.specs.Sector.{Cell, Good}
+use Rattle.stair_rack.specs.Telling.{IsReading, Telling}
+use Rattle.stair_rack.proofs.CrashLemmas.{CrashMayLeave-now}
+use Rattle.stair_rack.specs.Crash.{image_now}
+use Rattle.stair_rack.proofs.MomentLemmas.{at_every_join, at_every_none, at_last, at_moment, ran_weakened}
+use Rattle.stair_member.specs.Asked.{LeavesSectors}
+use Rattle.stair_member.specs.Findings.{IsPlaceFound, Unread}
+use Rattle.stair_member.specs.Findings as found
+use Rattle.stair_member.specs.Membership.{Membership}
+use Rattle.stair_member.specs.Superblocks.{HoldsSuper}
+use Rattle.stair_member.specs.Survey.{Surveys}
+use Rattle.stair_member.proofs.AskedLemmas.{asked_ran}
+use Rattle.stair_member.proofs.JudgeLemmas.{counts_in}
+use Rattle.stair_member.proofs.SuperLemmas.{counts_limits, super_at}
+use Rattle.stair_super.specs.Superblock.{Superblock}
+use Rattle.stair_state.specs.Represents.{no_write}
+use Rattle.stair_array.proofs.KeepLemmas.{no_writes}
+use Rattle.stair_array.specs.Draws.{allowance}
+use Rattle.stair_array.specs.Promise.{Begun, Closed, Found, Opened, Session}
+use Rattle.stair_story.specs.Action.{Create, Survey}
+use Rattle.stair_story.specs.Bounded.{AreOfArray, AreHonest, CallsAreBounded, IsBoundedAt, StaysBounded, StaysWithin}
+use Rattle.stair_story.specs.Devices.{DeviceView, Devices, WorksAll, seen_of}
+use Rattle.stair_story.specs.Drawn.{over_steps}
+use Rattle.stair_story.specs.Kept.{HasMember}
+use Rattle.stair_story.specs.Story.{Deed, Did, Leads, Stepped}
+use Rattle.stair_story.proofs.BoundedLaws.{IsFine, stays_bounded}
+use Rattle.stair_story.proofs.BoundedStoryLaws.{HasRoom, starts_from, stays_over, stays_weaker, story_allows, weaker, weigh_little}
+use Rattle.stair_story.proofs.KeptLaws.{known_begun, same_session}
+
+-- ---- surveys
+
+-- the greatest draw that a survey sees was borne
+survey_few : (m : Membership) (old new : Telling) (most : ℕ) → IsTrue new.honest → Surveys (Ok m) old new
+    → StaysBounded m.array.geometry most old.history new.history → m.drawn ≤ most
+survey_few m old new most honest surveys stays =
+    let f = surveys.findings in
+    let drawn = surveys.answered.0.drawn in
+    let below : drawn.slot < 32 =
+    counts_in m.array.geometry f.image drawn.slot (record { super = drawn.super; counts = drawn.counts }) in
+    let held : drawn.super.draw ≤ most =
+    elim (super_at drawn.counts.super) [
+      | inl holds ↦ seen drawn.slot 0 drawn.super (omega arith) ((surveys.found.each drawn.slot below).places 0 (omega arith)) holds drawn.counts.identity
+      | inr holds ↦ seen drawn.slot 1 drawn.super (omega arith) ((surveys.found.each drawn.slot below).places 1 (omega arith)) holds drawn.counts.identity
+    ] in
+    omega (arith, held, drawn.is)
+  where
+    read : (j k : ℕ) (s : Superblock) (cell : Cell) → k < 2 → IsReading j k old new cell → (holds : HoldsSuper cell s) → cell ≡ Good holds.bytes
+        → s.array.geometry ≡ m.array.geometry → s.draw ≤ most
+    read j k s (Good bytes) place reading holds good same =
+        let was = reading honest in
+        let at = (at_moment {P = IsBoundedAt m.array.geometry most} stays was.is_one) (image_now was.moment) (CrashMayLeave-now was.moment) in
+        at.in_slots j k place s (record { bytes = holds.bytes; good = was.found ∙ good; spells = holds.spells }) same
+    read j k s cell place reading holds good same = absurd (let is = good in cc)
+
+    seen : {gone : Type 0} {cell : Cell} (j k : ℕ) (s : Superblock) → k < 2 → IsPlaceFound gone j k old new cell → HoldsSuper cell s
+        → s.array.geometry ≡ m.array.geometry → s.draw ≤ most
+    seen {cell = cell} j k s place (found.Read reading) holds same = read j k s cell place reading holds holds.good same
+    seen j k s place (Unread gone is) holds same = absurd (let good = holds.good in cc)
+
+-- an array that a survey finds has at most 32 slots
+survey_slots : (m : Membership) (old new : Telling) → Surveys (Ok m) old new → m.array.geometry.n ≤ 32
+survey_slots m old new surveys =
+    let drawn = surveys.answered.0.drawn in
+    (counts_limits m.array.geometry surveys.findings.image drawn.slot drawn.super drawn.counts).devices.1
+
+-- ---- calls that write nothing
+
+module _ (g : Geometry) (most : ℕ) where
+  leaves_fine : (j : ℕ) (call : SlotCall) → LeavesSectors j call → IsFine g most j call
+  leaves_fine j (Write k bytes answer) is = absurd is
+  leaves_fine j (Attach answer) is = tt
+  leaves_fine j (Sectors size) is = tt
+  leaves_fine j (Read k answer) is = tt
+  leaves_fine j (Sync answer) is = tt
+
+  no_write_fine : (j : ℕ) (call : SlotCall) → no_write j call → IsFine g most j call
+  no_write_fine j (Write k bytes answer) is = absurd is
+  no_write_fine j (Attach answer) is = tt
+  no_write_fine j (Sectors size) is = tt
+  no_write_fine j (Read k answer) is = tt
+  no_write_fine j (Sync answer) is = tt
+
+-- ---- a call
+
+module _ {R W : Type 0} (view : DeviceView R W) (honest : IsTrue view.rack.honest) (g : Geometry) (most bound : ℕ) where
+  -- the session ended
+  over_closed : (story : List Deed) (x y : Devices R W) (works : Leads (WorksAll view) story x y) → AreHonest view story x y works
+      → x.session ≡ Closed → IsBoundedAt g bound (view.rack.history x.rack) → StaysWithin view g bound x y
+  over_closed story x y works told closed bounded =
+      stays_over view honest g bound story x y works told bound (omega arith)
+      (λ begun. let same : Closed ≡ Begun = sym closed ∙ begun in cc) bounded
+      (λ n has. absurd (subst (λ (s : Session). HasMember s n) closed has))
+
+  -- a survey that found the array
+  over_found : (m : Membership) (story : List Deed) (x y : Devices R W) (works : Leads (WorksAll view) story x y) → AreHonest view story x y works
+      → x.session ≡ Found m → m.array.geometry ≡ g → m.drawn ≤ most → m.array.geometry.n ≤ 32 → most + 64 + over_steps allowance story ≤ bound
+      → IsBoundedAt g most (view.rack.history x.rack) → StaysWithin view g bound x y
+  over_found m story x y works told is same few slots room bounded =
+      let small = weigh_little m slots in
+      stays_over view honest g bound story x y works told most (omega (arith, room))
+      (λ begun. let same : Found m ≡ Begun = sym is ∙ begun in cc) bounded
+      (λ n has.
+      subst (HasRoom view honest g bound most story) (sym (subst (λ (s : Session). HasMember s n) is has))
+      (record { geometry = same; known = few; room = omega (arith, room, small) }))
+
+  pub from_begun : (story : List Deed) (x y : Devices R W) (works : Leads (WorksAll view) story x y) → AreHonest view story x y works
+      → AreOfArray view g story x y works → x.session ≡ Begun → most + 64 + over_steps allowance story ≤ bound
+      → IsBoundedAt g most (view.rack.history x.rack) → StaysWithin view g bound x y
+  from_begun [] x y works told of begun room bounded =
+      subst (λ (d : Devices R W). StaysWithin view g bound x d) (sym works)
+      (at_every_none {P = IsBoundedAt g bound} (view.rack.history x.rack)
+      (weaker g most bound (omega (arith, room)) (view.rack.history x.rack) bounded))
+  from_begun (Stepped step answer events left ∷ story) x y works told of begun room bounded =
+      elim works.1.0 [
+        | inl does ↦ absurd (known_begun x.session does.was.member begun (starts_from step does.was x.session does.starts))
+        | inr stopped ↦ absurd (let same : Begun ≡ Opened stopped.array = sym begun ∙ stopped.is_open in cc)
+      ]
+  from_begun (Did (Create array) outcome ∷ story) x y works told of begun room bounded =
+      let ran = no_writes (works.1.0.ran honest) of.0 in
+      let stays : StaysBounded g most (view.rack.history x.rack) (view.rack.history works.0.rack) =
+      stays_bounded g most (ran_weakened (no_write_fine g most) ran) bounded in
+      let low : most ≤ bound = omega (arith, room) in
+      at_every_join (stays_weaker g most bound low stays)
+      (over_closed story works.0 y works.2 told.1 works.1.2
+      (weaker g most bound low (view.rack.history works.0.rack) (at_last stays)))
+  from_begun (Did Survey (Ok m) ∷ story) x y works told of begun room bounded =
+      let ran = asked_ran 32 (view.rack.history x.rack) (view.rack.history works.0.rack) (works.1.0.asked honest) in
+      let stays : StaysBounded g most (view.rack.history x.rack) (view.rack.history works.0.rack) =
+      stays_bounded g most (ran_weakened (leaves_fine g most) ran) bounded in
+      let low : most ≤ bound = omega (arith, room) in
+      let few : m.drawn ≤ most =
+      survey_few m (seen_of view x).told (seen_of view works.0).told most honest works.1.0
+      (subst (λ (array : Geometry). StaysBounded array most (view.rack.history x.rack) (view.rack.history works.0.rack)) (sym of.0) stays) in
+      at_every_join (stays_weaker g most bound low stays)
+      (over_found m story works.0 y works.2 told.1 works.1.2 of.0 few
+      (survey_slots m (seen_of view x).told (seen_of view works.0).told works.1.0) (omega (arith, room)) (at_last stays))
+  from_begun (Did Survey (Err fault) ∷ story) x y works told of begun room bounded =
+      let ran = asked_ran 32 (view.rack.history x.rack) (view.rack.history works.0.rack) (works.1.0.asked honest) in
+      let stays : StaysBounded g most (view.rack.history x.rack) (view.rack.history works.0.rack) =
+      stays_bounded g most (ran_weakened (leaves_fine g most) ran) bounded in
+      let low : most ≤ bound = omega (arith, room) in
+      at_every_join (stays_weaker g most bound low stays)
+      (over_closed story works.0 y works.2 told.1 works.1.2
+      (weaker g most bound low (view.rack.history works.0.rack) (at_last stays)))
+  from_begun (deed ∷ story) x y works told of begun room bounded =
+      let same : view.rack.history works.0.rack ≡ view.rack.history x.rack = ap (λ (d : Devices R W). view.rack.history d.rack) works.1 in
+      subst (λ (h : List Happening). StaysBounded g bound h (view.rack.history y.rack)) same
+      (from_begun story works.0 y works.2 told.1 of.1 (same_session view works.1 ∙ begun) (omega (arith, room))
+      (subst (IsBoundedAt g most) (sym same) bounded))
+
+pub calls_bounded : (R W : Type 0) → CallsAreBounded R W
+calls_bounded R W view story x y works g most honest begun bounded of told =
+    let stays = from_begun view honest g most (most + 64 + over_steps allowance story) story x y works told of begun (omega arith) bounded in
+    let split = story_allows story in
+    record {
+      allowed = stays;
+      counted = λ q opened replaced stamped.
+          stays_weaker g (most + 64 + over_steps allowance story) (most + 100 + 5 * q) (omega (arith, split, opened, replaced, stamped)) stays;
+    }

@@ -1,0 +1,339 @@
+-- What a step writes to superblock places.
+use Rattle.std.proofs.Common.{◌≡◌, ◌<◌, ◌≤◌, ℕ, List, Option, None, Some, Result, refl, sym, ap, subst, arith}
+use Rattle.std.proofs.lemmas.Bool.{cond-true, cond-false, lt-ltb, ne_eqb}
+use Rattle.std.proofs.Math.Nat.{le-max_left}
+use Rattle.std.specs.Prelude.{IsTrue, ◌==◌, if◌then◌else◌, max, nat_lt}
+use Rattle.stair_model.specs.CellSet.{CellSet}
+use Rattle.stair_model.specs.Geometry.{Geometry}
+use Rattle.stair_model.specs.Slots.{Slots}
+use Rattle.stair_model.specs.Stripe.{Stripe}
+use Rattle.stair_rack.specs.Answers.{Calls, Ran}
+use Rattle.stair_rack.specs.History.{Attach, Happening, Read, Sectors, SlotCall, Sync, Write}
+use Rattle.stair_rack.specs.Placed.{IsSyncOf, IsWriteOf, Placed, Writes}
+use Rattle.stair_rack.specs.Reading.{IsReadOf}
+use Rattle.stair_rack.specs.Stretch.{IsNoWrite}
+use Rattle.stair_rack.specs.Telling.{IsLater, Telling}
+use Rattle.stair_rack.specs.declared.rack.Reply.{Reply}
+use Rattle.stair_rack.proofs.MomentLemmas.{IsThis, calls_ran, ran_join, ran_none, ran_weakened}
+use Rattle.stair_member.specs.Establishing.{Establishes, Fences}
+use Rattle.stair_member.specs.Membership.{Membership}
+use Rattle.stair_member.specs.Seeing.{draw_in}
+use Rattle.stair_member.specs.declared.aim.Aim.{Aim}
+use Rattle.stair_member.specs.declared.fault.FenceFault.{FenceFault}
+use Rattle.stair_state.specs.Redoing as stage
+use Rattle.stair_state.specs.Redoing.{Stage}
+use Rattle.stair_session.specs.Courses as course
+use Rattle.stair_session.specs.Courses.{DoesStage, FindsBody, FindsRedo, LeavesOut, Loads, Point, Redoes, Replays, point, stage_writes}
+use Rattle.stair_session.specs.Session.{ArrayState}
+use Rattle.stair_array.specs.Calls as calls
+use Rattle.stair_array.specs.Mends as mends
+use Rattle.stair_array.specs.Openings as opening
+use Rattle.stair_array.specs.Calls.{AsksFor, CannotHave, LoadsStripe, Prepares, Reads, WritesBlocks}
+use Rattle.stair_array.specs.Machine.{Answer, LookAtSeats, Progress, ReadBlock, RebuildNext, Recover, Refusal, ReplaceSlot, ScrubStripe, SetFrozen, SetLabel, Step, WriteBlocks}
+use Rattle.stair_array.specs.Mends.{Drops, IsPreparing, Looks, OnlyPrepared, PreparesSlot, Promotes, Rebuilds, Replaces, Scrubs, SyncsSlot, WritesChunk}
+use Rattle.stair_array.specs.Openings.{ClearsJournal, Recovers}
+use Rattle.stair_array.specs.Promise.{Does}
+use Rattle.stair_story.specs.Bounded.{IsHonestBody, IsHonestClearing, IsHonestFinding, IsHonestLoad, IsHonestOpening, IsHonestPreparing, IsHonestPromoting, IsHonestReading, IsHonestRebuild, IsHonestRedo, IsHonestReplacing, IsHonestReplay, IsHonestScrub, IsHonestStage, IsHonestStep, IsHonestStripe, IsHonestWriting, StepsAreBounded}
+use Rattle.stair_story.proofs.BoundedLaws.{IsFine, fine_issued, stays_bounded}
+
+-- ---- draws never fall
+
+drawn_established : {aim : Aim} {m last : Membership} {refusal : Option FenceFault} {old new : Telling} → Establishes aim m last refusal old new
+    → m.drawn ≤ last.drawn
+drawn_established {refusal = None} does = omega (arith, (does.done refl).drawn)
+drawn_established {refusal = Some fault} does = omega (arith, (does.refused fault refl).1)
+
+drawn_fenced : {leaving : Slots} {m last : Membership} {answer : Result Slots FenceFault} {old new : Telling} → Fences leaving m last answer old new
+    → m.drawn ≤ last.drawn
+drawn_fenced fences = omega (arith, fences.leaves.drawn, drawn_established fences.establishes)
+
+abbrev pub Rises : Point → Point → Type 0
+Rises x y = x.member.drawn ≤ y.member.drawn
+
+rises_same : {x y : Point} → y ≡ x → Rises x y
+rises_same {x} {y} same = let e : y.member.drawn ≡ x.member.drawn = ap (λ (p : Point). p.member.drawn) same in omega arith
+
+rises_kept : (x y : Point) → y.member ≡ x.member → Rises x y
+rises_kept x y same = let e : y.member.drawn ≡ x.member.drawn = ap (λ (m : Membership). m.drawn) same in omega arith
+
+-- ---- writes behind the superblock places
+
+-- none of these writes is to a superblock place
+abbrev AreBehind : Writes → Type 0
+AreBehind what = (j k : ℕ) → k < 2 → what j k ≡ None
+
+below_none : (k n : ℕ) (some : Option (List ℕ)) → k < 2 → 2 ≤ n → (if nat_lt k n then None else some) ≡ None
+below_none k n some place above = cond-true _ _ _ (lt-ltb k n (omega arith))
+
+gate_behind : (k : ℕ) (gate : List ℕ) → k < 2 → (if k == 2 then Some gate else None) ≡ None
+gate_behind k gate place = cond-false _ _ _ (ne_eqb k 2 (λ is. omega arith))
+
+stage_behind : (g : Geometry) (redo : _) (stripe : Stripe) (s : Stage) → AreBehind (stage_writes g redo stripe s)
+stage_behind g redo stripe stage.AtRest j k place = below_none k 3 _ place (omega arith)
+stage_behind g redo stripe stage.Uncommitted j k place = gate_behind k _ place
+stage_behind g redo stripe stage.Placing j k place = below_none k _ _ place (omega arith)
+stage_behind g redo stripe stage.InPlace j k place = gate_behind k _ place
+stage_behind g redo stripe stage.Done j k place = refl
+
+module _ (g : Geometry) (most : ℕ) where
+  abbrev pub Fine : List Happening → List Happening → Type 0
+  Fine old new = Ran (IsFine g most) old new
+
+  fine_no_write : (j : ℕ) (call : SlotCall) → IsNoWrite call → IsFine g most j call
+  fine_no_write j (Write k bytes answer) none = absurd none
+  fine_no_write j (Attach answer) none = tt
+  fine_no_write j (Sectors size) none = tt
+  fine_no_write j (Read k answer) none = tt
+  fine_no_write j (Sync answer) none = tt
+
+  fine_write : (what : Writes) (to : ℕ → Type 0) → AreBehind what → (j : ℕ) (call : SlotCall) → IsWriteOf what to j call → IsFine g most j call
+  fine_write what to behind j call is =
+      subst (IsFine g most j) (sym is.is) (λ place. absurd (let none = behind j is.sector place in let some = is.is_one in cc))
+
+  fine_sync : (to : ℕ → Type 0) (j : ℕ) (call : SlotCall) → IsSyncOf to j call → IsFine g most j call
+  fine_sync to j call is = subst (IsFine g most j) (sym is.is) tt
+
+  fine_placed : {what : Writes} {to gone : ℕ → Type 0} {old new : List Happening} → AreBehind what → Placed what to gone old new → Fine old new
+  fine_placed {what} {to} behind placed =
+      ran_join (ran_weakened (fine_write what to behind) placed.writes) (ran_weakened (fine_sync to) placed.syncs)
+
+  fine_read : (slots sectors : ℕ → Type 0) (j : ℕ) (call : SlotCall) → IsReadOf slots sectors j call → IsFine g most j call
+  fine_read slots sectors j (Read k answer) is = tt
+  fine_read slots sectors j (Attach answer) is = absurd is
+  fine_read slots sectors j (Sectors size) is = absurd is
+  fine_read slots sectors j (Write k bytes answer) is = absurd is
+  fine_read slots sectors j (Sync answer) is = absurd is
+
+  fine_prepared : (slot : ℕ) (array : Geometry) (j : ℕ) (call : SlotCall) → IsPreparing array slot j call → IsFine g most j call
+  fine_prepared slot array j (Read k answer) is = tt
+  fine_prepared slot array j (Attach answer) is = tt
+  fine_prepared slot array j (Sectors size) is = tt
+  fine_prepared slot array j (Write k bytes answer) is = λ place. absurd (let above = is.1 in omega arith)
+  fine_prepared slot array j (Sync answer) is = tt
+
+  fine_this : (slot : ℕ) (made : SlotCall) → IsNoWrite made → (j : ℕ) (call : SlotCall) → IsThis slot made j call → IsFine g most j call
+  fine_this slot made none j call is = subst (IsFine g most j) (sym is.1) (fine_no_write j made none)
+
+  fine_called : {old new : List Happening} {j : ℕ} {call : SlotCall} → IsNoWrite call → Calls old new j call → Fine old new
+  fine_called {j = j} {call = call} none called = ran_weakened (fine_this j call none) (calls_ran called)
+
+  -- ---- parts of a step
+
+  -- What a part of a step did: it forgets no draw, and where none is greater than `most` in the end its calls were fine.
+  pub record Goes (x y : Point) : Type 0 where
+    pub rises : Rises x y
+    pub fine : y.member.drawn ≤ most → IsTrue y.told.honest → Fine x.told.history y.told.history
+
+  goes_same : {x y : Point} → y ≡ x → Goes x y
+  goes_same {x} {y} same =
+      record { rises = rises_same same; fine = λ few honest. subst (λ (p : Point). Fine x.told.history p.told.history) (sym same) (ran_none x.told.history) }
+
+  goes_kept : (x y : Point) → y.member ≡ x.member → (IsTrue y.told.honest → Fine x.told.history y.told.history) → Goes x y
+  goes_kept x y same fine = record { rises = rises_kept x y same; fine = λ few honest. fine honest }
+
+  goes_on : {x y z : Point} → Goes x y → IsTrue y.told.honest → Goes y z → Goes x z
+  goes_on first between second = record {
+    rises = omega (arith, first.rises, second.rises);
+    fine = λ few honest. ran_join (first.fine (omega (arith, second.rises, few)) between) (second.fine few honest);
+  }
+
+  -- the rack was honest between, since it is in the end
+  goes_later : {x y z : Point} → Goes x y → IsLater y.told z.told → Goes y z → Goes x z
+  goes_later first later second = record {
+    rises = omega (arith, first.rises, second.rises);
+    fine = λ few honest.
+        ran_join (first.fine (omega (arith, second.rises, few)) (subst IsTrue (sym later.honest) honest)) (second.fine few honest);
+  }
+
+  goes_established : {aim : Aim} {x y : Point} {refusal : Option FenceFault} → Establishes aim x.member y.member refusal x.told y.told → Goes x y
+  goes_established does =
+      record { rises = drawn_established does; fine = λ few honest. fine_issued g most (does.issued honest) few }
+
+  goes_fenced : {leaving : Slots} {x y : Point} {answer : Result Slots FenceFault} → Fences leaving x.member y.member answer x.told y.told → Goes x y
+  goes_fenced fences =
+      record { rises = drawn_fenced fences; fine = λ few honest. fine_issued g most (fences.establishes.issued honest) few }
+
+  goes_left : {gone : Slots} {refusal : Option FenceFault} {x y : Point} → LeavesOut gone refusal x y → Goes x y
+  goes_left (course.NoneWas none same quiet) = goes_same same
+  goes_left (course.Fenced j has answer is fences) = goes_fenced fences
+
+  goes_stage : {what : Writes} {to : Slots} {refusal : Option FenceFault} {x y : Point} → AreBehind what → (does : DoesStage what to refusal x y)
+      → IsHonestStage does → Goes x y
+  goes_stage {x = x} behind does told =
+      goes_on (goes_kept x (point x.member does.mid) refl (λ honest. fine_placed behind (does.phase.placed honest))) told (goes_left does.leaves)
+
+  goes_loaded : {t : ℕ} {wanted : ℕ → ℕ → Type 0} {gathered : _} {was into : Stripe} {refusal : Option FenceFault} {x y : Point}
+      → (loads : Loads t wanted gathered was into refusal x y) → IsHonestLoad loads → Goes x y
+  goes_loaded {x = x} loads told =
+      goes_on
+      (goes_kept x (point x.member loads.mid) refl
+      (λ honest. ran_weakened (λ j call is. subst (IsFine g most j) (sym is.is) tt) (loads.gathers.ran honest))) told (goes_left loads.leaves)
+
+  goes_body : {redo : _} {body : _} {was into : Stripe} {refusal : Option FenceFault} {x y : Point}
+      → (finds : FindsBody redo body was into refusal x y) → IsHonestBody finds → Goes x y
+  goes_body {x = x} finds told =
+      goes_on (goes_kept x (point x.member finds.mid) refl (λ honest. ran_weakened (fine_read _ _) (finds.reads.ran honest))) told
+      (goes_left finds.leaves)
+
+  goes_redo : {array : Geometry} {redo : _} {stripe : Stripe} {s : Stage} {refusal : Option FenceFault} {x y : Point}
+      → (does : Redoes array redo stripe s refusal x y) → IsHonestRedo does → Goes x y
+  goes_redo (course.Ends x) told = goes_same refl
+  goes_redo {array} {redo} {stripe} (course.Goes s to refusal x y z apart over does rest) told =
+      goes_on (goes_stage (stage_behind array redo stripe s) does told.0) told.1 (goes_redo rest told.2)
+  goes_redo {array} {redo} {stripe} (course.Stops s to fault x y apart over does) told =
+      goes_stage (stage_behind array redo stripe s) does told
+
+  goes_found : {redo : Option _} {opened : Slots} {refusal : Option FenceFault} {x y : Point}
+      → (finds : FindsRedo redo opened refusal x y) → IsHonestFinding finds → Goes x y
+  goes_found (course.Found gates live mid x are reads none) told =
+      goes_kept x (point x.member mid) refl (λ honest. ran_weakened (fine_read _ _) (reads.ran honest))
+  goes_found (course.Again gates live mid redo opened refusal j x y z are reads gone leaves rest) told =
+      goes_on
+      (goes_on (goes_kept x (point x.member mid) refl (λ honest. ran_weakened (fine_read _ _) (reads.ran honest))) told.0 (goes_left leaves))
+      told.1 (goes_found rest told.2)
+  goes_found (course.Stops gates live mid redo opened fault x y are reads leaves) told =
+      goes_on (goes_kept x (point x.member mid) refl (λ honest. ran_weakened (fine_read _ _) (reads.ran honest))) told (goes_left leaves)
+
+  goes_replayed : {redo : _} {stripe : Stripe} {opened : Slots} {refusal : Option FenceFault} {x y : Point}
+      → (does : Replays redo stripe opened refusal x y) → IsHonestReplay does → Goes x y
+  goes_replayed (course.Goes to refusal x y z are does rest) told =
+      goes_on (goes_stage (λ j k place. gate_behind k _ place) does told.0) told.1 (goes_redo rest told.2)
+  goes_replayed (course.Stops to fault x y are does) told = goes_stage (λ j k place. gate_behind k _ place) does told
+
+  goes_cleared : {redo : Option _} {opened : Slots} {answer : Result Geometry Refusal} {x y : Point}
+      → (clears : ClearsJournal redo opened answer x y) → IsHonestClearing clears → Goes x y
+  goes_cleared (opening.Closes opened live refusal x y are does) told = goes_stage (λ j k place. gate_behind k _ place) does told
+  goes_cleared (opening.Stops redo opened body was stripe fault x y finds) told = goes_body finds told
+  goes_cleared (opening.BodyLost redo opened body was stripe sector x y finds lost) told = goes_body finds told
+  goes_cleared (opening.Replayed redo opened body was stripe refusal x y z finds found again) told =
+      goes_on (goes_body finds told.0) told.1 (goes_replayed again told.2)
+
+  goes_opened : {answer : Result Geometry Refusal} {x y : Point} → (does : Recovers answer x y) → IsHonestOpening does → Goes x y
+  goes_opened (opening.NoEpoch fault x y fences) told = goes_fenced fences
+  goes_opened (opening.Stops fallen opened redo fault x y z fences found) told = goes_on (goes_fenced fences) told.0 (goes_found found told.1)
+  goes_opened (opening.Goes fallen opened redo answer x y z w fences found cleared) told =
+      goes_on (goes_on (goes_fenced fences) told.0 (goes_found found told.1)) told.2 (goes_cleared cleared told.3)
+
+  goes_stripe : {t : ℕ} {into : Stripe} {answer : Result (Unit {0}) Refusal} {x y : Point} → (does : LoadsStripe t into answer x y)
+      → IsHonestStripe does → Goes x y
+  goes_stripe (calls.Loaded was read gathered answer x y loads restored) told = goes_loaded loads told
+  goes_stripe (calls.Stops was read gathered fault x y loads) told = goes_loaded loads told
+
+  goes_asked : {t i j : ℕ} {x y : Point} → AsksFor t i j x y → Goes x y
+  goes_asked asks = goes_kept _ _ asks.member (λ honest. ran_weakened (fine_read _ _) (asks.ran honest))
+
+  goes_without : {t i j : ℕ} {x y : Point} → CannotHave t i j x y → Goes x y
+  goes_without (calls.NotLive away same) = goes_same same
+  goes_without (calls.WasBad asks reading) = goes_asked asks
+  goes_without (calls.WasGone asks gone) = goes_asked asks
+
+  goes_read : {b : ℕ} {answer : Result (List ℕ) Refusal} {x y : Point} → (does : Reads b answer x y) → IsHonestReading does → Goes x y
+  goes_read (calls.OutOf x past) told = goes_same refl
+  goes_read (calls.Own t i j bytes x y place asks reading) told = goes_asked asks
+  goes_read (calls.Restored t i j into x y z place cannot loads) told = goes_on (goes_without cannot) told.0 (goes_stripe loads told.1)
+  goes_read (calls.Refused t i j into refusal x y z place cannot loads) told = goes_on (goes_without cannot) told.0 (goes_stripe loads told.1)
+
+  goes_ready : {t count : ℕ} {cells : CellSet} {loaded : Stripe} {answer : Result (Unit {0}) Refusal} {x y : Point}
+      → (does : Prepares t count cells loaded answer x y) → IsHonestPreparing does → Goes x y
+  goes_ready (calls.Filled x full) told = goes_same refl
+  goes_ready (calls.ByCells gathered was x y few loads none) told = goes_loaded loads told
+  goes_ready (calls.Stops gathered was fault x y few loads) told = goes_loaded loads told
+  goes_ready (calls.AfterCells gathered was into i j answer x y z few loads erased whole) told =
+      goes_on (goes_loaded loads told.0) told.1 (goes_stripe whole told.2)
+  goes_ready (calls.ByStripe i j answer x y few has away loads) told = goes_stripe loads told
+
+  goes_written : {first : ℕ} {contents : List (List ℕ)} {answer : Result (Unit {0}) Refusal} {x y : Point}
+      → (does : WritesBlocks first contents answer x y) → IsHonestWriting does → Goes x y
+  goes_written (calls.OutOf x past) told = goes_same refl
+  goes_written (calls.IsFrozen x within frozen) told = goes_same refl
+  goes_written (calls.Unready t cells loaded refusal x y place ready) told = goes_ready ready told
+  goes_written (calls.Wrote redo loaded stripe refusal x y z place formed ready set done) told =
+      goes_on (goes_ready ready told.0) told.1 (goes_redo done told.2)
+
+  goes_scrubbed : {t : ℕ} {answer : Result ℕ Refusal} {x y : Point} → (does : Scrubs t answer x y) → IsHonestScrub does → Goes x y
+  goes_scrubbed (mends.OutOf x past) told = goes_same refl
+  goes_scrubbed (mends.Stops was read gathered fault x y within loads) told = goes_loaded loads told
+  goes_scrubbed (mends.Sound was read gathered x y within loads none) told = goes_loaded loads told
+  goes_scrubbed (mends.Unrestored was read into gathered refusal x y within loads lost) told = goes_loaded loads told
+  goes_scrubbed (mends.Rewrote was read into gathered redo refusal x y z within loads whole of_stripe formed on done) told =
+      goes_on (goes_loaded loads told.0) told.1 (goes_redo done told.2)
+
+  -- a slot that is looked at, and prepared
+  goes_looked : {slot : ℕ} {mid : Telling} {x y : Point} → Looks slot mid x y → Goes x y
+  goes_looked {slot} looks =
+      goes_kept _ _ looks.member
+      (λ honest.
+      ran_join (fine_called tt (looks.attached (subst IsTrue (sym looks.later.honest) honest)))
+      (ran_weakened (λ j call is. fine_no_write j call is.0.1) (looks.ran honest)))
+
+  goes_prepared : {slot : ℕ} {x y : Point} → OnlyPrepared slot x y → Goes x y
+  goes_prepared {slot} {x = x} only = goes_kept _ _ only.member (λ honest. ran_weakened (fine_prepared slot x.member.array.geometry) (only.ran honest))
+
+  goes_fit : {slot : ℕ} {answer : Result (Unit {0}) Refusal} {x y : Point} → PreparesSlot slot answer x y → Goes x y
+  goes_fit (mends.WasGone x y only gone) = goes_prepared only
+  goes_fit (mends.WasSmall has needs mid x y looks small) = goes_looked looks
+  goes_fit (mends.WasOther mid x y looks bears) = goes_looked looks
+  goes_fit (mends.Prepared first second mid x y z looks fit later placed sees) =
+      goes_later (goes_looked looks) later (record {
+        rises =
+            let e = sees.drawn in
+            omega (arith, e, le-max_left y.member.drawn (draw_in first), le-max_left (max y.member.drawn (draw_in first)) (draw_in second));
+        fine = λ few honest. fine_placed (λ j k place. below_none k 2 _ place (omega arith)) (placed honest);
+      })
+
+  goes_replaced : {slot : ℕ} {answer : Result (Unit {0}) Refusal} {x y : Point} → (does : Replaces slot answer x y) → IsHonestReplacing does → Goes x y
+  goes_replaced (mends.OutOf x past) told = goes_same refl
+  goes_replaced (mends.Busy x within busy) told = goes_same refl
+  goes_replaced (mends.Unprepared refusal x y free fit) told = goes_fit fit
+  goes_replaced (mends.Admitted answer x y z free fit joins) told = goes_on (goes_fit fit) told (goes_established joins.establishes)
+
+  goes_dropped : {j : ℕ} {refusal : Option FenceFault} {x y : Point} → Drops j refusal x y → Goes x y
+  goes_dropped drops = goes_left drops.leaves
+
+  goes_synced : {j : ℕ} {answer : Reply} {x y : Point} → SyncsSlot j answer x y → Goes x y
+  goes_synced syncs = goes_kept _ _ syncs.member (λ honest. fine_called tt (syncs.synced honest))
+
+  goes_promoted : {j : ℕ} {answer : Result Progress Refusal} {x y : Point} → (does : Promotes j answer x y) → IsHonestPromoting does → Goes x y
+  goes_promoted (mends.Unsynced refusal x y z syncs drops) told = goes_on (goes_synced syncs) told (goes_dropped drops)
+  goes_promoted (mends.Joined answer x y z syncs joins) told = goes_on (goes_synced syncs) told (goes_established joins.establishes)
+
+  -- the rack was honest before it, too
+  told_first : {j : ℕ} {answer : Result Progress Refusal} {x y : Point} → (does : Promotes j answer x y) → IsHonestPromoting does
+      → IsTrue x.told.honest
+  told_first (mends.Unsynced refusal x y z syncs drops) told = subst IsTrue (sym syncs.later.honest) told
+  told_first (mends.Joined answer x y z syncs joins) told = subst IsTrue (sym syncs.later.honest) told
+
+  goes_chunk : {j t : ℕ} {into : Stripe} {answer : Reply} {x y : Point} → WritesChunk j t into answer x y → Goes x y
+  goes_chunk {into = into} {x = x} wrote =
+      goes_kept _ _ wrote.member
+      (λ honest. ran_weakened (fine_write _ _ (stage_behind x.member.array.geometry wrote.redo into stage.Placing)) (wrote.wrote honest).ran)
+
+  goes_rebuilt : {was : ArrayState} {answer : Result Progress Refusal} {x y : Point} → (does : Rebuilds was answer x y) → IsHonestRebuild does → Goes x y
+  goes_rebuilt (mends.NoneIs x none) told = goes_same refl
+  goes_rebuilt (mends.Unread j t into refusal x y next within loads) told = goes_stripe loads told
+  goes_rebuilt (mends.FellLoading j t into x y next within loads fell) told = goes_stripe loads told
+  goes_rebuilt (mends.Fell j t into refusal x y z w next within loads rebuilt wrote drops) told =
+      goes_on (goes_later (goes_stripe loads told.0) wrote.later (goes_chunk wrote)) told.1 (goes_dropped drops)
+  goes_rebuilt (mends.Wrote j t into x y z next within loads rebuilt wrote) told =
+      goes_later (goes_stripe loads told) wrote.later (goes_chunk wrote)
+  goes_rebuilt (mends.WroteLast j t into answer x y z w next within loads rebuilt wrote promotes) told =
+      goes_on (goes_later (goes_stripe loads told.0) wrote.later (goes_chunk wrote)) (told_first promotes told.1) (goes_promoted promotes told.1)
+  goes_rebuilt (mends.OnlyPromotes j t answer x y next at_end promotes) told = goes_promoted promotes told
+
+  -- ---- a step
+
+  pub goes_step : (step : Step) (was : ArrayState) (answer : Answer step) (x y : Point) (does : Does step was answer x y)
+      → IsHonestStep step was answer x y does → Goes x y
+  goes_step Recover was answer x y does told = goes_opened does told
+  goes_step (ReadBlock b) was answer x y does told = goes_read does told
+  goes_step (WriteBlocks first contents) was answer x y does told = goes_written does told
+  goes_step (ScrubStripe t) was answer x y does told = goes_scrubbed does told
+  goes_step (ReplaceSlot j) was answer x y does told = goes_replaced does told
+  goes_step RebuildNext was answer x y does told = goes_rebuilt does told
+  goes_step (SetFrozen frozen) was answer x y (mends.Stamped given a b stamps) told = goes_established stamps.establishes
+  goes_step (SetLabel label) was answer x y (mends.Stamped given a b stamps) told = goes_established stamps.establishes
+  goes_step LookAtSeats was answer x y does told = goes_same does
+
+pub stays_in_step : StepsAreBounded
+stays_in_step step was answer x y g most does told honest few bounded =
+    stays_bounded g most ((goes_step g most step was answer x y does told).fine few honest) bounded

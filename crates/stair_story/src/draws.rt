@@ -1,0 +1,23 @@
+//! The laws of draws: how great they become in an image.
+
+ghost use Rattle.stair_story.specs.Bounded.{
+  CallsAreBounded,
+  EpochsAreBounded,
+  StepsAreBounded,
+  StoriesAreBounded,
+  StoriesAreWithin,
+};
+
+/// What follows of draws at every moment of a call. It does nothing.
+pub fn draw_laws<R, W>()
+    // while an epoch is established none becomes greater than the member's at last
+    ensures epochs { EpochsAreBounded }
+    // nor in a step, if the rack told honestly within it
+    ensures steps { StepsAreBounded }
+    // over a story none becomes greater than the slots' weights and the steps' allowances let it
+    ensures bounded { StoriesAreBounded R W }
+    // nor than plain numbers let it
+    ensures within { StoriesAreWithin R W }
+    // and so it is over a whole call, of what was borne at its entry
+    ensures calls { CallsAreBounded R W }
+{}
