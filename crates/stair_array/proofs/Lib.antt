@@ -9,3 +9,10 @@ pub mod PulledLemmas
 pub mod CreateLemmas
 pub mod CreatesLemmas
 pub mod KeepLemmas
+pub mod RecoveredLemmas
+pub mod RecoveredMoments
+pub mod EnoughLemmas
+pub mod NeverFewLemmas
+pub mod CompleteLemmas
+pub mod DrawsLemmas
+pub mod RecoverLemmas

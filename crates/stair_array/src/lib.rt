@@ -7,6 +7,7 @@ mod look;
 pub mod machine;
 mod new_array;
 mod new_device;
+pub mod recovered;
 #[cfg(test)]
 mod tests;
 

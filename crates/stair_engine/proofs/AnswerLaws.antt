@@ -76,7 +76,7 @@ not_none_and_some None none some = cc
 not_none_and_some (Some x) none some = cc
 
 -- what holds where there is a value
-at_ok : {T E P : Type 0} (r : Result T E) → IsOk r → IfOk r (λ _. P) → P
+pub at_ok : {T E P : Type 0} (r : Result T E) → IsOk r → IfOk r (λ _. P) → P
 at_ok (Ok x) ok fact = fact
 at_ok (Err y) ok fact = cc
 

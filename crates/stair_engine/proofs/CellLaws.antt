@@ -4,16 +4,17 @@ use Rattle.std.specs.Prelude.{Option, All}
 use Rattle.std.specs.List.{concat}
 use Rattle.std.specs.Io.KnownBytes.{Appends}
 use Rattle.std.proofs.KnownBytes.{Appends-trans}
+use Rattle.std.proofs.Math.Nat.{mul-le-mul}
 use Rattle.std.proofs.lemmas.List.{take_more, take_more_set, take_all}
 use Rattle.std.proofs.lemmas.List.Elements.{All-head, All-tail}
 use Rattle.std.proofs.lemmas.List.Folds.{concat-append}
-use Rattle.stair_model.specs.Geometry.{Geometry}
+use Rattle.stair_model.specs.Geometry.{Geometry, IsWithinLimits}
 use Rattle.stair_model.specs.Stripe.{Stripe, IsSector, IsStripeOf, IsWellFormed, with_cell}
 use Rattle.stair_model.proofs.StripeLaws.{number_in}
 use Rattle.stair_story.specs.declared.intake.Intake.{Intake}
 use Rattle.stair_story.specs.Outside.{SourceView}
 use Rattle.stair_story.specs.Story.{IsPart}
-use Rattle.stair_story.specs.Taking.{TakesBytes}
+use Rattle.stair_story.specs.Taking.{TakesBytes, intake_of}
 use Rattle.stair_story.proofs.IntakeLaws.{TakesBytes-none, TakesBytes-more}
 
 pub concat-push : (xs : List (List ℕ)) (x : List ℕ) → concat (xs ++ x ∷ []) ≡ concat xs ++ x
@@ -33,6 +34,18 @@ length-cells g stripe of well = well.count ∙ ap₂ (λ (a b : ℕ). a * b) of.
 pub length-cell_bytes : (g : Geometry) (stripe : Stripe) → IsStripeOf g stripe → IsWellFormed stripe
     → length (concat stripe.cells) ≡ g.r * g.n * 512
 length-cell_bytes g stripe of well = length-concat stripe.cells well.sectors ∙ ap (λ k. k * 512) (length-cells g stripe of well)
+
+-- all slots of a row, and so one row more
+pub row_more : (row n slot : ℕ) → slot ≡ n → row * n + slot ≡ (row + 1) * n
+row_more row n slot all = grind arith
+
+-- a stripe has few cells
+pub few_cells : (g : Geometry) → IsWithinLimits g → g.r * g.n ≤ 32 * 32
+few_cells g limits = mul-le-mul limits.rows.1 limits.devices.1
+
+-- before anything was taken there is room for all that is needed
+pub has_room : (intake : Intake) (needed : ℕ) → intake ≡ intake_of needed → intake.took + needed ≤ intake.needed
+has_room intake needed is = omega (arith, ap (λ (k : Intake). k.took) is, ap (λ (k : Intake). k.needed) is)
 
 -- the stripe's first `done` cells are what the source gave
 pub record HasTaken {S : Type 0} (view : SourceView S) (g : Geometry) (first now : Intake) (stripe : Stripe) (done : ℕ) (old new : S) : Type 0 where

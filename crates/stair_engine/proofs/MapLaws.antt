@@ -1,5 +1,6 @@
 -- The erased cells of a map, row by row.
-use Rattle.std.proofs.Common.{◌≡◌, ◌≢◌, ℕ, ◌+◌, ◌*◌, ◌<◌, ◌⊎◌, ◌↔◌, inl, inr, List, [], ◌++◌, length, get_or, refl, sym, ap, ◌∙◌, arith, length-append}
+use Rattle.std.proofs.Common.{◌≡◌, ◌≢◌, ℕ, ◌+◌, ◌*◌, ◌<◌, ◌≤◌, ◌⊎◌, ◌↔◌, inl, inr, le_refl, List, [], ◌++◌, length, get_or, refl, sym, ap, ◌∙◌, arith, length-append}
+use Rattle.std.proofs.Math.Nat.{mul-le-mul}
 use Rattle.std.proofs.lemmas.Bool.{cases_lt}
 use Rattle.std.proofs.lemmas.List.{get_or_append_left, get_or-append-add}
 use Rattle.stair_model.specs.Geometry.{Geometry}
@@ -9,6 +10,7 @@ use Rattle.stair_story.specs.Outside.{SourceView}
 use Rattle.stair_story.specs.Taking.{TakesBytes}
 use Rattle.stair_engine.specs.Taking.{TakesMap}
 use Rattle.stair_model.proofs.StripeLaws.{number_in}
+use Rattle.stair_engine.proofs.CellLaws.{row_more}
 use Rattle.stair_story.proofs.IntakeLaws.{TakesBytes-none, TakesBytes-more}
 
 -- of this row, the cells were added whose marks, below `count`, aren't those of held ones
@@ -61,6 +63,10 @@ AddsErased-held old now row slot marks held before i j = (
     ]
   ],
 )
+
+-- a row more is within all rows
+pub row_in_rows : (row r n : ℕ) → row < r → row * n + n ≤ r * n
+row_in_rows row r n below = omega (arith, row_more row n n refl, mul-le-mul below (le_refl n))
 
 -- the first rows of a map were taken, and their erased cells are in the set
 pub record HasMapped {S : Type 0} (view : SourceView S) (g : Geometry) (first now : Intake) (erased : CellSet) (row : ℕ) (old new : S) : Type 0 where

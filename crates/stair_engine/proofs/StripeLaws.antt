@@ -1,18 +1,22 @@
 -- The plans of the commands on one stripe.
-use Rattle.std.proofs.Common.{◌≡◌, ℕ, List, Ok, subst, Option, None, Some}
+use Rattle.std.proofs.Common.{◌≡◌, ℕ, List, Result, Ok, Err, subst, Option, None, Some}
+use Rattle.std.specs.Result.{IsErrAnd}
 use Rattle.stair_model.specs.Geometry.{Geometry}
 use Rattle.stair_story.specs.Answer.{Judges, bytes_needed}
 use Rattle.stair_conf.specs.declared.job.StripeCommand.{StripeCommand}
+use Rattle.stair_story.specs.declared.fault.Fault.{Fault}
+use Rattle.stair_story.specs.declared.fault.Fault.TheVariants.{Memory, Output}
 use Rattle.stair_story.specs.declared.status.Status.{Status}
 use Rattle.stair_story.specs.declared.status.Status.TheVariants.{Done}
-use Rattle.stair_story.specs.Means.{Counts, Means}
+use Rattle.stair_story.specs.Fault.{status_of}
+use Rattle.stair_story.specs.Means.{Counts, Holds, Means}
 use Rattle.stair_story.specs.Outside.{Outside, Views, outside}
-use Rattle.stair_story.specs.Plan.{Plan, answer}
+use Rattle.stair_story.specs.Plan.{Plan, Over, answer}
 use Rattle.stair_story.specs.Question.{Judgement}
-use Rattle.stair_story.specs.Story.{Found}
+use Rattle.stair_story.specs.Story.{Found, HasPut, IsPart, PutFailed}
 use Rattle.stair_story.specs.Taking.{TakesWhole}
 use Rattle.stair_engine.specs.Plans.{input_plan, judged, stripe_plan, tested_plan, within_limits}
-use Rattle.stair_story.proofs.PlanLaws.{and_then, finds, takes_whole}
+use Rattle.stair_story.proofs.PlanLaws.{and_then, cannot_put, finds, grows, hands_on, puts, runs_out, takes_whole}
 use Rattle.stair_story.specs.Ending.{MakesNoCall}
 
 module _ {S K : Type 0} (view : Views S K) where
@@ -36,6 +40,53 @@ module _ {S K : Type 0} (view : Views S K) where
   pub of_geometry : (command : StripeCommand) (told g : Geometry) (rest : Plan) (a b : Outside S K) → told ≡ g
       → Means view (input_plan command told) rest a b → Means view (input_plan command g) rest a b
   of_geometry command told g rest a b same means = subst (λ (of : Geometry). Means view (input_plan command of) rest a b) same means
+
+  -- there was memory
+  pub after_memory : (command : StripeCommand) (g : Geometry) (rest : Plan) (a b : Outside S K) → Means view (input_plan command g) rest a b
+      → Means view (stripe_plan command g) rest a b
+  after_memory command g rest a b means = and_then view (grows view (input_plan command g) a) means
+
+  -- there was none, and that was handed on
+  pub no_memory : (command : StripeCommand) (g : Geometry) (result : Result Status Fault) (a : Outside S K) → IsErrAnd result (λ y. y ≡ Memory)
+      → Means view (stripe_plan command g) (Over (status_of result)) a a
+  no_memory command g result a is = hands_on view (stripe_plan command g) a a result Memory is (runs_out view (input_plan command g) a)
+
+  -- a whole input was refused, and that was handed on
+  pub input_refused : {T : Type 0} (command : StripeCommand) (told g : Geometry) (result : Result Status Fault) (fault : Fault)
+      (IsInput : T → List ℕ → Type 0) (source source' : S) (sink : K) (n : ℕ) → told ≡ g
+      → TakesWhole view.source (bytes_needed command told) (Err fault) IsInput source source' → IsErrAnd result (λ y. y ≡ fault)
+      → Means view (input_plan command g) (Over (status_of result)) (outside source sink n) (outside source' sink n)
+  input_refused command told g result fault IsInput source source' sink n same whole is =
+      of_geometry command told g (Over (status_of result)) (outside source sink n) (outside source' sink n) same
+      (hands_on view (input_plan command told) (outside source sink n) (outside source' sink n) result fault is
+      (takes_whole view (bytes_needed command told) (Err fault) IsInput source source' sink n (judged command told) whole))
+
+  -- a whole input of the geometry that a code told was taken, and judged; what was to be put out
+  module _ {T : Type 0} (command : StripeCommand) (told g : Geometry) (x : T) (IsInput : T → List ℕ → Type 0) (source source' : S) (sink : K) (n n' : ℕ)
+      (same : told ≡ g) (whole : TakesWhole view.source (bytes_needed command told) (Ok x) IsInput source source') where
+    pub told_judged : (status : Status) (output : List ℕ) → Judges command told whole.bytes status output
+        → Counts (Found (Judgement command told whole.bytes)) n n'
+        → Means view (input_plan command g) (answer status output) (outside source sink n) (outside source' sink n')
+    told_judged status output is counts =
+        of_geometry command told g (answer status output) (outside source sink n) (outside source' sink n') same
+        (takes_judged command told x IsInput source source' sink n n' whole status output is counts)
+
+    -- was put out
+    pub judged_put : (output : List ℕ) (sink' : K) → Judges command told whole.bytes Done output
+        → Counts (Found (Judgement command told whole.bytes)) n n' → Holds view.sink (HasPut output) sink sink'
+        → Means view (input_plan command g) (Over Done) (outside source sink n) (outside source' sink' n')
+    judged_put output sink' is counts holds =
+        and_then view (told_judged Done output is counts) (puts view output (Over Done) source' sink sink' n' holds)
+
+    -- or a part of it was, and the fault was handed on
+    pub judged_unput : (output part : List ℕ) (sink' : K) (result : Result Status Fault) (fault : Fault) → Judges command told whole.bytes Done output
+        → Counts (Found (Judgement command told whole.bytes)) n n' → IsPart part output → Holds view.sink (PutFailed part) sink sink'
+        → fault ≡ Output → IsErrAnd result (λ y. y ≡ fault)
+        → Means view (input_plan command g) (Over (status_of result)) (outside source sink n) (outside source' sink' n')
+    judged_unput output part sink' result fault is counts is_part holds failed handed =
+        hands_on view (input_plan command g) (outside source sink n) (outside source' sink' n') result Output
+        (subst (λ (why : Fault). IsErrAnd result (λ y. y ≡ why)) failed handed)
+        (and_then view (told_judged Done output is counts) (cannot_put view output part (Over Done) source' sink sink' n' is_part holds))
 
 -- ---- they make no call on a rack
 

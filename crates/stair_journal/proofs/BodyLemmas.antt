@@ -466,6 +466,7 @@ module _ (g : Geometry) (live : Slots) (redo : Redo) (start now : Standing) (of 
     live_gone = λ j has. (newly j has).0;
     gone = λ j has. (newly j has).1;
     formed = all.asks.formed formed;
+    honest = all.asks.later.honest;
     counts = all.asks.later.counts;
     ran = all.asks.ran;
   }

@@ -1,5 +1,5 @@
 -- A phase that was made slot by slot, or sector by sector, and then synced.
-use Rattle.std.proofs.Common.{◌≡◌, ℕ, ◌<◌, Bool, List, ◌⊎◌, inl, inr, Some}
+use Rattle.std.proofs.Common.{◌≡◌, ℕ, ◌<◌, Bool, List, ◌⊎◌, inl, inr, refl, Some}
 use Rattle.std.specs.Prelude.{IsTrue}
 use Rattle.stair_model.specs.Slots.{Slots, HasSlot, IsSlotSet}
 use Rattle.stair_rack.specs.Count.{Rose, Rose-kept, kept-Rose}
@@ -29,6 +29,7 @@ module _ (what : Writes) (to gone all : Slots) (honest : Bool) (old mid : Seen)
 
   pub does_phase : DoesPhase what to all (telling honest old.history old.bads old.gones) (telling honest new bads gones)
   does_phase = record {
+    honest = refl;
     placed = placed;
     told = told;
     among = λ j has. elim (are j has) [ inl was ↦ (were j was).0 | inr now ↦ now.0 ];

@@ -462,6 +462,7 @@ gates_all g live gates old now count count' all = record {
   gone = all.gone;
   formed_opened = all.formed_opened;
   formed_gone = all.formed_gone;
+  honest = all.later.honest;
   counts = all.later.counts;
   ran = all.ran;
 }

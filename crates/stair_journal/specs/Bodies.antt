@@ -47,6 +47,7 @@ module _ (g : Geometry) (live gone : Slots) (was into : Stripe) (old new : Telli
 -- What reading the body of a redo does.
 pub record ReadsBody (g : Geometry) (live : Slots) (redo : Redo) (body : Body)
     (was into : Stripe) (old new : Telling) : Type 0 where
+  pub honest : old.honest ≡ new.honest
   pub each : (i c : ℕ) → HasCell redo.cells i c
       → IsGiven g live body.gone was into old new i c
       ⊎ IsUngiven g live body.gone was into old new i c

@@ -37,6 +37,7 @@ pub record IsOpened (g : Geometry) (redo : Option Redo) (gate : Cell) : Type 0 w
 -- What reading the gates of the live slots does.
 pub record ReadsGates (g : Geometry) (live : Slots) (gates : Gates) (old new : Telling)
     : Type 0 where
+  pub honest : old.honest ≡ new.honest
   -- the gate of each live slot that wasn't gone, as it was read
   pub gate : ℕ → Cell
   pub read : (j : ℕ) → IsRead live gates.gone j → IsReading j gate_sector old new (gate j)

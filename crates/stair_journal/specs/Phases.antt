@@ -20,6 +20,7 @@ AnswersGone (Sync answer) = answer ≡ reply.Gone
 -- These writes were made on the slots of `to`, which were then synced, but for those of `gone`: each of these was gone, and
 -- its count rose.
 pub record DoesPhase (what : Writes) (to gone : Slots) (old new : Telling) : Type 0 where
+  pub honest : old.honest ≡ new.honest
   pub placed : IsTrue new.honest
       → Placed what (HasSlot to) (HasSlot gone) old.history new.history
   -- on an honest rack a slot that answered gone to a write or a sync is one of them

@@ -134,7 +134,7 @@ module _ (aim : Aim) (gone : Slots) (m last : Membership) (old new : List Happen
 
     origin : (j : ℕ) (s : Superblock) → (bears : Bears m.array.geometry j ((image j).cell) s)
         → IsOf (IsWritable st.fencing.issued.slots old) r.editions j ((image_now old j).cell bears.place) s
-    origin = from aim gone m last old new st.fencing new end image left r
+    origin = from aim gone m last old new new st.fencing image left r
 
     -- no edition is of a later epoch
     edition_most : (e : Edition) → Contains r.editions e → e.array.epoch ≤ last.array.epoch
@@ -242,7 +242,7 @@ module _ (aim : Aim) (gone : Slots) (m last : Membership) (old new : List Happen
     -- what lies aside of a slot that is here is its superblock of the last epoch
     own : (j : ℕ) (s : Superblock) → IsHere last j → HoldsSuper ((image j).cell (1 - place_of last j)) s → s.joined ≡ joined_in last.array j
     own j s here holds =
-        elim (comes aim gone m last old new st.fencing new end image left r j below) [
+        elim (comes aim gone m last old new new st.fencing image left r j below) [
           | NothingThere none ↦ absurd (none_held_there ((image j).cell (1 - place_of last j)) s (none (1 - place_of last j)) holds)
           | SameMedium same each ↦ by same (st.on_disk.on_disk j here)
         ]
@@ -328,7 +328,7 @@ module _ (aim : Aim) (gone : Slots) (m last : Membership) (old new : List Happen
                 let held = super_held ((image j).cell) s is in
                 let newer : IsNoOlder s (copy_of (edition_of last) j) =
                 super_no_older ((image j).cell) s (copy_of (edition_of last) j) (1 - place_of last j) (omega arith) is holds in
-                elim (comes aim gone m last old new st.fencing new end image left r j below) [
+                elim (comes aim gone m last old new new st.fencing image left r j below) [
                   | NothingThere none ↦ absurd (none_held_there ((image j).cell (1 - place_of last j)) (copy_of (edition_of last) j) (none (1 - place_of last j)) holds)
                   | SameMedium _ each ↦
                       same_of s newer (held_at is) (held_in is)
@@ -354,7 +354,7 @@ module _ (aim : Aim) (gone : Slots) (m last : Membership) (old new : List Happen
       drawn j k s (inr joining_next) on lt holds = joins.drawn image left j k s joining_next.0 on lt holds
       drawn j k s (inl here) on lt holds =
           let below : j < m.array.geometry.n = subst (λ (g : Geometry). j < g.n) st.established.stands.geometry here.below in
-          elim (comes aim gone m last old new st.fencing new end image left r j below) [
+          elim (comes aim gone m last old new new st.fencing image left r j below) [
             | SameMedium same each ↦
                 drawn_at j k s lt (stayed j here) (was_attached j here) holds
                 (held_of (IsWritable st.fencing.issued.slots old) r.editions j ((image_now old j).cell k) ((image j).cell k) s (each k lt) holds)
@@ -415,7 +415,7 @@ module _ (aim : Aim) (gone : Slots) (m last : Membership) (old new : List Happen
       pub known_then : IsKnownTo next last (IsAttached new) image
       known_then = record {
         orderly =
-            subst (λ (g : Geometry). IsOrderly g image) (sym st.established.stands.geometry) (orderly aim gone m last old new new image st.fencing end left);
+            subst (λ (g : Geometry). IsOrderly g image) (sym st.established.stands.geometry) (orderly aim gone m last old new new image st.fencing left);
         latest = latest;
         named = λ j s bears same. last_named j s (to_m j s bears) (omega arith);
         drawn = drawn;

@@ -33,6 +33,8 @@ use Rattle.stair_member.proofs.EstablishLemmas.{Attempt, admits_less, aimed_afte
 
 pub record Ended (aim : Aim) (m0 last : Membership) (gone : Slots) (old new : Telling) : Type 0 where
   pub rules0 : IsMembership m0
+  pub honest : old.honest ≡ new.honest
+  pub rules : IsMembership last
   pub geometry : last.array.geometry ≡ m0.array.geometry
   pub formed : IsSlotSet gone
   pub below : (j : ℕ) → HasSlot gone j → j < m0.array.geometry.n
@@ -60,6 +62,8 @@ pub ended : (aim : Aim) (m0 last : Membership) (gone : Slots) (refusal : Option 
     → (IsTrue new.honest → refusal ≡ None → StandsOnDisk (admitted aim) last old.history new.history) → Establishes aim m0 last refusal old new
 ended aim m0 last gone refusal old new e done refused on_disk = record {
   gone = gone;
+  honest = e.honest;
+  rules = e.rules;
   geometry = e.geometry;
   were_gone = record {
     formed = e.formed;
@@ -114,11 +118,13 @@ ended aim m0 last gone refusal old new e done refused on_disk = record {
 }
 
 pub attempt_refused : (aim0 aim : Aim) (m0 m last : Membership) (gone : Slots) (fault : FenceFault) (old now new : Telling)
-    → Attempt aim0 aim m0 m gone old now → now.honest ≡ new.honest → IsRefused m last fault now new → Establishes aim0 m0 last (Some fault) old new
-attempt_refused aim0 aim m0 m last gone fault old now new a same refused =
+    → Attempt aim0 aim m0 m gone old now → old.honest ≡ new.honest → now.honest ≡ new.honest → IsRefused m last fault now new → Establishes aim0 m0 last (Some fault) old new
+attempt_refused aim0 aim m0 m last gone fault old now new a whole same refused =
     subst (λ (x : Membership). Establishes aim0 m0 x (Some fault) old new) (sym refused.member)
     (ended aim0 m0 m gone (Some fault) old new (record {
       rules0 = a.rules0;
+      honest = whole;
+      rules = a.rules;
       geometry = a.geometry;
       formed = a.formed;
       below = a.below;
@@ -137,7 +143,7 @@ attempt_refused aim0 aim m0 m last gone fault old now new a same refused =
 -- ---- the epoch stands
 
 module _ (aim0 aim : Aim) (m0 m last : Membership) (gone : Slots) (old now new : Telling) (a : Attempt aim0 aim m0 m gone old now)
-    (round : Round aim m last None now new) (same : now.honest ≡ new.honest) where
+    (round : Round aim m last None now new) (same : now.honest ≡ new.honest) (first : old.honest ≡ new.honest) (rules : IsMembership last) where
   moves_last : Moved aim m last None now new
   moves_last = moved aim m last None now new a.may round
 
@@ -179,6 +185,8 @@ module _ (aim0 aim : Aim) (m0 m last : Membership) (gone : Slots) (old now new :
   end : Ended aim0 m0 last gone old new
   end = record {
     rules0 = a.rules0;
+    honest = first;
+    rules = rules;
     geometry = start_geometry;
     formed = a.formed;
     below = a.below;

@@ -6,12 +6,10 @@ use Rattle.stair_model.specs.Slots.{Slots}
 use Rattle.stair_rack.specs.Crash.{CrashMayLeave, image_now}
 use Rattle.stair_rack.specs.History.{Happening, SlotState, slot_state}
 use Rattle.stair_rack.specs.Media.{Image}
-use Rattle.stair_rack.specs.Moments.{IsMoment}
 use Rattle.stair_rack.specs.Offline.{IsAttached, IsKept, Here, Lost}
 use Rattle.stair_rack.specs.Sector.{Cell, Good, Damaged, MayLeave, settled}
 use Rattle.stair_rack.proofs.CrashLemmas.{CrashMayLeave-now, settled_left}
 use Rattle.stair_rack.proofs.MomentLemmas.{at_moment}
-use Rattle.stair_rack.proofs.StretchLemmas.{each_before}
 use Rattle.stair_rack.proofs.TidyLemmas.{history_tidy}
 use Rattle.stair_super.specs.Spelling.{spelled}
 use Rattle.stair_super.specs.Superblock.{Superblock}
@@ -49,18 +47,18 @@ pub record Reaches (m : Membership) (draw epoch : ℕ) (s : Superblock) : Type 0
   pub epochs : m.drawn < draw → epoch ≤ s.array.epoch
 
 -- what the member knew when the call began
-pub known : {aim : Aim} {gone : Slots} {m last : Membership} {old new : List Happening} → IsFencing aim gone m last old new
+pub known : {aim : Aim} {gone : Slots} {m last : Membership} {old h new : List Happening} → IsFencing aim gone m last old h new
     → IsKnownTo (admitted aim) m (IsAttached old) (image_now old)
 known {old = old} f = f.begun.known (image_now old) (CrashMayLeave-now old)
 
-module _ (aim : Aim) (gone : Slots) (m last : Membership) (old new : List Happening) (f : IsFencing aim gone m last old new) (h : List Happening)
-    (at : IsMoment old h new) (image : Image) (left : CrashMayLeave h image)
+module _ (aim : Aim) (gone : Slots) (m last : Membership) (old h new : List Happening) (f : IsFencing aim gone m last old h new)
+    (image : Image) (left : CrashMayLeave h image)
     (r : AreReserved (admitted aim) f.issued.slots f.issued.editions m old h) where
   pub comes : (j : ℕ) → j < m.array.geometry.n
       → SlotComes (IsWritable f.issued.slots old) r.editions j (slot_state old j).pulls (slot_state h j) ((image_now old j).cell) ((image j).cell)
   comes j below =
       slot_comes f.issued.slots r.editions old h image j (history_tidy f.begun.history) (λ k lt. f.begun.settled j k below lt)
-      r.ran (each_before f.returned at) left
+      r.ran f.returned left
 
   pub from : (j : ℕ) (s : Superblock) → (bears : Bears m.array.geometry j ((image j).cell) s)
       → IsOf (IsWritable f.issued.slots old) r.editions j ((image_now old j).cell bears.place) s
@@ -174,9 +172,9 @@ module _ (aim : Aim) (gone : Slots) (m last : Membership) (old new : List Happen
       ]
 
 pub no_earlier : {offline : ℕ → Type 0} (aim : Aim) (gone : Slots) (m last : Membership) (old h new : List Happening) (image : Image)
-    (current : Superblock) (draw epoch : ℕ) (f : IsFencing aim gone m last old new) → IsMoment old h new → CrashMayLeave h image
+    (current : Superblock) (draw epoch : ℕ) (f : IsFencing aim gone m last old h new) → CrashMayLeave h image
     → IsCurrent m.array.geometry image current → AtMost m.array.geometry.m (IsFailed offline m.array.geometry image current) → m.drawn < draw
     → AllBut m.array.geometry.n m.array.geometry.m (HasDraw f.issued.editions draw epoch old h) → epoch ≤ current.array.epoch
-no_earlier {offline} aim gone m last old h new image current draw epoch f at left =
-    no_earlier_then aim gone m last old new f h at image left
-    (at_moment {P = AreReserved (admitted aim) f.issued.slots f.issued.editions m old} f.issued.reserved at) {offline = offline} current draw epoch
+no_earlier {offline} aim gone m last old h new image current draw epoch f left =
+    no_earlier_then aim gone m last old h new f image left
+    (at_moment {P = AreReserved (admitted aim) f.issued.slots f.issued.editions m old} f.issued.reserved f.moment) {offline = offline} current draw epoch

@@ -7,7 +7,6 @@ use Rattle.stair_model.specs.Slots.{Slots}
 use Rattle.stair_rack.specs.Crash.{CrashMayLeave, image_now}
 use Rattle.stair_rack.specs.History.{Happening, slot_state}
 use Rattle.stair_rack.specs.Media.{Image, has_sector}
-use Rattle.stair_rack.specs.Moments.{IsMoment}
 use Rattle.stair_rack.specs.Sector.{content}
 use Rattle.stair_rack.proofs.TidyLemmas.{history_tidy}
 use Rattle.stair_super.specs.Newer.{IsOlder}
@@ -41,8 +40,8 @@ aimed_joining (aims.Admit slot) j w joins = cond-true _ _ _ (eq-eqb j slot (sym 
 aimed_joining (aims.Promote slot) j w joins = absurd (cc)
 aimed_joining (aims.Stamp frozen label) j w joins = absurd (cc)
 
-module _ (aim : Aim) (gone : Slots) (m last : Membership) (old new : List Happening) (f : IsFencing aim gone m last old new) (h : List Happening)
-    (at : IsMoment old h new) (image : Image) (left : CrashMayLeave h image)
+module _ (aim : Aim) (gone : Slots) (m last : Membership) (old h new : List Happening) (f : IsFencing aim gone m last old h new)
+    (image : Image) (left : CrashMayLeave h image)
     (r : AreReserved (admitted aim) f.issued.slots f.issued.editions m old h)
     (hidden : (j : ℕ) (s newest : Superblock) → Bears m.array.geometry j ((image j).cell) s → IsSuperOf ((image j).cell) newest
     → Counts m.array.geometry image j newest × (s.array.epoch ≤ newest.array.epoch)) where
@@ -93,7 +92,7 @@ module _ (aim : Aim) (gone : Slots) (m last : Membership) (old new : List Happen
 
     by_places : (q : ℕ) → q < 2 → HoldsSuper ((image j).cell q) newest → HoldsSuper ((image j).cell (1 - q)) s → s.joined ≡ newest.joined
     by_places q q_in in_new in_s =
-        by (from aim gone m last old new f h at image left r j newest bears_new) (from aim gone m last old new f h at image left r j s bears_s)
+        by (from aim gone m last old h new f image left r j newest bears_new) (from aim gone m last old h new f image left r j s bears_s)
       where
         bears_new : Bears g j ((image j).cell) newest
         bears_new = record { place = q; place_in = q_in; holds = in_new; slot = counts.0.slot; identity = counts.0.identity }
@@ -210,7 +209,7 @@ module _ (aim : Aim) (gone : Slots) (m last : Membership) (old new : List Happen
                   let other : 1 - q ≡ place_of m j = omega (arith, apart, q_in, p_less) in
                   let here : q ≡ 1 - place_of m j = omega (arith, apart, q_in, p_less) in
                   absurd
-                  (turn_in aim gone m last old new f j (is_here j (none_of e among is) has) has.0 has.1 (medium_there (1 - q) was_s) h at image left e s (among_all e among) formed
+                  (turn_in aim gone m last old h new f j (is_here j (none_of e among is) has) has.0 has.1 (medium_there (1 - q) was_s) image left e s (among_all e among) formed
                   (subst (λ (l : ℕ). HoldsSuper ((image_now old j).cell l) s) other was_s)
                   (subst (λ (l : ℕ). HoldsSuper ((image j).cell l) s) other in_s)
                   (subst (λ (l : ℕ). HoldsSuper ((image j).cell l) (copy_of e j)) here (subst (HoldsSuper ((image j).cell q)) is in_new)))

@@ -8,7 +8,6 @@ use Rattle.stair_rack.specs.Answers.{is_good}
 use Rattle.stair_rack.specs.Crash.{CrashMayLeave, image_now}
 use Rattle.stair_rack.specs.History.{Happening, IsTidy, SlotState, slot_state}
 use Rattle.stair_rack.specs.Media.{Image, has_sector}
-use Rattle.stair_rack.specs.Moments.{IsMoment}
 use Rattle.stair_rack.specs.Offline.{IsKept, Here, Lost}
 use Rattle.stair_rack.specs.Sector.{Cell, Good, Damaged, Sector, LeftOf, MayLeave, content, settled, torn}
 use Rattle.stair_rack.proofs.CrashLemmas.{nothing_unsynced, settled_left}
@@ -126,8 +125,8 @@ latest_of (x ∷ xs) bound =
           ]
     ]
 
-module _ (aim : Aim) (gone : Slots) (m last : Membership) (old new : List Happening) (f : IsFencing aim gone m last old new) (h : List Happening)
-    (at : IsMoment old h new) (image : Image) (left : CrashMayLeave h image)
+module _ (aim : Aim) (gone : Slots) (m last : Membership) (old h new : List Happening) (f : IsFencing aim gone m last old h new)
+    (image : Image) (left : CrashMayLeave h image)
     (r : AreReserved (admitted aim) f.issued.slots f.issued.editions m old h) where
   -- of a superblock that stood there when the call began
   entry_bears : (j k : ℕ) (s : Superblock) → k < 2 → HoldsSuper ((image_now old j).cell k) s → s.slot ≡ j → s.array.geometry ≡ m.array.geometry
@@ -308,17 +307,17 @@ module _ (aim : Aim) (gone : Slots) (m last : Membership) (old new : List Happen
     hidden_by (First here rest) (SameMedium same each) =
         hides j s newest bears (First here rest) 0 (omega arith) here (stood_first here rest)
         (held_of (IsWritable f.issued.slots old) r.editions j ((image_now old j).cell 0) ((image j).cell 0) newest (each 0 (omega arith)) here)
-        (from aim gone m last old new f h at image left r j s bears)
+        (from aim gone m last old h new f image left r j s bears)
     hidden_by (Second here rest) (SameMedium same each) =
         hides j s newest bears (Second here rest) 1 (omega arith) here (stood_second here rest)
         (held_of (IsWritable f.issued.slots old) r.editions j ((image_now old j).cell 1) ((image j).cell 1) newest (each 1 (omega arith)) here)
-        (from aim gone m last old new f h at image left r j s bears)
+        (from aim gone m last old h new f image left r j s bears)
 
   hidden : (j : ℕ) (s newest : Superblock) → Bears m.array.geometry j ((image j).cell) s → IsSuperOf ((image j).cell) newest
       → Counts m.array.geometry image j newest × (s.array.epoch ≤ newest.array.epoch)
   hidden j s newest bears super =
       hidden_by j s newest bears super
-      (comes aim gone m last old new f h at image left r j (bears_below m.array.geometry j ((image j).cell) s bears))
+      (comes aim gone m last old h new f image left r j (bears_below m.array.geometry j ((image j).cell) s bears))
 
   -- THE SUPERBLOCK OF A SLOT
 
@@ -335,8 +334,8 @@ module _ (aim : Aim) (gone : Slots) (m last : Membership) (old new : List Happen
     borne : Bears m.array.geometry j ((image j).cell) s
     borne = counts_bears m.array.geometry image j s counts
 
-    here : IsThere aim gone m last old new f h at image left r j
-    here = there aim gone m last old new f h at image left r j below whole
+    here : IsThere aim gone m last old h new f image left r j
+    here = there aim gone m last old h new f image left r j below whole
 
     cells_stayed : ((k : ℕ) → k < 2 → (image j).cell k ≡ (image_now old j).cell k) → IsStill j s
     cells_stayed same =
@@ -453,7 +452,7 @@ module _ (aim : Aim) (gone : Slots) (m last : Membership) (old new : List Happen
       standing_is (AsWas aside next) = next_is (aside_stayed aside) next (here.each (place_of m j) next_in)
       standing_is (Given d) =
           let reached : Reaches m (m.drawn + 1) m.array.epoch s =
-          reaches aim gone m last old new f h at image left r j s (m.drawn + 1) m.array.epoch counts whole d in
+          reaches aim gone m last old h new f image left r j s (m.drawn + 1) m.array.epoch counts whole d in
           let least : m.drawn + 1 ≤ s.draw = reached.draws in
           let within : s.draw ≤ m.drawn = most in
           absurd (omega arith)
@@ -468,14 +467,14 @@ module _ (aim : Aim) (gone : Slots) (m last : Membership) (old new : List Happen
               {P = λ x.
               (i : ℕ) → HasSlot f.issued.slots i → IsSome (slot_state old i).size
               → IsStanding m f.issued.editions old x i}
-              f.issued.standing at j has.0 (medium_there old j borne.place s (history_tidy f.begun.history) was))
+              f.issued.standing f.moment j has.0 (medium_there old j borne.place s (history_tidy f.begun.history) was))
           | inr not_in ↦
               cells_stayed
-              (λ k lt. stayed aim gone m last old new f h at image left r j k lt whole not_in (here.each k lt))
+              (λ k lt. stayed aim gone m last old h new f image left r j k lt whole not_in (here.each k lt))
         ]
 
     still : IsStill j s
-    still = still_of (from aim gone m last old new f h at image left r j s borne)
+    still = still_of (from aim gone m last old h new f image left r j s borne)
 
   -- DRAWS
 
@@ -506,7 +505,7 @@ module _ (aim : Aim) (gone : Slots) (m last : Membership) (old new : List Happen
   no_later : (bound : ℕ) → m.array.epoch ≤ bound → All (λ (e : Edition). e.array.epoch ≤ bound) r.editions
       → NoEpochAbove m.array.geometry image bound
   no_later bound least all j s bears =
-      elim (from aim gone m last old new f h at image left r j s bears) [
+      elim (from aim gone m last old h new f image left r j s bears) [
         | Entry was ↦ let most : s.array.epoch ≤ m.array.epoch = entry_epoch j s (was_borne j s bears was) in omega arith
         | Issue e has among formed is ↦
             let most : e.array.epoch ≤ bound = All-contains (λ (e : Edition). e.array.epoch ≤ bound) r.editions e all among in
@@ -544,7 +543,7 @@ module _ (aim : Aim) (gone : Slots) (m last : Membership) (old new : List Happen
             all_but_mapped {P = WasGiven f.issued.slots r.editions e.array.epoch m.array.epoch old h} {Q = HasReserved m.array.geometry image}
             (λ j below d s counts first second.
             let reached : Reaches m e.array.epoch m.array.epoch s =
-            reaches aim gone m last old new f h at image left r j s e.array.epoch m.array.epoch counts (places_whole ((image j).cell) first second)
+            reaches aim gone m last old h new f image left r j s e.array.epoch m.array.epoch counts (places_whole ((image j).cell) first second)
             (draw_of_call e.array.epoch m.array.epoch j d.has) in
             above_from e.array.epoch s.draw reached.draws (no_later e.array.epoch (omega arith) found.3))
             (r.reserved e found.1 above)
@@ -560,7 +559,7 @@ module _ (aim : Aim) (gone : Slots) (m last : Membership) (old new : List Happen
       all_but_mapped {P = WasGiven f.issued.slots r.editions draw epoch old h} {Q = HasReached m.array.geometry image bound}
       (λ j below d s counts first second.
       let reached : Reaches m draw epoch s =
-      reaches aim gone m last old new f h at image left r j s draw epoch counts (places_whole ((image j).cell) first second)
+      reaches aim gone m last old h new f image left r j s draw epoch counts (places_whole ((image j).cell) first second)
       (draw_of_call draw epoch j d.has) in
       let least : epoch ≤ s.array.epoch = reached.epochs above in
       omega arith)
@@ -660,38 +659,38 @@ module _ (aim : Aim) (gone : Slots) (m last : Membership) (old new : List Happen
     reserved = reserved;
     one_list = λ i j a b of_a of_b same.
         one_list_of i j of_a.place of_b.place a b of_a of_b of_a.place_in of_b.place_in
-        (from aim gone m last old new f h at image left r i a of_a) (from aim gone m last old new f h at image left r j b of_b) same;
+        (from aim gone m last old h new f image left r i a of_a) (from aim gone m last old h new f image left r j b of_b) same;
     hidden = hidden;
-    hides = hides_kept aim gone m last old new f h at image left r hidden;
+    hides = hides_kept aim gone m last old h new f image left r hidden;
     reached = λ i j a b of_a of_b less.
         reached_of i j of_a.place of_b.place a b of_a of_b of_a.place_in of_b.place_in
-        (from aim gone m last old new f h at image left r i a of_a) (from aim gone m last old new f h at image left r j b of_b) less;
+        (from aim gone m last old h new f image left r i a of_a) (from aim gone m last old h new f image left r j b of_b) less;
     joined = λ i k j a b of_a of_b le up up'.
         joined_of i k j of_a.place of_b.place a b of_a of_b of_a.place_in of_b.place_in
-        (from aim gone m last old new f h at image left r i a of_a) (from aim gone m last old new f h at image left r k b of_b) le up up';
+        (from aim gone m last old h new f image left r i a of_a) (from aim gone m last old h new f image left r k b of_b) le up up';
   }
 
-pub orderly : (aim : Aim) (gone : Slots) (m last : Membership) (old h new : List Happening) (image : Image) → IsFencing aim gone m last old new
-    → IsMoment old h new → CrashMayLeave h image → IsOrderly m.array.geometry image
-orderly aim gone m last old h new image f at left =
-    orderly_then aim gone m last old new f h at image left
-    (at_moment {P = AreReserved (admitted aim) f.issued.slots f.issued.editions m old} f.issued.reserved at)
+pub orderly : (aim : Aim) (gone : Slots) (m last : Membership) (old h new : List Happening) (image : Image) → IsFencing aim gone m last old h new
+    → CrashMayLeave h image → IsOrderly m.array.geometry image
+orderly aim gone m last old h new image f left =
+    orderly_then aim gone m last old h new f image left
+    (at_moment {P = AreReserved (admitted aim) f.issued.slots f.issued.editions m old} f.issued.reserved f.moment)
 
 -- each slot has still reached what it had reached, but the one that joins
 pub each_reached : (aim : Aim) (gone : Slots) (m last : Membership) (old h new : List Happening) (image : Image) (j epoch : ℕ)
-    → IsFencing aim gone m last old new → IsMoment old h new → CrashMayLeave h image → epoch ≤ m.array.epoch → admitted aim ≢ Some j
+    → IsFencing aim gone m last old h new → CrashMayLeave h image → epoch ≤ m.array.epoch → admitted aim ≢ Some j
     → HasReached m.array.geometry (image_now old) epoch j → HasReached m.array.geometry image epoch j
-each_reached aim gone m last old h new image j epoch f at left =
-    has_reached aim gone m last old new f h at image left
-    (at_moment {P = AreReserved (admitted aim) f.issued.slots f.issued.editions m old} f.issued.reserved at) j epoch
+each_reached aim gone m last old h new image j epoch f left =
+    has_reached aim gone m last old h new f image left
+    (at_moment {P = AreReserved (admitted aim) f.issued.slots f.issued.editions m old} f.issued.reserved f.moment) j epoch
 
 -- so that all slots but m have
-pub reached_on : (aim : Aim) (gone : Slots) (m last : Membership) (old h new : List Happening) (image : Image) → IsFencing aim gone m last old new
-    → IsMoment old h new → CrashMayLeave h image
+pub reached_on : (aim : Aim) (gone : Slots) (m last : Membership) (old h new : List Happening) (image : Image) → IsFencing aim gone m last old h new
+    → CrashMayLeave h image
     → AllBut m.array.geometry.n m.array.geometry.m
     (λ j. (admitted aim ≢ Some j) × HasReached m.array.geometry (image_now old) m.array.epoch j)
     → AllBut m.array.geometry.n m.array.geometry.m (HasReached m.array.geometry image m.array.epoch)
-reached_on aim gone m last old h new image f at left before =
+reached_on aim gone m last old h new image f left before =
     all_but_mapped {P = λ j. (admitted aim ≢ Some j) × HasReached m.array.geometry (image_now old) m.array.epoch j}
     {Q = HasReached m.array.geometry image m.array.epoch}
-    (λ j below reached. each_reached aim gone m last old h new image j m.array.epoch f at left (omega arith) reached.0 reached.1) before
+    (λ j below reached. each_reached aim gone m last old h new image j m.array.epoch f left (omega arith) reached.0 reached.1) before

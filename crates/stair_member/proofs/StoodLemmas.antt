@@ -87,7 +87,7 @@ formed_here m last j is stands below here =
       };
     }
 
-module _ (aim : Aim) (gone : Slots) (m last : Membership) (old new : List Happening) (f : IsFencing aim gone m last old new) (is : IsMembership last)
+module _ (aim : Aim) (gone : Slots) (m last : Membership) (old new : List Happening) (f : IsFencing aim gone m last old new new) (is : IsMembership last)
     (stands : Stands m last) (image : Image) (left : CrashMayLeave new image) (r : AreReserved (admitted aim) f.issued.slots f.issued.editions m old new) where
   end : IsMoment old new new
   end = moment_last f.issued.ran.more f.issued.ran.is
@@ -133,7 +133,7 @@ module _ (aim : Aim) (gone : Slots) (m last : Membership) (old new : List Happen
 
     pub last_place : HoldsSuper ((image j).cell (1 - place_of last j)) (copy_of (edition_of last) j)
     last_place =
-        let at = there aim gone m last old new f new end image left r j below whole in
+        let at = there aim gone m last old new new f image left r j below whole in
         let cell : (image j).cell (1 - place_of last j) ≡ Good (spelled (copy_of (edition_of last) j)) =
         on_disk (slot_state old j).pulls (1 - place_of last j) (Good (spelled (copy_of (edition_of last) j))) ((image j).cell (1 - place_of last j))
         (slot_state new j) at.same ((left j).each (1 - place_of last j)) (whole (1 - place_of last j) place_in) on in
@@ -143,7 +143,7 @@ module _ (aim : Aim) (gone : Slots) (m last : Membership) (old new : List Happen
     last_edition =
         it_is
         (held_of (IsWritable f.issued.slots old) r.editions j ((image_now old j).cell (1 - place_of last j)) ((image j).cell (1 - place_of last j))
-        (copy_of (edition_of last) j) ((there aim gone m last old new f new end image left r j below whole).each (1 - place_of last j) place_in)
+        (copy_of (edition_of last) j) ((there aim gone m last old new new f image left r j below whole).each (1 - place_of last j) place_in)
         last_place)
 
     -- so its superblock names that epoch or a later one
@@ -165,7 +165,7 @@ module _ (aim : Aim) (gone : Slots) (m last : Membership) (old new : List Happen
         } in
         let above : m.drawn < e.draw = (f.issued.each e of.among).above in
         let reached : Reaches m e.draw e.array.epoch s =
-        reaches aim gone m last old new f new end image left r j s e.draw e.array.epoch counts whole d in
+        reaches aim gone m last old new new f image left r j s e.draw e.array.epoch counts whole d in
         let least : e.array.epoch ≤ s.array.epoch = reached.epochs above in
         let epoch : e.array.epoch ≡ last.array.epoch = ap (λ (c : Configuration). c.epoch) of.array in
         omega arith
@@ -173,7 +173,7 @@ module _ (aim : Aim) (gone : Slots) (m last : Membership) (old new : List Happen
   -- the current superblock is of the last epoch, whose edition this is
   current_is : (e : Edition) → IsLast e → (current : Superblock) → IsCurrent m.array.geometry image current
       → last.array.epoch ≤ current.array.epoch → current.array ≡ last.array
-  current_is e of current is_current least = at_last_epoch (from aim gone m last old new f new end image left r current.slot current bears)
+  current_is e of current is_current least = at_last_epoch (from aim gone m last old new new f image left r current.slot current bears)
     where
       bears : Bears m.array.geometry current.slot ((image current.slot).cell) current
       bears = counts_bears m.array.geometry image current.slot current is_current.counts

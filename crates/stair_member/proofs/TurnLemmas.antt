@@ -8,7 +8,7 @@ use Rattle.stair_rack.specs.Answers.{Ran, is_good}
 use Rattle.stair_rack.specs.Crash.{CrashMayLeave, image_now}
 use Rattle.stair_rack.specs.History.{Happening, Made, Stopped, Acted, Called, SlotAct, Pulled, InsertedBlank, InsertedOld, SectorDamaged, SlotCall, SlotState, Attach, Sectors, Read, Write, Sync, after_act, after_call, slot_state}
 use Rattle.stair_rack.specs.Media.{Image}
-use Rattle.stair_rack.specs.Moments.{AtEveryMoment, IsMoment, Throughout}
+use Rattle.stair_rack.specs.Moments.{AtEveryMoment, Throughout}
 use Rattle.stair_rack.specs.Offline.{IsAttached, IsKept}
 use Rattle.stair_rack.specs.Outside.{IsAct, MayHappen}
 use Rattle.stair_rack.specs.Sector.{Cell, Damaged, Good, Leaves, MayLeave, Sector, content, damaged, settled, synced, torn, wrote}
@@ -18,7 +18,7 @@ use Rattle.stair_rack.proofs.CrashLemmas.{CrashMayLeave-now, leaves_on, nothing_
 use Rattle.stair_rack.proofs.KeptLemmas.{IsKept-mapped, not_none, with_old_cases, with_sector_cases}
 use Rattle.stair_rack.proofs.MomentLemmas.{at_every_mapped, at_moment, ran_before}
 use Rattle.stair_rack.proofs.StepLemmas.{slot_act_cases, slot_call_cases}
-use Rattle.stair_rack.proofs.StretchLemmas.{each_before, kept_where}
+use Rattle.stair_rack.proofs.StretchLemmas.{kept_where}
 use Rattle.stair_rack.proofs.TidyLemmas.{history_tidy}
 use Rattle.stair_super.specs.Spelling.{spelled}
 use Rattle.stair_super.specs.Superblock.{Superblock, IsSuperblock}
@@ -40,7 +40,7 @@ after_each : (P : List Happening → Type 0) (more old : List Happening) → Thr
 after_each P [] old all = tt
 after_each P (e ∷ more) old all = (after_each P more old all.1, all.0)
 
-module _ (aim : Aim) (gone : Slots) (m last : Membership) (old new : List Happening) (f : IsFencing aim gone m last old new)
+module _ (aim : Aim) (gone : Slots) (m last : Membership) (old h new : List Happening) (f : IsFencing aim gone m last old h new)
     (j : ℕ) (here : IsHere m j) (has : HasSlot f.issued.slots j) (on : IsAttached old j) (some : IsSome (slot_state old j).size) where
   abbrev p : ℕ
   p = place_of m j
@@ -253,15 +253,15 @@ module _ (aim : Aim) (gone : Slots) (m last : Membership) (old new : List Happen
 
   -- IN AN IMAGE
 
-  pub turn_in : (h : List Happening) → IsMoment old h new → (image : Image) → CrashMayLeave h image → (e : Edition) (s : Superblock)
+  pub turn_in : (image : Image) → CrashMayLeave h image → (e : Edition) (s : Superblock)
       → Contains editions e → IsSuperblock (copy_of e j) → HoldsSuper ((image_now old j).cell p) s → HoldsSuper ((image j).cell p) s
       → ¬ HoldsSuper ((image j).cell o) (copy_of e j)
-  turn_in h at image left e s among formed was now copy = by (at_moment {P = InTurn} in_turn at)
+  turn_in image left e s among formed was now copy = by (at_moment {P = InTurn} in_turn f.moment)
     where
       lost : first.pulls < (slot_state h j).pulls → ⊥
       lost less =
           elim (slot_is slots editions old h j (history_tidy f.begun.history) (λ k lt. f.begun.settled j k here.below lt)
-          (ran_before {allowed = IsIssuing slots editions} f.issued.ran at) (each_before f.returned at)) [
+          (ran_before {allowed = IsIssuing slots editions} f.issued.ran f.moment) f.returned) [
             | Same was same has_size each ↦ omega (arith, same, less)
             | Bare off bare ↦
                 none_held_there ((image j).cell p) s

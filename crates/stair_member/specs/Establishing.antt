@@ -7,7 +7,7 @@ use Rattle.stair_super.specs.declared.mark.Mark.TheVariants as mark
 use Rattle.stair_member.specs.Aims.{IsAimed, admitted, aimed}
 use Rattle.stair_member.specs.Editions.{edition_of}
 use Rattle.stair_member.specs.Epochs.{IsRefusedBy, IsTaken, Issued, Stands, StandsOnDisk, WereGone}
-use Rattle.stair_member.specs.Membership.{Membership, IsHere, why_of}
+use Rattle.stair_member.specs.Membership.{Membership, IsHere, IsMembership, why_of}
 use Rattle.stair_rack.specs.Telling.{Telling}
 use Rattle.stair_member.specs.declared.aim.Aim.{Aim}
 use Rattle.stair_member.specs.declared.aim.Aim.TheVariants.{Fence, Stamp}
@@ -48,6 +48,8 @@ pub record Establishes (aim : Aim) (m last : Membership) (refusal : Option Fence
     (old new : Telling) : Type 0 where
   pub gone : Slots
   -- on any rack
+  pub honest : old.honest ≡ new.honest
+  pub rules : IsMembership last
   pub geometry : last.array.geometry ≡ m.array.geometry
   pub were_gone : WereGone gone m last old new
   -- each slot that was gone took part when the call began, or was to be admitted

@@ -7,6 +7,7 @@ use Rattle.stair_rack.specs.Answers.{IsHistory}
 use Rattle.stair_rack.specs.Crash.{CrashMayLeave, EachImage}
 use Rattle.stair_rack.specs.History.{Happening, slot_state}
 use Rattle.stair_rack.specs.Media.{Image}
+use Rattle.stair_rack.specs.Moments.{IsMoment}
 use Rattle.stair_rack.specs.Offline.{IsAttached}
 use Rattle.stair_rack.specs.Stretch.{NothingReturned}
 use Rattle.stair_super.specs.Superblock.{Superblock, joined_at, joined_in, mark_at, mark_in}
@@ -94,17 +95,18 @@ pub record IsNamedBy (last : Membership) (image : Image) (current : Superblock) 
   pub array : current.array ≡ last.array
   pub live : (j : ℕ) → IsLive last.array.geometry image current j → why_of last j ≡ Here
 
--- A call that began with the member m and ended with `last`, while no removed medium came back.
-pub record IsFencing (aim : Aim) (gone : Slots) (m last : Membership) (old new : List Happening)
-    : Type 0 where
+-- A moment h of a call that began with the member m and ended with `last`, up to which no removed medium came back.
+pub record IsFencing (aim : Aim) (gone : Slots) (m last : Membership)
+    (old h new : List Happening) : Type 0 where
   pub begun : IsBegun (admitted aim) m old
+  pub moment : IsMoment old h new
   pub issued : Issued aim gone m last old new
-  pub returned : NothingReturned old new
+  pub returned : NothingReturned old h
 
 -- An epoch stands at the end of a call.
 pub record HasStood (aim : Aim) (gone : Slots) (m last : Membership) (old new : List Happening)
     : Type 0 where
-  pub fencing : IsFencing aim gone m last old new
+  pub fencing : IsFencing aim gone m last old new new
   pub member : IsMembership last
   pub established : IsEstablished aim m last gone
   pub dropped : (j : ℕ) → HasSlot gone j → why_of last j ≡ Gone

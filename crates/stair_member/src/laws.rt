@@ -7,7 +7,6 @@ ghost use Rattle.stair_rack.specs.Answers.{Ran};
 ghost use Rattle.stair_rack.specs.Crash.{CrashMayLeave, image_now};
 ghost use Rattle.stair_rack.specs.History.{Happening, stopped};
 ghost use Rattle.stair_rack.specs.Media.{Image};
-ghost use Rattle.stair_rack.specs.Moments.{IsMoment};
 ghost use Rattle.stair_rack.specs.Sector.{Cell, Good};
 ghost use Rattle.stair_rack.specs.Stretch.{NothingReturned};
 ghost use Rattle.stair_super.specs.Spelling.{spelled};
@@ -16,7 +15,7 @@ ghost use Rattle.stair_member.specs.Aims.{admitted, mark_for};
 ghost use Rattle.stair_member.specs.declared.aim.Aim.{Aim};
 ghost use Rattle.stair_member.specs.declared.why.Why.TheVariants.{Here};
 ghost use Rattle.stair_member.specs.Counting.{MoreThan, AtMost, AllBut};
-ghost use Rattle.stair_member.specs.Current.{HasMark, IsCurrent, IsFailed, IsLive, IsLost, Serves};
+ghost use Rattle.stair_member.specs.Current.{HasMark, IsCurrent, IsFailed, Serves};
 ghost use Rattle.stair_member.specs.Editions.{Edition, copy_of, edition_of};
 ghost use Rattle.stair_member.specs.Epochs.{HasDraw, IsIssuing};
 ghost use Rattle.stair_member.specs.Fencing.{HasStood, IsBegun, IsCopy, IsFencing, IsNamedBy, MayBear, MayJoin};
@@ -32,7 +31,6 @@ ghost use Rattle.stair_member.specs.Reserve.{
 };
 ghost use Rattle.stair_member.specs.Seeing.{Sees};
 ghost use Rattle.stair_member.specs.Superblocks.{
-  Counts,
   CountsFor,
   HasSuper,
   Identifies,
@@ -104,7 +102,7 @@ pub fn epoch_laws()
     // where all slots but m have a new draw with an epoch on their disks, none earlier than it is current
     ensures no_earlier { (aim : Aim) (gone : Slots) (m last : Membership)
         (old h new : List Happening) (image : Image) (offline : Slots) (current : Superblock)
-        (draw epoch : ℕ) (fencing : IsFencing aim gone m last old new) → IsMoment old h new →
+        (draw epoch : ℕ) (fencing : IsFencing aim gone m last old h new) →
         CrashMayLeave h image → IsCurrent m.array.geometry image current →
         AtMost m.array.geometry.m (IsFailed (HasSlot offline) m.array.geometry image current) →
         m.drawn < draw → AllBut m.array.geometry.n m.array.geometry.m
@@ -118,19 +116,19 @@ pub fn epoch_laws()
         IsNamedBy last image current }
     // and at each moment the superblocks are in order
     ensures orderly { (aim : Aim) (gone : Slots) (m last : Membership)
-        (old h new : List Happening) (image : Image) → IsFencing aim gone m last old new →
-        IsMoment old h new → CrashMayLeave h image → IsOrderly m.array.geometry image }
+        (old h new : List Happening) (image : Image) → IsFencing aim gone m last old h new →
+        CrashMayLeave h image → IsOrderly m.array.geometry image }
     // and each slot has still reached the epochs that it had, but the slot that joins;
     ensures each_reached { (aim : Aim) (gone : Slots) (m last : Membership)
         (old h new : List Happening) (image : Image) (j epoch : ℕ) →
-        IsFencing aim gone m last old new → IsMoment old h new → CrashMayLeave h image →
+        IsFencing aim gone m last old h new → CrashMayLeave h image →
         epoch ≤ m.array.epoch → admitted aim ≢ Some j →
         HasReached m.array.geometry (image_now old) epoch j →
         HasReached m.array.geometry image epoch j }
     // so all slots but m have still reached the one before
     ensures reached { (aim : Aim) (gone : Slots) (m last : Membership)
-        (old h new : List Happening) (image : Image) → IsFencing aim gone m last old new →
-        IsMoment old h new → CrashMayLeave h image →
+        (old h new : List Happening) (image : Image) → IsFencing aim gone m last old h new →
+        CrashMayLeave h image →
         AllBut m.array.geometry.n m.array.geometry.m (λ j. (admitted aim ≢ Some j)
         × HasReached m.array.geometry (image_now old) m.array.epoch j) →
         AllBut m.array.geometry.n m.array.geometry.m

@@ -2,7 +2,6 @@
 use Rattle.stair_session.proofs.InSessionLemmas.{IsPrepared}
 use Rattle.stair_state.specs.Recovering.{IsShut}
 use Rattle.stair_member.specs.Epochs.{IsTaken}
-use Rattle.stair_rack.specs.Moments.{IsMoment}
 use Rattle.std.specs.Prelude.{IsTrue}
 use Rattle.std.proofs.Common.{◌≡◌, ℕ, ◌<◌, ◌≤◌, List, ◌⊎◌, inl, inr, sym, subst, arith, Option, None, ◌≢◌, Some}
 use Rattle.std.proofs.lemmas.Bool.{cases_eq}
@@ -156,11 +155,11 @@ module _ (m : Membership) (redo : Redo) (old_words new_words : Codewords) (stage
 
   -- Whatever a crash leaves then represents the state, with the marks of that image's current superblock.
   pub represents_fenced : (gone : Slots) (last : Membership) (now new : List Happening) (image : Image) (content : Content) (doubt : Option Change)
-      → IsOfStage aims.Fence m (doing m redo old_words new_words) stage content doubt → IsFencing aims.Fence gone m last h new → IsMoment h now new
+      → IsOfStage aims.Fence m (doing m redo old_words new_words) stage content doubt → IsFencing aims.Fence gone m last h now new
       → ¬ IsTrue (stopped now) → CrashMayLeave now image → (tolerated : IsToleratedAlone m.array.geometry image)
       → RepresentsAlone (state_with m content doubt tolerated.current.array) image
-  represents_fenced gone last now new image content doubt of f at going left =
-      stands_then aims.Fence gone m last h now new f prepared at going image left redo old_words new_words stage start settled staged content doubt redoing of
+  represents_fenced gone last now new image content doubt of f going left =
+      stands_then aims.Fence gone m last h now new f prepared going image left redo old_words new_words stage start settled staged content doubt redoing of
 
 -- OF ANY REDO
 
@@ -200,8 +199,8 @@ module _ (a : Redoing) (m : Membership) (stage : Stage) (live : Slots) (start h 
   pub amid : (before : List Happening) → IsTolerated m.array.geometry before h → Represents (state_with m content doubt m.array) h
   amid = represents_amid m a.redo a.old a.new stage start h is redoing_over serving_over content doubt of_stage
 
-  pub fenced : (gone : Slots) (last : Membership) (now new : List Happening) (image : Image) → IsFencing aims.Fence gone m last h new
-      → IsMoment h now new → ¬ IsTrue (stopped now) → CrashMayLeave now image → (tolerated : IsToleratedAlone m.array.geometry image)
+  pub fenced : (gone : Slots) (last : Membership) (now new : List Happening) (image : Image) → IsFencing aims.Fence gone m last h now new
+      → ¬ IsTrue (stopped now) → CrashMayLeave now image → (tolerated : IsToleratedAlone m.array.geometry image)
       → RepresentsAlone (state_with m content doubt tolerated.current.array) image
   fenced gone last now new image =
       represents_fenced m a.redo a.old a.new stage start h is redoing_over serving_over gone last now new image content doubt of_stage

@@ -1,6 +1,7 @@
 -- While an epoch is established a loss of media only takes slots away.
 use Rattle.std.proofs.Common.{◌≡◌, ◌≢◌, ℕ, ◌<◌, ◌≤◌, ◌⊎◌, inl, inr, refl, sym, ap, ◌∙◌, subst, arith, Some}
 use Rattle.std.proofs.lemmas.Bool.{cases_eq, cond-true, cond-false, eq-eqb, ne_eqb}
+use Rattle.stair_model.specs.Geometry.{Geometry}
 use Rattle.stair_rack.specs.Media.{Image}
 use Rattle.stair_super.specs.Superblock.{Superblock, joined_at, joined_in, mark_at, mark_in}
 use Rattle.stair_super.specs.declared.configuration.Configuration.{Configuration}
@@ -9,7 +10,7 @@ use Rattle.stair_member.specs.Aims.{IsAimed, admitted, aimed, mark_for}
 use Rattle.stair_member.specs.Counting.{AtMost}
 use Rattle.stair_member.specs.Current.{IsCurrent, IsFailed, IsLive, IsLost, Serves}
 use Rattle.stair_member.specs.Membership.{Membership, why_of}
-use Rattle.stair_member.specs.Reserve.{Bears, HasReached}
+use Rattle.stair_member.specs.Reserve.{Bears, HasReached, IsOrderly}
 use Rattle.stair_member.specs.declared.aim.Aim.{Aim}
 use Rattle.stair_member.specs.declared.aim.Aim.TheVariants as aims
 use Rattle.stair_member.specs.declared.why.Why.{Why}
@@ -25,7 +26,7 @@ use Rattle.stair_session.specs.Changing.{Coming, Earlier, IsChanging, IsSettled,
 
 -- MARKS
 
-live_here : (w : Why) → mark_for w ≡ Live → w ≡ Here
+pub live_here : (w : Why) → mark_for w ≡ Live → w ≡ Here
 live_here Here marked = refl
 live_here w marked = absurd (cc)
 
@@ -56,6 +57,36 @@ aimed_here (aims.Admit slot) j w is same =
     cc
 
 -- LESS
+
+-- A slot that is live in less of an image was so, where the current superblock marked it Live with the same joined number.
+pub live_back : (g : Geometry) (more less : Image) (before after : Superblock) (j : ℕ) → IsDegraded more less → IsOrderly g more
+    → IsCurrent g more before → IsLive g less after j → mark_at before j ≡ Live → joined_at after j ≡ joined_at before j → IsLive g more before j
+live_back g more less before after j degraded orderly is_before live marked same =
+    record { below = live.below; marked = marked; super = newest.super; counts = newest.counts; joined = joined }
+  where
+    borne : Bears g j ((more j).cell) live.super
+    borne = bears_before (degraded_copies (degraded j)) (counts_bears g less j live.super live.counts)
+
+    newest : HasNewest g more j live.super
+    newest = has_newest g more j live.super orderly borne
+
+    borne_newest : Bears g j ((more j).cell) newest.super
+    borne_newest = counts_bears g more j newest.super newest.counts
+
+    -- joined numbers never fall, so that of the medium is the slot's
+    joined : newest.super.joined ≡ joined_at before j
+    joined =
+        let first : joined_at live.super j ≤ joined_at newest.super j =
+        orderly.joined j j j live.super newest.super borne borne_newest newest.upto (own_mark g less j live.super live.counts)
+        (own_mark g more j newest.super newest.counts) in
+        let second : joined_at newest.super j ≤ joined_at before j =
+        orderly.joined j before.slot j newest.super before borne_newest (counts_bears g more before.slot before is_before.counts)
+        (current_upto g more before j newest.super is_before newest.counts) (own_mark g more j newest.super newest.counts)
+        (λ down. let never : Live ≡ Down = sym marked ∙ down in cc) in
+        let own : live.super.joined ≡ joined_at live.super j = own_joined g less j live.super live.counts in
+        let of_after : live.super.joined ≡ joined_at after j = live.joined in
+        let mine : newest.super.joined ≡ joined_at newest.super j = own_joined g more j newest.super newest.counts in
+        omega arith
 
 module _ (aim : Aim) (left_out : ℕ → Type 0) (m : Membership) where
   pub changing_less : (more less : Image) → IsDegraded more less → IsChanging aim left_out m more → IsChanging aim left_out m less
@@ -170,42 +201,8 @@ module _ (aim : Aim) (left_out : ℕ → Type 0) (m : Membership) where
       same_joined : joined_at b j ≡ joined_at a j
       same_joined = joined_now b.array j below now_b live.marked other ∙ sym (joined_now a.array j below now_a marked other)
 
-      not_down : (s : Superblock) → mark_at s j ≡ Live → mark_at s j ≢ Down
-      not_down s is_live down = let never : Live ≡ Down = sym is_live ∙ down in cc
-
-      newest : HasNewest m.array.geometry more j live.super
-      newest = has_newest m.array.geometry more j live.super is.orderly borne
-
-      t : Superblock
-      t = newest.super
-
-      borne_t : Bears m.array.geometry j ((more j).cell) newest.super
-      borne_t = counts_bears m.array.geometry more j newest.super newest.counts
-
-      -- joined numbers never fall, so that of the medium is the slot's
-      first : joined_at live.super j ≤ joined_at newest.super j
-      first =
-          is.orderly.joined j j j live.super newest.super borne borne_t newest.upto
-          (own_mark m.array.geometry less j live.super live.counts) (own_mark m.array.geometry more j newest.super newest.counts)
-
-      second : joined_at newest.super j ≤ joined_at a j
-      second =
-          is.orderly.joined j a.slot j newest.super a borne_t (counts_bears m.array.geometry more a.slot a is_a.counts)
-          (current_upto m.array.geometry more a j newest.super is_a newest.counts) (own_mark m.array.geometry more j newest.super newest.counts)
-          (not_down a marked)
-
-      joined : newest.super.joined ≡ joined_at a j
-      joined =
-          let own : live.super.joined ≡ joined_at live.super j = own_joined m.array.geometry less j live.super live.counts in
-          let of_b : live.super.joined ≡ joined_at b j = live.joined in
-          let mine : newest.super.joined ≡ joined_at newest.super j = own_joined m.array.geometry more j newest.super newest.counts in
-          let same : joined_at b j ≡ joined_at a j = same_joined in
-          let lower : joined_at live.super j ≤ joined_at newest.super j = first in
-          let upper : joined_at newest.super j ≤ joined_at a j = second in
-          omega arith
-
       pub live_more : IsLive m.array.geometry more a j
-      live_more = record { below = below; marked = marked; super = newest.super; counts = newest.counts; joined = joined }
+      live_more = live_back m.array.geometry more less a b j degraded is.orderly is_a live marked same_joined
 
     pub shrinks : {offline offline' : ℕ → Type 0} (more less : Image) (a b : Superblock) (j : ℕ) → IsChanging aim left_out m more
         → IsDegraded more less → IsCurrent m.array.geometry more a → IsCurrent m.array.geometry less b

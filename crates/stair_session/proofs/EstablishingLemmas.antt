@@ -10,13 +10,11 @@ use Rattle.stair_rack.specs.Answers.{IsBesideAttach, Ran}
 use Rattle.stair_rack.specs.Crash.{CrashMayLeave}
 use Rattle.stair_rack.specs.History.{Happening, SlotCall, Write, slot_state, stopped}
 use Rattle.stair_rack.specs.Media.{Image}
-use Rattle.stair_rack.specs.Moments.{IsMoment}
 use Rattle.stair_rack.specs.Offline.{WasPulled, IsAttached, IsHeld}
 use Rattle.stair_rack.specs.Sector.{Damaged, damaged}
 use Rattle.stair_rack.specs.declared.rack.Reply.TheVariants as reply
 use Rattle.stair_rack.proofs.CrashLemmas.{cell_left, leaves_on}
 use Rattle.stair_rack.proofs.MomentLemmas.{at_last, ran_before, ran_weakened, ran_none}
-use Rattle.stair_rack.proofs.StretchLemmas.{each_before}
 use Rattle.stair_rack.proofs.TidyLemmas.{history_on, history_tidy, left_past_end}
 use Rattle.stair_super.specs.Superblock.{Superblock}
 use Rattle.stair_member.specs.Current.{IsCurrent, IsFailed}
@@ -123,10 +121,10 @@ pub record AreStaged (aim : Aim) (m : Membership) (a : Redoing) (stage : Stage) 
   pub shut : (j : ℕ) → j < m.array.geometry.n → (why_of m j ≡ why.Rebuilding) ⊎ (admitted aim ≡ Some j) → IsAttached h j
       → IsShut m.array.geometry h h j
 
-module _ (aim : Aim) (gone : Slots) (m last : Membership) (old h new : List Happening) (f : IsFencing aim gone m last old new)
-    (prepared : IsPrepared aim m old) (at : IsMoment old h new) (going : ¬ IsTrue (stopped h)) (image : Image) (left : CrashMayLeave h image) where
+module _ (aim : Aim) (gone : Slots) (m last : Membership) (old h new : List Happening) (f : IsFencing aim gone m last old h new)
+    (prepared : IsPrepared aim m old) (going : ¬ IsTrue (stopped h)) (image : Image) (left : CrashMayLeave h image) where
   ran : Ran (IsIssuing f.issued.slots f.issued.editions) old h
-  ran = ran_before {allowed = IsIssuing f.issued.slots f.issued.editions} f.issued.ran at
+  ran = ran_before {allowed = IsIssuing f.issued.slots f.issued.editions} f.issued.ran f.moment
 
   -- a slot that takes part has the medium that it had, if it bears anything
   record IsSameMedium (j : ℕ) : Type 0 where
@@ -137,7 +135,7 @@ module _ (aim : Aim) (gone : Slots) (m last : Membership) (old h new : List Happ
   same_medium j taken for =
       elim (prepared.own j taken) [
         | inl on ↦ record { on = on.0; stays = λ pulled. omega (arith, pulled, by_slot) }
-        | inr off ↦ absurd (bare (bare_on f.issued.slots f.issued.editions old h j ran (each_before f.returned at) off.0 off.1).1)
+        | inr off ↦ absurd (bare (bare_on f.issued.slots f.issued.editions old h j ran f.returned off.0 off.1).1)
       ]
     where
       below : j < m.array.geometry.n
@@ -150,7 +148,7 @@ module _ (aim : Aim) (gone : Slots) (m last : Membership) (old h new : List Happ
       by_slot =
           elim
           (slot_is f.issued.slots f.issued.editions old h j (history_tidy f.begun.history) (λ k lt. f.begun.settled j k below lt) ran
-          (each_before f.returned at)) [
+          f.returned) [
             | Same some same still each ↦ same
             | Bare off none ↦ absurd (bare none)
           ]
@@ -168,10 +166,10 @@ module _ (aim : Aim) (gone : Slots) (m last : Membership) (old h new : List Happ
   rebuilt_medium j (inr joins) for = same_medium j (inr (joins, below_of m.array.geometry image j for)) for
 
   abbrev IsDropped : ℕ → Type 0
-  IsDropped = IsLeftOut aim gone m last old h new f prepared at going
+  IsDropped = IsLeftOut aim gone m last old h new f prepared going
 
   changes : IsChanging aim IsDropped m image
-  changes = changing aim gone m last old h new f prepared at going image left
+  changes = changing aim gone m last old h new f prepared going image left
 
   module _ (redo : Redo) (old_words new_words : Codewords) (stage : Stage) (start : List Happening) (settled : IsSettled aim m)
       (staged : AreStaged aim m (doing m redo old_words new_words) stage start old) where
@@ -228,7 +226,7 @@ module _ (aim : Aim) (gone : Slots) (m last : Membership) (old h new : List Happ
 
       left_gone : (j : ℕ) → IsDropped j → HasSlot gone j
       left_gone j out =
-          let written = so_far aim gone m last old h new f prepared at going in
+          let written = so_far aim gone m last old h new f prepared going in
           dropped_gone aim m gone out.0.array j (f.issued.each out.0 (written.within out.0 out.1)).epoch out.2
 
       by : IsNow aim IsDropped m current.array

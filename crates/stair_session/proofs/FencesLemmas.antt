@@ -65,7 +65,7 @@ module _ (leaving : Slots) (m start : Membership) (leaves : Leaves leaving m sta
 module _ (leaving : Slots) (before : List Happening) (a : ArrayState) (last : Membership) (answer : Result Slots FenceFault) (x y : Telling)
     (does : Fences leaving a.member last answer x y) (fine : refusal_of answer ≡ None) (honest : IsTrue y.honest)
     (below : (j : ℕ) → HasSlot leaving j → j < a.member.array.geometry.n) (begun : IsBegun None a.member x.history)
-    (none : NothingReturned before y.history) (rules : IsMembership last) (going : ¬ IsTrue (stopped y.history)) where
+    (none : NothingReturned before y.history) (going : ¬ IsTrue (stopped y.history)) where
   establishes : Establishes Fence does.start last None x y
   establishes = subst (λ (r : Option FenceFault). Establishes Fence does.start last r x y) fine does.establishes
 
@@ -79,7 +79,7 @@ module _ (leaving : Slots) (before : List Happening) (a : ArrayState) (last : Me
   stands ran =
       stood_by Fence does.start last x y establishes honest
       (left None leaving a.member does.start does.leaves x.history (start_rules leaving a.member does.start does.leaves below begun.member) begun)
-      (each_after none (at ran)) rules (λ slot never. absurd (cc))
+      (each_after none (at ran)) (λ slot never. absurd (cc))
 
   geometry_kept : last.array.geometry ≡ a.member.array.geometry
   geometry_kept = establishes.geometry ∙ start_geometry leaving a.member does.start does.leaves
@@ -122,7 +122,7 @@ stays_amid before a h is = record {
 
 module _ (leaving : Slots) (before : List Happening) (a : ArrayState) (x : Telling) (y : Point) (leaves : LeavesOut leaving None (point a.member x) y)
     (honest : IsTrue y.told.honest) (below : (j : ℕ) → HasSlot leaving j → j < a.member.array.geometry.n)
-    (begun : IsBegun None a.member x.history) (none : NothingReturned before y.told.history) (rules : IsMembership y.member)
+    (begun : IsBegun None a.member x.history) (none : NothingReturned before y.told.history)
     (going : ¬ IsTrue (stopped y.told.history)) where
   pub leaves_open : (words : Codewords) → IsOpenWith before a words x.history
       → IsOpenWith before (led_to a y.member) words y.told.history × IsBegun None y.member y.told.history
@@ -134,7 +134,7 @@ module _ (leaving : Slots) (before : List Happening) (a : ArrayState) (x : Telli
           subst (λ (p : Point). IsOpenWith before (led_to a p.member) words p.told.history × IsBegun None p.member p.told.history) (sym same)
           (stays_open before a words x.history is, begun)
       by (Fenced j has answer fine does) =
-          fences_open leaving before a y.member answer x y.told does (sym fine) honest below begun none rules going words is
+          fences_open leaving before a y.member answer x y.told does (sym fine) honest below begun none going words is
 
   pub leaves_amid : IsOpenAmid before a x.history → IsOpenAmid before (led_to a y.member) y.told.history × IsBegun None y.member y.told.history
   leaves_amid is = by leaves
@@ -145,4 +145,4 @@ module _ (leaving : Slots) (before : List Happening) (a : ArrayState) (x : Telli
           subst (λ (p : Point). IsOpenAmid before (led_to a p.member) p.told.history × IsBegun None p.member p.told.history) (sym same)
           (stays_amid before a x.history is, begun)
       by (Fenced j has answer fine does) =
-          fences_amid leaving before a y.member answer x y.told does (sym fine) honest below begun none rules going is
+          fences_amid leaving before a y.member answer x y.told does (sym fine) honest below begun none going is

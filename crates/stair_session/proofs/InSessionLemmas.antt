@@ -8,13 +8,11 @@ use Rattle.stair_rack.specs.Answers.{Ran}
 use Rattle.stair_rack.specs.Crash.{CrashMayLeave, EachImage, image_now}
 use Rattle.stair_rack.specs.History.{Happening, empty_slot, made, slot_state, stopped}
 use Rattle.stair_rack.specs.Media.{Image, has_sector}
-use Rattle.stair_rack.specs.Moments.{IsMoment}
 use Rattle.stair_rack.specs.Offline.{IsAttached, IsHeld, IsOfflineUntilAttached}
 use Rattle.stair_rack.specs.Sector.{Damaged, damaged}
 use Rattle.stair_rack.specs.Stretch.{NothingReturned}
 use Rattle.stair_rack.proofs.CrashLemmas.{CrashMayLeave-now}
 use Rattle.stair_rack.proofs.MomentLemmas.{at_moment}
-use Rattle.stair_rack.proofs.StretchLemmas.{each_before}
 use Rattle.stair_rack.proofs.TidyLemmas.{history_tidy}
 use Rattle.stair_super.specs.Superblock.{Superblock}
 use Rattle.stair_super.specs.declared.mark.Mark.TheVariants as mark
@@ -76,7 +74,7 @@ bare_on slots editions old h j ran returned off bare =
       | Bare off' bare' ↦ (off', bare')
     ]
 
-large_places : (g : Geometry) (size : Option ℕ) → IsWithinLimits g → IsLargeEnough g size → IsTrue (has_sector size 1)
+pub large_places : (g : Geometry) (size : Option ℕ) → IsWithinLimits g → IsLargeEnough g size → IsTrue (has_sector size 1)
 large_places g size limits large = large 1 (let needed : sectors_needed g ≡ sectors_needed g = refl in omega arith)
 
 -- What a rack is on which an epoch is to be established for this, by a member whose own epoch stands.
@@ -91,11 +89,11 @@ pub record IsPrepared (aim : Aim) (m : Membership) (h : List Happening) : Type 0
   pub reached : EachImage (λ image. AllBut m.array.geometry.n m.array.geometry.m
       (λ j. (admitted aim ≢ Some j) × HasReached m.array.geometry image m.array.epoch j)) h
 
-module _ (aim : Aim) (gone : Slots) (m last : Membership) (old h new : List Happening) (f : IsFencing aim gone m last old new)
-    (prepared : IsPrepared aim m old) (at : IsMoment old h new) (going : ¬ IsTrue (stopped h)) where
+module _ (aim : Aim) (gone : Slots) (m last : Membership) (old h new : List Happening) (f : IsFencing aim gone m last old h new)
+    (prepared : IsPrepared aim m old) (going : ¬ IsTrue (stopped h)) where
   -- what was written by then
   pub so_far : AreReserved (admitted aim) f.issued.slots f.issued.editions m old h
-  so_far = at_moment {P = AreReserved (admitted aim) f.issued.slots f.issued.editions m old} f.issued.reserved at
+  so_far = at_moment {P = AreReserved (admitted aim) f.issued.slots f.issued.editions m old} f.issued.reserved f.moment
 
   -- a new epoch that was written by then drops the slot
   abbrev pub IsLeftOut : ℕ → Type 0
@@ -105,7 +103,7 @@ module _ (aim : Aim) (gone : Slots) (m last : Membership) (old h new : List Happ
   left_bare : (j : ℕ) → IsLeftOut j → aimed aim j (why_of m j) ≡ Here → (k : ℕ) → (slot_state h j).sector k ≡ damaged
   left_bare j out up =
       elim (prepared.own j out.2.taken) [
-        | inr off ↦ (bare_on f.issued.slots so_far.editions old h j so_far.ran (each_before f.returned at) off.0 off.1).1
+        | inr off ↦ (bare_on f.issued.slots so_far.editions old h j so_far.ran f.returned off.0 off.1).1
         | inl on ↦
             by
             (so_far.left_out out.0 j out.1 out.2 old (IsHeld.InUse on.0 on.1 (omega arith))
@@ -121,7 +119,7 @@ module _ (aim : Aim) (gone : Slots) (m last : Membership) (old h new : List Happ
       by (IsOfflineUntilAttached.Unattached off pulled) =
           elim
           (slot_is f.issued.slots so_far.editions old h j (history_tidy f.begun.history) (λ k lt. f.begun.settled j k below lt) so_far.ran
-          (each_before f.returned at)) [
+          f.returned) [
             | Same some same still each ↦ absurd (omega (arith, pulled, same))
             | Bare off' bare' ↦ bare'
           ]
@@ -178,15 +176,15 @@ module _ (aim : Aim) (gone : Slots) (m last : Membership) (old h new : List Happ
         let comes : SlotComes (IsWritable f.issued.slots old) so_far.editions j (slot_state old j).pulls (slot_state h j) ((image_now old j).cell)
         ((image j).cell) =
         slot_comes f.issued.slots so_far.editions old h image j (history_tidy f.begun.history) (λ k lt. f.begun.settled j k below lt) so_far.ran
-        (each_before f.returned at) left in
+        f.returned left in
         named j bears.place s bears bears.place_in
         (bears_of (IsWritable f.issued.slots old) so_far.editions j (slot_state old j).pulls (slot_state h j) ((image_now old j).cell)
         ((image j).cell) m.array.geometry s comes bears)
 
     pub changing : IsChanging aim IsLeftOut m image
     changing = record {
-      orderly = orderly aim gone m last old h new image f at left;
+      orderly = orderly aim gone m last old h new image f left;
       names = names;
-      reached = reached_on aim gone m last old h new image f at left (prepared.reached (image_now old) (CrashMayLeave-now old));
+      reached = reached_on aim gone m last old h new image f left (prepared.reached (image_now old) (CrashMayLeave-now old));
       bare = λ j out up. bears_none m.array.geometry h image j left (left_bare j out up);
     }

@@ -14,7 +14,6 @@ use Rattle.stair_rack.specs.Stretch.{NothingReturned}
 use Rattle.stair_rack.specs.Telling.{Telling}
 use Rattle.stair_rack.proofs.CrashLemmas.{settled_left}
 use Rattle.stair_rack.proofs.MomentLemmas.{at_last, ran_before, ran_weakened}
-use Rattle.stair_rack.proofs.StretchLemmas.{each_before}
 use Rattle.stair_rack.proofs.TidyLemmas.{history_on}
 use Rattle.stair_super.specs.declared.configuration.Configuration.{Configuration}
 use Rattle.stair_member.specs.Aims.{admitted, aimed}
@@ -57,8 +56,8 @@ module _ (a : Redoing) (stage : Stage) (redoing : (stage ≡ AtRest) ⊎ IsRedoi
     (were_here : (j : ℕ) → HasSlot leaving j → IsHere m j)
     (were_bare : (j : ℕ) → HasSlot leaving j → why_of m j ≡ why.Here
     → ((slot_state old.history j).attached ≡ false) × ((k : ℕ) → (slot_state old.history j).sector k ≡ damaged))
-    (e : Fences leaving m last answer old new) (honest : IsTrue new.honest) (returned : NothingReturned old.history new.history)
-    (c : List Happening) (at : IsMoment old.history c new.history) (going : ¬ IsTrue (stopped c)) where
+    (e : Fences leaving m last answer old new) (honest : IsTrue new.honest)
+    (c : List Happening) (at : IsMoment old.history c new.history) (returned : NothingReturned old.history c) (going : ¬ IsTrue (stopped c)) where
   abbrev slots : Slots
   slots = (e.establishes.issued honest).slots
 
@@ -68,9 +67,6 @@ module _ (a : Redoing) (stage : Stage) (redoing : (stage ≡ AtRest) ⊎ IsRedoi
   so_far : Ran (IsIssuing (e.establishes.issued honest).slots (e.establishes.issued honest).editions) old.history c
   so_far =
       ran_before {allowed = IsIssuing (e.establishes.issued honest).slots (e.establishes.issued honest).editions} (e.establishes.issued honest).ran at
-
-  none_yet : NothingReturned old.history c
-  none_yet = each_before returned at
 
   free_of : (j : ℕ) → Ran (AttachesNone (λ i. i ≡ j)) old.history c
   free_of j =
@@ -88,7 +84,7 @@ module _ (a : Redoing) (stage : Stage) (redoing : (stage ≡ AtRest) ⊎ IsRedoi
   -- the slots are as they were
   found : AreFound a stage start m c
   found = record {
-    own = λ j here. own_on old.history c j (free_of j) none_yet (way.epoch.own j here);
+    own = λ j here. own_on old.history c j (free_of j) returned (way.epoch.own j here);
     cells =
         is_in a stage (IsInUse m c) start c
         (λ j used.
@@ -105,8 +101,8 @@ module _ (a : Redoing) (stage : Stage) (redoing : (stage ≡ AtRest) ⊎ IsRedoi
 
   -- THE SUPERBLOCKS
 
-  abbrev f : IsFencing Fence e.establishes.gone e.start last old.history new.history
-  f = fencing leaving m last answer old new way.epoch were_here e honest returned
+  abbrev f : IsFencing Fence e.establishes.gone e.start last old.history c new.history
+  f = fencing leaving m last answer old new way.epoch were_here e honest c at returned
 
   promoted : (slot : ℕ) → Fence ≡ Promote slot → IsHere e.start slot
   promoted slot same = absurd (cc)
@@ -138,7 +134,7 @@ module _ (a : Redoing) (stage : Stage) (redoing : (stage ≡ AtRest) ⊎ IsRedoi
   prepared = record { promoted = promoted; own = in_use; large = large; reached = reached }
 
   abbrev NewlyOut : ℕ → Type 0
-  NewlyOut = IsLeftOut Fence e.establishes.gone e.start last old.history c new.history f prepared at going
+  NewlyOut = IsLeftOut Fence e.establishes.gone e.start last old.history c new.history f prepared going
 
   -- slots that leave are out besides those that a new epoch has left out
   abbrev IsOut : ℕ → Type 0
@@ -146,7 +142,7 @@ module _ (a : Redoing) (stage : Stage) (redoing : (stage ≡ AtRest) ⊎ IsRedoi
 
   module _ (image : Image) (left : CrashMayLeave c image) where
     without : IsChanging Fence NewlyOut e.start image
-    without = changing Fence e.establishes.gone e.start last old.history c new.history f prepared at going image left
+    without = changing Fence e.establishes.gone e.start last old.history c new.history f prepared going image left
 
     named : (array : Configuration) → IsOneOfThese Fence NewlyOut e.start array → IsOneOfThese Fence IsOut m array
     named array (Earlier before) = Earlier (subst (λ (x : Configuration). array.epoch < x.epoch) e.leaves.array before)
@@ -156,7 +152,7 @@ module _ (a : Redoing) (stage : Stage) (redoing : (stage ≡ AtRest) ⊎ IsRedoi
     leaving_bare : (j : ℕ) → HasSlot leaving j → why_of m j ≡ why.Here → ¬ BearsFor m.array.geometry image j
     leaving_bare j has up for =
         let was = were_bare j has up in
-        let none = (bare_on (e.establishes.issued honest).slots (e.establishes.issued honest).editions old.history c j so_far none_yet was.0 was.1).1 in
+        let none = (bare_on (e.establishes.issued honest).slots (e.establishes.issued honest).editions old.history c j so_far returned was.0 was.1).1 in
         let place : ℕ = for.bears.place in
         let is : (image j).cell place ≡ Damaged =
         settled_left Damaged ((image j).cell place) (subst (λ s. MayLeave s ((image j).cell place)) (none place) ((left j).each place)) in

@@ -1,11 +1,13 @@
 -- Slots that were gone are left out: the epoch without them stands then.
 use Rattle.std.proofs.Common.{◌≡◌, ℕ, ◌<◌, ◌⊎◌, inl, inr, refl, sym, ap, ◌∙◌, subst, arith}
-use Rattle.std.specs.Prelude.{IsTrue, None, Result, Ok, Err, Some}
+use Rattle.std.specs.Prelude.{IsTrue, List, None, Result, Ok, Err, Some}
 use Rattle.stair_model.specs.Slots.{Slots, HasSlot}
-use Rattle.stair_rack.specs.History.{stopped}
+use Rattle.stair_rack.specs.History.{Happening, stopped}
+use Rattle.stair_rack.specs.Moments.{IsMoment}
 use Rattle.stair_rack.specs.Offline.{IsAttached}
 use Rattle.stair_rack.specs.Stretch.{NothingReturned}
 use Rattle.stair_rack.specs.Telling.{Telling}
+use Rattle.stair_rack.proofs.MomentLemmas.{moment_last}
 use Rattle.stair_super.specs.Superblock.{joined_in, mark_in}
 use Rattle.stair_super.specs.declared.configuration.Configuration.{Configuration}
 use Rattle.stair_member.specs.Aims.{IsAimed, admitted, mark_for}
@@ -114,19 +116,21 @@ module _ (leaving : Slots) (m last : Membership) (answer : Result Slots FenceFau
     joins = named.joins;
   }
 
-  module _ (honest : IsTrue new.honest) (returned : NothingReturned old.history new.history) where
-    abbrev pub fencing : IsFencing Fence e.establishes.gone start last old.history new.history
-    fencing = record { begun = start_begun; issued = e.establishes.issued honest; returned = returned }
+  module _ (honest : IsTrue new.honest) (c : List Happening) (at : IsMoment old.history c new.history) (returned : NothingReturned old.history c) where
+    abbrev pub fencing : IsFencing Fence e.establishes.gone start last old.history c new.history
+    fencing = record { begun = start_begun; moment = at; issued = e.establishes.issued honest; returned = returned }
 
 -- WHERE IT ISN'T REFUSED
 
 module _ (leaving fallen : Slots) (m last : Membership) (old new : Telling) (is : HasEpoch m old.history)
     (were_here : (j : ℕ) → HasSlot leaving j → IsHere m j) (e : Fences leaving m last (Ok fallen) old new) (honest : IsTrue new.honest)
-    (returned : NothingReturned old.history new.history) (rules : IsMembership last) where
+    (returned : NothingReturned old.history new.history) where
   pub fence_stood : HasStood Fence e.establishes.gone e.start last old.history new.history
   fence_stood = record {
-    fencing = fencing leaving m last (Ok fallen) old new is were_here e honest returned;
-    member = rules;
+    fencing =
+        let ran = (e.establishes.issued honest).ran in
+        fencing leaving m last (Ok fallen) old new is were_here e honest new.history (moment_last ran.more ran.is) returned;
+    member = e.establishes.rules;
     established = e.establishes.done refl;
     dropped = e.establishes.were_gone.dropped;
     among = e.establishes.among honest refl;
@@ -143,9 +147,9 @@ module _ (leaving fallen : Slots) (m last : Membership) (old new : Telling) (is 
 -- The epoch stands without the slots that were gone, or nothing was done where none was.
 pub left_out : (gone : Slots) (x y : Point) → LeavesOut gone None x y → HasEpoch x.member x.told.history
     → ((j : ℕ) → HasSlot gone j → IsHere x.member j) → IsTrue y.told.honest → NothingReturned x.told.history y.told.history
-    → IsMembership y.member → ¬ IsTrue (stopped y.told.history) → HasEpoch y.member y.told.history
-left_out gone x y (NoneWas none same fine) is were_here honest returned rules going =
+    → ¬ IsTrue (stopped y.told.history) → HasEpoch y.member y.told.history
+left_out gone x y (NoneWas none same fine) is were_here honest returned going =
     subst (λ (p : Point). HasEpoch p.member p.told.history) (sym same) is
-left_out gone x y (Fenced j has (Ok fallen) fine e) is were_here honest returned rules going =
-    fence_epoch gone fallen x.member y.member x.told y.told is were_here e honest returned rules going
-left_out gone x y (Fenced j has (Err fault) fine e) is were_here honest returned rules going = absurd (cc)
+left_out gone x y (Fenced j has (Ok fallen) fine e) is were_here honest returned going =
+    fence_epoch gone fallen x.member y.member x.told y.told is were_here e honest returned going
+left_out gone x y (Fenced j has (Err fault) fine e) is were_here honest returned going = absurd (cc)

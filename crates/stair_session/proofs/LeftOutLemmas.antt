@@ -12,7 +12,7 @@ use Rattle.stair_rack.specs.Placed.{IsSlot}
 use Rattle.stair_rack.specs.Sector.{Damaged}
 use Rattle.stair_rack.specs.Stretch.{NothingReturned}
 use Rattle.stair_rack.specs.Telling.{Telling}
-use Rattle.stair_rack.proofs.MomentLemmas.{at_every_mapped}
+use Rattle.stair_rack.proofs.MomentLemmas.{at_every_mapped, moment_last}
 use Rattle.stair_rack.proofs.OfflineLemmas.{offline_from_unready, offline_on, unready_when_stopped}
 use Rattle.stair_super.specs.Superblock.{joined_in}
 use Rattle.stair_super.specs.declared.configuration.Configuration.{Configuration}
@@ -22,7 +22,7 @@ use Rattle.stair_member.specs.Editions.{Edition}
 use Rattle.stair_member.specs.Epochs.{AreReserved, AsWas, Given, HasDraw, IsIssued, IsIssuing, IsStanding, IsTaken, Issued, WasGiven}
 use Rattle.stair_member.specs.Establishing.{Establishes, Leaves}
 use Rattle.stair_member.specs.Fencing.{HasStood, IsBegun, IsFencing}
-use Rattle.stair_member.specs.Membership.{IsHere, IsMembership, Membership, place_of, why_of}
+use Rattle.stair_member.specs.Membership.{IsHere, Membership, place_of, why_of}
 use Rattle.stair_member.specs.declared.aim.Aim.{Aim}
 use Rattle.stair_member.specs.declared.aim.Aim.TheVariants.{Fence, Promote}
 use Rattle.stair_member.specs.declared.why.Why.{Why}
@@ -65,9 +65,9 @@ none_leave m = record {
 -- AS ONE BY THE MEMBER THAT IT WAS
 
 -- Slots that left and took part are offline, in the session that began at `before`.
-module _ (leaving gone all : Slots) (before : List Happening) (m start last : Membership) (old new : List Happening) (leaves : Leaves leaving m start)
+module _ (leaving gone all : Slots) (before : List Happening) (m start last : Membership) (old h new : List Happening) (leaves : Leaves leaving m start)
     (within : (j : ℕ) → HasSlot gone j ⊎ HasSlot leaving j → HasSlot all j) (begun : IsBegun None m old)
-    (off : (j : ℕ) → HasSlot leaving j → IsHere m j → IsOfflineUntilAttached before old j) (f : IsFencing Fence gone start last old new) where
+    (off : (j : ℕ) → HasSlot leaving j → IsHere m j → IsOfflineUntilAttached before old j) (f : IsFencing Fence gone start last old h new) where
   abbrev was : Issued Fence gone start last old new
   was = f.issued
 
@@ -111,8 +111,8 @@ module _ (leaving gone all : Slots) (before : List Happening) (m start last : Me
   unready j (Unattached apart pulled) = ap (λ b. b && not (stopped old)) apart
   unready j (RackStopped is_stopped) = unready_when_stopped old j is_stopped
 
-  module _ (h : List Happening) (r : AreReserved None was.slots was.editions start old h) where
-    left_offline : (j : ℕ) → HasSlot leaving j → IsHere m j → (session : List Happening) → IsHeld session old j → IsOfflineUntilAttached session h j
+  module _ (now : List Happening) (r : AreReserved None was.slots was.editions start old now) where
+    left_offline : (j : ℕ) → HasSlot leaving j → IsHere m j → (session : List Happening) → IsHeld session old j → IsOfflineUntilAttached session now j
     left_offline j has here session held =
         offline_on {allowed = IsIssuing was.slots r.editions} j (λ c may. issuing_attaches was.slots r.editions (IsSlot j) j c may refl) r.ran
         (offline_from_unready {before = session} {h = old} {j = j} held (unready j (off j has here)))
@@ -127,7 +127,7 @@ module _ (leaving gone all : Slots) (before : List Happening) (m start last : Me
     taken_here j (inl here) = here
     taken_here j (inr joins) = absurd (let never : None ≡ Some j = joins.0 in cc)
 
-    reserved_all : AreReserved None was.slots was.editions m old h
+    reserved_all : AreReserved None was.slots was.editions m old now
     reserved_all = record {
       editions = r.editions;
       within = r.within;
@@ -135,11 +135,11 @@ module _ (leaving gone all : Slots) (before : List Happening) (m start last : Me
       reserved = λ e among above.
           subst
           (λ (c : Configuration). c.epoch < e.array.epoch
-          → AllBut c.geometry.n c.geometry.m (λ j. WasGiven was.slots r.editions e.array.epoch c.epoch old h j))
+          → AllBut c.geometry.n c.geometry.m (λ j. WasGiven was.slots r.editions e.array.epoch c.epoch old now j))
           leaves.array (r.reserved e among) above;
       reached = λ x y one other less.
           subst
-          (λ (c : Configuration). AllBut c.geometry.n c.geometry.m (λ j. WasGiven was.slots r.editions y.array.epoch x.array.epoch old h j))
+          (λ (c : Configuration). AllBut c.geometry.n c.geometry.m (λ j. WasGiven was.slots r.editions y.array.epoch x.array.epoch old now j))
           leaves.array (r.reached x y one other less);
       left_out = λ e j among dropped session held full.
           elim (has_or_not leaving j) [
@@ -167,9 +167,10 @@ module _ (leaving gone all : Slots) (before : List Happening) (m start last : Me
       (subst (λ (c : Configuration). HasDraw was.editions (m.drawn + 1) c.epoch old h j) leaves.array
       (subst (λ (n : ℕ). HasDraw was.editions (n + 1) start.array.epoch old h j) leaves.drawn has))
 
-  pub left_fencing : IsFencing Fence all m last old new
+  pub left_fencing : IsFencing Fence all m last old h new
   left_fencing = record {
     begun = begun;
+    moment = f.moment;
     issued = record {
       slots = was.slots;
       taking = λ j on.
@@ -200,11 +201,16 @@ module _ (leaving gone all : Slots) (before : List Happening) (m start last : Me
 
 -- on an honest rack an epoch that was established stands
 pub stood_by : (aim : Aim) (m last : Membership) (old new : Telling) (does : Establishes aim m last None old new) → IsTrue new.honest
-    → IsBegun (admitted aim) m old.history → NothingReturned old.history new.history → IsMembership last
+    → IsBegun (admitted aim) m old.history → NothingReturned old.history new.history
     → ((slot : ℕ) → aim ≡ Promote slot → IsHere m slot) → HasStood aim does.gone m last old.history new.history
-stood_by aim m last old new does honest begun none member promoted = record {
-  fencing = record { begun = begun; issued = does.issued honest; returned = none };
-  member = member;
+stood_by aim m last old new does honest begun none promoted = record {
+  fencing = record {
+    begun = begun;
+    moment = let ran = (does.issued honest).ran in moment_last ran.more ran.is;
+    issued = does.issued honest;
+    returned = none;
+  };
+  member = does.rules;
   established = does.done refl;
   dropped = does.were_gone.dropped;
   among = does.among honest refl;

@@ -1,11 +1,11 @@
 -- What a crash leaves while an epoch is established represents the state.
-use Rattle.std.proofs.Common.{◌≡◌, ℕ, ◌<◌, List, [], ◌∷◌, ◌⊎◌, inl, inr, refl, sym, ap, ◌∙◌, subst, Option, Some}
+use Rattle.std.proofs.Common.{◌≡◌, ℕ, ◌<◌, List, ◌⊎◌, inl, inr, refl, sym, ap, ◌∙◌, subst, Option, Some}
 use Rattle.std.specs.Prelude.{None}
 use Rattle.std.proofs.lemmas.Bool.{cases_eq, cond-true, cond-false, eq-eqb, ne_eqb}
 use Rattle.stair_model.specs.Device.{DevicePart, gate_sector, sector_of}
 use Rattle.stair_model.specs.Geometry.{Geometry}
 use Rattle.stair_rack.specs.Crash.{CrashMayLeave}
-use Rattle.stair_rack.specs.History.{Happening, Made, slot_state}
+use Rattle.stair_rack.specs.History.{Happening, slot_state}
 use Rattle.stair_rack.specs.Media.{Image}
 use Rattle.stair_rack.specs.Sector.{Damaged, MayLeave, damaged}
 use Rattle.stair_rack.proofs.CrashLemmas.{settled_left}
@@ -16,8 +16,7 @@ use Rattle.stair_member.specs.Aims.{admitted, aimed, frozen_then, label_then, ma
 use Rattle.stair_member.specs.Counting.{AtMost}
 use Rattle.stair_member.specs.Current.{IsCurrent, IsFailed, IsLive}
 use Rattle.stair_member.specs.Membership.{Membership, why_of}
-use Rattle.stair_member.specs.Reserve.{BearsFor, IsOrderly}
-use Rattle.stair_member.specs.Seats.{seats_of}
+use Rattle.stair_member.specs.Reserve.{BearsFor}
 use Rattle.stair_member.specs.declared.aim.Aim.{Aim}
 use Rattle.stair_member.specs.declared.aim.Aim.TheVariants as aims
 use Rattle.stair_member.specs.declared.why.Why.{Why}
@@ -30,11 +29,11 @@ use Rattle.stair_state.specs.Blocks.{AreEncodingsOf, Codewords}
 use Rattle.stair_state.specs.Degraded.{Blank, IsDegraded, Stays, Taken}
 use Rattle.stair_state.specs.Forms.{HasGate, IdleOld, RepresentsBy}
 use Rattle.stair_state.specs.Redoing.{AtRest, IsLeftIn, IsRedoing, Placing, Redoing, Stage, new_in, old_in}
-use Rattle.stair_state.specs.Represents.{Encodings, ImageRepresents, IsImageOf, IsLargeEnough, Left, Lesser, RepresentsAlone}
+use Rattle.stair_state.specs.Represents.{Encodings, ImageRepresents, IsLargeEnough, RepresentsAlone}
 use Rattle.stair_state.specs.State.{Change, Content, State, changed_if}
 use Rattle.stair_state.specs.Tolerance.{IsToleratedAlone}
-use Rattle.stair_state.proofs.AloneLemmas.{IsImageTidy, each_left, left_is, steady_made}
-use Rattle.stair_state.proofs.DegradedLemmas.{bears_before, degraded_copies, degraded_same}
+use Rattle.stair_state.proofs.AloneLemmas.{IsImageTidy}
+use Rattle.stair_state.proofs.DegradedLemmas.{bears_before, degraded_copies}
 use Rattle.stair_state.proofs.FormLemmas.{good_before}
 use Rattle.stair_state.proofs.RedoFormLemmas.{stands}
 use Rattle.stair_state.proofs.StageLemmas.{LeftIn, PartHas, is_left_in, part_damage}
@@ -42,10 +41,11 @@ use Rattle.stair_state.proofs.ToleranceLemmas.{journal_gate}
 use Rattle.stair_session.specs.Changing.{IsChanging, IsSettled}
 use Rattle.stair_session.specs.InSession.{state_with}
 use Rattle.stair_session.proofs.ChangingLemmas.{AsBefore, IsNow, New, changing_less, current_now, live_aimed, shrinks}
+use Rattle.stair_session.proofs.OverImageLemmas.{seats_over, stands_over}
 
 -- REASONS
 
-rebuilding_why : (w : Why) → mark_for w ≡ mark.Rebuilding → w ≡ Rebuilding
+pub rebuilding_why : (w : Why) → mark_for w ≡ mark.Rebuilding → w ≡ Rebuilding
 rebuilding_why Rebuilding marked = refl
 rebuilding_why w marked = absurd (cc)
 
@@ -236,37 +236,17 @@ module _ (aim : Aim) (left_out : ℕ → Type 0) (m : Membership) (settled : IsS
     -- A rack over an image represents the state, with the marks of the image's current superblock.
     module _ (image : Image) (is : IsChanging aim left_out m image) (tolerated : IsToleratedAlone m.array.geometry image)
         (tidy : IsImageTidy image) (there : AreInStage aim m a stage image) where
-      -- what its images are
-      record IsPart (x : Image) : Type 0 where
-        pub lesser : IsDegraded image x
-        pub within : IsToleratedAlone m.array.geometry x
-
-      part : (x : Image) → IsImageOf m.array.geometry (Made image ∷ []) x → IsPart x
-      part x (Left left) =
-          subst IsPart (sym (left_is image tidy x left)) (record { lesser = degraded_same image; within = tolerated })
-      part x (Lesser more left degraded also) =
-          record { lesser = subst (λ y. IsDegraded y x) (left_is image tidy more left) degraded; within = also }
-
       pub midway : RepresentsAlone (state_with m content doubt tolerated.current.array) image
-      midway = record {
-        encodings = encodings tolerated.current;
-        each = λ x at.
-            let p = part x at in
-            image_midway tolerated.current x (changing_less aim left_out m image x p.lesser is) p.within
-            (in_stage_less aim m a stage image x p.lesser there);
-        orderly = each_left image tidy (IsOrderly m.array.geometry) is.orderly;
-        shrinks = λ more less at also degraded before after j is_before is_after live.
-            let p = part more at in
-            let q = part less also in
-            shrinks aim left_out m settled {offline = λ i. (more i).size ≡ None} {offline' = λ i. (less i).size ≡ None} more less before after j
-            (changing_less aim left_out m image more p.lesser is) degraded is_before is_after
-            (few_of more before p.within is_before) (few_of less after q.within is_after) live;
-        seats = λ other left current j only is_current.
-            ap (λ (c : Superblock). seats_of c j)
-            (one_current m.array.geometry image current tolerated.current
-            (subst (λ y. IsCurrent m.array.geometry y current) (left_is image tidy other left) is_current) tolerated.is_current);
-        steady = steady_made m.array.geometry image;
-      }
+      midway =
+          stands_over (state_with m content doubt tolerated.current.array) (encodings tolerated.current) image tidy tolerated is.orderly
+          (seats_over m.array.geometry image tidy tolerated)
+          (λ x p.
+          image_midway tolerated.current x (changing_less aim left_out m image x p.degraded is) p.alone
+          (in_stage_less aim m a stage image x p.degraded there))
+          (λ more less p q degraded before after j is_before is_after live.
+          shrinks aim left_out m settled {offline = λ i. (more i).size ≡ None} {offline' = λ i. (less i).size ≡ None} more less before after j
+          (changing_less aim left_out m image more p.degraded is) degraded is_before is_after
+          (few_of more before p.alone is_before) (few_of less after q.alone is_after) live)
         where
           few_of : (x : Image) (current : Superblock) → (t : IsToleratedAlone m.array.geometry x) → IsCurrent m.array.geometry x current
               → AtMost m.array.geometry.m (IsFailed (λ i. (x i).size ≡ None) m.array.geometry x current)

@@ -62,12 +62,12 @@ use Rattle.stair_session.proofs.RebuildingLemmas.{rebuilt_none, rebuilt_on}
 use Rattle.stair_session.proofs.SessionLemmas.{meanwhile, own_taken, represents_now}
 
 -- a rack that goes on at last did so at first
-went_on : (aim : Aim) (gone : Slots) (m last : Membership) (old h new : List Happening) → IsFencing aim gone m last old new
-    → IsMoment old h new → ¬ IsTrue (stopped h) → ¬ IsTrue (stopped old)
-went_on aim gone m last old h new f at going is_stopped =
+went_on : (aim : Aim) (gone : Slots) (m last : Membership) (old h new : List Happening) → IsFencing aim gone m last old h new
+    → ¬ IsTrue (stopped h) → ¬ IsTrue (stopped old)
+went_on aim gone m last old h new f going is_stopped =
     going
     (stopped_on {allowed = IsIssuing f.issued.slots f.issued.editions}
-    (ran_before {allowed = IsIssuing f.issued.slots f.issued.editions} f.issued.ran at) is_stopped)
+    (ran_before {allowed = IsIssuing f.issued.slots f.issued.editions} f.issued.ran f.moment) is_stopped)
 
 module _ (before : List Happening) (a : ArrayState) (words : Codewords) (old : List Happening) (is : IsOpenWith before a words old)
     (none : NothingReturned before old) where
@@ -85,19 +85,19 @@ module _ (before : List Happening) (a : ArrayState) (words : Codewords) (old : L
 
   -- and while an epoch is established that neither admits nor promotes
   module _ (aim : Aim) (gone : Slots) (last : Membership) (h new : List Happening) (joins : admitted aim ≡ None) (promotes : (j : ℕ) → aim ≢ Promote j)
-      (f : IsFencing aim gone m last old new) (at : IsMoment old h new) (going : ¬ IsTrue (stopped h)) where
+      (f : IsFencing aim gone m last old h new) (going : ¬ IsTrue (stopped h)) where
     plain_begun : IsBegun None m old
     plain_begun = subst (λ (o : Option ℕ). IsBegun o m old) joins f.begun
 
     ready : IsReadyFor aim m words old
     ready =
         ready_plain aim m words old joins promotes
-        (in_session before a words old is none (went_on aim gone m last old h new f at going) plain_begun)
+        (in_session before a words old is none (went_on aim gone m last old h new f going) plain_begun)
 
     pub meanwhile_open : (image : Image) → CrashMayLeave h image → (content : Content) (doubt : Option Change) → IsOfContent m words content
         → IsAimedContent aim m words content doubt → (tolerated : IsToleratedAlone m.array.geometry image)
         → RepresentsAlone (state_with m content doubt tolerated.current.array) image
-    meanwhile_open image left = meanwhile aim gone m last words old h new image ready f at going left
+    meanwhile_open image left = meanwhile aim gone m last words old h new image ready f going left
 
 -- CALLS THAT ARE BESIDE
 

@@ -198,11 +198,11 @@ module _ (m : Membership) (h : List Happening) (image : Image) (j : ℕ) (is : I
   abbrev mine : Superblock
   mine = own_super m own.draw j
 
-  mine_formed : IsSuperblock mine
+  pub mine_formed : IsSuperblock mine
   mine_formed = own_formed m own.draw j is here own.reached own.seen
 
   -- its places are as they are read
-  as_read : (k : ℕ) → k < 2 → (image j).cell k ≡ content ((slot_state h j).sector k)
+  pub as_read : (k : ℕ) → k < 2 → (image j).cell k ≡ content ((slot_state h j).sector k)
   as_read k place =
       let same = nothing_unsynced ((slot_state h j).sector k) (own.settled_both k place) in
       settled_left ((slot_state h j).sector k).base ((image j).cell k) (subst (λ s. MayLeave s ((image j).cell k)) same ((left j).each k))

@@ -38,7 +38,7 @@ use Rattle.stair_state.specs.Redoing.{AtRest, IsIn, IsRedoing, Placing, Redoing,
 use Rattle.stair_state.proofs.StageLemmas.{in_redo_known}
 use Rattle.stair_session.specs.Session.{ServesSlot}
 use Rattle.stair_session.specs.Rebuilding.{IsRebuiltTo}
-use Rattle.stair_session.specs.Chunks.{AreOfChunk}
+use Rattle.stair_session.specs.Chunks.{AreOfChunk, IsBesideChunks}
 use Rattle.stair_session.proofs.RebaseLemmas.{stage_now}
 
 -- WHAT READS FIND
@@ -68,6 +68,12 @@ rebuilt_on {allowed} g words j next start spares beside ran is = record {
       (λ bytes. spares t i bytes done row) ran (is.chunks t i done stripe row);
   reach = λ t i done stripe row. reach_on {allowed = allowed} j (cell_sector g t i) beside ran (is.reach t i done stripe row);
 }
+
+pub rebuilt_beside : (g : Geometry) (words : Codewords) (j next : ℕ) (start old new : List Happening) → IsRebuiltTo g words j next start old
+    → Ran (IsBesideChunks g j next) old new → IsRebuiltTo g words j next start new
+rebuilt_beside g words j next start old new is ran =
+    rebuilt_on {allowed = IsBesideChunks g j next} g words j next start
+    (λ t i bytes done row may. (may refl).1 t i bytes reply.Done done row refl) (λ c may. (may refl).0) ran is
 
 -- A REDO WHOSE CELLS ARE PLACED ON IT TOO
 

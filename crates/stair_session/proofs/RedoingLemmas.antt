@@ -15,7 +15,7 @@ use Rattle.stair_rack.proofs.OfflineLemmas.{stopped_on}
 use Rattle.stair_rack.proofs.KeepingLemmas.{phase_ran}
 use Rattle.stair_rack.proofs.StretchLemmas.{each_after, each_before}
 use Rattle.stair_member.specs.Epochs.{IsIssuing}
-use Rattle.stair_member.specs.Membership.{IsHere, IsMembership, Membership}
+use Rattle.stair_member.specs.Membership.{IsHere, Membership}
 use Rattle.stair_member.specs.declared.fault.FenceFault.{FenceFault}
 use Rattle.stair_journal.specs.declared.redo.Redo.{Redo}
 use Rattle.stair_session.proofs.RebaseLemmas.{stage_now}
@@ -26,13 +26,14 @@ use Rattle.stair_state.specs.Redoing.{AtRest, Done, InPlace, IsIn, IsRedoing, Pl
 use Rattle.stair_session.specs.Courses.{AreLive, DoesStage, Ends, Fenced, Goes, IsOver, LeavesOut, NoneWas, Point, Redoes, Stops, point, stage_writes}
 use Rattle.stair_session.specs.InSession.{IsInSession}
 use Rattle.stair_session.specs.Session.{ServesSlot}
-use Rattle.stair_session.specs.UnderWay.{IsInUse, IsSound, IsUnderWay}
+use Rattle.stair_session.specs.UnderWay.{IsInUse, IsUnderWay}
 use Rattle.stair_session.proofs.BesideLemmas.{epoch_of, opens, served}
+use Rattle.stair_session.proofs.HonestLemmas.{honest_first, mid_honest}
 use Rattle.stair_session.proofs.UnderWayLemmas.{way_ends, way_left, writes_same}
 
 -- CALLS
 
-out_ran : (gone : Slots) (refusal : Option FenceFault) (x y : Point) → LeavesOut gone refusal x y → IsTrue y.told.honest
+pub out_ran : (gone : Slots) (refusal : Option FenceFault) (x y : Point) → LeavesOut gone refusal x y → IsTrue y.told.honest
     → Ran any_call x.told.history y.told.history
 out_ran gone refusal x y (NoneWas none same fine) honest =
     subst (λ (p : Point). Ran any_call x.told.history p.told.history) (sym same) (ran_none x.told.history)
@@ -40,7 +41,7 @@ out_ran gone refusal x y (Fenced j has answer fine e) honest =
     let issued = e.establishes.issued honest in ran_any {allowed = IsIssuing issued.slots issued.editions} issued.ran
 
 -- the slots of a phase take part
-over_here : (stage : Stage) (m : Membership) (to : Slots) → IsOver stage m to → (j : ℕ) → HasSlot to j → IsHere m j
+pub over_here : (stage : Stage) (m : Membership) (to : Slots) → IsOver stage m to → (j : ℕ) → HasSlot to j → IsHere m j
 over_here stage m to over j on = by stage over
   where
     live : AreLive m to → IsHere m j
@@ -58,12 +59,11 @@ over_here stage m to over j on = by stage over
 module _ (a : Redoing) (redoing : IsRedoing a) (stripe : Stripe)
     (cells : (i c : ℕ) → HasCell a.redo.cells i c → cell stripe i c ≡ cell (a.new a.redo.stripe) i c) (start : List Happening) where
   module _ (stage : Stage) (to : Slots) (refusal : Option FenceFault) (x y : Point) (over : IsOver stage x.member to)
-      (does : DoesStage (stage_writes a.geometry a.redo stripe stage) to refusal x y) (mid_honest : IsTrue does.mid.honest)
-      (honest : IsTrue y.told.honest) where
+      (does : DoesStage (stage_writes a.geometry a.redo stripe stage) to refusal x y) (honest : IsTrue y.told.honest) where
     abbrev pub placed : Placed (writes_in a stage) (HasSlot to) (HasSlot does.gone) x.told.history does.mid.history
     placed =
         subst (λ (what : Writes). Placed what (HasSlot to) (HasSlot does.gone) x.told.history does.mid.history) (writes_same a stripe stage cells)
-        (does.phase.placed mid_honest)
+        (does.phase.placed (mid_honest (stage_writes a.geometry a.redo stripe stage) to refusal x y does honest))
 
     pub ran_first : Ran any_call x.told.history does.mid.history
     ran_first = ran_any (phase_ran placed)
@@ -81,47 +81,50 @@ module _ (a : Redoing) (redoing : IsRedoing a) (stripe : Stripe)
     were_here j was = over_here stage x.member to over j (does.phase.among j was)
 
   pub phase : (stage : Stage) (to : Slots) (x y : Point) → (stage ≢ Done) → IsOver stage x.member to → IsUnderWay a stage start x.member x.told.history
-      → (does : DoesStage (stage_writes a.geometry a.redo stripe stage) to None x y) → IsTrue does.mid.honest → IsTrue y.told.honest
-      → NothingReturned x.told.history y.told.history → IsMembership y.member → ¬ IsTrue (stopped y.told.history)
+      → (does : DoesStage (stage_writes a.geometry a.redo stripe stage) to None x y) → IsTrue y.told.honest
+      → NothingReturned x.told.history y.told.history → ¬ IsTrue (stopped y.told.history)
       → IsUnderWay a (next stage) start y.member y.told.history
-  phase stage to x y not_done over way does mid_honest honest returned rules going = by does.leaves
+  phase stage to x y not_done over way does honest returned going = by does.leaves
     where
       at : IsMoment x.told.history does.mid.history y.told.history
-      at = halfway stage to None x y over does mid_honest honest
+      at = halfway stage to None x y over does honest
 
       mid_way : IsUnderWay a (next stage) start x.member does.mid.history
       mid_way =
           way_ends a redoing stage start x.member to over (HasSlot does.gone) x.told.history does.mid.history way
-          (placed stage to None x y over does mid_honest honest) (each_before returned at) not_done
-          (λ stops. going (stopped_on {allowed = any_call} (ran_then stage to None x y over does mid_honest honest) stops))
+          (placed stage to None x y over does honest) (each_before returned at) not_done
+          (λ stops. going (stopped_on {allowed = any_call} (ran_then stage to None x y over does honest) stops))
 
       by : LeavesOut does.gone None (point x.member does.mid) y → IsUnderWay a (next stage) start y.member y.told.history
       by (NoneWas none same fine) = subst (λ (p : Point). IsUnderWay a (next stage) start p.member p.told.history) (sym same) mid_way
       by (Fenced j has (Err fault) fine e) = absurd (cc)
       by (Fenced j has (Ok fallen) fine e) =
           way_left a (next stage) start does.gone fallen x.member y.member does.mid y.told mid_way
-          (were_here stage to None x y over does mid_honest honest) e honest (each_after returned at) rules going
+          (were_here stage to None x y over does honest) e honest (each_after returned at) going
 
   -- FROM A STAGE ON
 
   pub redo_ran : (stage : Stage) (refusal : Option FenceFault) (x z : Point) (run : Redoes a.geometry a.redo stripe stage refusal x z)
-      → IsSound a.geometry a.redo stripe stage refusal x z run → Ran any_call x.told.history z.told.history
-  redo_ran _ _ _ _ (Ends x) sound = ran_none x.told.history
-  redo_ran _ _ _ _ (Goes stage to refusal x y z not_done over does more) sound =
-      ran_join {allowed = any_call} (stage_ran stage to None x y over does sound.0 sound.1) (redo_ran (next stage) refusal y z more sound.3)
-  redo_ran _ _ _ _ (Stops stage to fault x y not_done over does) sound = stage_ran stage to (Some fault) x y over does sound.0 sound.1
+      → IsTrue z.told.honest → Ran any_call x.told.history z.told.history
+  redo_ran _ _ _ _ (Ends x) honest = ran_none x.told.history
+  redo_ran _ _ _ _ (Goes stage to refusal x y z not_done over does more) honest =
+      ran_join {allowed = any_call}
+      (stage_ran stage to None x y over does (honest_first a.geometry a.redo stripe (next stage) refusal y z more honest))
+      (redo_ran (next stage) refusal y z more honest)
+  redo_ran _ _ _ _ (Stops stage to fault x y not_done over does) honest = stage_ran stage to (Some fault) x y over does honest
 
   pub way_done : (stage : Stage) (refusal : Option FenceFault) (x z : Point) (run : Redoes a.geometry a.redo stripe stage refusal x z)
-      → IsSound a.geometry a.redo stripe stage refusal x z run → refusal ≡ None → IsUnderWay a stage start x.member x.told.history
+      → IsTrue z.told.honest → refusal ≡ None → IsUnderWay a stage start x.member x.told.history
       → NothingReturned x.told.history z.told.history → ¬ IsTrue (stopped z.told.history) → IsUnderWay a Done start z.member z.told.history
-  way_done _ _ _ _ (Ends x) sound fine way returned going = way
-  way_done _ _ _ _ (Stops stage to fault x y not_done over does) sound fine way returned going = absurd (cc)
-  way_done _ _ _ _ (Goes stage to refusal x y z not_done over does more) sound fine way returned going =
-      let first = stage_ran stage to None x y over does sound.0 sound.1 in
-      let rest = redo_ran (next stage) refusal y z more sound.3 in
+  way_done _ _ _ _ (Ends x) honest fine way returned going = way
+  way_done _ _ _ _ (Stops stage to fault x y not_done over does) honest fine way returned going = absurd (cc)
+  way_done _ _ _ _ (Goes stage to refusal x y z not_done over does more) honest fine way returned going =
+      let now = honest_first a.geometry a.redo stripe (next stage) refusal y z more honest in
+      let first = stage_ran stage to None x y over does now in
+      let rest = redo_ran (next stage) refusal y z more honest in
       let at = moment_between {a = any_call} {b = any_call} first rest in
-      way_done (next stage) refusal y z more sound.3 fine
-      (phase stage to x y not_done over way does sound.0 sound.1 (each_before returned at) sound.2
+      way_done (next stage) refusal y z more honest fine
+      (phase stage to x y not_done over way does now (each_before returned at)
       (λ stops. going (stopped_on {allowed = any_call} rest stops)))
       (each_after returned at) going
 
@@ -158,11 +161,11 @@ way_opens a start m h way =
 pub redo : (a : Redoing) (stripe : Stripe) (x z : Point) → IsRedoing a
     → ((i c : ℕ) → HasCell a.redo.cells i c → cell stripe i c ≡ cell (a.new a.redo.stripe) i c) → IsInSession x.member a.old x.told.history
     → a.geometry ≡ x.member.array.geometry → (run : Redoes a.geometry a.redo stripe AtRest None x z)
-    → IsSound a.geometry a.redo stripe AtRest None x z run → NothingReturned x.told.history z.told.history → ¬ IsTrue (stopped z.told.history)
+    → IsTrue z.told.honest → NothingReturned x.told.history z.told.history → ¬ IsTrue (stopped z.told.history)
     → IsInSession z.member a.new z.told.history
-redo a stripe x z redoing cells is same run sound returned going =
+redo a stripe x z redoing cells is same run honest returned going =
     way_opens a x.told.history z.member z.told.history
-    (way_done a redoing stripe cells x.told.history AtRest None x z run sound refl (way_begins a x.member x.told.history is same) returned going)
+    (way_done a redoing stripe cells x.told.history AtRest None x z run honest refl (way_begins a x.member x.told.history is same) returned going)
 
 -- SLOTS THAT ARE LEFT OUT IN A SESSION
 
@@ -176,12 +179,12 @@ no_redo = record { stripe = 0; cells = record { rows = [] } }
 
 -- With slots left out a session holds the stripes that it held.
 pub left_in_session : (gone : Slots) (x y : Point) (words : Codewords) → LeavesOut gone None x y → IsInSession x.member words x.told.history
-    → ((j : ℕ) → HasSlot gone j → IsHere x.member j) → IsTrue y.told.honest → NothingReturned x.told.history y.told.history → IsMembership y.member
+    → ((j : ℕ) → HasSlot gone j → IsHere x.member j) → IsTrue y.told.honest → NothingReturned x.told.history y.told.history
     → ¬ IsTrue (stopped y.told.history) → IsInSession y.member words y.told.history
-left_in_session gone x y words (NoneWas none same fine) is here honest returned rules going =
+left_in_session gone x y words (NoneWas none same fine) is here honest returned going =
     subst (λ (p : Point). IsInSession p.member words p.told.history) (sym same) is
-left_in_session gone x y words (Fenced j has (Err fault) fine e) is here honest returned rules going = absurd (cc)
-left_in_session gone x y words (Fenced k has (Ok fallen) fine e) is here honest returned rules going =
+left_in_session gone x y words (Fenced j has (Err fault) fine e) is here honest returned going = absurd (cc)
+left_in_session gone x y words (Fenced k has (Ok fallen) fine e) is here honest returned going =
     opens y.member words y.told.history (way no_redo words).epoch
     (λ j below up on.
     let used : IsInUse y.member y.told.history j = (record { below = below; why = up }, on) in
@@ -199,4 +202,4 @@ left_in_session gone x y words (Fenced k has (Ok fallen) fine e) is here honest 
     way : (redo : Redo) (after : Codewords) → IsUnderWay (resting x.member.array.geometry words redo after) AtRest x.told.history y.member y.told.history
     way redo after =
         way_left (resting x.member.array.geometry words redo after) AtRest x.told.history gone fallen x.member y.member x.told y.told
-        (way_begins (resting x.member.array.geometry words redo after) x.member x.told.history is refl) here e honest returned rules going
+        (way_begins (resting x.member.array.geometry words redo after) x.member x.told.history is refl) here e honest returned going

@@ -7,7 +7,6 @@ use Rattle.stair_model.specs.Slots.{Slots, HasSlot}
 use Rattle.stair_rack.specs.Crash.{CrashMayLeave}
 use Rattle.stair_rack.specs.History.{Happening, stopped}
 use Rattle.stair_rack.specs.Media.{Image}
-use Rattle.stair_rack.specs.Moments.{IsMoment}
 use Rattle.stair_super.specs.Superblock.{IsConfiguration, IsJoined, IsSuperblock, Superblock, joined_in, mark_in}
 use Rattle.stair_super.specs.declared.configuration.Configuration.{Configuration}
 use Rattle.stair_super.specs.declared.mark.Mark.{Mark}
@@ -41,7 +40,7 @@ listed_member m rules = record { rules = rules.array; marks = rules.sizes.marks;
 pub listed_super : (s : Superblock) → IsSuperblock s → IsListed s.array
 listed_super s is = record { rules = is.rules.array; marks = is.sizes.marks; joins = is.sizes.joins }
 
-down_or_not : (marked : Mark) → (marked ≡ Down) ⊎ (marked ≢ Down)
+pub down_or_not : (marked : Mark) → (marked ≡ Down) ⊎ (marked ≢ Down)
 down_or_not Down = inl refl
 down_or_not Live = inr (λ is. cc)
 down_or_not mark.Rebuilding = inr (λ is. cc)
@@ -60,11 +59,11 @@ down_joined c j listed is =
       | inr past ↦ get_or_past c.joins j 0 (omega (arith, listed.joins, past))
     ]
 
-down_seat : (c : Configuration) (j : ℕ) → IsListed c → mark_in c j ≡ Down → seats_in c j ≡ seat Down 0
+pub down_seat : (c : Configuration) (j : ℕ) → IsListed c → mark_in c j ≡ Down → seats_in c j ≡ seat Down 0
 down_seat c j listed is = same_seat (mark_in c j) Down (joined_in c j) 0 is (down_joined c j listed is)
 
 -- past the array's slots each is Down
-past_down : (c : Configuration) (j : ℕ) → IsListed c → c.geometry.n ≤ j → mark_in c j ≡ Down
+pub past_down : (c : Configuration) (j : ℕ) → IsListed c → c.geometry.n ≤ j → mark_in c j ≡ Down
 past_down c j listed past =
     elim (cases_lt j 32) [
       | inl below ↦ listed.rules.absent j past below
@@ -287,11 +286,11 @@ module _ (aim : Aim) (gone : Slots) (m : Membership) (words : Codewords) (old : 
   seats_begun last is (Did _ aimed_at _) = inr (moves_to last.array (listed_member last is) aimed_at)
 
   pub seats_meanwhile : (last : Membership) (h new : List Happening) (image : Image) (current : Superblock)
-      → IsFencing aim gone m last old new → IsMoment old h new → ¬ IsTrue (stopped h) → CrashMayLeave h image
+      → IsFencing aim gone m last old h new → ¬ IsTrue (stopped h) → CrashMayLeave h image
       → IsToleratedAlone m.array.geometry image → IsCurrent m.array.geometry image current
       → (current.array ≡ m.array) ⊎ SeatsMove aim (HasSlot gone) (seats_in m.array) (seats_in current.array)
-  seats_meanwhile last h new image current f at going left tolerated is_current =
-      elim (names_meanwhile aim gone m last words old h new image ready f at going left current tolerated is_current) [
+  seats_meanwhile last h new image current f going left tolerated is_current =
+      elim (names_meanwhile aim gone m last words old h new image ready f going left current tolerated is_current) [
         | inl same ↦ inl same
         | inr is ↦ inr (moves_to current.array (listed_super current (super_formed _ current is_current.counts.super)) is.1)
       ]

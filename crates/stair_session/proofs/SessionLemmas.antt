@@ -5,7 +5,6 @@ use Rattle.stair_model.specs.Slots.{Slots, HasSlot}
 use Rattle.stair_rack.specs.Crash.{CrashMayLeave}
 use Rattle.stair_rack.specs.History.{Happening, stopped}
 use Rattle.stair_rack.specs.Media.{Image}
-use Rattle.stair_rack.specs.Moments.{IsMoment}
 use Rattle.stair_rack.specs.Offline.{IsAttached}
 use Rattle.stair_rack.specs.Placed.{IsSlot}
 use Rattle.stair_super.specs.Superblock.{Superblock}
@@ -109,13 +108,13 @@ module _ (aim : Aim) (m : Membership) (words : Codewords) (h : List Happening) (
   }
 
 module _ (aim : Aim) (gone : Slots) (m last : Membership) (words : Codewords) (old h new : List Happening) (image : Image)
-    (ready : IsReadyFor aim m words old) (f : IsFencing aim gone m last old new) (at : IsMoment old h new) (going : ¬ IsTrue (stopped h))
+    (ready : IsReadyFor aim m words old) (f : IsFencing aim gone m last old h new) (going : ¬ IsTrue (stopped h))
     (left : CrashMayLeave h image) where
   -- At every moment of it, whatever a crash leaves represents the state, with the marks of that image's current superblock.
   pub meanwhile : (content : Content) (doubt : Option Change) → IsOfContent m words content → IsAimedContent aim m words content doubt
       → (tolerated : IsToleratedAlone m.array.geometry image) → RepresentsAlone (state_with m content doubt tolerated.current.array) image
   meanwhile content doubt of aimed_at tolerated =
-      stands_then aim gone m last old h new f (prepared aim m words old ready) at going image left no_redo words words AtRest old
+      stands_then aim gone m last old h new f (prepared aim m words old ready) going image left no_redo words words AtRest old
       (settled aim m words old ready) (staged aim m words old ready) content doubt (inl refl)
       (record {
         old_are = of.encodings;
@@ -129,4 +128,4 @@ module _ (aim : Aim) (gone : Slots) (m last : Membership) (words : Codewords) (o
   pub names_meanwhile : (current : Superblock) → IsToleratedAlone m.array.geometry image → IsCurrent m.array.geometry image current
       → (current.array ≡ m.array) ⊎ ((m.array.epoch < current.array.epoch) × IsAimed aim (HasSlot gone) m current.array)
   names_meanwhile current tolerated is_current =
-      names_then aim gone m last old h new f (prepared aim m words old ready) at going image left tolerated current is_current
+      names_then aim gone m last old h new f (prepared aim m words old ready) going image left tolerated current is_current

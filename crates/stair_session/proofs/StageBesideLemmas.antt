@@ -1,5 +1,5 @@
 -- A phase of a redo, and the slots that were gone in it left out, keep what lasts in the midst of it.
-use Rattle.std.proofs.Common.{ℕ, ◌<◌, ◌∙◌, ◌≡◌, List, None, Some, arith, refl, subst, sym}
+use Rattle.std.proofs.Common.{ℕ, ◌<◌, ◌≤◌, ◌∙◌, ◌≡◌, List, None, Some, arith, refl, subst, sym}
 use Rattle.std.specs.Prelude.{IsTrue}
 use Rattle.stair_model.specs.Device.{gate_sector}
 use Rattle.stair_model.specs.Geometry.{Geometry}
@@ -16,7 +16,7 @@ use Rattle.stair_rack.proofs.StretchLemmas.{each_before}
 use Rattle.stair_rack.proofs.WritingLemmas.{beside_syncs, beside_writes}
 use Rattle.stair_member.specs.Epochs.{IsIssuing}
 use Rattle.stair_member.specs.Fencing.{IsBegun}
-use Rattle.stair_member.specs.Membership.{IsMembership, Membership, why_of}
+use Rattle.stair_member.specs.Membership.{Membership, why_of}
 use Rattle.stair_member.specs.declared.why.Why.TheVariants.{Here, Rebuilding}
 use Rattle.stair_stripes.proofs.PlacingLemmas.{cell_writes_is}
 use Rattle.stair_state.specs.Redoing.{AtRest, Done, InPlace, IsRedoing, Placing, Redoing, Stage, Uncommitted, writes_in}
@@ -27,28 +27,23 @@ use Rattle.stair_session.specs.InSession.{IsBehindPlaces, IsBesideEpochs}
 use Rattle.stair_session.specs.Leading.{IsOpenAmid, led_to}
 use Rattle.stair_session.specs.Session.{ArrayState}
 use Rattle.stair_session.proofs.FencesLemmas.{leaves_amid}
+use Rattle.stair_session.proofs.HonestLemmas.{mid_honest}
 use Rattle.stair_session.proofs.OpenWithLemmas.{beside_amid}
 
 -- A PHASE
 
--- on slots of which those that are rebuilt take part where cells are placed alone
-module _ (r : Redoing) (redoing : IsRedoing r) (m : Membership) (stage : Stage) (to : ℕ → Type 0)
-    (alone : (j : ℕ) → to j → why_of m j ≡ Rebuilding → stage ≡ Placing) where
-  no_gate : (j : ℕ) (bytes : List ℕ) → writes_in r Placing j gate_sector ≡ Some bytes → ⊥
-  no_gate j bytes is = let w = cell_writes_is r.geometry r.redo (r.new r.redo.stripe) j gate_sector bytes is in omega (arith, w.at)
-
-  writes_beside : (j : ℕ) (c : SlotCall) → IsWriteOf (writes_in r stage) to j c → IsBesideEpochs m j c
+-- Writes from the gate on, of which none is to the gate of a slot that is rebuilt, and the syncs after them,
+module _ (what : Writes) (m : Membership) (to : ℕ → Type 0)
+    (behind : (j k : ℕ) (bytes : List ℕ) → what j k ≡ Some bytes → gate_sector ≤ k)
+    (shut : (j : ℕ) (bytes : List ℕ) → to j → why_of m j ≡ Rebuilding → ¬ (what j gate_sector ≡ Some bytes)) where
+  writes_beside : (j : ℕ) (c : SlotCall) → IsWriteOf what to j c → IsBesideEpochs m j c
   writes_beside j c is = record {
-    behind =
-        let past = written_from_gate r redoing stage j is.sector is.bytes is.is_one in
-        subst (IsBehindPlaces j) (sym is.is) past;
-    attaches = λ here. beside_writes (writes_in r stage) to j c is;
+    behind = let past : gate_sector ≤ is.sector = behind j is.sector is.bytes is.is_one in subst (IsBehindPlaces j) (sym is.is) (omega (arith, past));
+    attaches = λ here. beside_writes what to j c is;
     gate = λ below rebuilt bytes answer wrote.
         let same : Write is.sector is.bytes is.answer ≡ Write gate_sector bytes answer = sym is.is ∙ wrote in
         let at : is.sector ≡ gate_sector = cc in
-        no_gate j is.bytes
-        (subst (λ (s : Stage). writes_in r s j gate_sector ≡ Some is.bytes) (alone j is.on rebuilt)
-        (subst (λ (k : ℕ). writes_in r stage j k ≡ Some is.bytes) at is.is_one));
+        shut j is.bytes is.on rebuilt (subst (λ (k : ℕ). what j k ≡ Some is.bytes) at is.is_one);
   }
 
   syncs_beside : (j : ℕ) (c : SlotCall) → IsSyncOf to j c → IsBesideEpochs m j c
@@ -59,12 +54,24 @@ module _ (r : Redoing) (redoing : IsRedoing r) (m : Membership) (stage : Stage) 
         let never : Sync is.answer ≡ Write gate_sector bytes answer = sym is.is ∙ wrote in absurd (cc);
   }
 
-  -- is beside the epochs
-  pub phase_beside : {gone : ℕ → Type 0} {old new : List Happening} → Placed (writes_in r stage) to gone old new → Ran (IsBesideEpochs m) old new
-  phase_beside phase =
+  -- are beside the epochs
+  pub placed_beside : {gone : ℕ → Type 0} {old new : List Happening} → Placed what to gone old new → Ran (IsBesideEpochs m) old new
+  placed_beside phase =
       ran_join {allowed = IsBesideEpochs m}
-      (ran_weakened {allowed = IsWriteOf (writes_in r stage) to} {more = IsBesideEpochs m} writes_beside phase.writes)
+      (ran_weakened {allowed = IsWriteOf what to} {more = IsBesideEpochs m} writes_beside phase.writes)
       (ran_weakened {allowed = IsSyncOf to} {more = IsBesideEpochs m} syncs_beside phase.syncs)
+
+-- so a redo's phase is, where slots that are rebuilt take part only while cells are placed,
+pub phase_beside : (r : Redoing) → IsRedoing r → (m : Membership) (stage : Stage) (to : ℕ → Type 0)
+    → ((j : ℕ) → to j → why_of m j ≡ Rebuilding → stage ≡ Placing) → {gone : ℕ → Type 0} {old new : List Happening}
+    → Placed (writes_in r stage) to gone old new → Ran (IsBesideEpochs m) old new
+phase_beside r redoing m stage to alone =
+    placed_beside (writes_in r stage) m to (written_from_gate r redoing stage)
+    (λ j bytes on rebuilt written.
+    let w =
+    cell_writes_is r.geometry r.redo (r.new r.redo.stripe) j gate_sector bytes
+    (subst (λ (s : Stage). writes_in r s j gate_sector ≡ Some bytes) (alone j on rebuilt) written) in
+    omega (arith, w.at))
 
 -- and beside the chunks of a slot on which it isn't
 pub phase_spares : {gone : ℕ → Type 0} {old new : List Happening} (what : Writes) (to : ℕ → Type 0) (g : Geometry) (j next : ℕ) → ¬ to j
@@ -84,7 +91,7 @@ same_writes r InPlace = refl
 same_writes r Done = refl
 
 -- slots that are rebuilt take part where cells are placed alone
-over_alone : (m : Membership) (to : Slots) (stage : Stage) → IsOver stage m to → (j : ℕ) → HasSlot to j → why_of m j ≡ Rebuilding → stage ≡ Placing
+pub over_alone : (m : Membership) (to : Slots) (stage : Stage) → IsOver stage m to → (j : ℕ) → HasSlot to j → why_of m j ≡ Rebuilding → stage ≡ Placing
 over_alone m to Placing over j on is = refl
 over_alone m to stage over j on is =
     let live = (over.are j).0 on in
@@ -105,12 +112,13 @@ leaves_ran leaving m x y (Fenced j has answer fine does) honest =
 module _ (r : Redoing) (redoing : IsRedoing r) (before : List Happening) (a : ArrayState) (stage : Stage) (to : Slots) (x : Telling) (y : Point)
     (over : IsOver stage a.member to)
     (does : DoesStage (stage_writes r.geometry r.redo (r.new r.redo.stripe) stage) to None (point a.member x) y)
-    (honest_then : IsTrue does.mid.honest) (honest : IsTrue y.told.honest) (begun : IsBegun None a.member x.history)
-    (none : NothingReturned before y.told.history) (rules : IsMembership y.member) (going : ¬ IsTrue (stopped y.told.history))
+    (honest : IsTrue y.told.honest) (begun : IsBegun None a.member x.history)
+    (none : NothingReturned before y.told.history) (going : ¬ IsTrue (stopped y.told.history))
     (is : IsOpenAmid before a x.history) where
   pub placed : Placed (writes_in r stage) (HasSlot to) (HasSlot does.gone) x.history does.mid.history
   placed =
-      subst (λ (w : Writes). Placed w (HasSlot to) (HasSlot does.gone) x.history does.mid.history) (same_writes r stage) (does.phase.placed honest_then)
+      subst (λ (w : Writes). Placed w (HasSlot to) (HasSlot does.gone) x.history does.mid.history) (same_writes r stage)
+      (does.phase.placed (mid_honest (stage_writes r.geometry r.redo (r.new r.redo.stripe) stage) to None (point a.member x) y does honest))
 
   ran_phase : Ran (IsBesideEpochs a.member) x.history does.mid.history
   ran_phase =
@@ -132,4 +140,4 @@ module _ (r : Redoing) (redoing : IsRedoing r) (before : List Happening) (a : Ar
   pub stage_amid : IsOpenAmid before (led_to a y.member) y.told.history × IsBegun None y.member y.told.history
   stage_amid =
       leaves_amid does.gone before a does.mid y does.leaves honest (λ j has. over_below a.member to stage over j (does.phase.among j has)) kept_to.1
-      none rules going kept_to.0
+      none going kept_to.0

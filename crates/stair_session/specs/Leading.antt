@@ -9,11 +9,12 @@ use Rattle.stair_member.specs.Membership.{IsHere, Membership, why_of}
 use Rattle.stair_member.specs.declared.why.Why.{Why}
 use Rattle.stair_member.specs.declared.why.Why.TheVariants.{Rebuilding}
 use Rattle.stair_state.specs.Recovering.{IsShut}
-use Rattle.stair_state.specs.Redoing.{AttachesNone, IsIn, Redoing, Stage}
+use Rattle.stair_state.specs.Blocks.{Codewords}
+use Rattle.stair_state.specs.Redoing.{AtRest, AttachesNone, Done, InPlace, IsIn, Placing, Redoing, Stage, Uncommitted}
 use Rattle.stair_state.specs.Represents.{IsLargeEnough}
 use Rattle.stair_session.specs.Chunks.{IsBesideChunks}
 use Rattle.stair_session.specs.InSession.{IsBeside}
-use Rattle.stair_session.specs.Rebuilding.{Rebuild}
+use Rattle.stair_session.specs.Rebuilding.{IsRebuiltTo, Rebuild}
 use Rattle.stair_session.specs.Session.{ArrayState, HasOwn, IsArray, IsLiveIn, IsRebuiltIn}
 
 -- Calls beside its epochs and its redos, which write no chunk that its rebuild has come to either.
@@ -56,8 +57,16 @@ led_to a last = record { member = last; rebuild = rebuild_in last a.rebuild; sto
 
 -- IN THE MIDST OF A REDO
 
+-- the stripes of which a slot that is rebuilt holds its chunks: the redo's cells are placed on it too
+abbrev pub rebuilt_words : Redoing → Stage → Codewords
+rebuilt_words r AtRest = r.old
+rebuilt_words r Uncommitted = r.old
+rebuilt_words r Placing = r.old
+rebuilt_words r InPlace = r.new
+rebuilt_words r Done = r.new
+
 -- A redo that began at `start` is in this stage on the slots that are live still, of those that were attached then, and no
--- call has attached a slot since.
+-- call has attached a slot since. The chunks that a rebuild has come to go with it.
 pub record IsAmidRedo (r : Redoing) (before : List Happening) (a : ArrayState) (stage : Stage)
     (start h : List Happening) : Type 0 where
   pub amid : IsOpenAmid before a h
@@ -66,3 +75,5 @@ pub record IsAmidRedo (r : Redoing) (before : List Happening) (a : ArrayState) (
   pub large : (j : ℕ) → IsLiveIn a.member j → IsAttached start j
       → IsLargeEnough r.geometry (slot_state start j).size
   pub is_in : IsIn r stage (λ j. IsLiveIn a.member j × IsAttached start j) start h
+  pub rebuilt : (rebuild : Rebuild) → a.rebuild ≡ Some rebuild → IsAttached start rebuild.slot
+      → IsRebuiltTo r.geometry (rebuilt_words r stage) rebuild.slot rebuild.stripe start h

@@ -11,3 +11,4 @@ pub mod SeatSteps
 pub mod NewSession
 pub mod UnderWay
 pub mod Leading
+pub mod Opening

@@ -1,7 +1,6 @@
 -- A redo that is under way in a session: how far it has come on the slots that are in use.
-use Rattle.std.specs.Prelude.{◌≡◌, ◌<◌, ◌⊎◌, ℕ, IsTrue, List, None, Option, Some, ⊤}
+use Rattle.std.specs.Prelude.{◌≡◌, ◌<◌, ◌⊎◌, ℕ, List, None, Option, Some}
 use Rattle.stair_model.specs.Geometry.{Geometry}
-use Rattle.stair_model.specs.Stripe.{Stripe}
 use Rattle.stair_rack.specs.Answers.{Ran, any_call}
 use Rattle.stair_rack.specs.History.{Happening, slot_state}
 use Rattle.stair_rack.specs.Media.{Image}
@@ -9,14 +8,11 @@ use Rattle.stair_rack.specs.Offline.{IsAttached, WasPulled}
 use Rattle.stair_super.specs.Superblock.{joined_in, mark_in}
 use Rattle.stair_super.specs.declared.configuration.Configuration.{Configuration}
 use Rattle.stair_super.specs.declared.mark.Mark.TheVariants as mark
-use Rattle.stair_member.specs.Membership.{IsMembership, Membership}
-use Rattle.stair_member.specs.declared.fault.FenceFault.{FenceFault}
-use Rattle.stair_journal.specs.declared.redo.Redo.{Redo}
+use Rattle.stair_member.specs.Membership.{Membership}
 use Rattle.stair_state.specs.Blocks.{AreEncodingsOf}
-use Rattle.stair_state.specs.Redoing.{AtRest, Done, InPlace, IsIn, Placing, Redoing, Stage, Uncommitted, next}
+use Rattle.stair_state.specs.Redoing.{AtRest, Done, InPlace, IsIn, Placing, Redoing, Stage, Uncommitted}
 use Rattle.stair_state.specs.Represents.{IsLargeEnough, RepresentsAlone}
 use Rattle.stair_state.specs.State.{Change, Content, changed_if}
-use Rattle.stair_session.specs.Courses.{Ends, Goes, Point, Redoes, Stops}
 use Rattle.stair_session.specs.InSession.{HasEpoch}
 use Rattle.stair_session.specs.Session.{IsLiveIn, seats_in}
 
@@ -34,18 +30,6 @@ pub record IsUnderWay (a : Redoing) (stage : Stage) (start : List Happening) (m 
   pub cells : IsIn a stage (IsInUse m h) start h
   pub same : (j : ℕ) → IsInUse m h j → ¬ WasPulled start h j
   pub large : (j : ℕ) → IsInUse m h j → IsLargeEnough a.geometry (slot_state h j).size
-
--- What a course doesn't say by itself: in this redo the rack was honest after each phase and after each epoch, and each member
--- whose epoch stood keeps the rules of one.
-module _ (g : Geometry) (redo : Redo) (stripe : Stripe) where
-  abbrev pub IsSound : (stage : Stage) (refusal : Option FenceFault) (x z : Point)
-      → Redoes g redo stripe stage refusal x z → Type 0
-  IsSound _ _ _ _ (Ends x) = ⊤
-  IsSound _ _ _ _ (Goes stage to refusal x y z going over does more) =
-      IsTrue does.mid.honest × IsTrue y.told.honest × IsMembership y.member
-      × IsSound (next stage) refusal y z more
-  IsSound _ _ _ _ (Stops stage to fault x y going over does) =
-      IsTrue does.mid.honest × IsTrue y.told.honest
 
 -- Before the redo the array holds this content, and after it the changed one; or, where there is no change, the same. Neither
 -- the frozen mark nor the label is changed by it.

@@ -5,7 +5,6 @@ ghost use Rattle.stair_model.specs.Slots.{Slots, HasSlot};
 ghost use Rattle.stair_rack.specs.Crash.{CrashMayLeave};
 ghost use Rattle.stair_rack.specs.History.{Happening, slot_state, stopped};
 ghost use Rattle.stair_rack.specs.Media.{Image};
-ghost use Rattle.stair_rack.specs.Moments.{IsMoment};
 ghost use Rattle.stair_rack.specs.Offline.{IsAttached, WasPulled};
 ghost use Rattle.stair_super.specs.Superblock.{Superblock};
 ghost use Rattle.stair_member.specs.Aims.{IsAimed};
@@ -36,12 +35,12 @@ pub fn epoch_laws()
         (before h : List Happening) → IsInSession m words h → IsOfContent m words content →
         IsTolerated m.array.geometry before h →
         Represents (state_with m content None m.array) h }
-    // At every moment at which an epoch is established, whatever a crash leaves represents the state, with the seats that
+    // At every moment at which an epoch is established, up to which no medium came back, whatever a crash leaves represents the state, with the seats that
     // its current superblock has; where a change of frozen mark or label is made, that is in doubt.
     ensures meanwhile { (aim : Aim) (gone : Slots) (m last : Membership) (words : Codewords)
         (content : Content) (doubt : Option Change) (old h new : List Happening)
-        (image : Image) → IsReadyFor aim m words old → IsFencing aim gone m last old new →
-        IsMoment old h new → ¬ IsTrue (stopped h) → CrashMayLeave h image →
+        (image : Image) → IsReadyFor aim m words old → IsFencing aim gone m last old h new →
+        ¬ IsTrue (stopped h) → CrashMayLeave h image →
         IsOfContent m words content → IsAimedContent aim m words content doubt →
         (tolerated : IsToleratedAlone m.array.geometry image) →
         RepresentsAlone (state_with m content doubt tolerated.current.array) image }
@@ -49,7 +48,7 @@ pub fn epoch_laws()
     // it was gone.
     ensures names { (aim : Aim) (gone : Slots) (m last : Membership) (words : Codewords)
         (old h new : List Happening) (image : Image) (current : Superblock) →
-        IsReadyFor aim m words old → IsFencing aim gone m last old new → IsMoment old h new →
+        IsReadyFor aim m words old → IsFencing aim gone m last old h new →
         ¬ IsTrue (stopped h) → CrashMayLeave h image →
         IsToleratedAlone m.array.geometry image →
         IsCurrent m.array.geometry image current →
@@ -81,7 +80,7 @@ pub fn epoch_laws()
         AreEncodingsOf m.array.geometry content.blocks (old_in a stage) →
         AreEncodingsOf m.array.geometry (changed_if doubt content).blocks (new_in a stage) →
         m.array.frozen ≡ content.frozen → m.array.label ≡ content.label →
-        IsFencing Fence gone m last old new → IsMoment old h new → ¬ IsTrue (stopped h) →
+        IsFencing Fence gone m last old h new → ¬ IsTrue (stopped h) →
         CrashMayLeave h image → (tolerated : IsToleratedAlone m.array.geometry image) →
         RepresentsAlone (state_with m content doubt tolerated.current.array) image }
     // Once an epoch stands all that a session knows is so again, with the slot that was promoted among those that serve.

@@ -3,10 +3,13 @@
 #![tactic(auto)]
 
 pub mod epochs;
+pub mod first_fence;
 pub mod keeping;
 pub mod laws;
 pub mod open;
+pub mod openings;
 pub mod own;
 pub mod rebuilds;
+pub mod recovering;
 pub mod redo;
 pub mod seats;

@@ -7,7 +7,6 @@ ghost use Rattle.stair_rack.specs.Answers.{Ran};
 ghost use Rattle.stair_rack.specs.Crash.{CrashMayLeave};
 ghost use Rattle.stair_rack.specs.History.{Happening, slot_state, stopped};
 ghost use Rattle.stair_rack.specs.Media.{Image};
-ghost use Rattle.stair_rack.specs.Moments.{IsMoment};
 ghost use Rattle.stair_rack.specs.Offline.{IsAttached, IsHeld, IsOfflineUntilAttached, WasPulled};
 ghost use Rattle.stair_rack.specs.Placed.{Placed, Writes};
 ghost use Rattle.stair_rack.specs.Stretch.{NothingReturned};
@@ -40,6 +39,7 @@ ghost use Rattle.stair_session.specs.InSession.{
 ghost use Rattle.stair_session.specs.Leading.{IsAmidRedo, IsBesideArray, IsOpenAmid, KeepsRebuilds, led_to};
 ghost use Rattle.stair_session.specs.Rebuilding.{IsRebuiltTo, Rebuild};
 ghost use Rattle.stair_session.specs.Session.{ArrayState, IsArray, IsLiveIn, IsOpenWith, IsRebuiltIn};
+ghost use Rattle.stair_session.specs.UnderWay.{IsUnderWay};
 
 /// What an open array's session leads to. It does nothing.
 pub fn open_laws()
@@ -55,7 +55,7 @@ pub fn open_laws()
         (words : Codewords) (last : Membership) (content : Content) (doubt : Option Change)
         (old h new : List Happening) (image : Image) → IsOpenWith before a words old →
         NothingReturned before old → admitted aim ≡ None → ((j : ℕ) → aim ≢ Promote j) →
-        IsFencing aim gone a.member last old new → IsMoment old h new → ¬ IsTrue (stopped h) →
+        IsFencing aim gone a.member last old h new → ¬ IsTrue (stopped h) →
         CrashMayLeave h image → IsOfContent a.member words content →
         IsAimedContent aim a.member words content doubt →
         (tolerated : IsToleratedAlone a.member.array.geometry image) →
@@ -122,15 +122,15 @@ pub fn open_laws()
     // A fence by the member that some slots left, each of which was offline if it took part, is one by the member that it was,
     // where these slots were gone too: so what is said of every moment of a fence is so of this one.
     ensures left { (leaving gone all : Slots) (before : List Happening)
-        (m start last : Membership) (old new : List Happening) → Leaves leaving m start →
+        (m start last : Membership) (old h new : List Happening) → Leaves leaving m start →
         ((j : ℕ) → HasSlot gone j ⊎ HasSlot leaving j → HasSlot all j) → IsBegun None m old →
         ((j : ℕ) → HasSlot leaving j → IsHere m j → IsOfflineUntilAttached before old j) →
-        IsFencing Fence gone start last old new → IsFencing Fence all m last old new }
+        IsFencing Fence gone start last old h new → IsFencing Fence all m last old h new }
     // An epoch that was established on an honest rack, by a call that began so, stands.
     ensures stood { (aim : Aim) (m last : Membership) (old new : Telling)
         (does : Establishes aim m last None old new) → IsTrue new.honest →
         IsBegun (admitted aim) m old.history → NothingReturned old.history new.history →
-        IsMembership last → ((slot : ℕ) → aim ≡ Promote slot → IsHere m slot) →
+        ((slot : ℕ) → aim ≡ Promote slot → IsHere m slot) →
         HasStood aim does.gone m last old.history new.history }
     // By both, the record is led on where slots of the array that were gone are left out on an honest rack,
     ensures leaves_out { (leaving : Slots) (before : List Happening) (a : ArrayState)
@@ -138,7 +138,7 @@ pub fn open_laws()
         IsBegun None a.member old.history → LeavesOut leaving None (point a.member old) y →
         IsTrue y.told.honest →
         ((j : ℕ) → HasSlot leaving j → j < a.member.array.geometry.n) →
-        NothingReturned before y.told.history → IsMembership y.member →
+        NothingReturned before y.told.history →
         (¬ IsTrue (stopped y.told.history)) →
         IsOpenWith before (led_to a y.member) words y.told.history
         × IsBegun None y.member y.told.history }
@@ -148,7 +148,7 @@ pub fn open_laws()
         IsBegun None a.member old.history → LeavesOut leaving None (point a.member old) y →
         IsTrue y.told.honest →
         ((j : ℕ) → HasSlot leaving j → j < a.member.array.geometry.n) →
-        NothingReturned before y.told.history → IsMembership y.member →
+        NothingReturned before y.told.history →
         (¬ IsTrue (stopped y.told.history)) →
         IsOpenAmid before (led_to a y.member) y.told.history
         × IsBegun None y.member y.told.history }
@@ -166,9 +166,9 @@ pub fn open_laws()
     ensures stage { (r : Redoing) (before : List Happening) (a : ArrayState) (stage : Stage)
         (to : Slots) (old : Telling) (y : Point) → IsRedoing r → IsOpenAmid before a old.history →
         IsBegun None a.member old.history → IsOver stage a.member to →
-        (does : DoesStage (stage_writes r.geometry r.redo (r.new r.redo.stripe) stage) to None
-        (point a.member old) y) → IsTrue does.mid.honest → IsTrue y.told.honest →
-        NothingReturned before y.told.history → IsMembership y.member →
+        DoesStage (stage_writes r.geometry r.redo (r.new r.redo.stripe) stage) to None
+        (point a.member old) y → IsTrue y.told.honest →
+        NothingReturned before y.told.history →
         (¬ IsTrue (stopped y.told.history)) →
         IsOpenAmid before (led_to a y.member) y.told.history
         × IsBegun None y.member y.told.history }
@@ -187,23 +187,26 @@ pub fn open_laws()
         a.member.array.frozen ≡ content.frozen → a.member.array.label ≡ content.label →
         IsTolerated a.member.array.geometry before h →
         Represents (state_with a.member content doubt a.member.array) h }
-    // it goes from stage to stage, with the slots that were gone left out,
+    // it goes from stage to stage, with the slots that were gone left out and a rebuild as far as it was,
     ensures redo_goes { (r : Redoing) (before : List Happening) (a : ArrayState) (stage : Stage)
         (to : Slots) (start : List Happening) (old : Telling) (y : Point) → IsRedoing r →
         IsAmidRedo r before a stage start old.history → IsBegun None a.member old.history →
         IsOver stage a.member to →
-        (does : DoesStage (stage_writes r.geometry r.redo (r.new r.redo.stripe) stage) to None
-        (point a.member old) y) → IsTrue does.mid.honest → IsTrue y.told.honest →
-        NothingReturned before y.told.history → IsMembership y.member →
+        DoesStage (stage_writes r.geometry r.redo (r.new r.redo.stripe) stage) to None
+        (point a.member old) y → IsTrue y.told.honest →
+        NothingReturned before y.told.history →
         (¬ IsTrue (stopped y.told.history)) →
         IsAmidRedo r before (led_to a y.member) (next stage) start y.told.history
         × IsBegun None y.member y.told.history }
     // and is done with the new stripes.
     ensures redo_ends { (r : Redoing) (before : List Happening) (a : ArrayState)
         (start h : List Happening) → IsAmidRedo r before a Done start h →
-        ((rebuild : Rebuild) → a.rebuild ≡ Some rebuild → IsAttached h rebuild.slot →
-        IsRebuiltTo a.member.array.geometry r.new rebuild.slot rebuild.stripe start h) →
         IsOpenWith before a r.new h }
+    // On the slots in use it is under way, so that what is said of each moment of such a redo is so of it.
+    ensures redo_under_way { (r : Redoing) (before : List Happening) (a : ArrayState)
+        (stage : Stage) (start h : List Happening) → IsAmidRedo r before a stage start h →
+        NothingReturned before h → (¬ IsTrue (stopped h)) → IsBegun None a.member h →
+        IsUnderWay r stage start a.member h }
     // The calls that establish an epoch are apart from a redo, and beside the chunks that were rebuilt.
     ensures issues { (aim : Aim) (gone live : Slots) (m last : Membership)
         (old new : List Happening) (g : Geometry) (j next : ℕ) →

@@ -1,27 +1,32 @@
 //! A slot's own superblock in a session, and what it says of all its media.
 
-ghost use Rattle.std.specs.Prelude.{◌<◌, ◌≤◌, ◌⊎◌, ℕ, IsTrue, List, None};
+ghost use Rattle.std.specs.Prelude.{◌≡◌, ◌-◌, ◌<◌, ◌≤◌, ◌⊎◌, ℕ, IsTrue, List, None};
 ghost use Rattle.stair_model.specs.Geometry.{Geometry};
-ghost use Rattle.stair_model.specs.Slots.{Slots};
+ghost use Rattle.stair_model.specs.Slots.{HasSlot, Slots};
 ghost use Rattle.stair_rack.specs.Answers.{IsHistory, Ran, any_call};
 ghost use Rattle.stair_rack.specs.Crash.{EachImage};
 ghost use Rattle.stair_rack.specs.History.{Happening, slot_state, stopped};
 ghost use Rattle.stair_rack.specs.Offline.{IsAttached, IsHeld, WasPulled};
-ghost use Rattle.stair_rack.specs.Sector.{content};
+ghost use Rattle.stair_rack.specs.Sector.{content, damaged};
 ghost use Rattle.stair_rack.specs.Stretch.{NothingReturned};
+ghost use Rattle.stair_rack.specs.Telling.{Telling};
 ghost use Rattle.stair_super.specs.Superblock.{Superblock};
 ghost use Rattle.stair_member.specs.Aims.{admitted};
+ghost use Rattle.stair_member.specs.Current.{IsCurrent, IsLive};
 ghost use Rattle.stair_member.specs.Epochs.{Issued, Stands, StandsOnDisk};
 ghost use Rattle.stair_member.specs.Fencing.{HasStood, IsBegun};
-ghost use Rattle.stair_member.specs.Membership.{IsHere, IsMembership, Membership};
+ghost use Rattle.stair_member.specs.Membership.{IsHere, IsMembership, Membership, place_of};
 ghost use Rattle.stair_member.specs.Superblocks.{HoldsSuper};
 ghost use Rattle.stair_member.specs.declared.aim.Aim.{Aim};
 ghost use Rattle.stair_state.specs.Blocks.{Codewords};
 ghost use Rattle.stair_state.specs.Redoing.{AttachesNone};
+ghost use Rattle.stair_state.specs.Represents.{IsLargeEnough};
 ghost use Rattle.stair_state.specs.Tolerance.{IsTolerated};
 ghost use Rattle.stair_session.specs.Changing.{IsAttachedOrBare};
-ghost use Rattle.stair_session.specs.InSession.{HaveReached, IsBehindPlaces, IsInSession};
-ghost use Rattle.stair_session.specs.Session.{ArrayState, HasOwn, IsOpenWith};
+ghost use Rattle.stair_session.specs.Courses.{LeavesOut, Point, point};
+ghost use Rattle.stair_session.specs.InSession.{HaveReached, IsBehindPlaces, IsInSession, TakesPart};
+ghost use Rattle.stair_session.specs.Leading.{IsOpenAmid};
+ghost use Rattle.stair_session.specs.Session.{ArrayState, HasOwn, IsLiveIn, IsOpenWith};
 
 /// What a session knows of slots by their own superblocks. It does nothing.
 pub fn own_laws()
@@ -68,4 +73,30 @@ pub fn own_laws()
     ensures own_stood { (aim : Aim) (gone : Slots) (m last : Membership)
         (old new : List Happening) → HasStood aim gone m last old new →
         (j : ℕ) → IsHere last j → IsAttached new j → HasOwn last new j }
+    // In the midst of a redo too it takes part by that in whatever a crash leaves, however many other slots are lost: all that
+    // is current names the member's epoch,
+    ensures current { (before : List Happening) (a : ArrayState) (h : List Happening) (j : ℕ) →
+        IsOpenAmid before a h → IsBegun None a.member h → IsHere a.member j → IsAttached h j →
+        ¬ ((slot_state h j).sector (1 - place_of a.member j) ≡ damaged) →
+        EachImage (λ image. (current : Superblock) →
+        IsCurrent a.member.array.geometry image current → current.array ≡ a.member.array) h }
+    // and gives the slot the mark of the member's reason,
+    ensures takes_part { (before : List Happening) (a : ArrayState) (h : List Happening)
+        (j : ℕ) → IsOpenAmid before a h → IsBegun None a.member h → IsHere a.member j →
+        IsAttached h j → ¬ ((slot_state h j).sector (1 - place_of a.member j) ≡ damaged) →
+        EachImage (TakesPart a.member j) h }
+    // so that one that is live to the member is live in each image.
+    ensures live { (before : List Happening) (a : ArrayState) (h : List Happening) (j : ℕ) →
+        IsOpenAmid before a h → IsBegun None a.member h → IsLiveIn a.member j → IsAttached h j →
+        ¬ ((slot_state h j).sector (1 - place_of a.member j) ≡ damaged) →
+        EachImage (λ image. (current : Superblock) →
+        IsCurrent a.member.array.geometry image current →
+        IsLive a.member.array.geometry image current j) h }
+    // And it stays live to the member where slots are left out, while it is attached and isn't one of them.
+    ensures stays_live { (leaving : Slots) (before : List Happening) (a : ArrayState)
+        (old : Telling) (y : Point) (j : ℕ) → IsOpenAmid before a old.history →
+        LeavesOut leaving None (point a.member old) y → IsTrue y.told.honest →
+        ¬ IsTrue (stopped y.told.history) → IsLiveIn a.member j → (IsAttached old.history j →
+        IsLargeEnough a.member.array.geometry (slot_state old.history j).size) →
+        ¬ HasSlot leaving j → IsAttached y.told.history j → IsLiveIn y.member j }
 {}

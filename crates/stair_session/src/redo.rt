@@ -10,7 +10,7 @@ ghost use Rattle.stair_rack.specs.Media.{Image};
 ghost use Rattle.stair_rack.specs.Moments.{IsMoment};
 ghost use Rattle.stair_rack.specs.Offline.{IsAttached};
 ghost use Rattle.stair_rack.specs.Stretch.{NothingReturned};
-ghost use Rattle.stair_member.specs.Membership.{IsHere, IsMembership, Membership};
+ghost use Rattle.stair_member.specs.Membership.{IsHere, Membership};
 ghost use Rattle.stair_member.specs.declared.fault.FenceFault.{FenceFault};
 ghost use Rattle.stair_state.specs.Blocks.{Codewords};
 ghost use Rattle.stair_state.specs.Redoing.{AtRest, Done, IsRedoing, Redoing, Stage, next};
@@ -19,7 +19,7 @@ ghost use Rattle.stair_state.specs.State.{Change, Content};
 ghost use Rattle.stair_state.specs.Tolerance.{IsToleratedAlone};
 ghost use Rattle.stair_session.specs.Courses.{DoesStage, IsOver, LeavesOut, Point, Redoes, stage_writes};
 ghost use Rattle.stair_session.specs.InSession.{HasEpoch, IsInSession, IsOfContent, state_with};
-ghost use Rattle.stair_session.specs.UnderWay.{AreKept, IsBeforeOrAfter, IsOfRedo, IsSound, IsUnderWay};
+ghost use Rattle.stair_session.specs.UnderWay.{AreKept, IsBeforeOrAfter, IsOfRedo, IsUnderWay};
 
 /// What a redo leads to. It does nothing.
 pub fn redo_laws()
@@ -27,13 +27,13 @@ pub fn redo_laws()
     ensures left_out { (gone : Slots) (x y : Point) → LeavesOut gone None x y →
         HasEpoch x.member x.told.history → ((j : ℕ) → HasSlot gone j → IsHere x.member j) →
         IsTrue y.told.honest → NothingReturned x.told.history y.told.history →
-        IsMembership y.member → ¬ IsTrue (stopped y.told.history) →
+        ¬ IsTrue (stopped y.told.history) →
         HasEpoch y.member y.told.history }
     // A session holds the stripes that it held then.
     ensures stays { (gone : Slots) (x y : Point) (words : Codewords) →
         LeavesOut gone None x y → IsInSession x.member words x.told.history →
         ((j : ℕ) → HasSlot gone j → IsHere x.member j) → IsTrue y.told.honest →
-        NothingReturned x.told.history y.told.history → IsMembership y.member →
+        NothingReturned x.told.history y.told.history →
         ¬ IsTrue (stopped y.told.history) → IsInSession y.member words y.told.history }
     // At each moment of it, refused or not, an image that a crash leaves and in which failures are within tolerance represents
     // the state, with the seats that its own current superblock has: those of the member's epoch, but for slots that are Down.
@@ -43,8 +43,7 @@ pub fn redo_laws()
         IsOfContent x.member words content →
         ((j : ℕ) → HasSlot gone j → IsHere x.member j) →
         ((j : ℕ) → HasSlot gone j → ¬ IsAttached x.told.history j) → IsTrue y.told.honest →
-        NothingReturned x.told.history y.told.history →
-        IsMoment x.told.history h y.told.history → ¬ IsTrue (stopped h) →
+        IsMoment x.told.history h y.told.history → NothingReturned x.told.history h → ¬ IsTrue (stopped h) →
         CrashMayLeave h image → (tolerated : IsToleratedAlone x.member.array.geometry image) →
         RepresentsAlone (state_with x.member content None tolerated.current.array) image
         × AreKept x.member.array.geometry x.member.array tolerated.current.array }
@@ -58,9 +57,9 @@ pub fn redo_laws()
         ((i c : ℕ) → HasCell a.redo.cells i c →
         cell stripe i c ≡ cell (a.new a.redo.stripe) i c) → stage ≢ Done →
         IsOver stage x.member to → IsUnderWay a stage start x.member x.told.history →
-        (does : DoesStage (stage_writes a.geometry a.redo stripe stage) to None x y) →
-        IsTrue does.mid.honest → IsTrue y.told.honest →
-        NothingReturned x.told.history y.told.history → IsMembership y.member →
+        DoesStage (stage_writes a.geometry a.redo stripe stage) to None x y →
+        IsTrue y.told.honest →
+        NothingReturned x.told.history y.told.history →
         ¬ IsTrue (stopped y.told.history) →
         IsUnderWay a (next stage) start y.member y.told.history }
     // From a stage to its end, if no epoch is refused, a redo is done on the slots in use,
@@ -69,8 +68,7 @@ pub fn redo_laws()
         ((i c : ℕ) → HasCell a.redo.cells i c →
         cell stripe i c ≡ cell (a.new a.redo.stripe) i c) →
         IsUnderWay a stage start x.member x.told.history →
-        (run : Redoes a.geometry a.redo stripe stage None x z) →
-        IsSound a.geometry a.redo stripe stage None x z run →
+        Redoes a.geometry a.redo stripe stage None x z → IsTrue z.told.honest →
         NothingReturned x.told.history z.told.history → ¬ IsTrue (stopped z.told.history) →
         IsUnderWay a Done start z.member z.told.history }
     // and the session holds the new stripes then.
@@ -81,8 +79,7 @@ pub fn redo_laws()
         ((i c : ℕ) → HasCell a.redo.cells i c →
         cell stripe i c ≡ cell (a.new a.redo.stripe) i c) →
         IsInSession x.member a.old x.told.history → a.geometry ≡ x.member.array.geometry →
-        (run : Redoes a.geometry a.redo stripe AtRest None x z) →
-        IsSound a.geometry a.redo stripe AtRest None x z run →
+        Redoes a.geometry a.redo stripe AtRest None x z → IsTrue z.told.honest →
         NothingReturned x.told.history z.told.history → ¬ IsTrue (stopped z.told.history) →
         IsInSession z.member a.new z.told.history }
     // At each moment of a redo, refused or not, an image that a crash leaves and in which failures are within tolerance
@@ -95,10 +92,9 @@ pub fn redo_laws()
         ((i c : ℕ) → HasCell a.redo.cells i c →
         cell stripe i c ≡ cell (a.new a.redo.stripe) i c) →
         IsUnderWay a stage start x.member x.told.history →
-        (run : Redoes a.geometry a.redo stripe stage refusal x z) →
-        IsSound a.geometry a.redo stripe stage refusal x z run →
-        NothingReturned x.told.history z.told.history → IsOfRedo a x.member content change →
-        IsMoment x.told.history h z.told.history → ¬ IsTrue (stopped h) →
+        Redoes a.geometry a.redo stripe stage refusal x z → IsTrue z.told.honest →
+        IsOfRedo a x.member content change → IsMoment x.told.history h z.told.history →
+        NothingReturned x.told.history h → ¬ IsTrue (stopped h) →
         CrashMayLeave h image → (tolerated : IsToleratedAlone a.geometry image) →
         IsBeforeOrAfter a.geometry content change tolerated.current.array image
         × AreKept a.geometry x.member.array tolerated.current.array }
@@ -109,8 +105,7 @@ pub fn redo_laws()
         ((i c : ℕ) → HasCell a.redo.cells i c →
         cell stripe i c ≡ cell (a.new a.redo.stripe) i c) →
         IsUnderWay a stage start x.member x.told.history →
-        (run : Redoes a.geometry a.redo stripe stage None x z) →
-        IsSound a.geometry a.redo stripe stage None x z run →
+        Redoes a.geometry a.redo stripe stage None x z → IsTrue z.told.honest →
         NothingReturned x.told.history z.told.history → ¬ IsTrue (stopped z.told.history) →
         IsOfRedo a x.member content change → IsOfRedo a z.member content change
         × AreKept z.member.array.geometry x.member.array z.member.array }

@@ -7,7 +7,6 @@ ghost use Rattle.stair_rack.specs.Answers.{Ran, any_call};
 ghost use Rattle.stair_rack.specs.Crash.{CrashMayLeave};
 ghost use Rattle.stair_rack.specs.History.{Happening, stopped};
 ghost use Rattle.stair_rack.specs.Media.{Image};
-ghost use Rattle.stair_rack.specs.Moments.{IsMoment};
 ghost use Rattle.stair_rack.specs.Offline.{IsAttached};
 ghost use Rattle.stair_super.specs.Superblock.{Superblock};
 ghost use Rattle.stair_member.specs.Current.{IsCurrent};
@@ -54,7 +53,7 @@ pub fn seat_laws()
         (old h new : List Happening) (image : Image) (current : Superblock) →
         IsReadyFor aim m words old →
         ((slot : ℕ) → aim ≡ Promote slot → IsRebuiltIn m slot) →
-        IsFencing aim gone m last old new → IsMoment old h new → ¬ IsTrue (stopped h) →
+        IsFencing aim gone m last old h new → ¬ IsTrue (stopped h) →
         CrashMayLeave h image → IsToleratedAlone m.array.geometry image →
         IsCurrent m.array.geometry image current → (current.array ≡ m.array)
         ⊎ SeatsMove aim (HasSlot gone) (seats_in m.array) (seats_in current.array) }

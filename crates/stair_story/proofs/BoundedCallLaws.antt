@@ -23,7 +23,7 @@ use Rattle.stair_array.proofs.KeepLemmas.{no_writes}
 use Rattle.stair_array.specs.Draws.{allowance}
 use Rattle.stair_array.specs.Promise.{Begun, Closed, Found, Opened, Session}
 use Rattle.stair_story.specs.Action.{Create, Survey}
-use Rattle.stair_story.specs.Bounded.{AreOfArray, AreHonest, CallsAreBounded, IsBoundedAt, StaysBounded, StaysWithin}
+use Rattle.stair_story.specs.Bounded.{AreOfArray, CallsAreBounded, IsBoundedAt, StaysBounded, StaysWithin}
 use Rattle.stair_story.specs.Devices.{DeviceView, Devices, WorksAll, seen_of}
 use Rattle.stair_story.specs.Drawn.{over_steps}
 use Rattle.stair_story.specs.Kept.{HasMember}
@@ -89,46 +89,43 @@ module _ (g : Geometry) (most : ℕ) where
 
 module _ {R W : Type 0} (view : DeviceView R W) (honest : IsTrue view.rack.honest) (g : Geometry) (most bound : ℕ) where
   -- the session ended
-  over_closed : (story : List Deed) (x y : Devices R W) (works : Leads (WorksAll view) story x y) → AreHonest view story x y works
-      → x.session ≡ Closed → IsBoundedAt g bound (view.rack.history x.rack) → StaysWithin view g bound x y
-  over_closed story x y works told closed bounded =
-      stays_over view honest g bound story x y works told bound (omega arith)
+  over_closed : (story : List Deed) (x y : Devices R W) → Leads (WorksAll view) story x y → x.session ≡ Closed → IsBoundedAt g bound (view.rack.history x.rack) → StaysWithin view g bound x y
+  over_closed story x y works closed bounded =
+      stays_over view honest g bound story x y works bound (omega arith)
       (λ begun. let same : Closed ≡ Begun = sym closed ∙ begun in cc) bounded
       (λ n has. absurd (subst (λ (s : Session). HasMember s n) closed has))
 
   -- a survey that found the array
-  over_found : (m : Membership) (story : List Deed) (x y : Devices R W) (works : Leads (WorksAll view) story x y) → AreHonest view story x y works
-      → x.session ≡ Found m → m.array.geometry ≡ g → m.drawn ≤ most → m.array.geometry.n ≤ 32 → most + 64 + over_steps allowance story ≤ bound
+  over_found : (m : Membership) (story : List Deed) (x y : Devices R W) → Leads (WorksAll view) story x y → x.session ≡ Found m → m.array.geometry ≡ g → m.drawn ≤ most → m.array.geometry.n ≤ 32 → most + 64 + over_steps allowance story ≤ bound
       → IsBoundedAt g most (view.rack.history x.rack) → StaysWithin view g bound x y
-  over_found m story x y works told is same few slots room bounded =
+  over_found m story x y works is same few slots room bounded =
       let small = weigh_little m slots in
-      stays_over view honest g bound story x y works told most (omega (arith, room))
+      stays_over view honest g bound story x y works most (omega (arith, room))
       (λ begun. let same : Found m ≡ Begun = sym is ∙ begun in cc) bounded
       (λ n has.
       subst (HasRoom view honest g bound most story) (sym (subst (λ (s : Session). HasMember s n) is has))
       (record { geometry = same; known = few; room = omega (arith, room, small) }))
 
-  pub from_begun : (story : List Deed) (x y : Devices R W) (works : Leads (WorksAll view) story x y) → AreHonest view story x y works
-      → AreOfArray view g story x y works → x.session ≡ Begun → most + 64 + over_steps allowance story ≤ bound
+  pub from_begun : (story : List Deed) (x y : Devices R W) (works : Leads (WorksAll view) story x y) → AreOfArray view g story x y works → x.session ≡ Begun → most + 64 + over_steps allowance story ≤ bound
       → IsBoundedAt g most (view.rack.history x.rack) → StaysWithin view g bound x y
-  from_begun [] x y works told of begun room bounded =
+  from_begun [] x y works of begun room bounded =
       subst (λ (d : Devices R W). StaysWithin view g bound x d) (sym works)
       (at_every_none {P = IsBoundedAt g bound} (view.rack.history x.rack)
       (weaker g most bound (omega (arith, room)) (view.rack.history x.rack) bounded))
-  from_begun (Stepped step answer events left ∷ story) x y works told of begun room bounded =
+  from_begun (Stepped step answer events left ∷ story) x y works of begun room bounded =
       elim works.1.0 [
         | inl does ↦ absurd (known_begun x.session does.was.member begun (starts_from step does.was x.session does.starts))
         | inr stopped ↦ absurd (let same : Begun ≡ Opened stopped.array = sym begun ∙ stopped.is_open in cc)
       ]
-  from_begun (Did (Create array) outcome ∷ story) x y works told of begun room bounded =
+  from_begun (Did (Create array) outcome ∷ story) x y works of begun room bounded =
       let ran = no_writes (works.1.0.ran honest) of.0 in
       let stays : StaysBounded g most (view.rack.history x.rack) (view.rack.history works.0.rack) =
       stays_bounded g most (ran_weakened (no_write_fine g most) ran) bounded in
       let low : most ≤ bound = omega (arith, room) in
       at_every_join (stays_weaker g most bound low stays)
-      (over_closed story works.0 y works.2 told.1 works.1.2
+      (over_closed story works.0 y works.2 works.1.2
       (weaker g most bound low (view.rack.history works.0.rack) (at_last stays)))
-  from_begun (Did Survey (Ok m) ∷ story) x y works told of begun room bounded =
+  from_begun (Did Survey (Ok m) ∷ story) x y works of begun room bounded =
       let ran = asked_ran 32 (view.rack.history x.rack) (view.rack.history works.0.rack) (works.1.0.asked honest) in
       let stays : StaysBounded g most (view.rack.history x.rack) (view.rack.history works.0.rack) =
       stays_bounded g most (ran_weakened (leaves_fine g most) ran) bounded in
@@ -137,25 +134,25 @@ module _ {R W : Type 0} (view : DeviceView R W) (honest : IsTrue view.rack.hones
       survey_few m (seen_of view x).told (seen_of view works.0).told most honest works.1.0
       (subst (λ (array : Geometry). StaysBounded array most (view.rack.history x.rack) (view.rack.history works.0.rack)) (sym of.0) stays) in
       at_every_join (stays_weaker g most bound low stays)
-      (over_found m story works.0 y works.2 told.1 works.1.2 of.0 few
+      (over_found m story works.0 y works.2 works.1.2 of.0 few
       (survey_slots m (seen_of view x).told (seen_of view works.0).told works.1.0) (omega (arith, room)) (at_last stays))
-  from_begun (Did Survey (Err fault) ∷ story) x y works told of begun room bounded =
+  from_begun (Did Survey (Err fault) ∷ story) x y works of begun room bounded =
       let ran = asked_ran 32 (view.rack.history x.rack) (view.rack.history works.0.rack) (works.1.0.asked honest) in
       let stays : StaysBounded g most (view.rack.history x.rack) (view.rack.history works.0.rack) =
       stays_bounded g most (ran_weakened (leaves_fine g most) ran) bounded in
       let low : most ≤ bound = omega (arith, room) in
       at_every_join (stays_weaker g most bound low stays)
-      (over_closed story works.0 y works.2 told.1 works.1.2
+      (over_closed story works.0 y works.2 works.1.2
       (weaker g most bound low (view.rack.history works.0.rack) (at_last stays)))
-  from_begun (deed ∷ story) x y works told of begun room bounded =
+  from_begun (deed ∷ story) x y works of begun room bounded =
       let same : view.rack.history works.0.rack ≡ view.rack.history x.rack = ap (λ (d : Devices R W). view.rack.history d.rack) works.1 in
       subst (λ (h : List Happening). StaysBounded g bound h (view.rack.history y.rack)) same
-      (from_begun story works.0 y works.2 told.1 of.1 (same_session view works.1 ∙ begun) (omega (arith, room))
+      (from_begun story works.0 y works.2 of.1 (same_session view works.1 ∙ begun) (omega (arith, room))
       (subst (IsBoundedAt g most) (sym same) bounded))
 
 pub calls_bounded : (R W : Type 0) → CallsAreBounded R W
-calls_bounded R W view story x y works g most honest begun bounded of told =
-    let stays = from_begun view honest g most (most + 64 + over_steps allowance story) story x y works told of begun (omega arith) bounded in
+calls_bounded R W view story x y works g most honest begun bounded of =
+    let stays = from_begun view honest g most (most + 64 + over_steps allowance story) story x y works of begun (omega arith) bounded in
     let split = story_allows story in
     record {
       allowed = stays;

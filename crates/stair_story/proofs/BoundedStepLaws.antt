@@ -1,5 +1,5 @@
 -- What a step writes to superblock places.
-use Rattle.std.proofs.Common.{◌≡◌, ◌<◌, ◌≤◌, ℕ, List, Option, None, Some, Result, refl, sym, ap, subst, arith}
+use Rattle.std.proofs.Common.{◌≡◌, ◌∙◌, ◌<◌, ◌≤◌, ℕ, List, Option, None, Some, Result, refl, sym, ap, subst, arith}
 use Rattle.std.proofs.lemmas.Bool.{cond-true, cond-false, lt-ltb, ne_eqb}
 use Rattle.std.proofs.Math.Nat.{le-max_left}
 use Rattle.std.specs.Prelude.{IsTrue, ◌==◌, if◌then◌else◌, max, nat_lt}
@@ -12,7 +12,7 @@ use Rattle.stair_rack.specs.History.{Attach, Happening, Read, Sectors, SlotCall,
 use Rattle.stair_rack.specs.Placed.{IsSyncOf, IsWriteOf, Placed, Writes}
 use Rattle.stair_rack.specs.Reading.{IsReadOf}
 use Rattle.stair_rack.specs.Stretch.{IsNoWrite}
-use Rattle.stair_rack.specs.Telling.{IsLater, Telling}
+use Rattle.stair_rack.specs.Telling.{Telling}
 use Rattle.stair_rack.specs.declared.rack.Reply.{Reply}
 use Rattle.stair_rack.proofs.MomentLemmas.{IsThis, calls_ran, ran_join, ran_none, ran_weakened}
 use Rattle.stair_member.specs.Establishing.{Establishes, Fences}
@@ -25,6 +25,7 @@ use Rattle.stair_state.specs.Redoing.{Stage}
 use Rattle.stair_session.specs.Courses as course
 use Rattle.stair_session.specs.Courses.{DoesStage, FindsBody, FindsRedo, LeavesOut, Loads, Point, Redoes, Replays, point, stage_writes}
 use Rattle.stair_session.specs.Session.{ArrayState}
+use Rattle.stair_session.proofs.HonestLemmas.{body_honest, found_honest, left_honest, load_honest, redo_honest, replay_honest, stage_honest}
 use Rattle.stair_array.specs.Calls as calls
 use Rattle.stair_array.specs.Mends as mends
 use Rattle.stair_array.specs.Openings as opening
@@ -33,7 +34,8 @@ use Rattle.stair_array.specs.Machine.{Answer, LookAtSeats, Progress, ReadBlock, 
 use Rattle.stair_array.specs.Mends.{Drops, IsPreparing, Looks, OnlyPrepared, PreparesSlot, Promotes, Rebuilds, Replaces, Scrubs, SyncsSlot, WritesChunk}
 use Rattle.stair_array.specs.Openings.{ClearsJournal, Recovers}
 use Rattle.stair_array.specs.Promise.{Does}
-use Rattle.stair_story.specs.Bounded.{IsHonestBody, IsHonestClearing, IsHonestFinding, IsHonestLoad, IsHonestOpening, IsHonestPreparing, IsHonestPromoting, IsHonestReading, IsHonestRebuild, IsHonestRedo, IsHonestReplacing, IsHonestReplay, IsHonestScrub, IsHonestStage, IsHonestStep, IsHonestStripe, IsHonestWriting, StepsAreBounded}
+use Rattle.stair_array.proofs.RecoveredLemmas.{cleared_honest}
+use Rattle.stair_story.specs.Bounded.{StepsAreBounded}
 use Rattle.stair_story.proofs.BoundedLaws.{IsFine, fine_issued, stays_bounded}
 
 -- ---- draws never fall
@@ -131,18 +133,12 @@ module _ (g : Geometry) (most : ℕ) where
   goes_kept : (x y : Point) → y.member ≡ x.member → (IsTrue y.told.honest → Fine x.told.history y.told.history) → Goes x y
   goes_kept x y same fine = record { rises = rises_kept x y same; fine = λ few honest. fine honest }
 
-  goes_on : {x y z : Point} → Goes x y → IsTrue y.told.honest → Goes y z → Goes x z
-  goes_on first between second = record {
-    rises = omega (arith, first.rises, second.rises);
-    fine = λ few honest. ran_join (first.fine (omega (arith, second.rises, few)) between) (second.fine few honest);
-  }
-
-  -- the rack was honest between, since it is in the end
-  goes_later : {x y z : Point} → Goes x y → IsLater y.told z.told → Goes y z → Goes x z
-  goes_later first later second = record {
+  -- one part after the other: the rack was honest between, since it is in the end
+  goes_on : {x y z : Point} → Goes x y → y.told.honest ≡ z.told.honest → Goes y z → Goes x z
+  goes_on first same second = record {
     rises = omega (arith, first.rises, second.rises);
     fine = λ few honest.
-        ran_join (first.fine (omega (arith, second.rises, few)) (subst IsTrue (sym later.honest) honest)) (second.fine few honest);
+        ran_join (first.fine (omega (arith, second.rises, few)) (subst IsTrue (sym same) honest)) (second.fine few honest);
   }
 
   goes_established : {aim : Aim} {x y : Point} {refusal : Option FenceFault} → Establishes aim x.member y.member refusal x.told y.told → Goes x y
@@ -157,67 +153,74 @@ module _ (g : Geometry) (most : ℕ) where
   goes_left (course.NoneWas none same quiet) = goes_same same
   goes_left (course.Fenced j has answer is fences) = goes_fenced fences
 
-  goes_stage : {what : Writes} {to : Slots} {refusal : Option FenceFault} {x y : Point} → AreBehind what → (does : DoesStage what to refusal x y)
-      → IsHonestStage does → Goes x y
-  goes_stage {x = x} behind does told =
-      goes_on (goes_kept x (point x.member does.mid) refl (λ honest. fine_placed behind (does.phase.placed honest))) told (goes_left does.leaves)
+  goes_stage : {what : Writes} {to : Slots} {refusal : Option FenceFault} {x y : Point} → AreBehind what → (does : DoesStage what to refusal x y) → Goes x y
+  goes_stage {x = x} behind does =
+      goes_on (goes_kept x (point x.member does.mid) refl (λ honest. fine_placed behind (does.phase.placed honest)))
+      (left_honest _ _ _ _ does.leaves) (goes_left does.leaves)
 
   goes_loaded : {t : ℕ} {wanted : ℕ → ℕ → Type 0} {gathered : _} {was into : Stripe} {refusal : Option FenceFault} {x y : Point}
-      → (loads : Loads t wanted gathered was into refusal x y) → IsHonestLoad loads → Goes x y
-  goes_loaded {x = x} loads told =
+      → (loads : Loads t wanted gathered was into refusal x y) → Goes x y
+  goes_loaded {x = x} loads =
       goes_on
       (goes_kept x (point x.member loads.mid) refl
-      (λ honest. ran_weakened (λ j call is. subst (IsFine g most j) (sym is.is) tt) (loads.gathers.ran honest))) told (goes_left loads.leaves)
+      (λ honest. ran_weakened (λ j call is. subst (IsFine g most j) (sym is.is) tt) (loads.gathers.ran honest)))
+      (left_honest _ _ _ _ loads.leaves) (goes_left loads.leaves)
 
   goes_body : {redo : _} {body : _} {was into : Stripe} {refusal : Option FenceFault} {x y : Point}
-      → (finds : FindsBody redo body was into refusal x y) → IsHonestBody finds → Goes x y
-  goes_body {x = x} finds told =
-      goes_on (goes_kept x (point x.member finds.mid) refl (λ honest. ran_weakened (fine_read _ _) (finds.reads.ran honest))) told
-      (goes_left finds.leaves)
+      → (finds : FindsBody redo body was into refusal x y) → Goes x y
+  goes_body {x = x} finds =
+      goes_on (goes_kept x (point x.member finds.mid) refl (λ honest. ran_weakened (fine_read _ _) (finds.reads.ran honest)))
+      (left_honest _ _ _ _ finds.leaves) (goes_left finds.leaves)
 
   goes_redo : {array : Geometry} {redo : _} {stripe : Stripe} {s : Stage} {refusal : Option FenceFault} {x y : Point}
-      → (does : Redoes array redo stripe s refusal x y) → IsHonestRedo does → Goes x y
-  goes_redo (course.Ends x) told = goes_same refl
-  goes_redo {array} {redo} {stripe} (course.Goes s to refusal x y z apart over does rest) told =
-      goes_on (goes_stage (stage_behind array redo stripe s) does told.0) told.1 (goes_redo rest told.2)
-  goes_redo {array} {redo} {stripe} (course.Stops s to fault x y apart over does) told =
-      goes_stage (stage_behind array redo stripe s) does told
+      → (does : Redoes array redo stripe s refusal x y) → Goes x y
+  goes_redo (course.Ends x) = goes_same refl
+  goes_redo {array} {redo} {stripe} (course.Goes s to refusal x y z apart over does rest) =
+      goes_on (goes_stage (stage_behind array redo stripe s) does) (redo_honest _ _ _ _ _ _ _ rest) (goes_redo rest)
+  goes_redo {array} {redo} {stripe} (course.Stops s to fault x y apart over does) =
+      goes_stage (stage_behind array redo stripe s) does
 
   goes_found : {redo : Option _} {opened : Slots} {refusal : Option FenceFault} {x y : Point}
-      → (finds : FindsRedo redo opened refusal x y) → IsHonestFinding finds → Goes x y
-  goes_found (course.Found gates live mid x are reads none) told =
+      → (finds : FindsRedo redo opened refusal x y) → Goes x y
+  goes_found (course.Found gates live mid x are reads none) =
       goes_kept x (point x.member mid) refl (λ honest. ran_weakened (fine_read _ _) (reads.ran honest))
-  goes_found (course.Again gates live mid redo opened refusal j x y z are reads gone leaves rest) told =
+  goes_found (course.Again gates live mid redo opened refusal j x y z are reads gone leaves rest) =
       goes_on
-      (goes_on (goes_kept x (point x.member mid) refl (λ honest. ran_weakened (fine_read _ _) (reads.ran honest))) told.0 (goes_left leaves))
-      told.1 (goes_found rest told.2)
-  goes_found (course.Stops gates live mid redo opened fault x y are reads leaves) told =
-      goes_on (goes_kept x (point x.member mid) refl (λ honest. ran_weakened (fine_read _ _) (reads.ran honest))) told (goes_left leaves)
+      (goes_on (goes_kept x (point x.member mid) refl (λ honest. ran_weakened (fine_read _ _) (reads.ran honest)))
+      (left_honest _ _ _ _ leaves) (goes_left leaves))
+      (found_honest _ _ _ _ _ rest) (goes_found rest)
+  goes_found (course.Stops gates live mid redo opened fault x y are reads leaves) =
+      goes_on (goes_kept x (point x.member mid) refl (λ honest. ran_weakened (fine_read _ _) (reads.ran honest)))
+      (left_honest _ _ _ _ leaves) (goes_left leaves)
 
   goes_replayed : {redo : _} {stripe : Stripe} {opened : Slots} {refusal : Option FenceFault} {x y : Point}
-      → (does : Replays redo stripe opened refusal x y) → IsHonestReplay does → Goes x y
-  goes_replayed (course.Goes to refusal x y z are does rest) told =
-      goes_on (goes_stage (λ j k place. gate_behind k _ place) does told.0) told.1 (goes_redo rest told.2)
-  goes_replayed (course.Stops to fault x y are does) told = goes_stage (λ j k place. gate_behind k _ place) does told
+      → (does : Replays redo stripe opened refusal x y) → Goes x y
+  goes_replayed (course.Goes to refusal x y z are does rest) =
+      goes_on (goes_stage (λ j k place. gate_behind k _ place) does) (redo_honest _ _ _ _ _ _ _ rest) (goes_redo rest)
+  goes_replayed (course.Stops to fault x y are does) = goes_stage (λ j k place. gate_behind k _ place) does
 
   goes_cleared : {redo : Option _} {opened : Slots} {answer : Result Geometry Refusal} {x y : Point}
-      → (clears : ClearsJournal redo opened answer x y) → IsHonestClearing clears → Goes x y
-  goes_cleared (opening.Closes opened live refusal x y are does) told = goes_stage (λ j k place. gate_behind k _ place) does told
-  goes_cleared (opening.Stops redo opened body was stripe fault x y finds) told = goes_body finds told
-  goes_cleared (opening.BodyLost redo opened body was stripe sector x y finds lost) told = goes_body finds told
-  goes_cleared (opening.Replayed redo opened body was stripe refusal x y z finds found again) told =
-      goes_on (goes_body finds told.0) told.1 (goes_replayed again told.2)
+      → (clears : ClearsJournal redo opened answer x y) → Goes x y
+  goes_cleared (opening.Closes opened live refusal x y are does) = goes_stage (λ j k place. gate_behind k _ place) does
+  goes_cleared (opening.Stops redo opened body was stripe fault x y finds) = goes_body finds
+  goes_cleared (opening.BodyLost redo opened body was stripe sector x y finds lost) = goes_body finds
+  goes_cleared (opening.Replayed redo opened body was stripe refusal x y z finds found again) =
+      goes_on (goes_body finds) (replay_honest _ _ _ _ _ _ again) (goes_replayed again)
 
-  goes_opened : {answer : Result Geometry Refusal} {x y : Point} → (does : Recovers answer x y) → IsHonestOpening does → Goes x y
-  goes_opened (opening.NoEpoch fault x y fences) told = goes_fenced fences
-  goes_opened (opening.Stops fallen opened redo fault x y z fences found) told = goes_on (goes_fenced fences) told.0 (goes_found found told.1)
-  goes_opened (opening.Goes fallen opened redo answer x y z w fences found cleared) told =
-      goes_on (goes_on (goes_fenced fences) told.0 (goes_found found told.1)) told.2 (goes_cleared cleared told.3)
+  goes_opened : {answer : Result Geometry Refusal} {x y : Point} → (does : Recovers answer x y) → Goes x y
+  goes_opened (opening.NoEpoch fault x y fences) = goes_fenced fences
+  goes_opened (opening.Stops fallen opened redo fault x y z fences found) = goes_on (goes_fenced fences) (found_honest _ _ _ _ _ found) (goes_found found)
+  goes_opened (opening.Goes fallen opened redo answer x y z w fences found cleared) =
+      goes_on (goes_on (goes_fenced fences) (found_honest _ _ _ _ _ found) (goes_found found)) (cleared_honest _ _ _ _ _ cleared) (goes_cleared cleared)
 
-  goes_stripe : {t : ℕ} {into : Stripe} {answer : Result (Unit {0}) Refusal} {x y : Point} → (does : LoadsStripe t into answer x y)
-      → IsHonestStripe does → Goes x y
-  goes_stripe (calls.Loaded was read gathered answer x y loads restored) told = goes_loaded loads told
-  goes_stripe (calls.Stops was read gathered fault x y loads) told = goes_loaded loads told
+  goes_stripe : {t : ℕ} {into : Stripe} {answer : Result (Unit {0}) Refusal} {x y : Point} → (does : LoadsStripe t into answer x y) → Goes x y
+  goes_stripe (calls.Loaded was read gathered answer x y loads restored) = goes_loaded loads
+  goes_stripe (calls.Stops was read gathered fault x y loads) = goes_loaded loads
+
+  stripe_honest : {t : ℕ} {into : Stripe} {answer : Result (Unit {0}) Refusal} {x y : Point} → LoadsStripe t into answer x y
+      → x.told.honest ≡ y.told.honest
+  stripe_honest (calls.Loaded was read gathered answer x y loads restored) = load_honest _ _ _ _ _ _ _ _ loads
+  stripe_honest (calls.Stops was read gathered fault x y loads) = load_honest _ _ _ _ _ _ _ _ loads
 
   goes_asked : {t i j : ℕ} {x y : Point} → AsksFor t i j x y → Goes x y
   goes_asked asks = goes_kept _ _ asks.member (λ honest. ran_weakened (fine_read _ _) (asks.ran honest))
@@ -227,36 +230,36 @@ module _ (g : Geometry) (most : ℕ) where
   goes_without (calls.WasBad asks reading) = goes_asked asks
   goes_without (calls.WasGone asks gone) = goes_asked asks
 
-  goes_read : {b : ℕ} {answer : Result (List ℕ) Refusal} {x y : Point} → (does : Reads b answer x y) → IsHonestReading does → Goes x y
-  goes_read (calls.OutOf x past) told = goes_same refl
-  goes_read (calls.Own t i j bytes x y place asks reading) told = goes_asked asks
-  goes_read (calls.Restored t i j into x y z place cannot loads) told = goes_on (goes_without cannot) told.0 (goes_stripe loads told.1)
-  goes_read (calls.Refused t i j into refusal x y z place cannot loads) told = goes_on (goes_without cannot) told.0 (goes_stripe loads told.1)
+  goes_read : {b : ℕ} {answer : Result (List ℕ) Refusal} {x y : Point} → (does : Reads b answer x y) → Goes x y
+  goes_read (calls.OutOf x past) = goes_same refl
+  goes_read (calls.Own t i j bytes x y place asks reading) = goes_asked asks
+  goes_read (calls.Restored t i j into x y z place cannot loads) = goes_on (goes_without cannot) (stripe_honest loads) (goes_stripe loads)
+  goes_read (calls.Refused t i j into refusal x y z place cannot loads) = goes_on (goes_without cannot) (stripe_honest loads) (goes_stripe loads)
 
   goes_ready : {t count : ℕ} {cells : CellSet} {loaded : Stripe} {answer : Result (Unit {0}) Refusal} {x y : Point}
-      → (does : Prepares t count cells loaded answer x y) → IsHonestPreparing does → Goes x y
-  goes_ready (calls.Filled x full) told = goes_same refl
-  goes_ready (calls.ByCells gathered was x y few loads none) told = goes_loaded loads told
-  goes_ready (calls.Stops gathered was fault x y few loads) told = goes_loaded loads told
-  goes_ready (calls.AfterCells gathered was into i j answer x y z few loads erased whole) told =
-      goes_on (goes_loaded loads told.0) told.1 (goes_stripe whole told.2)
-  goes_ready (calls.ByStripe i j answer x y few has away loads) told = goes_stripe loads told
+      → (does : Prepares t count cells loaded answer x y) → Goes x y
+  goes_ready (calls.Filled x full) = goes_same refl
+  goes_ready (calls.ByCells gathered was x y few loads none) = goes_loaded loads
+  goes_ready (calls.Stops gathered was fault x y few loads) = goes_loaded loads
+  goes_ready (calls.AfterCells gathered was into i j answer x y z few loads erased whole) =
+      goes_on (goes_loaded loads) (stripe_honest whole) (goes_stripe whole)
+  goes_ready (calls.ByStripe i j answer x y few has away loads) = goes_stripe loads
 
   goes_written : {first : ℕ} {contents : List (List ℕ)} {answer : Result (Unit {0}) Refusal} {x y : Point}
-      → (does : WritesBlocks first contents answer x y) → IsHonestWriting does → Goes x y
-  goes_written (calls.OutOf x past) told = goes_same refl
-  goes_written (calls.IsFrozen x within frozen) told = goes_same refl
-  goes_written (calls.Unready t cells loaded refusal x y place ready) told = goes_ready ready told
-  goes_written (calls.Wrote redo loaded stripe refusal x y z place formed ready set done) told =
-      goes_on (goes_ready ready told.0) told.1 (goes_redo done told.2)
+      → (does : WritesBlocks first contents answer x y) → Goes x y
+  goes_written (calls.OutOf x past) = goes_same refl
+  goes_written (calls.IsFrozen x within frozen) = goes_same refl
+  goes_written (calls.Unready t cells loaded refusal x y place ready) = goes_ready ready
+  goes_written (calls.Wrote redo loaded stripe refusal x y z place formed ready set done) =
+      goes_on (goes_ready ready) (redo_honest _ _ _ _ _ _ _ done) (goes_redo done)
 
-  goes_scrubbed : {t : ℕ} {answer : Result ℕ Refusal} {x y : Point} → (does : Scrubs t answer x y) → IsHonestScrub does → Goes x y
-  goes_scrubbed (mends.OutOf x past) told = goes_same refl
-  goes_scrubbed (mends.Stops was read gathered fault x y within loads) told = goes_loaded loads told
-  goes_scrubbed (mends.Sound was read gathered x y within loads none) told = goes_loaded loads told
-  goes_scrubbed (mends.Unrestored was read into gathered refusal x y within loads lost) told = goes_loaded loads told
-  goes_scrubbed (mends.Rewrote was read into gathered redo refusal x y z within loads whole of_stripe formed on done) told =
-      goes_on (goes_loaded loads told.0) told.1 (goes_redo done told.2)
+  goes_scrubbed : {t : ℕ} {answer : Result ℕ Refusal} {x y : Point} → (does : Scrubs t answer x y) → Goes x y
+  goes_scrubbed (mends.OutOf x past) = goes_same refl
+  goes_scrubbed (mends.Stops was read gathered fault x y within loads) = goes_loaded loads
+  goes_scrubbed (mends.Sound was read gathered x y within loads none) = goes_loaded loads
+  goes_scrubbed (mends.Unrestored was read into gathered refusal x y within loads lost) = goes_loaded loads
+  goes_scrubbed (mends.Rewrote was read into gathered redo refusal x y z within loads whole of_stripe formed on done) =
+      goes_on (goes_loaded loads) (redo_honest _ _ _ _ _ _ _ done) (goes_redo done)
 
   -- a slot that is looked at, and prepared
   goes_looked : {slot : ℕ} {mid : Telling} {x y : Point} → Looks slot mid x y → Goes x y
@@ -274,18 +277,18 @@ module _ (g : Geometry) (most : ℕ) where
   goes_fit (mends.WasSmall has needs mid x y looks small) = goes_looked looks
   goes_fit (mends.WasOther mid x y looks bears) = goes_looked looks
   goes_fit (mends.Prepared first second mid x y z looks fit later placed sees) =
-      goes_later (goes_looked looks) later (record {
+      goes_on (goes_looked looks) later.honest (record {
         rises =
             let e = sees.drawn in
             omega (arith, e, le-max_left y.member.drawn (draw_in first), le-max_left (max y.member.drawn (draw_in first)) (draw_in second));
         fine = λ few honest. fine_placed (λ j k place. below_none k 2 _ place (omega arith)) (placed honest);
       })
 
-  goes_replaced : {slot : ℕ} {answer : Result (Unit {0}) Refusal} {x y : Point} → (does : Replaces slot answer x y) → IsHonestReplacing does → Goes x y
-  goes_replaced (mends.OutOf x past) told = goes_same refl
-  goes_replaced (mends.Busy x within busy) told = goes_same refl
-  goes_replaced (mends.Unprepared refusal x y free fit) told = goes_fit fit
-  goes_replaced (mends.Admitted answer x y z free fit joins) told = goes_on (goes_fit fit) told (goes_established joins.establishes)
+  goes_replaced : {slot : ℕ} {answer : Result (Unit {0}) Refusal} {x y : Point} → (does : Replaces slot answer x y) → Goes x y
+  goes_replaced (mends.OutOf x past) = goes_same refl
+  goes_replaced (mends.Busy x within busy) = goes_same refl
+  goes_replaced (mends.Unprepared refusal x y free fit) = goes_fit fit
+  goes_replaced (mends.Admitted answer x y z free fit joins) = goes_on (goes_fit fit) joins.establishes.honest (goes_established joins.establishes)
 
   goes_dropped : {j : ℕ} {refusal : Option FenceFault} {x y : Point} → Drops j refusal x y → Goes x y
   goes_dropped drops = goes_left drops.leaves
@@ -293,47 +296,44 @@ module _ (g : Geometry) (most : ℕ) where
   goes_synced : {j : ℕ} {answer : Reply} {x y : Point} → SyncsSlot j answer x y → Goes x y
   goes_synced syncs = goes_kept _ _ syncs.member (λ honest. fine_called tt (syncs.synced honest))
 
-  goes_promoted : {j : ℕ} {answer : Result Progress Refusal} {x y : Point} → (does : Promotes j answer x y) → IsHonestPromoting does → Goes x y
-  goes_promoted (mends.Unsynced refusal x y z syncs drops) told = goes_on (goes_synced syncs) told (goes_dropped drops)
-  goes_promoted (mends.Joined answer x y z syncs joins) told = goes_on (goes_synced syncs) told (goes_established joins.establishes)
+  goes_promoted : {j : ℕ} {answer : Result Progress Refusal} {x y : Point} → (does : Promotes j answer x y) → Goes x y
+  goes_promoted (mends.Unsynced refusal x y z syncs drops) = goes_on (goes_synced syncs) (left_honest _ _ _ _ drops.leaves) (goes_dropped drops)
+  goes_promoted (mends.Joined answer x y z syncs joins) = goes_on (goes_synced syncs) joins.establishes.honest (goes_established joins.establishes)
 
-  -- the rack was honest before it, too
-  told_first : {j : ℕ} {answer : Result Progress Refusal} {x y : Point} → (does : Promotes j answer x y) → IsHonestPromoting does
-      → IsTrue x.told.honest
-  told_first (mends.Unsynced refusal x y z syncs drops) told = subst IsTrue (sym syncs.later.honest) told
-  told_first (mends.Joined answer x y z syncs joins) told = subst IsTrue (sym syncs.later.honest) told
+  promoted_honest : {j : ℕ} {answer : Result Progress Refusal} {x y : Point} → Promotes j answer x y → x.told.honest ≡ y.told.honest
+  promoted_honest (mends.Unsynced refusal x y z syncs drops) = syncs.later.honest ∙ left_honest _ _ _ _ drops.leaves
+  promoted_honest (mends.Joined answer x y z syncs joins) = syncs.later.honest ∙ joins.establishes.honest
 
   goes_chunk : {j t : ℕ} {into : Stripe} {answer : Reply} {x y : Point} → WritesChunk j t into answer x y → Goes x y
   goes_chunk {into = into} {x = x} wrote =
       goes_kept _ _ wrote.member
       (λ honest. ran_weakened (fine_write _ _ (stage_behind x.member.array.geometry wrote.redo into stage.Placing)) (wrote.wrote honest).ran)
 
-  goes_rebuilt : {was : ArrayState} {answer : Result Progress Refusal} {x y : Point} → (does : Rebuilds was answer x y) → IsHonestRebuild does → Goes x y
-  goes_rebuilt (mends.NoneIs x none) told = goes_same refl
-  goes_rebuilt (mends.Unread j t into refusal x y next within loads) told = goes_stripe loads told
-  goes_rebuilt (mends.FellLoading j t into x y next within loads fell) told = goes_stripe loads told
-  goes_rebuilt (mends.Fell j t into refusal x y z w next within loads rebuilt wrote drops) told =
-      goes_on (goes_later (goes_stripe loads told.0) wrote.later (goes_chunk wrote)) told.1 (goes_dropped drops)
-  goes_rebuilt (mends.Wrote j t into x y z next within loads rebuilt wrote) told =
-      goes_later (goes_stripe loads told) wrote.later (goes_chunk wrote)
-  goes_rebuilt (mends.WroteLast j t into answer x y z w next within loads rebuilt wrote promotes) told =
-      goes_on (goes_later (goes_stripe loads told.0) wrote.later (goes_chunk wrote)) (told_first promotes told.1) (goes_promoted promotes told.1)
-  goes_rebuilt (mends.OnlyPromotes j t answer x y next at_end promotes) told = goes_promoted promotes told
+  goes_rebuilt : {was : ArrayState} {answer : Result Progress Refusal} {x y : Point} → (does : Rebuilds was answer x y) → Goes x y
+  goes_rebuilt (mends.NoneIs x none) = goes_same refl
+  goes_rebuilt (mends.Unread j t into refusal x y next within loads) = goes_stripe loads
+  goes_rebuilt (mends.FellLoading j t into x y next within loads fell) = goes_stripe loads
+  goes_rebuilt (mends.Fell j t into refusal x y z w next within loads rebuilt wrote drops) =
+      goes_on (goes_on (goes_stripe loads) wrote.later.honest (goes_chunk wrote)) (left_honest _ _ _ _ drops.leaves) (goes_dropped drops)
+  goes_rebuilt (mends.Wrote j t into x y z next within loads rebuilt wrote) =
+      goes_on (goes_stripe loads) wrote.later.honest (goes_chunk wrote)
+  goes_rebuilt (mends.WroteLast j t into answer x y z w next within loads rebuilt wrote promotes) =
+      goes_on (goes_on (goes_stripe loads) wrote.later.honest (goes_chunk wrote)) (promoted_honest promotes) (goes_promoted promotes)
+  goes_rebuilt (mends.OnlyPromotes j t answer x y next at_end promotes) = goes_promoted promotes
 
   -- ---- a step
 
-  pub goes_step : (step : Step) (was : ArrayState) (answer : Answer step) (x y : Point) (does : Does step was answer x y)
-      → IsHonestStep step was answer x y does → Goes x y
-  goes_step Recover was answer x y does told = goes_opened does told
-  goes_step (ReadBlock b) was answer x y does told = goes_read does told
-  goes_step (WriteBlocks first contents) was answer x y does told = goes_written does told
-  goes_step (ScrubStripe t) was answer x y does told = goes_scrubbed does told
-  goes_step (ReplaceSlot j) was answer x y does told = goes_replaced does told
-  goes_step RebuildNext was answer x y does told = goes_rebuilt does told
-  goes_step (SetFrozen frozen) was answer x y (mends.Stamped given a b stamps) told = goes_established stamps.establishes
-  goes_step (SetLabel label) was answer x y (mends.Stamped given a b stamps) told = goes_established stamps.establishes
-  goes_step LookAtSeats was answer x y does told = goes_same does
+  pub goes_step : (step : Step) (was : ArrayState) (answer : Answer step) (x y : Point) (does : Does step was answer x y) → Goes x y
+  goes_step Recover was answer x y does = goes_opened does
+  goes_step (ReadBlock b) was answer x y does = goes_read does
+  goes_step (WriteBlocks first contents) was answer x y does = goes_written does
+  goes_step (ScrubStripe t) was answer x y does = goes_scrubbed does
+  goes_step (ReplaceSlot j) was answer x y does = goes_replaced does
+  goes_step RebuildNext was answer x y does = goes_rebuilt does
+  goes_step (SetFrozen frozen) was answer x y (mends.Stamped given a b stamps) = goes_established stamps.establishes
+  goes_step (SetLabel label) was answer x y (mends.Stamped given a b stamps) = goes_established stamps.establishes
+  goes_step LookAtSeats was answer x y does = goes_same does
 
 pub stays_in_step : StepsAreBounded
-stays_in_step step was answer x y g most does told honest few bounded =
-    stays_bounded g most ((goes_step g most step was answer x y does told).fine few honest) bounded
+stays_in_step step was answer x y g most does honest few bounded =
+    stays_bounded g most ((goes_step g most step was answer x y does).fine few honest) bounded

@@ -21,7 +21,7 @@ use Rattle.stair_array.specs.Draws.{Before, HadSeen, OnMedium, allowance, weight
 use Rattle.stair_array.specs.Machine.{Answer, LookAtSeats, ReadBlock, RebuildNext, Recover, ReplaceSlot, ScrubStripe, SetFrozen, SetLabel, Step, WriteBlocks}
 use Rattle.stair_array.specs.Promise.{Begun, Closed, DoesStep, Ends, Found, GoesOn, Opened, Performs, Seen, Session, StartsFrom}
 use Rattle.stair_story.specs.Action.{Create, Survey}
-use Rattle.stair_story.specs.Bounded.{AreHonest, IsBoundedAt, IsHonestAt, IsHonestDoing, IsHonestStep, PlacesDrawAtMost, StaysBounded, StaysWithin, StoriesAreBounded, StoriesAreWithin}
+use Rattle.stair_story.specs.Bounded.{IsBoundedAt, PlacesDrawAtMost, StaysBounded, StaysWithin, StoriesAreBounded, StoriesAreWithin}
 use Rattle.stair_story.specs.Devices.{DeviceView, Devices, WorksAll, seen_of}
 use Rattle.stair_story.specs.Drawn.{at_step, opens, over_steps, replaces, stamps}
 use Rattle.stair_story.specs.Kept.{HasMember}
@@ -100,50 +100,47 @@ module _ {R W : Type 0} (view : DeviceView R W) (honest : IsTrue view.rack.hones
   data Came (deed : Deed) (x y : Devices R W) : Type 0 where
     Rested : y.session ≡ x.session → view.rack.history y.rack ≡ view.rack.history x.rack → Came deed x y
     Took : (step : Step) (answer : Answer step) (events : List Event) (does : Performs step answer events (seen_of view x) (seen_of view y))
-        → IsHonestStep step does.was answer (point does.was.member (seen_of view x).told) (point does.is.member (seen_of view y).told) does.does
         → at_step allowance deed ≡ allowance step → Came deed x y
 
   stepped : (step : Step) (answer : Answer step) (events : List Event) (left : Bool) (x y : Devices R W)
-      → (did : DoesStep step answer events (seen_of view x) (seen_of view y))
-      → IsHonestDoing step answer events (seen_of view x) (seen_of view y) did → Came (Stepped step answer events left) x y
-  stepped step answer events left x y (inl performs) told = Took step answer events performs told refl
-  stepped step answer events left x y (inr stopped) told =
+      → DoesStep step answer events (seen_of view x) (seen_of view y) → Came (Stepped step answer events left) x y
+  stepped step answer events left x y (inl performs) = Took step answer events performs refl
+  stepped step answer events left x y (inr stopped) =
       Rested (ap (λ (z : Seen). z.session) stopped.same) (ap (λ (z : Seen). z.told.history) stopped.same)
 
-  came : (deed : Deed) (x y : Devices R W) (works : WorksAll view deed x y) → IsHonestAt view deed x y works → x.session ≢ Begun → Came deed x y
-  came (Stepped step answer events left) x y works told begun = stepped step answer events left x y works.0 told
-  came (Did (Create array) outcome) x y works told begun = absurd (begun works.1)
-  came (Did Survey outcome) x y works told begun = absurd (begun works.1)
-  came deed x y works told begun = Rested (same_session view works) (ap (λ (d : Devices R W). view.rack.history d.rack) works)
+  came : (deed : Deed) (x y : Devices R W) → WorksAll view deed x y → x.session ≢ Begun → Came deed x y
+  came (Stepped step answer events left) x y works begun = stepped step answer events left x y works.0
+  came (Did (Create array) outcome) x y works begun = absurd (begun works.1)
+  came (Did Survey outcome) x y works begun = absurd (begun works.1)
+  came deed x y works begun = Rested (same_session view works) (ap (λ (d : Devices R W). view.rack.history d.rack) works)
 
-  pub stays_over : (story : List Deed) (x y : Devices R W) (works : Leads (WorksAll view) story x y) → AreHonest view story x y works → (now : ℕ)
+  pub stays_over : (story : List Deed) (x y : Devices R W) → Leads (WorksAll view) story x y → (now : ℕ)
       → now ≤ bound → x.session ≢ Begun → IsBoundedAt g now (view.rack.history x.rack)
       → ((n : Membership) → HasMember x.session n → HasRoom now story n) → StaysWithin view g bound x y
-  stays_over [] x y works told now few begun bounded has =
+  stays_over [] x y works now few begun bounded has =
       subst (λ (d : Devices R W). StaysWithin view g bound x d) (sym works)
       (at_every_none {P = IsBoundedAt g bound} (view.rack.history x.rack) (weaker g now bound few (view.rack.history x.rack) bounded))
-  stays_over (deed ∷ story) x y works told now few begun bounded has =
-      elim (came deed x works.0 works.1 told.0 begun) [
+  stays_over (deed ∷ story) x y works now few begun bounded has =
+      elim (came deed x works.0 works.1 begun) [
         | Rested session same ↦
             subst (λ (h : List Happening). StaysBounded g bound h (view.rack.history y.rack)) same
-            (stays_over story works.0 y works.2 told.1 now few (λ is. begun (sym session ∙ is))
+            (stays_over story works.0 y works.2 now few (λ is. begun (sym session ∙ is))
             (subst (IsBoundedAt g now) (sym same) bounded)
             (λ n is. let room = has n (subst (λ (s : Session). HasMember s n) session is) in record {
               geometry = room.geometry;
               known = room.known;
               room = omega (arith, room.room);
             }))
-        | Took step answer events does told_step allowed ↦
-            took step answer events does told_step allowed (λ then. stays_over story works.0 y works.2 told.1 then)
+        | Took step answer events does allowed ↦
+            took step answer events does allowed (λ then. stays_over story works.0 y works.2 then)
       ]
     where
       took : (step : Step) (answer : Answer step) (events : List Event) (does : Performs step answer events (seen_of view x) (seen_of view works.0))
-          → IsHonestStep step does.was answer (point does.was.member (seen_of view x).told) (point does.is.member (seen_of view works.0).told) does.does
           → at_step allowance deed ≡ allowance step
           → ((then : ℕ) → then ≤ bound → works.0.session ≢ Begun → IsBoundedAt g then (view.rack.history works.0.rack)
           → ((n : Membership) → HasMember works.0.session n → HasRoom then story n) → StaysWithin view g bound works.0 y)
           → StaysWithin view g bound x y
-      took step answer events does told_step allowed rest =
+      took step answer events does allowed rest =
           let room = has does.was.member (starts_from step does.was x.session does.starts) in
           let seen : does.draws_few.draw ≤ now =
           seen_within step does.was.member (seen_of view x).told (seen_of view works.0).told does.draws_few.draw now honest (does.later.ran honest)
@@ -164,7 +161,7 @@ module _ {R W : Type 0} (view : DeviceView R W) (honest : IsTrue view.rack.hones
           let few_then : then ≤ bound = omega (arith, most, enough) in
           let stays : StaysBounded g then (view.rack.history x.rack) (view.rack.history works.0.rack) =
           stays_in_step step does.was answer (point does.was.member (seen_of view x).told) (point does.is.member (seen_of view works.0).told) g then
-          does.does told_step honest high (weaker g now then low (view.rack.history x.rack) bounded) in
+          does.does honest high (weaker g now then low (view.rack.history x.rack) bounded) in
           let ends = ends_in does in
           at_every_join (stays_weaker g then bound few_then stays)
           (rest then few_then ends.1 (at_last stays)
@@ -175,8 +172,8 @@ module _ {R W : Type 0} (view : DeviceView R W) (honest : IsTrue view.rack.hones
           })))
 
 pub stories_bounded : (R W : Type 0) → StoriesAreBounded R W
-stories_bounded R W view story x y works first most from told =
-    stays_over view from.honest first.array.geometry (most + weights first + over_steps allowance story) story x y works told most (omega arith)
+stories_bounded R W view story x y works first most from =
+    stays_over view from.honest first.array.geometry (most + weights first + over_steps allowance story) story x y works most (omega arith)
     (λ begun. known_begun x.session first begun from.has) from.bounded
     (λ n has. subst (HasRoom view from.honest first.array.geometry (most + weights first + over_steps allowance story) most story)
     (known_once x.session first n from.has has) (record { geometry = refl; known = from.known; room = omega arith }))
@@ -210,8 +207,8 @@ story_allows [] = refl
 story_allows (deed ∷ story) = omega (arith, deed_allows deed, story_allows story)
 
 pub stories_within : (R W : Type 0) → StoriesAreWithin R W
-stories_within R W view story x y works first most from told slots =
-    let stays = stories_bounded R W view story x y works first most from told in
+stories_within R W view story x y works first most from slots =
+    let stays = stories_bounded R W view story x y works first most from in
     let small = weigh_little first slots in
     let split = story_allows story in
     record {

@@ -2,8 +2,8 @@
 use Rattle.std.proofs.Common.{◌≡◌, ℕ, ◌+◌, ◌<◌, ◌≤◌, le_refl, Bool, true, false, inl, inr, List, [], ◌∷◌, ◌++◌, None, Some, IfSome, Result, Ok, Err, length, refl, sym, ap, ap₂, ◌∙◌, subst, arith, length-append, add-zero}
 use Rattle.std.specs.Prelude.{Option, IfErr, OnOk, IsTrue}
 use Rattle.std.specs.Result.{IsErrAnd}
-use Rattle.std.specs.Io.KnownBytes.{Consumes}
-use Rattle.std.proofs.KnownBytes.{Consumes-nil, Consumes-trans}
+use Rattle.std.specs.Io.KnownBytes.{Consumes, IsAtEnd, Keeps}
+use Rattle.std.proofs.KnownBytes.{Consumes-kept, Consumes-nil, Consumes-trans, Consumes-whole}
 use Rattle.std.proofs.lemmas.Bool.{cases_lt}
 use Rattle.stair_rack.specs.Count.{Rose, kept-Rose}
 use Rattle.stair_story.specs.declared.intake.Intake.{Intake}
@@ -108,6 +108,31 @@ module _ {S : Type 0} (view : SourceView S) where
     failed.2,
     omega (arith, before.count, failed.3),
     kept-Rose (view.faults a) (view.faults b) (view.faults c) before.count failed.3 failed.4,
+  )
+
+  -- behind these bytes the source was at its end
+  pub Gives-ended : (bytes : List ℕ) (a b c : S) → TookSoFar view bytes a b → IsAtEnd (view.left b) → Keeps (view.left b) (view.left c)
+      → view.faults b ≤ view.faults c → IsTrue (view.ended c) → Gives view (TookLast bytes) a c
+  Gives-ended bytes a b c before at_end kept count ended = (
+    Consumes-kept (view.left a) (view.left b) (view.left c) bytes before.consumed kept,
+    Consumes-whole (view.left a) (view.left b) bytes (λ all. bytes ≡ all) before.consumed at_end refl,
+    ended,
+    omega (arith, before.count, count),
+  )
+
+  -- behind these bytes a take failed
+  pub Gives-unfinished : (bytes : List ℕ) (a b c : S) → TookSoFar view bytes a b → Keeps (view.left b) (view.left c)
+      → view.faults b ≤ view.faults c → (IsTrue (view.ended b) → ⊥) → (IsTrue (view.ended c) → ⊥) → Rose (view.faults b) (view.faults c)
+      → Gives view (TakeFailed bytes) a c
+  Gives-unfinished bytes a b c before kept count running after rose = (
+    Consumes-kept (view.left a) (view.left b) (view.left c) bytes before.consumed kept,
+    elim (cases_lt 0 (length bytes)) as (λ _. view.ended a ≡ false) [
+      | inl any ↦ (before.running any).0
+      | inr none ↦ sym (before.fresh (omega (arith, none))) ∙ not_true (view.ended b) running
+    ],
+    not_true (view.ended c) after,
+    omega (arith, before.count, count),
+    kept-Rose (view.faults a) (view.faults b) (view.faults c) before.count count rose,
   )
 
   pub TakesBytes-none : (intake : Intake) (a : S) → TakesBytes view intake intake [] a a

@@ -12,7 +12,7 @@ ghost use Rattle.stair_story.specs.Bounded.{
 pub fn draw_laws<R, W>()
     // while an epoch is established none becomes greater than the member's at last
     ensures epochs { EpochsAreBounded }
-    // nor in a step, if the rack told honestly within it
+    // nor in a step on an honest rack
     ensures steps { StepsAreBounded }
     // over a story none becomes greater than the slots' weights and the steps' allowances let it
     ensures bounded { StoriesAreBounded R W }

@@ -44,6 +44,7 @@ gathers_same g live t W V gathered was into old new same before = record {
   gone = before.gone;
   formed_erased = before.formed_erased;
   formed_gone = before.formed_gone;
+  honest = before.honest;
   counts = before.counts;
   ran = λ is. reads_wider g live t W V old.history new.history (λ i j. (same i j).0) (before.ran is);
 }
@@ -53,7 +54,7 @@ read_beside g live t W j c read = subst (λ (d : SlotCall). IsBesideAttach d) (s
 
 -- What was gathered of the cells W is known at a later moment, when those of V are gathered.
 module _ (g : Geometry) (live : Slots) (t : ℕ) (W V : ℕ → ℕ → Type 0) (gathered : Gathered) (was into : Stripe) (old mid new : Telling)
-    (before : Gathers g live t W gathered was into old mid) (honest : old.honest ≡ mid.honest) (later : IsLater mid new)
+    (before : Gathers g live t W gathered was into old mid) (later : IsLater mid new)
     (grows : (i j : ℕ) → W i j → V i j) (ran : IsTrue new.honest → Ran (IsReadOfCell g live t V) mid.history new.history) where
   -- the calls that gather
   abbrev gathering : ℕ → SlotCall → Type 0
@@ -61,23 +62,26 @@ module _ (g : Geometry) (live : Slots) (t : ℕ) (W V : ℕ → ℕ → Type 0) 
 
   earlier : IsLater old mid
   earlier =
-      record { counts = before.counts; honest = honest; ran = λ is. ran_any {allowed = IsReadOfCell g live t W} (before.ran is) }
+      record { counts = before.counts; honest = before.honest; ran = λ is. ran_any {allowed = IsReadOfCell g live t W} (before.ran is) }
 
   read_before : (j k : ℕ) (found : Cell) → IsReading j k old mid found → IsReading j k old new found
-  read_before = reading_wider old old mid new (later_none old) honest before.counts later
+  read_before = reading_wider old old mid new (later_none old) before.honest before.counts later
 
   read_now : (j k : ℕ) (found : Cell) → IsReading j k mid new found → IsReading j k old new found
   read_now = reading_wider old mid new new earlier later.honest later.counts (later_none new)
 
   gone_still : (j : ℕ) → HasSlot gathered.gone j → IsGone j old new
   gone_still j has =
-      is_gone_wider {allowed = gathering} old old mid new (later_none old) honest before.counts later j
+      is_gone_wider {allowed = gathering} old old mid new (later_none old) before.honest before.counts later j
       (read_beside g live t V j) ran (before.gone j has)
 
   gone_now : (j : ℕ) → IsGone j mid new → IsGone j old new
   gone_now j was_gone =
       is_gone_wider {allowed = gathering} old mid new new earlier later.honest later.counts (later_none new) j
       (read_beside g live t V j) (λ is. ran_none new.history) was_gone
+
+  honest_on : old.honest ≡ new.honest
+  honest_on = before.honest ∙ later.honest
 
   counts_on : NoneFalls old.bads new.bads old.gones new.gones
   counts_on = NoneFalls-then before.counts later.counts
@@ -164,6 +168,7 @@ module _ (g : Geometry) (live : Slots) (t : ℕ) (W V : ℕ → ℕ → Type 0) 
         gone = gone_still;
         formed_erased = before.formed_erased;
         formed_gone = before.formed_gone;
+        honest = honest_on;
         counts = counts_on;
         ran = ran_on;
       }
@@ -211,6 +216,7 @@ module _ (g : Geometry) (live : Slots) (t : ℕ) (W V : ℕ → ℕ → Type 0) 
         gone = gone_still;
         formed_erased = formed;
         formed_gone = before.formed_gone;
+        honest = honest_on;
         counts = counts_on;
         ran = ran_on;
       }
@@ -272,6 +278,7 @@ module _ (g : Geometry) (live : Slots) (t : ℕ) (W V : ℕ → ℕ → Type 0) 
       gone = λ j gone. still_gone j (went_cases j gone);
       formed_erased = formed_erased;
       formed_gone = formed_gone;
+      honest = honest_on;
       counts = counts_on;
       ran = ran_on;
     }

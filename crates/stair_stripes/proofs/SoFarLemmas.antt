@@ -125,7 +125,6 @@ module _ (g : Geometry) (t : ℕ) (wanted : CellSet) (in_stripe : IsInStripe g w
               gathers_same g live t (IsWantedBefore wanted slot row) (IsWantedBefore wanted slot (row + 1)) so_far was into' old now
               (wanted_skipped wanted slot row unwanted) here.gathers;
           gone_before = here.gone_before;
-          honest = here.honest;
           in_turn = λ is. reads_skipped g live t wanted slot row so_far.gone old.history now.history (here.in_turn is) unwanted;
         };
   }
@@ -141,7 +140,6 @@ module _ (g : Geometry) (t : ℕ) (wanted : CellSet) (in_stripe : IsInStripe g w
               (wanted_ended g wanted slot in_stripe)
               (subst (λ (i : ℕ). Gathers g live t (IsWantedBefore wanted slot i) so_far was into' old now) all here.gathers);
           gone_before = λ j gone. omega (arith, here.gone_before j gone);
-          honest = here.honest;
           in_turn = λ is.
               reads_ended g live t wanted slot row so_far.gone old.history now.history (here.in_turn is) all is_live
               (λ gone. omega (arith, here.gone_before slot gone));
@@ -180,10 +178,9 @@ module _ (g : Geometry) (t : ℕ) (wanted : CellSet) (in_stripe : IsInStripe g w
           record {
             gathers =
                 gathers_good g live t (IsWantedBefore wanted slot row) (IsWantedBefore wanted slot (row + 1)) so_far was into' old now new here.gathers
-                here.honest later grows_next (ran_next live is_live) row slot row_in slot_in is_live (there live was old here) (not_before wanted slot row) within
+                later grows_next (ran_next live is_live) row slot row_in slot_in is_live (there live was old here) (not_before wanted slot row) within
                 (wanted_next wanted slot row is_wanted) bytes formed reading;
             gone_before = here.gone_before;
-            honest = here.honest ∙ later.honest;
             in_turn = λ is.
                 reads_cell g live t wanted slot row so_far.gone old.history now.history (here.in_turn (later.honest ∙ is)) answer new.history is_wanted
                 answered (told is);
@@ -199,10 +196,9 @@ module _ (g : Geometry) (t : ℕ) (wanted : CellSet) (in_stripe : IsInStripe g w
           record {
             gathers =
                 gathers_bad g live t (IsWantedBefore wanted slot row) (IsWantedBefore wanted slot (row + 1)) so_far was into' old now new here.gathers
-                here.honest later grows_next (ran_next live is_live) row slot row_in slot_in is_live (there live was old here) (not_before wanted slot row) within
+                later grows_next (ran_next live is_live) row slot row_in slot_in is_live (there live was old here) (not_before wanted slot row) within
                 (wanted_next wanted slot row is_wanted) erased formed members reading;
             gone_before = here.gone_before;
-            honest = here.honest ∙ later.honest;
             in_turn = λ is.
                 reads_cell g live t wanted slot row so_far.gone old.history now.history (here.in_turn (later.honest ∙ is)) answer new.history is_wanted
                 answered (told is);
@@ -225,12 +221,11 @@ module _ (g : Geometry) (t : ℕ) (wanted : CellSet) (in_stripe : IsInStripe g w
           record {
             gathers =
                 gathers_erased g live t (IsWantedBefore wanted slot row) (IsWantedBefore wanted (slot + 1) 0) so_far was into' old now new here.gathers
-                here.honest later (λ i j before. (wanted_chunk wanted slot row i j).1 (inl before)) (ran_chunk live is_live) slot wanted after erases.formed formed_gone (λ i j before. before.0) (wanted_chunk wanted slot row)
+                later (λ i j before. (wanted_chunk wanted slot row i j).1 (inl before)) (ran_chunk live is_live) slot wanted after erases.formed formed_gone (λ i j before. before.0) (wanted_chunk wanted slot row)
                 erases.members (inr ((members slot).1 (inr refl))) (λ j gone. (members j).1 (inl gone)) (λ j gone. (members j).0 gone)
                 (λ gone. inr (is_live, slot_in, is_gone));
             gone_before = λ j gone.
                 elim ((members j).0 gone) [ inl had ↦ omega (arith, here.gone_before j had) | inr same ↦ omega (arith, same) ];
-            honest = here.honest ∙ later.honest;
             in_turn = λ is.
                 reads_lost g live t wanted slot row so_far.gone old.history now.history (here.in_turn (later.honest ∙ is)) after.gone new.history
                 is_live ((members slot).1 (inr refl)) (agree after members) is_wanted
@@ -256,11 +251,11 @@ before_none g live t wanted gathered into now shape no_cell formed_erased no_slo
     gone = λ j gone. absurd (no_slot j gone);
     formed_erased = formed_erased;
     formed_gone = formed_gone;
+    honest = refl;
     counts = NoneFalls-same now.bads now.gones;
     ran = λ is. ran_none now.history;
   };
   gone_before = λ j gone. absurd (no_slot j gone);
-  honest = refl;
   in_turn = λ is. reads_none g live t wanted gathered.gone now.history;
 }
   where
@@ -276,11 +271,10 @@ module _ (g : Geometry) (live : Slots) (t : ℕ) (wanted : CellSet) (gathered : 
   before_dead slot erased before dead erases = record {
     gathers =
         gathers_erased g live t (IsWantedBefore wanted slot 0) (IsWantedBefore wanted (slot + 1) 0) gathered was into old now now before.gathers
-        before.honest (later_none now) (λ i j earlier. (wanted_chunk wanted slot 0 i j).1 (inl earlier)) (λ is. ran_none now.history) slot wanted (record { erased = erased; gone = gathered.gone }) erases.formed
+        (later_none now) (λ i j earlier. (wanted_chunk wanted slot 0 i j).1 (inl earlier)) (λ is. ran_none now.history) slot wanted (record { erased = erased; gone = gathered.gone }) erases.formed
         before.gathers.formed_gone (λ i j earlier. earlier.0) (wanted_chunk wanted slot 0) erases.members (inl dead) (λ j gone. gone)
         (λ j gone. inl gone) (λ gone. inl gone);
     gone_before = λ j gone. omega (arith, before.gone_before j gone);
-    honest = before.honest;
     in_turn = λ is. reads_dead g live t wanted slot gathered.gone old.history now.history (before.in_turn is) dead;
   }
 

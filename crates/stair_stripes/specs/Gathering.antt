@@ -34,6 +34,7 @@ IsAway live gone j = (¬ HasSlot live j) ⊎ HasSlot gone j
 -- every cell that read as bad, and no other one.
 pub record Gathers (g : Geometry) (live : Slots) (t : ℕ) (wanted : ℕ → ℕ → Type 0)
     (gathered : Gathered) (was into : Stripe) (old new : Telling) : Type 0 where
+  pub honest : old.honest ≡ new.honest
   -- a cell that isn't erased is given as it was read, and its slot is live and wasn't gone
   pub given : (i j : ℕ) → wanted i j → ¬ HasCell gathered.erased i j → ¬ IsAway live gathered.gone j
       × IsReading j (cell_sector g t i) old new (Good (cell into i j))

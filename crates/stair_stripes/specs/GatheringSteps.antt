@@ -27,7 +27,6 @@ pub record GathersBefore (g : Geometry) (live : Slots) (t : ℕ) (wanted : CellS
     (gathered : Gathered) (was into : Stripe) (old new : Telling) : Type 0 where
   pub gathers : Gathers g live t (IsWantedBefore wanted slot row) gathered was into old new
   pub gone_before : (j : ℕ) → HasSlot gathered.gone j → j < slot
-  pub honest : old.honest ≡ new.honest
   pub in_turn : IsTrue new.honest
       → ReadsBefore g live t wanted slot row gathered.gone old.history new.history
 

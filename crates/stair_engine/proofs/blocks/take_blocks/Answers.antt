@@ -1,10 +1,11 @@
--- One block more; and one that was cut short behind the blocks so far.
-use Rattle.std.proofs.Common.{◌≡◌, ℕ, ◌%◌, ◌<◌, rules, ap, ◌∙◌, arith, length}
+-- No block, and one block more; one that was cut short behind the blocks so far; and all blocks.
+use Rattle.std.proofs.Common.{◌≡◌, ℕ, ◌%◌, ◌<◌, rules, ap, ◌∙◌, arith, length, subst}
 use Rattle.std.proofs.Math.Nat.{mod-eq_of_lt}
 use Rattle.stair_model.specs.Cell.{Data, cell_at}
 use Rattle.stair_model.specs.Geometry.{data_cells}
 use Rattle.stair_story.specs.Outside.{source_view}
-use Rattle.stair_engine.proofs.BlockLaws.{TakesBlocksTo-more, took_blocks}
+use Rattle.stair_engine.specs.Taking.{TakesBlocksTo}
+use Rattle.stair_engine.proofs.BlockLaws.{TakesBlocksTo-more, TakesBlocksTo-none, took_blocks}
 use Rattle.stair_story.proofs.IntakeLaws.{CutsShort-later, if_err_of}
 use Rattle.stair_engine.proofs.blocks.take_blocks.Goals as goal
 
@@ -38,3 +39,30 @@ loop-number-preserved g c =
           c.loop-number.invariant.of c.loop-number.invariant.well_formed place.row_in place.chunk_in at
           (rw c.put.ensures.value at c.put.ensures.well_formed) c.loop-number.invariant.taken c.in_ok-fill.ensures.ok);
     }
+
+pub loop-number-init : goal.loop-number-init
+loop-number-init g c = record {
+  of = c.requires.of;
+  well_formed = c.requires.well_formed;
+  taken = TakesBlocksTo-none (source_view g.S.Source.left g.S.Source.ended g.S.Source.faults) c.args.geometry.now c.args.intake.now c.args.stripe.now c.args.input.now;
+}
+
+pub returns-clause-ok : goal.returns-clause-ok
+returns-clause-ok g c =
+    let view = source_view g.S.Source.left g.S.Source.ended g.S.Source.faults in
+    let of = c.args.geometry.now in
+    let all : c.loop-number.number ≡ data_cells of = omega (arith, c.u-number-end.ensures.value) in
+    subst (λ (count : ℕ). TakesBlocksTo view of count c.args.intake.now c.loop-number.intake c.loop-number.stripe c.args.input.now c.loop-number.input) all
+    c.loop-number.invariant.taken
+
+pub returns-clause-of : goal.returns-clause-of
+returns-clause-of g c = c.loop-number.invariant.of
+
+pub returns-clause-well_formed : goal.returns-clause-well_formed
+returns-clause-well_formed g c = c.loop-number.invariant.well_formed
+
+pub put-requires-clause-row_in : goal.put-requires-clause-row_in
+put-requires-clause-row_in g c = omega (arith, c.place_of-place.ensures.place.row_in, c.loop-number.invariant.of.rows)
+
+pub put-requires-clause-slot_in : goal.put-requires-clause-slot_in
+put-requires-clause-slot_in g c = omega (arith, c.place_of-place.ensures.place.chunk_in, c.loop-number.invariant.of.chunks)

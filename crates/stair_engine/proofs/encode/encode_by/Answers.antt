@@ -1,43 +1,54 @@
--- Each return, by its deeds.
+-- The stripe is of the code's geometry; each return, by its deeds.
+use Rattle.std.proofs.Common.{subst, sym}
+use Rattle.stair_model.specs.Geometry.{Geometry}
+use Rattle.stair_model.specs.Stripe.{IsStripeOf}
 use Rattle.std.specs.List.{concat}
-use Rattle.stair_story.specs.declared.fault.Fault.TheVariants.{Output}
-use Rattle.stair_story.specs.declared.status.Status.TheVariants.{Done}
 use Rattle.stair_story.specs.Outside.{views}
-use Rattle.stair_story.specs.Plan.{Over}
 use Rattle.stair_conf.specs.declared.job.StripeCommand.TheVariants.{Encode}
 use Rattle.stair_engine.proofs.AnswerLaws.{judged_blocks}
 use Rattle.stair_engine.proofs.encode.encode_by.Goals as goal
-use Rattle.stair_story.proofs.PlanLaws.{and_then, cannot_put, hands_on, puts, takes_whole}
-use Rattle.stair_engine.proofs.StripeLaws.{of_geometry, takes_judged}
+use Rattle.stair_engine.proofs.StripeLaws.{input_refused, judged_put, judged_unput}
 
 pub returns-in_err-take_input : goal.returns-in_err-take_input
 returns-in_err-take_input g c =
     let view = views g.S.Source.left g.S.Source.ended g.S.Source.faults g.K.Sink.held g.K.Sink.faults in
-    of_geometry view (Encode c.args.method) _ _ _ _ _ c.geometry-geometry.ensures
-    (hands_on view _ _ _ _ _ c.from_residual.ensures.1 (takes_whole view _ _ _ _ _ _ _ _ c.in_err-take_input.ensures.takes))
+    input_refused view (Encode c.args.method) c.geometry-geometry.result _ _ _ _ c.args.input.now c.take_input.new.input c.args.output.now c.args.steps.now
+    c.geometry-geometry.ensures c.in_err-take_input.ensures.takes c.from_residual.ensures.1
 
 pub returns-in_err-put_stripe : goal.returns-in_err-put_stripe
 returns-in_err-put_stripe g c =
     let view = views g.S.Source.left g.S.Source.ended g.S.Source.faults g.K.Sink.held g.K.Sink.faults in
-    let cells = concat c.encode.new.stripe.cells in
     let whole = c.in_ok-take_input.ensures.takes in
     let failed = c.in_err-put_stripe.ensures.puts in
-    let is = judged_blocks c.args.method _ _ _ _ whole.bytes _ _ _ c.geometry-geometry.ensures c.take_input.ensures.limits whole.is_input
-    c.encode.ensures.encoded c.requires.cost c.encode.ensures.takes
+    let is = judged_blocks c.args.method c.geometry-geometry.result _ c.take_input.new.stripe c.encode.new.stripe whole.bytes _ _ _ c.geometry-geometry.ensures
+    c.take_input.ensures.limits whole.is_input c.encode.ensures.encoded c.requires.cost c.encode.ensures.takes
     in
-    of_geometry view (Encode c.args.method) _ _ _ _ _ c.geometry-geometry.ensures
-    (hands_on view _ _ _ _ Output (rw c.in_err-put_stripe.ensures.failed at c.from_residual-in_err-put_stripe.ensures.1)
-    (and_then view (takes_judged view (Encode c.args.method) _ _ _ _ _ _ _ _ whole Done cells is.0 is.1)
-    (cannot_put view cells failed.0 _ _ _ _ _ failed.1 failed.2)))
+    judged_unput view (Encode c.args.method) c.geometry-geometry.result _ _ _ c.args.input.now c.take_input.new.input c.args.output.now c.args.steps.now c.encode.new.steps
+    c.geometry-geometry.ensures whole (concat c.encode.new.stripe.cells) failed.0 c.put_stripe.new.output _ _ is.0 is.1 failed.1 failed.2
+    c.in_err-put_stripe.ensures.failed c.from_residual-in_err-put_stripe.ensures.1
 
 pub returns : goal.returns
 returns g c =
     let view = views g.S.Source.left g.S.Source.ended g.S.Source.faults g.K.Sink.held g.K.Sink.faults in
-    let cells = concat c.encode.new.stripe.cells in
     let whole = c.in_ok-take_input.ensures.takes in
-    let is = judged_blocks c.args.method _ _ _ _ whole.bytes _ _ _ c.geometry-geometry.ensures c.take_input.ensures.limits whole.is_input
-    c.encode.ensures.encoded c.requires.cost c.encode.ensures.takes
+    let is = judged_blocks c.args.method c.geometry-geometry.result _ c.take_input.new.stripe c.encode.new.stripe whole.bytes _ _ _ c.geometry-geometry.ensures
+    c.take_input.ensures.limits whole.is_input c.encode.ensures.encoded c.requires.cost c.encode.ensures.takes
     in
-    of_geometry view (Encode c.args.method) _ _ _ _ _ c.geometry-geometry.ensures
-    (and_then view (takes_judged view (Encode c.args.method) _ _ _ _ _ _ _ _ whole Done cells is.0 is.1)
-    (puts view cells (Over Done) _ _ _ _ c.in_ok-put_stripe.ensures.puts))
+    judged_put view (Encode c.args.method) c.geometry-geometry.result _ _ _ c.args.input.now c.take_input.new.input c.args.output.now c.args.steps.now c.encode.new.steps
+    c.geometry-geometry.ensures whole (concat c.encode.new.stripe.cells) c.put_stripe.new.output is.0 is.1 c.in_ok-put_stripe.ensures.puts
+
+pub take_input-requires-clause-of : goal.take_input-requires-clause-of
+take_input-requires-clause-of g c = subst (λ (of : Geometry). IsStripeOf of c.args.stripe.now) (sym c.geometry-geometry.ensures) c.requires.of
+
+pub take_input-requires-clause-well_formed : goal.take_input-requires-clause-well_formed
+take_input-requires-clause-well_formed g c = c.requires.well_formed
+
+pub encode-requires : goal.encode-requires
+encode-requires g c = subst (λ (of : Geometry). IsStripeOf of c.take_input.new.stripe) c.geometry-geometry.ensures c.take_input.ensures.of
+
+pub put_stripe-requires-clause-of : goal.put_stripe-requires-clause-of
+put_stripe-requires-clause-of g c =
+    subst (λ (of : Geometry). IsStripeOf of c.encode.new.stripe) (sym c.geometry-geometry.ensures) c.encode.ensures.encoded.of
+
+pub put_stripe-requires-clause-well_formed : goal.put_stripe-requires-clause-well_formed
+put_stripe-requires-clause-well_formed g c = c.encode.ensures.encoded.formed

@@ -5,6 +5,7 @@ use Rattle.stair_model.specs.Geometry.{data_cells}
 use Rattle.stair_story.specs.Answer.{block_bytes}
 use Rattle.stair_story.specs.Outside.{source_view}
 use Rattle.stair_engine.proofs.BlockLaws.{HoldsInput-all, length-blocks}
+use Rattle.stair_engine.proofs.CellLaws.{has_room}
 use Rattle.stair_story.proofs.IntakeLaws.{all_counted, whole_cut, whole_end, whole_handed_on}
 use Rattle.stair_engine.proofs.encode.take_input.Goals as goal
 
@@ -28,3 +29,7 @@ returns-clause-takes g c =
     let blocks : 1 ≤ data_cells of = c.block_bytes.ensures.limits.blocks in
     whole_end (source_view g.S.Source.left g.S.Source.ended g.S.Source.faults) _ _ (concat took.blocks) _ _ _ _ _ counted.1 (omega (arith, blocks)) long
     took.taken.taken c.end.ensures.ok c.end.ensures.more (λ done. HoldsInput-all (source_view g.S.Source.left g.S.Source.ended g.S.Source.faults) _ _ _ _ _ _ took)
+
+pub take_blocks-requires-clause-room : goal.take_blocks-requires-clause-room
+take_blocks-requires-clause-room g c =
+    has_room c.new-intake.result (block_bytes c.args.geometry.now) (rw c.block_bytes.ensures.value at c.new-intake.ensures)

@@ -1,8 +1,8 @@
 -- One row more; a row that was cut short behind the rows so far; and all rows.
-use Rattle.std.proofs.Common.{◌≡◌, arith, rules, length}
+use Rattle.std.proofs.Common.{◌≡◌, ◌<◌, arith, rules, length, length-take}
 use Rattle.stair_story.specs.Outside.{source_view}
 use Rattle.stair_story.proofs.IntakeLaws.{CutsShort-later, if_err_of}
-use Rattle.stair_engine.proofs.MapLaws.{HasMapped-all, HasMapped-more, HasMapped-none}
+use Rattle.stair_engine.proofs.MapLaws.{HasMapped-all, HasMapped-more, HasMapped-none, row_in_rows}
 use Rattle.stair_engine.proofs.map.take_map.Goals as goal
 
 pub returns-in_err-fill-clause-cut : goal.returns-in_err-fill-clause-cut
@@ -25,3 +25,19 @@ returns-clause-ok g c =
 pub loop-row-init : goal.loop-row-init
 loop-row-init g c =
     HasMapped-none (source_view g.S.Source.left g.S.Source.ended g.S.Source.faults) _ _ _ _ c.empty-erased.ensures.none
+
+pub fill-requires-clause-room : goal.fill-requires-clause-room
+fill-requires-clause-room g c =
+    let of = c.args.geometry.now in
+    let has = c.loop-row.invariant in
+    let row_in : c.loop-row.row < of.r = omega (arith, c.r-row-end.ensures.value) in
+    omega (
+      arith,
+      has.took_is,
+      has.needed_is,
+      row_in_rows c.loop-row.row of.r of.n row_in,
+      c.requires.room,
+      c.n.ensures.value,
+      c.from.ensures,
+      length-take c.from.result c.loop-row.marks,
+    )

@@ -1,21 +1,20 @@
 -- There was no memory; or what was done with the code that was made.
-use Rattle.stair_story.specs.declared.fault.Fault.TheVariants.{Memory}
 use Rattle.stair_story.specs.Outside.{views}
-use Rattle.stair_engine.specs.Plans.{input_plan}
 use Rattle.stair_conf.specs.declared.job.StripeCommand.TheVariants.{Restore}
 use Rattle.stair_engine.proofs.restore.restore.Goals as goal
-use Rattle.stair_story.proofs.PlanLaws.{and_then, grows, hands_on, runs_out}
-use Rattle.stair_engine.proofs.StripeLaws.{of_geometry}
+use Rattle.stair_engine.proofs.StripeLaws.{after_memory, no_memory, of_geometry}
 
 pub returns-in_err-stripe : goal.returns-in_err-stripe
 returns-in_err-stripe g c counter =
-    hands_on (views g.S.Source.left g.S.Source.ended g.S.Source.faults g.K.Sink.held g.K.Sink.faults) _ _ _ _ Memory c.from_residual.ensures.1 (runs_out (views g.S.Source.left g.S.Source.ended g.S.Source.faults g.K.Sink.held g.K.Sink.faults) (input_plan Restore c.args.geometry.now) _)
+    let view = views g.S.Source.left g.S.Source.ended g.S.Source.faults g.K.Sink.held g.K.Sink.faults in
+    no_memory view Restore c.args.geometry.now _ _ c.from_residual.ensures.1
 
 pub returns-in_err-codec : goal.returns-in_err-codec
 returns-in_err-codec g c counter =
-    hands_on (views g.S.Source.left g.S.Source.ended g.S.Source.faults g.K.Sink.held g.K.Sink.faults) _ _ _ _ Memory c.from_residual-in_err-codec.ensures.1 (runs_out (views g.S.Source.left g.S.Source.ended g.S.Source.faults g.K.Sink.held g.K.Sink.faults) (input_plan Restore c.args.geometry.now) _)
+    let view = views g.S.Source.left g.S.Source.ended g.S.Source.faults g.K.Sink.held g.K.Sink.faults in
+    no_memory view Restore c.args.geometry.now _ _ c.from_residual-in_err-codec.ensures.1
 
 pub returns : goal.returns
 returns g c counter =
     let view = views g.S.Source.left g.S.Source.ended g.S.Source.faults g.K.Sink.held g.K.Sink.faults in
-    and_then view (grows view _ _) (of_geometry view Restore _ _ _ _ _ c.in_ok-codec.ensures.geometry (c.restore_by.ensures counter))
+    after_memory view Restore c.args.geometry.now _ _ _ (of_geometry view Restore _ _ _ _ _ c.in_ok-codec.ensures.geometry (c.restore_by.ensures counter))

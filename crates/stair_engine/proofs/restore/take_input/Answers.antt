@@ -6,8 +6,9 @@ use Rattle.stair_conf.specs.declared.job.StripeCommand.TheVariants.{Restore}
 use Rattle.stair_story.specs.Answer.{bytes_needed}
 use Rattle.stair_story.specs.Outside.{source_view}
 use Rattle.stair_story.specs.Taking.{intake_of}
+use Rattle.stair_story.specs.declared.intake.Intake.{Intake}
 use Rattle.stair_engine.proofs.AnswerLaws.{IsMapAndCells-all, some_cells}
-use Rattle.stair_engine.proofs.CellLaws.{length-cell_bytes}
+use Rattle.stair_engine.proofs.CellLaws.{few_cells, has_room, length-cell_bytes}
 use Rattle.stair_story.proofs.IntakeLaws.{CutsShort-later, TakesBytes-more, all_counted, whole_cut, whole_ended, whole_goes_on, whole_handed_on}
 use Rattle.stair_engine.proofs.restore.take_input.Goals as goal
 
@@ -83,3 +84,40 @@ returns-clause-takes g c =
     in
     whole_ended (source_view g.S.Source.left g.S.Source.ended g.S.Source.faults) _ _ (mapped.0 ++ cells) _ _ _ _ (some of c.cell_bytes.ensures.limits) long taken.taken c.in_ok-end.ensures.ok
     (IsMapAndCells-all of stripe _ mapped.0 mapped.1 mapped.2 c.take_stripe.ensures.of c.take_stripe.ensures.well_formed)
+
+pub take_map-requires : goal.take_map-requires
+take_map-requires g c =
+    let of = c.args.geometry.now in
+    let first : c.new-intake.result ≡ intake_of (bytes_needed Restore of) =
+    c.new-intake.ensures ∙ ap intake_of (needs of _ _ _ _ _ c.from.ensures c.from-2.ensures c.r.ensures.value c.n.ensures.value c.cell_bytes.ensures.value)
+    in
+    omega (arith, has_room c.new-intake.result (bytes_needed Restore of) first)
+
+pub take_stripe-requires-clause-room : goal.take_stripe-requires-clause-room
+take_stripe-requires-clause-room g c =
+    let of = c.args.geometry.now in
+    let first : c.new-intake.result ≡ intake_of (bytes_needed Restore of) =
+    c.new-intake.ensures ∙ ap intake_of (needs of _ _ _ _ _ c.from.ensures c.from-2.ensures c.r.ensures.value c.n.ensures.value c.cell_bytes.ensures.value)
+    in
+    let mapped = c.in_ok-erased.ensures.ok in
+    omega (
+      arith,
+      has_room c.new-intake.result (bytes_needed Restore of) first,
+      ap (λ (k : Intake). k.took) mapped.3.counted,
+      ap (λ (k : Intake). k.needed) mapped.3.counted,
+      mapped.1,
+    )
+
+pub end-requires-clause-fits : goal.end-requires-clause-fits
+end-requires-clause-fits g c =
+    let of = c.args.geometry.now in
+    let first : c.new-intake.result ≡ intake_of (bytes_needed Restore of) =
+    c.new-intake.ensures ∙ ap intake_of (needs of _ _ _ _ _ c.from.ensures c.from-2.ensures c.r.ensures.value c.n.ensures.value c.cell_bytes.ensures.value)
+    in
+    omega (
+      arith,
+      ap (λ (k : Intake). k.needed) first,
+      ap (λ (k : Intake). k.needed) c.in_ok-erased.ensures.ok.3.counted,
+      ap (λ (k : Intake). k.needed) c.in_ok-take_stripe.ensures.ok.counted,
+      few_cells of c.cell_bytes.ensures.limits,
+    )

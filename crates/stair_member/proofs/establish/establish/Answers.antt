@@ -22,7 +22,7 @@ returns-in-Err-clause-told g c =
     (told g.R.Rack c.args.rack.now)
     (told g.R.Rack c.loop-fault.rack)
     (told g.R.Rack c.round.new.rack)
-    c.loop-fault.invariant.far refl (rw c.in-Err.is at c.round.ensures.told)
+    c.loop-fault.invariant.far refl refl (rw c.in-Err.is at c.round.ensures.told)
 
 pub returns-in-Ok-None-clause-told : goal.returns-in-Ok-None-clause-told
 returns-in-Ok-None-clause-told g c =
@@ -30,7 +30,8 @@ returns-in-Ok-None-clause-told g c =
     (told g.R.Rack c.args.rack.now)
     (told g.R.Rack c.loop-fault.rack)
     (told g.R.Rack c.round.new.rack)
-    c.loop-fault.invariant.far (rw (c.in-Ok-None.is, c.in-Ok-None.field-0-is) at c.round.ensures.told) refl
+    c.loop-fault.invariant.far (rw (c.in-Ok-None.is, c.in-Ok-None.field-0-is) at c.round.ensures.told) refl refl
+    c.round.ensures.rules
 
 pub add-requires : goal.add-requires
 add-requires g c =

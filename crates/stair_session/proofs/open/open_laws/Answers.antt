@@ -1,6 +1,6 @@
 -- The laws are lemmas.
 use Rattle.stair_model.specs.Slots.{HasSlot}
-use Rattle.stair_session.proofs.AmidRedoLemmas.{redo_begins, redo_ends, redo_goes, redo_represents}
+use Rattle.stair_session.proofs.AmidRedoLemmas.{redo_begins, redo_ends, redo_goes, redo_represents, redo_under_way}
 use Rattle.stair_session.proofs.FencesLemmas.{leaves_amid, leaves_open}
 use Rattle.stair_session.proofs.LeftOutLemmas.{left_fencing, stood_by}
 use Rattle.stair_session.proofs.OpenWithLemmas.{amid_of, beside_amid, beside_open, epoch_amid, established_open, fenced_amid, fenced_open, issued_apart, issued_beside, keeps_rebuilds, meanwhile_open, rebuilds_on, redone_amid, redone_open, represents_open}
@@ -12,8 +12,8 @@ pub returns-clause-represents : goal.returns-clause-represents
 returns-clause-represents c = λ before a words h content is none begun of tolerated. represents_open before a words h is none begun content of tolerated
 
 pub returns-clause-meanwhile : goal.returns-clause-meanwhile
-returns-clause-meanwhile c = λ aim gone before a words last content doubt old h new image is none joins promotes f at going left of aimed tolerated.
-    meanwhile_open before a words old is none aim gone last h new joins promotes f at going image left content doubt of aimed tolerated
+returns-clause-meanwhile c = λ aim gone before a words last content doubt old h new image is none joins promotes f going left of aimed tolerated.
+    meanwhile_open before a words old is none aim gone last h new joins promotes f going image left content doubt of aimed tolerated
 
 pub returns-clause-beside : goal.returns-clause-beside
 returns-clause-beside c = beside_open
@@ -66,12 +66,12 @@ returns-clause-sees c = λ before a slot first second seen words h is begun look
     saw_more before a slot first second seen words h is looks rules out begun
 
 pub returns-clause-leaves_out : goal.returns-clause-leaves_out
-returns-clause-leaves_out c = λ leaving before a words old y is begun leaves honest below none rules going.
-    leaves_open leaving before a old y leaves honest below begun none rules going words is
+returns-clause-leaves_out c = λ leaving before a words old y is begun leaves honest below none going.
+    leaves_open leaving before a old y leaves honest below begun none going words is
 
 pub returns-clause-leaves_out_amid : goal.returns-clause-leaves_out_amid
-returns-clause-leaves_out_amid c = λ leaving before a old y is begun leaves honest below none rules going.
-    leaves_amid leaving before a old y leaves honest below begun none rules going is
+returns-clause-leaves_out_amid c = λ leaving before a old y is begun leaves honest below none going.
+    leaves_amid leaving before a old y leaves honest below begun none going is
 
 pub returns-clause-phase : goal.returns-clause-phase
 returns-clause-phase c = λ r m stage to gone old new redoing alone phase.
@@ -81,15 +81,15 @@ pub returns-clause-spares : goal.returns-clause-spares
 returns-clause-spares c = λ what to gone old new g j next phase out. phase_spares {gone = HasSlot gone} what (HasSlot to) g j next out phase
 
 pub returns-clause-stage : goal.returns-clause-stage
-returns-clause-stage c = λ r before a stage to old y redoing is begun over does honest_then honest none rules going.
-    stage_amid r redoing before a stage to old y over does honest_then honest begun none rules going is
+returns-clause-stage c = λ r before a stage to old y redoing is begun over does honest none going.
+    stage_amid r redoing before a stage to old y over does honest begun none going is
 
 pub returns-clause-redo_begins : goal.returns-clause-redo_begins
 returns-clause-redo_begins c = redo_begins
 
 pub returns-clause-redo_goes : goal.returns-clause-redo_goes
-returns-clause-redo_goes c = λ r before a stage to start old y redoing is begun over does honest_then honest none rules going.
-    redo_goes r redoing before a stage to start old y over does honest_then honest begun none rules going is
+returns-clause-redo_goes c = λ r before a stage to start old y redoing is begun over does honest none going.
+    redo_goes r redoing before a stage to start old y over does honest begun none going is
 
 pub returns-clause-redo_ends : goal.returns-clause-redo_ends
 returns-clause-redo_ends c = redo_ends
@@ -97,3 +97,6 @@ returns-clause-redo_ends c = redo_ends
 pub returns-clause-redo_represents : goal.returns-clause-redo_represents
 returns-clause-redo_represents c = λ r before a stage start h content doubt redoing is none begun old_are new_are frozen label tolerated.
     redo_represents r redoing before a stage start h is none begun content doubt old_are new_are frozen label tolerated
+
+pub returns-clause-redo_under_way : goal.returns-clause-redo_under_way
+returns-clause-redo_under_way c = redo_under_way

@@ -13,8 +13,8 @@ returns c = record {
   begins = way_begins;
   phase = λ a stripe stage to start x y redoing cells not_done over way.
       phase a redoing stripe cells start stage to x y not_done over way;
-  ends = λ a stripe stage start x z redoing cells way run sound returned going.
-      way_done a redoing stripe cells start stage None x z run sound refl way returned going;
+  ends = λ a stripe stage start x z redoing cells way run honest returned going.
+      way_done a redoing stripe cells start stage None x z run honest refl way returned going;
   opens = way_opens;
   redo = redo;
   moments = moments;

@@ -9,9 +9,9 @@ pub returns : goal.returns
 returns g c = record {
   epochs = epochs_bounded;
   steps = stays_in_step;
-  bounded = λ view story old new works first most from told. stories_bounded _ _ view story old new works first most from told;
-  within = λ view story old new works first most from told slots.
-      stories_within _ _ view story old new works first most from told slots;
-  calls = λ view story old new works array most honest begun bounded of told.
-      calls_bounded _ _ view story old new works array most honest begun bounded of told;
+  bounded = λ view story old new works first most from. stories_bounded _ _ view story old new works first most from;
+  within = λ view story old new works first most from slots.
+      stories_within _ _ view story old new works first most from slots;
+  calls = λ view story old new works array most honest begun bounded of.
+      calls_bounded _ _ view story old new works array most honest begun bounded of;
 }
