@@ -1,4 +1,7 @@
 -- Lemmas of this crate.
+pub mod OutLemmas
+pub mod RecoveryLemmas
+pub mod ReadingLemmas
 pub mod CreatedLemmas
 pub mod NewArrayLemmas
 pub mod ExampleLemmas
@@ -15,4 +18,18 @@ pub mod EnoughLemmas
 pub mod NeverFewLemmas
 pub mod CompleteLemmas
 pub mod DrawsLemmas
+pub mod GoneToLemmas
+pub mod PartsLemmas
+pub mod CourseLemmas
+pub mod AnsweredLemmas
+pub mod CauseLemmas
+pub mod PerformsLemmas
 pub mod RecoverLemmas
+pub mod ServingLemmas
+pub mod LeftServingLemmas
+pub mod ReadPartLemmas
+pub mod ReadOutcomeLemmas
+pub mod ReadStepLemmas
+pub mod CoveredLemmas
+pub mod ReadDoneLemmas
+pub mod NewsLemmas

@@ -6,11 +6,14 @@ pub mod Making
 pub mod Creates
 pub mod Keeping
 pub mod Machine
+pub mod Faults
 pub mod Events
+pub mod News
 pub mod Causes
 pub mod Draws
 pub mod Calls
 pub mod Openings
 pub mod Mends
 pub mod Promise
+pub mod Arrays
 pub mod Examples

@@ -156,6 +156,11 @@ pub record CanBeDone (step : Step) (s : State) (m : Membership) (old new : List 
 abbrev pub unopened : Membership → ArrayState
 unopened m = record { member = m; rebuild = None; stopped = None }
 
+-- what a session has of the array after an opening
+abbrev pub session_after : Answer Recover → Membership → Session
+session_after (Ok g) last = Opened (unopened last)
+session_after (Err refusal) last = Closed
+
 -- an opening begins with an array that was found, any other step with one that is open and wasn't stopped
 abbrev pub StartsFrom : Step → ArrayState → Session → Type 0
 StartsFrom Recover was (Found m) = was ≡ unopened m

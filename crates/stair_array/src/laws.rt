@@ -1,15 +1,20 @@
 //! Laws of new arrays, and of those that are there.
 
-ghost use Rattle.std.specs.Prelude.{◌≡◌, List, [], ◌∷◌, length};
+ghost use Rattle.std.specs.Prelude.{◌≡◌, IsOk, List, [], ◌∷◌, length};
 ghost use Rattle.stair_model.specs.Geometry.{Geometry, IsWithinLimits};
 ghost use Rattle.stair_model.specs.Stripe.{zero_stripe};
 ghost use Rattle.stair_rack.specs.Answers.{IsHistory};
 ghost use Rattle.stair_rack.specs.Crash.{EachImage};
 ghost use Rattle.stair_rack.specs.History.{Happening, Made};
 ghost use Rattle.stair_rack.specs.Media.{Image};
+ghost use Rattle.stair_super.specs.declared.configuration.Configuration.{Configuration};
 ghost use Rattle.stair_state.specs.Blocks.{AreEncodingsOf, zero_blocks};
 ghost use Rattle.stair_array.specs.Created.{AreNewMedia, BearNoneOutside, IsNewArray};
+ghost use Rattle.stair_array.specs.Events.{events_of};
 ghost use Rattle.stair_array.specs.Keeping.{ArraysAreKept, StatesAreKept};
+ghost use Rattle.stair_array.specs.Machine.{Answer, Recover, Step};
+ghost use Rattle.stair_array.specs.News.{AddsNews, events_in, no_news};
+ghost use Rattle.stair_array.specs.declared.news.News.{News};
 ghost use Rattle.stair_state.specs.Holding.{IsConsistentUnderReassembly};
 ghost use Rattle.stair_state.specs.Represents.{AreSteady, Represents};
 ghost use Rattle.stair_state.specs.State.{created_state};
@@ -44,4 +49,12 @@ pub fn kept_laws()
     ensures arrays { ArraysAreKept }
     // and a rack that represents a state of one goes on to do so
     ensures states { StatesAreKept }
+{}
+
+/// News. It does nothing.
+pub fn news_laws()
+    // where there were none before a step, those after it tell its events
+    ensures events { (step : Step) (answer : Answer step) (old new : Configuration) (is : News) →
+        AddsNews step answer old new no_news is → (step ≡ Recover → IsOk answer) →
+        events_in is ≡ events_of step answer old new }
 {}

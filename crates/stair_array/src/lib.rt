@@ -1,15 +1,26 @@
 //! An array over the devices of a rack.
 #![tactic(auto)]
 
+mod array;
 mod fault;
 pub mod laws;
 mod look;
 pub mod machine;
 mod new_array;
 mod new_device;
+mod news;
+#[cfg(test)]
+mod opening_tests;
+pub mod performs;
+mod reading;
+pub mod reads;
 pub mod recovered;
+mod recovery;
+mod session;
 #[cfg(test)]
 mod tests;
 
-pub use fault::CreateFault;
+pub use array::Array;
+pub use fault::{ArrayFault, CreateFault, RecoverFault};
 pub use new_array::create;
+pub use news::News;

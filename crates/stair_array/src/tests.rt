@@ -3,11 +3,11 @@ ghost use Rattle.stair_model.specs.CellSet.{HasCell, IsCellSet};
 ghost use Rattle.stair_model.specs.Stripe.{IsStripeOf};
 ghost use Rattle.stair_journal.specs.Redo.{IsRedo};
 
-use crate::{CreateFault, create};
+use crate::{CreateFault, News, create};
 use stair_base::{BODY_START, CellSet, FIRST_PLACE, Geometry, SECOND_PLACE, Slots, Stripe};
 use stair_journal::{Redo, close_gates, open_gates, read_gates, write_body};
 use stair_memrack::{Act, MemRack, What};
-use stair_rack::{Got, Rack, Reply};
+use stair_rack::{Event, Got, Rack, Reply};
 use stair_stripes::place;
 use std::alloc::{AllocError, Global};
 use std::test::Fail;
@@ -365,5 +365,58 @@ fn a_redo_that_is_cut_leaves_the_old_cells_or_the_new_ones(rt: HostRuntime) -> R
             assert!(rt; pulled < 4 || stop < 52 || held == NEW, "{stop} {found:?}");
         }
     }
+    Ok(())
+}
+
+// Event number 0 to 4 of these news.
+fn told(news: &News) -> [Option<Event>; 5] {
+    [
+        news.event(0),
+        news.event(1),
+        news.event(2),
+        news.event(3),
+        news.event(4),
+    ]
+}
+
+#[test]
+fn news_tell_of_slots_in_order_and_then_of_the_rest(rt: HostRuntime) -> Result<(), Fail> {
+    let mut fenced = Slots::empty();
+    let none = News {
+        fenced,
+        repaired: None,
+        admitted: None,
+        promoted: None,
+    };
+    assert!(rt; told(&none) == [None; 5]);
+    fenced.add(5);
+    fenced.add(1);
+    let one = Some(Event::Fenced { slot: 1 });
+    let five = Some(Event::Fenced { slot: 5 });
+    let admission = Some(Event::Admitted { slot: 3 });
+    let news = News {
+        fenced,
+        admitted: Some(3),
+        ..none
+    };
+    assert!(rt; told(&news) == [one, five, admission, None, None]);
+    // no cell was repaired, or one was
+    let scrubbed = News {
+        repaired: Some((7, 0)),
+        promoted: Some(3),
+        ..news
+    };
+    let promotion = Some(Event::Promoted { slot: 3 });
+    assert!(rt; told(&scrubbed) == [one, five, admission, promotion, None]);
+    let repaired = News {
+        repaired: Some((7, 1)),
+        ..scrubbed
+    };
+    let repair = Some(Event::Repaired {
+        stripe: 7,
+        cells: 1,
+    });
+    assert!(rt; told(&repaired) == [one, five, repair, admission, promotion]);
+    assert!(rt; repaired.event(5).is_none() && repaired.event(255).is_none());
     Ok(())
 }

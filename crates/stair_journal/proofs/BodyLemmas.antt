@@ -26,6 +26,7 @@ use Rattle.stair_journal.specs.Reads.{PassesAll, AsksCell, AsksFor, AsksInTurn, 
 use Rattle.stair_journal.specs.Redo.{IsRedo}
 use Rattle.stair_journal.specs.declared.redo.Redo.{Redo}
 use Rattle.stair_journal.proofs.AskLemmas.{asks_join, asks_none, fails_on, fails_since}
+use Rattle.stair_journal.proofs.ReadToldLemmas.{body_told}
 use Rattle.stair_journal.proofs.TurnLemmas.{cells_on, each_more, rows_on, unread_here}
 
 -- PLACES
@@ -456,6 +457,16 @@ module _ (g : Geometry) (live : Slots) (redo : Redo) (start now : Standing) (of 
       subst (λ s. IsFirstUngiven g live now.body.gone start.into now.into start.telling now.telling redo (Some s)) (sym at)
       (UngivenFirst i c on.0 is (λ a b has less. lower a b (below a b has) less))
 
+  pub all_in_turn : ((j : ℕ) → ¬ HasSlot start.body.gone j) → IsSlotSet start.body.gone → IsTrue now.telling.honest
+      → AsksInTurn g live redo now.body.unread start.into now.into (asking no_slots start.telling.history) (asking_of now)
+  all_in_turn none formed honest =
+      let was = reached.in_turn honest in
+      let no_row : asking_of now ≡ was.mid = was.cells in
+      let nobody : start.body.gone ≡ no_slots = same_slots start.body.gone no_slots formed (length-replicate 32 false)
+      (λ j. (λ has. absurd (none j has), λ has. absurd (false≢true (sym (has_slot-none j) ∙ has)))) in
+      subst (λ gone. AsksInTurn g live redo now.body.unread start.into now.into (asking gone start.telling.history) (asking_of now)) nobody
+      (subst (λ to. AsksInTurn g live redo now.body.unread start.into now.into (asking_of start) to) (sym no_row) was.rows)
+
   pub all_read : ((j : ℕ) → ¬ HasSlot start.body.gone j) → IsSlotSet start.body.gone
       → ReadsBody g live redo now.body start.into now.into start.telling now.telling
   all_read none formed = record {
@@ -468,21 +479,13 @@ module _ (g : Geometry) (live : Slots) (redo : Redo) (start now : Standing) (of 
     formed = all.asks.formed formed;
     honest = all.asks.later.honest;
     counts = all.asks.later.counts;
+    told = λ honest.
+        body_told g live redo now.body.unread start.into now.into (asking no_slots start.telling.history) (asking_of now) (all_in_turn none formed honest);
     ran = all.asks.ran;
   }
     where
       newly : (j : ℕ) → HasSlot now.body.gone j → HasSlot live j × IsGone j start.telling now.telling
       newly j has = elim (all.asks.newly j has) [ inl was ↦ absurd (none j was) | inr is ↦ is ]
-
-  pub all_in_turn : ((j : ℕ) → ¬ HasSlot start.body.gone j) → IsSlotSet start.body.gone → IsTrue now.telling.honest
-      → AsksInTurn g live redo now.body.unread start.into now.into (asking no_slots start.telling.history) (asking_of now)
-  all_in_turn none formed honest =
-      let was = reached.in_turn honest in
-      let no_row : asking_of now ≡ was.mid = was.cells in
-      let nobody : start.body.gone ≡ no_slots = same_slots start.body.gone no_slots formed (length-replicate 32 false)
-      (λ j. (λ has. absurd (none j has), λ has. absurd (false≢true (sym (has_slot-none j) ∙ has)))) in
-      subst (λ gone. AsksInTurn g live redo now.body.unread start.into now.into (asking gone start.telling.history) (asking_of now)) nobody
-      (subst (λ to. AsksInTurn g live redo now.body.unread start.into now.into (asking_of start) to) (sym no_row) was.rows)
 
   pub all_reads : RisesAtMost (cell_count redo.cells * slot_count live) start.reads now.reads
   all_reads =

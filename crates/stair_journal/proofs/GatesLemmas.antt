@@ -31,6 +31,7 @@ use Rattle.stair_journal.specs.declared.gates.Seen.TheVariants.{Closed, Gone, Op
 use Rattle.stair_journal.specs.declared.redo.Redo.{Redo}
 use Rattle.stair_journal.proofs.GateLemmas.{once}
 use Rattle.stair_journal.proofs.LiveCounts.{live_below, live_more, live_none, live_skipped}
+use Rattle.stair_journal.proofs.ReadToldLemmas.{gates_told}
 use Rattle.stair_journal.proofs.TurnLemmas.{gate_read, gate_unread}
 
 -- NOTING A GATE
@@ -464,6 +465,7 @@ gates_all g live gates old now count count' all = record {
   formed_gone = all.formed_gone;
   honest = all.later.honest;
   counts = all.later.counts;
+  told = λ honest. gates_told live gates.gone old.history now.history (all.in_turn honest);
   ran = all.ran;
 }
   where

@@ -6,6 +6,7 @@ pub mod WritesLemmas
 pub mod RedoLemmas
 pub mod LiveCounts
 pub mod ToldLemmas
+pub mod ReadToldLemmas
 pub mod DoesLemmas
 pub mod TurnLemmas
 pub mod GatesLemmas

@@ -28,7 +28,7 @@ pub are_gone_wider : {gone more : ℕ → Type 0} {old new : List Happening} →
 are_gone_wider within told j call was is = within j (told j call was is)
 
 -- a call that was answered in two stretches was answered in one of them
-answered_cases : {j : ℕ} {call : SlotCall} {old mid new : List Happening} → IsMoment old mid new → WasAnswered j call old new
+pub answered_cases : {j : ℕ} {call : SlotCall} {old mid new : List Happening} → IsMoment old mid new → WasAnswered j call old new
     → WasAnswered j call old mid ⊎ WasAnswered j call mid new
 answered_cases {j} {call} {old} {mid} {new} at was =
     elim (moment_cases here at) [

@@ -7,9 +7,12 @@ use Rattle.stair_model.specs.Slots.{Slots, HasSlot, IsSlotSet}
 use Rattle.stair_model.specs.Stripe.{Stripe, IsStripeOf, cell}
 use Rattle.stair_rack.specs.Answers.{Ran}
 use Rattle.stair_rack.specs.RackCounts.{NoneFalls}
+use Rattle.stair_rack.specs.History.{Read}
 use Rattle.stair_rack.specs.Reading.{IsReadOf}
 use Rattle.stair_rack.specs.Sector.{Good, Damaged}
+use Rattle.stair_rack.specs.Stretch.{WasAnswered}
 use Rattle.stair_rack.specs.Telling.{Telling, IsGone, IsReading}
+use Rattle.stair_rack.specs.declared.rack.Got.TheVariants as got
 use Rattle.stair_journal.specs.declared.body.Body.{Body}
 use Rattle.stair_journal.specs.declared.redo.Redo.{Redo}
 
@@ -60,6 +63,9 @@ pub record ReadsBody (g : Geometry) (live : Slots) (redo : Redo) (body : Body)
   pub gone : (j : ℕ) → HasSlot body.gone j → IsGone j old new
   pub formed : IsSlotSet body.gone
   pub counts : NoneFalls old.bads new.bads old.gones new.gones
-  -- on an honest rack: the calls are reads of the redo's body alone
+  -- on an honest rack: a slot that answered gone is one of them,
+  pub told : IsTrue new.honest → (j k : ℕ) → WasAnswered j (Read k got.Gone) old.history new.history
+      → HasSlot body.gone j
+  -- and the calls are reads of the redo's body alone
   pub ran : IsTrue new.honest
       → Ran (IsReadOf (HasSlot live) (IsBodySector g redo)) old.history new.history

@@ -5,9 +5,12 @@ use Rattle.stair_model.specs.Geometry.{Geometry}
 use Rattle.stair_model.specs.Slots.{Slots, HasSlot, IsSlotSet}
 use Rattle.stair_rack.specs.Answers.{Ran}
 use Rattle.stair_rack.specs.RackCounts.{NoneFalls}
+use Rattle.stair_rack.specs.History.{Read}
 use Rattle.stair_rack.specs.Reading.{IsReadOf}
 use Rattle.stair_rack.specs.Sector.{Cell}
+use Rattle.stair_rack.specs.Stretch.{WasAnswered}
 use Rattle.stair_rack.specs.Telling.{Telling, IsGone, IsReading}
+use Rattle.stair_rack.specs.declared.rack.Got.TheVariants as got
 use Rattle.stair_journal.specs.Gate.{IsOpenWith, ReadsClosed}
 use Rattle.stair_journal.specs.declared.gates.Gates.{Gates}
 use Rattle.stair_journal.specs.declared.redo.Redo.{Redo}
@@ -49,6 +52,9 @@ pub record ReadsGates (g : Geometry) (live : Slots) (gates : Gates) (old new : T
   pub formed_opened : IsSlotSet gates.opened
   pub formed_gone : IsSlotSet gates.gone
   pub counts : NoneFalls old.bads new.bads old.gones new.gones
-  -- on an honest rack: the calls are reads of live gates alone
+  -- on an honest rack: a slot that answered gone is one of them,
+  pub told : IsTrue new.honest → (j k : ℕ) → WasAnswered j (Read k got.Gone) old.history new.history
+      → HasSlot gates.gone j
+  -- and the calls are reads of live gates alone
   pub ran : IsTrue new.honest
       → Ran (IsReadOf (HasSlot live) IsGateSector) old.history new.history

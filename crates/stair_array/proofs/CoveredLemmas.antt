@@ -1,0 +1,270 @@
+-- Within tolerance the cells of a stripe that couldn't be had are covered, and no epoch is refused for want of slots, where no medium
+-- comes back.
+use Rattle.std.proofs.Common.{◌≡◌, ℕ, ◌<◌, ◌≤◌, List, [], ◌∷◌, inl, inr, refl, sym, ap, ◌∙◌, subst, arith, None, Some, Option, false}
+use Rattle.std.specs.Prelude.{◌⊎◌, IsTrue, IsSome, Ok, Err, ⊤, not}
+use Rattle.std.proofs.lemmas.Bool.{cases_Bool}
+use Rattle.stair_model.specs.CellSet.{HasCell}
+use Rattle.stair_model.specs.Coverage.{IsCovered}
+use Rattle.stair_model.specs.Device.{cell_sector, gate_sector}
+use Rattle.stair_model.specs.Geometry.{Geometry}
+use Rattle.stair_model.specs.Slots.{HasSlot, Slots}
+use Rattle.stair_model.specs.Stripe.{Stripe}
+use Rattle.stair_rack.specs.Answers.{IsBesideAttach, IsHistory, Ran, any_call, is_good}
+use Rattle.stair_rack.specs.Crash.{CrashMayLeave, image_now}
+use Rattle.stair_rack.specs.History.{Happening, Made, SlotCall, Attach, Sectors, Read, Write, Sync, slot_state, stopped}
+use Rattle.stair_rack.specs.Media.{Image}
+use Rattle.stair_rack.specs.Offline.{ButForOutside, IsAttached, IsKept, IsOffline}
+use Rattle.stair_rack.specs.Reading.{WasRead}
+use Rattle.stair_rack.specs.Sector.{Cell, Damaged, Sector, content, damaged, newest, settled, synced}
+use Rattle.stair_rack.specs.Stretch.{every_slot}
+use Rattle.stair_rack.proofs.CrashLemmas.{CrashMayLeave-now}
+use Rattle.stair_rack.proofs.KeptLemmas.{SectorKeeps, keeps_sector}
+use Rattle.stair_rack.proofs.MomentLemmas.{at_last, ran_after, ran_any, ran_join, ran_none, ran_weakened}
+use Rattle.stair_rack.proofs.OfflineLemmas.{and-true_left, offline_now, offline_on, pulls_on}
+use Rattle.stair_rack.proofs.StepLemmas.{kept}
+use Rattle.stair_rack.proofs.TidyLemmas.{history_on, history_tidy, left_past_end}
+use Rattle.stair_super.specs.Superblock.{Superblock}
+use Rattle.stair_super.specs.declared.mark.Mark.TheVariants as mark
+use Rattle.stair_member.specs.Current.{IsCurrent, IsFailed, IsLive}
+use Rattle.stair_member.specs.Membership.{why_of}
+use Rattle.stair_member.specs.Seats.{Seat, seats_of}
+use Rattle.stair_member.specs.declared.aim.Aim.TheVariants.{Fence}
+use Rattle.stair_member.specs.declared.fault.FenceFault.{FenceFault}
+use Rattle.stair_member.specs.declared.fault.FenceFault.TheVariants.{TooFew}
+use Rattle.stair_member.specs.declared.why.Why.{Why}
+use Rattle.stair_member.specs.declared.why.Why.TheVariants as why
+use Rattle.stair_member.proofs.CountingLemmas.{has_or_not}
+use Rattle.stair_stripes.specs.declared.gathering.Gathered.{Gathered}
+use Rattle.stair_state.specs.Blocks.{Codewords}
+use Rattle.stair_state.specs.Redoing.{IsApart}
+use Rattle.stair_state.specs.State.{Content}
+use Rattle.stair_state.specs.Tolerance.{IsWithinTolerance}
+use Rattle.stair_state.proofs.RedoPhaseLemmas.{large_some}
+use Rattle.stair_state.proofs.ToleranceLemmas.{exactly_covered}
+use Rattle.stair_session.specs.Courses.{Fenced, LeavesOut, NoneWas, Point, point}
+use Rattle.stair_session.specs.InSession.{IsOfContent}
+use Rattle.stair_session.specs.Rebuilding.{Rebuild}
+use Rattle.stair_session.specs.SeatSteps.{MayDrop}
+use Rattle.stair_session.specs.Session.{IsLiveIn, seats_in}
+use Rattle.stair_session.proofs.BesideLemmas.{medium_on_it}
+use Rattle.stair_session.proofs.ChangingLemmas.{live_here}
+use Rattle.stair_session.proofs.EachAloneLemmas.{made_left}
+use Rattle.stair_session.proofs.OpenWithLemmas.{issued_apart}
+use Rattle.stair_array.proofs.EnoughLemmas.{never_few}
+use Rattle.stair_array.proofs.LeftServingLemmas.{StandsIn}
+use Rattle.stair_array.proofs.ReadPartLemmas.{Calm, HasLoaded, Stands, all_ran, any_read, array_here, gone_off, honest_mid, live_of, loading_moments, ran_gathering, ran_leaving, ran_reading, serves_first, serves_mid, to_mid}
+use Rattle.stair_array.proofs.ServingLemmas.{IsServing, cell_then, read_bad, tolerated_now}
+
+-- CALLS THAT LEAVE WHAT LIES FROM THE GATE ON, and attach nothing
+
+abbrev untouching : ℕ → SlotCall → Type 0
+untouching = IsApart every_slot
+
+read_apart : (j : ℕ) (c : SlotCall) → any_read j c → untouching j c
+read_apart j (Attach answer) may = absurd may
+read_apart j (Sectors size) may = absurd may
+read_apart j (Read k answer) may = (λ on. tt, tt)
+read_apart j (Write k bytes answer) may = absurd may
+read_apart j (Sync answer) may = absurd may
+
+left_apart : (gone : Slots) (refusal : Option FenceFault) (x y : Point) → LeavesOut gone refusal x y → IsTrue y.told.honest
+    → Ran untouching x.told.history y.told.history
+left_apart gone refusal x y (NoneWas none same fine) honest =
+    subst (λ (p : Point). Ran untouching x.told.history p.told.history) (sym same) (ran_none {allowed = untouching} x.told.history)
+left_apart gone refusal x y (Fenced j has answer fine e) honest =
+    issued_apart Fence e.establishes.gone e.start y.member x.told.history y.told.history (e.establishes.issued honest) every_slot
+
+-- what reads as damaged is so
+damaged_content : (s : Sector) → content s ≡ Damaged → s ≡ damaged
+damaged_content s reads = by s.base s.since reads
+  where
+    by : (base : Cell) (since : List (List ℕ)) → newest base since ≡ Damaged → (record { base = base; since = since }) ≡ damaged
+    by base [] is = ap (λ (c : Cell). settled c) is
+    by base (bytes ∷ since) is = absurd (cc)
+
+-- and stays so
+stays_damaged : (start old new : List Happening) (j k : ℕ) → gate_sector ≤ k → Ran untouching old new
+    → ButForOutside start old j k (λ s. s ≡ damaged) → ButForOutside start new j k (λ s. s ≡ damaged)
+stays_damaged start old new j k from ran before =
+    kept {allowed = untouching} {P = λ h. IsKept (slot_state start j).pulls k IsDamaged (slot_state h j)}
+    (keeps_sector {allowed = untouching} {j = j} {k = k} {P = IsDamaged} (slot_state start j).pulls keeps) ran before
+  where
+    IsDamaged : Sector → Type 0
+    IsDamaged s = s ≡ damaged
+
+    keeps : SectorKeeps untouching j k IsDamaged
+    keeps = record {
+      write = λ bytes s apart holds. let below = apart.1 tt in absurd (omega (arith, below, from));
+      sync = λ s apart holds. ap synced holds;
+    }
+
+-- WHAT A STRIPE WAS GATHERED FOR
+
+module _ (before : List Happening) (rebuild : Option Rebuild) (stopped_by : Option FenceFault) (words : Codewords) (held : Content) (x : Point)
+    (of : IsOfContent x.member words held) (is : IsServing before (array_here before rebuild stopped_by words held x of) words x.told.history)
+    (t : ℕ) (gathered : Gathered) (read : Stripe) (refusal : Option FenceFault) (z : Point) (l : HasLoaded t gathered read refusal x z)
+    (honest : IsTrue z.told.honest) (calm : Calm before rebuild stopped_by words held x of z.told.history) where
+  abbrev g : Geometry
+  g = x.member.array.geometry
+
+  abbrev now : Image
+  now = image_now z.told.history
+
+  ran_all : Ran any_call before z.told.history
+  ran_all = all_ran before rebuild stopped_by words held x of is t gathered read refusal z l honest
+
+  ran_out : Ran any_call l.mid.history z.told.history
+  ran_out = ran_leaving before rebuild stopped_by words held x of is t gathered read refusal z l honest
+
+  calm_mid : Calm before rebuild stopped_by words held x of l.mid.history
+  calm_mid = to_mid before rebuild stopped_by words held x of is t gathered read refusal z l honest z.told.history ran_out calm
+
+  mid_serves : IsServing before (array_here before rebuild stopped_by words held x of) words l.mid.history
+  mid_serves = serves_mid before rebuild stopped_by words held x of is t gathered read refusal z l honest calm_mid
+
+  within : IsWithinTolerance (IsOffline before z.told.history) x.member.array.geometry (image_now z.told.history)
+  within =
+      tolerated_now x.member.array.geometry before z.told.history ran_all calm (image_now z.told.history) (CrashMayLeave-now z.told.history)
+
+  stands : StandsIn before (array_here before rebuild stopped_by words held x of) words held of (image_now z.told.history)
+  stands =
+      at_last {P = Stands before rebuild stopped_by words held x of}
+      (loading_moments before rebuild stopped_by words held x of is t gathered read refusal z l honest) calm (image_now z.told.history)
+      (CrashMayLeave-now z.told.history)
+
+  history : IsHistory z.told.history
+  history =
+      history_on {allowed = any_call} is.begun.history
+      (ran_join {allowed = any_call}
+      (ran_any {allowed = any_read} (ran_reading before rebuild stopped_by words held x of is t gathered read refusal z l honest)) ran_out)
+
+  -- a slot that is live in the end was so to the member
+  live_was : (current : Superblock) → IsCurrent x.member.array.geometry (image_now z.told.history) current → (j : ℕ)
+      → IsLive x.member.array.geometry (image_now z.told.history) current j → why_of x.member j ≡ why.Here
+  live_was current is_current j live = by (stands.dropped j)
+    where
+      alone : CrashMayLeave (Made (image_now z.told.history) ∷ []) (image_now z.told.history)
+      alone =
+          made_left (image_now z.told.history)
+          (left_past_end z.told.history (history_tidy history) (image_now z.told.history) (CrashMayLeave-now z.told.history))
+
+      seat : seats_of current j ≡ seats_in stands.array j
+      seat = stands.stands.seats (image_now z.told.history) alone current j within.identity is_current
+
+      marked : (seats_in stands.array j).mark ≡ mark.Live
+      marked = sym (ap (λ (s : Seat). s.mark) seat) ∙ live.marked
+
+      by : MayDrop (seats_in x.member.array j) (seats_in stands.array j) → why_of x.member j ≡ why.Here
+      by (inr fell) = absurd (let never : mark.Live ≡ mark.Down = sym marked ∙ ap (λ (s : Seat). s.mark) fell.1 in cc)
+      by (inl same) =
+          live_here (why_of x.member j) (sym (is.is_open.array.marks j live.below) ∙ sym (ap (λ (s : Seat). s.mark) same) ∙ marked)
+
+  -- NO EPOCH IS REFUSED FOR WANT OF SLOTS
+
+  pub never_too_few : (whys : List Why) → ¬ (refusal ≡ Some (TooFew whys))
+  never_too_few whys at = by l.leaves
+    where
+      by : LeavesOut gathered.gone refusal (point x.member l.mid) z → ⊥
+      by (NoneWas none same fine) = let never : None ≡ Some (TooFew whys) = sym fine ∙ at in absurd (cc)
+      by (Fenced j has (Ok fallen) fine does) = let never : None ≡ Some (TooFew whys) = sym fine ∙ at in absurd (cc)
+      by (Fenced j has (Err fault) fine does) =
+          let one : fault ≡ TooFew whys = (let both : Some fault ≡ Some (TooFew whys) = sym fine ∙ at in cc) in
+          never_few before x.member gathered.gone z.member fault l.mid z.told does honest x.member.array.geometry refl
+          (tolerated_now x.member.array.geometry before z.told.history ran_all calm) live_was
+          (λ i live. mid_serves.is_open.held i (record { below = live.below; why = inl live.why }))
+          (λ i live on. (mid_serves.is_open.live i live on).large 1 (omega arith))
+          (λ i live left. gone_off before rebuild stopped_by words held x of is t gathered read refusal z l honest i left) whys one
+
+  -- WHAT IS ERASED IS COVERED
+
+  apart_out : Ran untouching l.mid.history z.told.history
+  apart_out = left_apart gathered.gone refusal (point x.member l.mid) z l.leaves honest
+
+  -- a cell that was read as bad on a live slot is damaged, or its slot is offline
+  module _ (i j : ℕ) (on : IsLiveIn x.member j) (stripe : t < x.member.array.geometry.stripes) (row : i < x.member.array.geometry.r)
+      (was : WasRead (λ c. is_good c ≡ false) l.first.history l.mid.history j (cell_sector x.member.array.geometry t i)) where
+    abbrev k : ℕ
+    k = cell_sector x.member.array.geometry t i
+
+    gathering : Ran any_read l.first.history l.mid.history
+    gathering = ran_gathering before rebuild stopped_by words held x of is t gathered read refusal z l honest
+
+    first_serves : IsServing before (array_here before rebuild stopped_by words held x of) words l.first.history
+    first_serves = serves_first before rebuild stopped_by words held x of is t gathered read refusal z l honest calm_mid
+
+    then : IsServing before (array_here before rebuild stopped_by words held x of) words was.moment
+    then =
+        (cell_then before (array_here before rebuild stopped_by words held x of) words (λ s. ⊤) (λ s. ⊤) l.first.history l.mid.history first_serves
+        gathering calm_mid t i j on stripe row was).0
+
+    attached : IsAttached was.moment j
+    attached = and-true_left (slot_state was.moment j).attached (not (stopped was.moment)) was.ready
+
+    some : IsSome (slot_state was.moment j).size
+    some = large_some x.member.array.geometry (slot_state was.moment j).size (then.is_open.live j on attached).large
+
+    apart : Ran untouching was.moment z.told.history
+    apart =
+        ran_join {allowed = untouching}
+        (ran_weakened {allowed = any_read} {more = untouching} read_apart (ran_after {allowed = any_read} gathering was.is_one)) apart_out
+
+    bad : ButForOutside was.moment z.told.history j (cell_sector x.member.array.geometry t i) (λ s. s ≡ damaged)
+    bad =
+        stays_damaged was.moment was.moment z.told.history j (cell_sector x.member.array.geometry t i) (omega arith) apart
+        (IsKept.Here refl some
+        (inr (damaged_content ((slot_state was.moment j).sector (cell_sector x.member.array.geometry t i))
+        (read_bad before (array_here before rebuild stopped_by words held x of) words (λ s. ⊤) (λ s. ⊤) l.first.history l.mid.history first_serves
+        gathering calm_mid t i j on stripe row was))))
+
+    upto : (slot_state before j).pulls ≤ (slot_state was.moment j).pulls
+    upto = pulls_on {allowed = any_call} j then.is_open.ran
+
+    damaged_or_offline : IsFailed (IsOffline before z.told.history) x.member.array.geometry (image_now z.told.history) within.current j
+        ⊎ ((image_now z.told.history j).cell (cell_sector x.member.array.geometry t i) ≡ Damaged)
+    damaged_or_offline = by bad
+      where
+        by : ButForOutside was.moment z.told.history j (cell_sector x.member.array.geometry t i) (λ s. s ≡ damaged)
+            → IsFailed (IsOffline before z.told.history) x.member.array.geometry (image_now z.told.history) within.current j
+            ⊎ ((image_now z.told.history j).cell (cell_sector x.member.array.geometry t i) ≡ Damaged)
+        by (IsKept.Here at has (inl harmed)) = inr (ap content harmed)
+        by (IsKept.Here at has (inr harmed)) = inr (ap content harmed)
+        by (IsKept.Lost less) =
+            elim (cases_Bool (slot_state z.told.history j).attached) [
+              | inl still ↦
+                  absurd
+                  (medium_on_it was.moment z.told.history j
+                  (ran_weakened {allowed = untouching} {more = λ s c. s ≡ j → IsBesideAttach c} (λ s c may at. may.0 tt) apart) still less)
+              | inr off ↦ inl (IsFailed.Offline on.below (IsOffline.Unattached off (omega (arith, less, upto))))
+            ]
+
+  failed_or_damaged : t < x.member.array.geometry.stripes → (i j : ℕ) → HasCell gathered.erased i j
+      → (i < x.member.array.geometry.r) × (j < x.member.array.geometry.n)
+      × (IsFailed (IsOffline before z.told.history) x.member.array.geometry (image_now z.told.history) within.current j
+      ⊎ ((image_now z.told.history j).cell (cell_sector x.member.array.geometry t i) ≡ Damaged))
+  failed_or_damaged stripe i j has = (wanted.0, wanted.1, by (has_or_not l.live j) (has_or_not gathered.gone j))
+    where
+      wanted : (i < x.member.array.geometry.r) × (j < x.member.array.geometry.n)
+      wanted = l.gathers.wanted_erased i j has
+
+      by : HasSlot l.live j ⊎ (¬ HasSlot l.live j) → HasSlot gathered.gone j ⊎ (¬ HasSlot gathered.gone j)
+          → IsFailed (IsOffline before z.told.history) x.member.array.geometry (image_now z.told.history) within.current j
+          ⊎ ((image_now z.told.history j).cell (cell_sector x.member.array.geometry t i) ≡ Damaged)
+      by (inr out) gone =
+          inl
+          (IsFailed.NotLive wanted.1
+          (λ live. out ((l.are_live.are j).1 (record { below = wanted.1; why = live_was within.current within.is_current j live }))))
+      by (inl on) (inl gone) =
+          inl
+          (IsFailed.Offline wanted.1
+          (offline_now
+          (offline_on {allowed = untouching} j (λ c may. may.0 tt) apart_out
+          (gone_off before rebuild stopped_by words held x of is t gathered read refusal z l honest j gone))))
+      by (inl on) (inr stays) =
+          damaged_or_offline i j (live_of before rebuild stopped_by words held x of is t gathered read refusal z l honest j on) stripe wanted.0
+          ((l.gathers.bad i j has (λ away. elim away [ inl out ↦ out on | inr gone ↦ stays gone ])).0.1
+          (honest_mid before rebuild stopped_by words held x of is t gathered read refusal z l honest))
+
+  pub covered : t < x.member.array.geometry.stripes → IsCovered x.member.array.geometry gathered.erased
+  covered stripe =
+      exactly_covered (IsOffline before z.told.history) x.member.array.geometry (image_now z.told.history) within.current t gathered.erased
+      (within.stripes t stripe) (failed_or_damaged stripe)

@@ -1,0 +1,214 @@
+-- What a read of a block did: cells were read, and slots that were gone are left out.
+use Rattle.std.proofs.Common.{◌≡◌, ℕ, ◌<◌, List, inl, inr, sym, ap, subst, arith, Option}
+use Rattle.std.specs.Prelude.{◌⊎◌, IsTrue, Ok, ⊤}
+use Rattle.std.proofs.lemmas.Nat.{div_below}
+use Rattle.stair_model.specs.Cell.{IsPlaceOf}
+use Rattle.stair_model.specs.CellSet.{HasCell}
+use Rattle.stair_model.specs.Device.{cell_sector}
+use Rattle.stair_model.specs.Geometry.{Geometry, IsWithinLimits, block_count, data_cells}
+use Rattle.stair_model.specs.Slots.{HasSlot, Slots}
+use Rattle.stair_model.specs.Stripe.{Stripe, cell}
+use Rattle.stair_rack.specs.Answers.{Ran, any_call}
+use Rattle.stair_rack.specs.History.{Happening, SlotCall}
+use Rattle.stair_rack.specs.Moments.{AtEveryMoment}
+use Rattle.stair_rack.specs.Offline.{IsOfflineUntilAttached}
+use Rattle.stair_rack.specs.Reading.{IsReadOf}
+use Rattle.stair_rack.specs.Sector.{Good}
+use Rattle.stair_rack.specs.Telling.{IsReading, Telling}
+use Rattle.stair_rack.proofs.MomentLemmas.{at_every_from, at_every_join, at_moment, moment_between, ran_any, ran_before, ran_join, ran_none, ran_weakened}
+use Rattle.stair_rack.proofs.OfflineLemmas.{held_on}
+use Rattle.stair_member.specs.Membership.{IsHere, Membership}
+use Rattle.stair_member.specs.declared.fault.FenceFault.{FenceFault}
+use Rattle.stair_member.proofs.CountingLemmas.{has_or_not}
+use Rattle.stair_stripes.specs.Gathering.{Gathers, IsCellOf, IsReadOfCell}
+use Rattle.stair_stripes.specs.declared.gathering.Gathered.{Gathered}
+use Rattle.stair_state.specs.Blocks.{Codewords}
+use Rattle.stair_state.specs.State.{Content}
+use Rattle.stair_session.specs.Courses.{AreLive, LeavesOut, Loads, Point, point}
+use Rattle.stair_session.specs.InSession.{IsOfContent}
+use Rattle.stair_session.specs.Opening.{StaysArray}
+use Rattle.stair_session.specs.Rebuilding.{Rebuild}
+use Rattle.stair_session.specs.Session.{ArrayState, IsLiveIn}
+use Rattle.stair_session.proofs.HonestLemmas.{left_honest}
+use Rattle.stair_session.proofs.RedoingLemmas.{out_ran}
+use Rattle.stair_session.proofs.StaysArrayLemmas.{left_stays}
+use Rattle.stair_array.specs.Calls.{AsksFor, CannotHave, IsLoaded, NotLive, WasBad, WasGone}
+use Rattle.stair_array.proofs.LeftServingLemmas.{StandsAt, leaving_stands, reading_stands}
+use Rattle.stair_array.proofs.ServingLemmas.{IsCalmTo, IsServing, calm_sooner, read_good, reads_serve}
+
+-- a block that is in range lies in a stripe of the array
+pub placed_in : (g : Geometry) (b t i j : ℕ) → IsWithinLimits g → b < block_count g → IsPlaceOf g b t i j → t < g.stripes
+placed_in g b t i j limits b_in place =
+    subst (λ (s : ℕ). s < g.stripes) (sym place.in_stripe) (div_below b (data_cells g) g.stripes limits.blocks (omega arith))
+
+-- READS, of whichever sectors
+
+abbrev pub any_read : ℕ → SlotCall → Type 0
+any_read = IsReadOf (λ j. ⊤) (λ k. ⊤)
+
+any_of : (slots sectors : ℕ → Type 0) {old new : List Happening} → Ran (IsReadOf slots sectors) old new → Ran any_read old new
+any_of slots sectors ran = ran_weakened {allowed = IsReadOf slots sectors} {more = any_read} is_one ran
+  where
+    is_one : (j : ℕ) (c : SlotCall) → IsReadOf slots sectors j c → any_read j c
+    is_one j (SlotCall.Attach answer) may = absurd may
+    is_one j (SlotCall.Sectors size) may = absurd may
+    is_one j (SlotCall.Read k answer) may = (tt, tt)
+    is_one j (SlotCall.Write k bytes answer) may = absurd may
+    is_one j (SlotCall.Sync answer) may = absurd may
+
+any_gathered : (g : Geometry) (live : Slots) (t : ℕ) (wanted : ℕ → ℕ → Type 0) {old new : List Happening} → Ran (IsReadOfCell g live t wanted) old new
+    → Ran any_read old new
+any_gathered g live t wanted ran =
+    ran_weakened {allowed = IsReadOfCell g live t wanted} {more = any_read} (λ j c may. subst (any_read j) (sym may.is) (tt, tt)) ran
+
+-- what couldn't be had was asked for at most
+pub record HasAsked (x y : Point) : Type 0 where
+  pub member : y.member ≡ x.member
+  pub honest : x.told.honest ≡ y.told.honest
+  pub ran : IsTrue y.told.honest → Ran any_read x.told.history y.told.history
+
+pub asked_of : (t i j : ℕ) (x y : Point) → AsksFor t i j x y → HasAsked x y
+asked_of t i j x y asks = record {
+  member = asks.member;
+  honest = asks.later.honest;
+  ran = λ honest. any_of (λ s. s ≡ j) (λ k. k ≡ cell_sector x.member.array.geometry t i) (asks.ran honest);
+}
+
+pub has_asked : (t i j : ℕ) (x y : Point) → CannotHave t i j x y → HasAsked x y
+has_asked t i j x y (NotLive out same) = record {
+  member = ap (λ (p : Point). p.member) same;
+  honest = sym (ap (λ (p : Point). p.told.honest) same);
+  ran = λ honest. subst (λ (p : Point). Ran any_read x.told.history p.told.history) (sym same) (ran_none {allowed = any_read} x.told.history);
+}
+has_asked t i j x y (WasBad asks bad) = asked_of t i j x y asks
+has_asked t i j x y (WasGone asks gone) = asked_of t i j x y asks
+
+-- A stripe was gathered by this member, after reads, and the slots that were gone are left out.
+pub record HasLoaded (t : ℕ) (gathered : Gathered) (read : Stripe) (refusal : Option FenceFault) (x z : Point) : Type 0 where
+  pub live : Slots
+  pub are_live : AreLive x.member live
+  pub was : Stripe
+  pub first : Telling
+  pub mid : Telling
+  pub first_honest : x.told.honest ≡ first.honest
+  pub first_ran : IsTrue first.honest → Ran any_read x.told.history first.history
+  pub gathers : Gathers x.member.array.geometry live t (IsCellOf x.member.array.geometry) gathered was read first mid
+  pub leaves : LeavesOut gathered.gone refusal (point x.member mid) z
+
+pub has_loaded : (t : ℕ) (gathered : Gathered) (was read : Stripe) (refusal : Option FenceFault) (x y z : Point) → HasAsked x y
+    → Loads t (IsCellOf y.member.array.geometry) gathered was read refusal y z → HasLoaded t gathered read refusal x z
+has_loaded t gathered was read refusal x y z asked loads =
+    let now : Loads t (IsCellOf x.member.array.geometry) gathered was read refusal (point x.member y.told) z =
+    subst (λ (m : Membership). Loads t (IsCellOf m.array.geometry) gathered was read refusal (point m y.told) z) asked.member loads in
+    record {
+      live = now.live;
+      are_live = now.are_live;
+      was = was;
+      first = y.told;
+      mid = now.mid;
+      first_honest = asked.honest;
+      first_ran = asked.ran;
+      gathers = now.gathers;
+      leaves = now.leaves;
+    }
+
+-- AN ARRAY THAT SERVES at x
+
+module _ (before : List Happening) (rebuild : Option Rebuild) (stopped : Option FenceFault) (words : Codewords) (kept : Content) (x : Point)
+    (of : IsOfContent x.member words kept) where
+  abbrev pub array_here : ArrayState
+  array_here = record { member = x.member; rebuild = rebuild; stopped = stopped }
+
+  abbrev pub Calm : List Happening → Type 0
+  Calm = IsCalmTo x.member.array.geometry before
+
+  abbrev pub Stands : List Happening → Type 0
+  Stands = StandsAt before array_here words kept of
+
+  module _ (is : IsServing before array_here words x.told.history) where
+    -- A STRIPE THAT WAS LOADED
+
+    module _ (t : ℕ) (gathered : Gathered) (read : Stripe) (refusal : Option FenceFault) (z : Point) (l : HasLoaded t gathered read refusal x z)
+        (honest : IsTrue z.told.honest) where
+      pub honest_mid : IsTrue l.mid.honest
+      honest_mid = subst IsTrue (sym (left_honest gathered.gone refusal (point x.member l.mid) z l.leaves)) honest
+
+      honest_first : IsTrue l.first.honest
+      honest_first = subst IsTrue (sym l.gathers.honest) honest_mid
+
+      pub ran_first : Ran any_read x.told.history l.first.history
+      ran_first = l.first_ran honest_first
+
+      pub ran_gathering : Ran any_read l.first.history l.mid.history
+      ran_gathering = any_gathered x.member.array.geometry l.live t (IsCellOf x.member.array.geometry) (l.gathers.ran honest_mid)
+
+      pub ran_reading : Ran any_read x.told.history l.mid.history
+      ran_reading = ran_join {allowed = any_read} ran_first ran_gathering
+
+      pub ran_leaving : Ran any_call l.mid.history z.told.history
+      ran_leaving = out_ran gathered.gone refusal (point x.member l.mid) z l.leaves honest
+
+      upto_mid : Ran any_call before l.mid.history
+      upto_mid = ran_join {allowed = any_call} is.is_open.ran (ran_any {allowed = any_read} ran_reading)
+
+      pub all_ran : Ran any_call before z.told.history
+      all_ran = ran_join {allowed = any_call} upto_mid ran_leaving
+
+      pub to_mid : (c : List Happening) → Ran any_call l.mid.history c → Calm c → Calm l.mid.history
+      to_mid c ran calm =
+          calm_sooner x.member.array.geometry before l.mid.history c (moment_between {a = any_call} {b = any_call} upto_mid ran) calm
+
+      pub live_of : (j : ℕ) → HasSlot l.live j → IsLiveIn x.member j
+      live_of j has = (l.are_live.are j).0 has
+
+      pub gone_here : (j : ℕ) → HasSlot gathered.gone j → IsHere x.member j
+      gone_here j has = let on = live_of j (l.gathers.live_gone j has).0 in record { below = on.below; why = inl on.why }
+
+      pub gone_off : (j : ℕ) → HasSlot gathered.gone j → IsOfflineUntilAttached before l.mid.history j
+      gone_off j has = (l.gathers.gone j has).shut honest_mid before (held_on {allowed = any_read} j ran_first (is.is_open.held j (gone_here j has)))
+
+      pub serves_mid : Calm l.mid.history → IsServing before array_here words l.mid.history
+      serves_mid calm = reads_serve before array_here words (λ j. ⊤) (λ k. ⊤) x.told.history l.mid.history is ran_reading calm
+
+      pub serves_first : Calm l.mid.history → IsServing before array_here words l.first.history
+      serves_first calm =
+          reads_serve before array_here words (λ j. ⊤) (λ k. ⊤) x.told.history l.first.history is ran_first
+          (calm_sooner x.member.array.geometry before l.first.history l.mid.history
+          (moment_between {a = any_call} {b = any_read} (ran_join {allowed = any_call} is.is_open.ran (ran_any {allowed = any_read} ran_first)) ran_gathering)
+          calm)
+
+      pub stays_so : StaysArray x.member z.member
+      stays_so = left_stays gathered.gone refusal (point x.member l.mid) z l.leaves is.is_open.array.member
+
+      -- at each moment of it the array stands as it was
+      pub loading_moments : AtEveryMoment Stands x.told.history z.told.history
+      loading_moments =
+          at_every_join {P = Stands}
+          (reading_stands before array_here words kept of (λ j. ⊤) (λ k. ⊤) x.told.history l.mid.history is ran_reading)
+          (at_every_from {P = Stands} ran_leaving.more ran_leaving.is
+          (λ c at calm.
+          at_moment {P = Stands}
+          (leaving_stands before array_here words kept of gathered.gone refusal l.mid z l.leaves honest
+          (serves_mid (to_mid c (ran_before {allowed = any_call} ran_leaving at) calm)) gone_here gone_off) at calm))
+
+      -- each cell that isn't erased was read as that of the stripe
+      pub read_same : Calm l.mid.history → t < x.member.array.geometry.stripes → (i j : ℕ) → i < x.member.array.geometry.r → j < x.member.array.geometry.n
+          → ¬ HasCell gathered.erased i j → cell (words t) i j ≡ cell read i j
+      read_same calm stripe i j row slot out =
+          elim (has_or_not l.live j) [
+            | inr off ↦ absurd (given.0 (inl off))
+            | inl on ↦
+                sym
+                (read_good before array_here words (λ s. ⊤) (λ k. ⊤) l.first.history l.mid.history (serves_first calm) ran_gathering calm t i j
+                (live_of j on) stripe row (cell read i j) (given.1 honest_mid))
+          ]
+        where
+          given : (¬ ((¬ HasSlot l.live j) ⊎ HasSlot gathered.gone j))
+              × IsReading j (cell_sector x.member.array.geometry t i) l.first l.mid (Good (cell read i j))
+          given = l.gathers.given i j (row, slot) out
+
+      -- so that it is restored as it is
+      pub restored : Calm l.mid.history → t < x.member.array.geometry.stripes → (into : Stripe)
+          → IsLoaded x.member.array.geometry t gathered.erased read into (Ok tt) → into ≡ words t
+      restored calm stripe into loaded =
+          let word = of.encodings.each t stripe in loaded.2 (words t) word.of word.formed word.codeword (read_same calm stripe)

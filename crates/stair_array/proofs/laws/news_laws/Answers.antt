@@ -1,0 +1,6 @@
+-- The law is a lemma.
+use Rattle.stair_array.proofs.NewsLemmas.{step_told}
+use Rattle.stair_array.proofs.laws.news_laws.Goals as goal
+
+pub returns : goal.returns
+returns c = record { events = λ step answer old new is adds goes. step_told step answer old new is adds goes }

@@ -1,0 +1,39 @@
+-- The faults of the calls of an array, as the refusals of its machine.
+use Rattle.std.specs.Prelude.{◌≡◌, Option, None, Some, Result, Ok, Err}
+use Rattle.stair_model.specs.Geometry.{Geometry}
+use Rattle.stair_member.specs.declared.fault.FenceFault.{FenceFault}
+use Rattle.stair_member.specs.declared.fault.FenceFault.TheVariants as fence
+use Rattle.stair_array.specs.Machine.{EpochsSpent, JournalLost, Lost, OutOfRange, Refusal, TooFew}
+use Rattle.stair_array.specs.declared.fault.ArrayFault.{ArrayFault}
+use Rattle.stair_array.specs.declared.fault.ArrayFault.TheVariants as array
+use Rattle.stair_array.specs.declared.fault.RecoverFault.{RecoverFault}
+use Rattle.stair_array.specs.declared.fault.RecoverFault.TheVariants as recover
+
+-- a refused epoch as a fault of an opening, and of another call
+abbrev pub recover_fault : FenceFault → RecoverFault
+recover_fault (fence.TooFew whys) = recover.TooFew whys
+recover_fault fence.EpochsSpent = recover.EpochsSpent
+
+abbrev pub array_fault : FenceFault → ArrayFault
+array_fault (fence.TooFew whys) = array.TooFew whys
+array_fault fence.EpochsSpent = array.EpochsSpent
+
+-- the refusal of an opening; want of memory is none of the machine's
+abbrev pub opening_refusal : RecoverFault → Option Refusal
+opening_refusal recover.Memory = None
+opening_refusal (recover.TooFew whys) = Some (TooFew whys)
+opening_refusal recover.EpochsSpent = Some EpochsSpent
+opening_refusal (recover.JournalLost sector) = Some (JournalLost sector)
+
+-- the refusal of another call
+abbrev pub refusal_for : ArrayFault → Refusal
+refusal_for (array.OutOfRange asked limit) = OutOfRange asked limit
+refusal_for (array.Lost stripe counts) = Lost stripe counts
+refusal_for (array.TooFew whys) = TooFew whys
+refusal_for array.EpochsSpent = EpochsSpent
+
+-- what an opening of an array of this geometry came to, which there was memory for
+abbrev pub IsAnsweredAs : Geometry → Result (Unit {0}) RecoverFault → Result Geometry Refusal → Type 0
+IsAnsweredAs g (Ok done) answer = answer ≡ Ok g
+IsAnsweredAs g (Err fault) answer =
+    (refusal : Refusal) × (opening_refusal fault ≡ Some refusal) × (answer ≡ Err refusal)

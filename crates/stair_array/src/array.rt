@@ -1,0 +1,203 @@
+ghost use Rattle.std.specs.Prelude.{◌≡◌, ◌+◌, ◌≤◌, ◌⊎◌, IfErr, IfOk, OnErr, Err, None, Some};
+ghost use Rattle.stair_model.specs.Geometry.{block_count};
+ghost use Rattle.stair_rack.specs.RackCounts.{RisesAtMost};
+ghost use Rattle.stair_rack.specs.Told.{told};
+ghost use Rattle.stair_member.specs.Membership.{IsMembership};
+ghost use Rattle.stair_member.specs.declared.fault.FenceFault.{FenceFault as Fault};
+ghost use Rattle.stair_session.specs.Courses.{point};
+ghost use Rattle.stair_array.specs.Arrays.{LacksCell, Opens, answer_as, cells_of};
+ghost use Rattle.stair_array.specs.Calls.{Reads};
+ghost use Rattle.stair_array.specs.Faults.{array_fault};
+ghost use Rattle.stair_array.specs.Machine.{ReadBlock, Recover};
+ghost use Rattle.stair_array.specs.News.{AddsNews, no_news};
+ghost use Rattle.stair_array.specs.Promise.{Keeps};
+
+use crate::fault::{ArrayFault, RecoverFault};
+use crate::news::News;
+use crate::session::Session;
+use stair_base::{Geometry, SECTOR, StripeCode};
+use stair_member::{FenceFault, Member};
+use stair_rack::Rack;
+use stair_super::{Label, Mark};
+use std::alloc::Global;
+use std::marker::Model;
+
+/// An array that was opened.
+///
+/// Every call that takes a rack is to be handed the one over which it was opened. A call that is refused an epoch, `TooFew` or
+/// `EpochsSpent`, stops the array: from then on each call that takes the rack answers the same, and does nothing.
+#[derive(Drop)]
+pub struct Array<C: StripeCode> {
+    session: Session,
+    code: C,
+    news: News,
+}
+
+impl<C: StripeCode> Model for Array<C> {
+    ghost use Rattle.std.specs.Prelude.{◌≡◌, None};
+    ghost use Rattle.stair_array.specs.Arrays.{OpenArray};
+
+    ghost Value = { OpenArray };
+
+    ghost view = { λ a. record {
+      member = a.session.member;
+      rebuild = None;
+      stopped = a.session.stopped;
+      news = a.news;
+    } };
+
+    ghost invariant = { λ a. C.shape a.code ≡ a.session.member.array.geometry };
+}
+
+impl<C: StripeCode> Array<C> {
+    /// Opens the array that a survey found on this rack, with no call between. The code is one of its geometry.
+    ///
+    /// An epoch is established first, which shuts out each slot that isn't here. Only then the gates of the live slots are
+    /// read, again as long as one of them is gone. Where one is open its redo is done again: its body is read, the gates
+    /// that aren't open are opened, its cells are placed. Then all gates are closed. After each of these the slots that were
+    /// gone are left out, by an epoch without them.
+    ///
+    /// - `Memory`: there is no memory for a stripe. It is taken before the first call, and none is taken later.
+    /// - `TooFew`, `EpochsSpent`: an epoch was refused, as `fence` of `stair_member` says. A redo that wasn't closed yet is done
+    ///   by the next opening.
+    /// - `JournalLost`: a gate was open, and no live slot gave this sector of the redo's body. No cell was placed and no gate
+    ///   written.
+    pub fn recover<R: Rack>(
+        alloc: Global,
+        rack: &mut R,
+        member: Member,
+        code: C,
+    ) -> Result<Array<C>, RecoverFault>
+        requires { C.shape code ≡ member.array.geometry }
+        ensures told { Opens (point member (told R.Rack rack.old)) (told R.Rack rack.new) result }
+        ensures memory { IfErr result (λ fault. fault ≡ RecoverFault.Memory →
+            rack.new ≡ rack.old) }
+        ensures goes { IfOk result (λ array. array.stopped ≡ None) }
+        ensures rebuilds { IfOk result (λ array. array.rebuild ≡ None) }
+        ensures news { IfOk result (λ array. AddsNews Recover (Ok member.array.geometry)
+            member.array array.member.array no_news array.news) }
+    {
+        let before = member;
+        let Ok(mut session) = Session::new(alloc, member) else {
+            return Err(RecoverFault::Memory);
+        };
+        session.recover(rack)?;
+        let mut news = News::none();
+        news.add_fallen(&before, &session.member);
+        Ok(Array {
+            session,
+            code,
+            news,
+        })
+    }
+
+    /// Reads a block into `into`, which is left as it was where the block is refused.
+    ///
+    /// Its own cell is read where its slot is live. Where that can't be had its stripe is gathered, the slots that were gone
+    /// are left out, and it is restored.
+    ///
+    /// - `OutOfRange`: the array has no such block. No call is made.
+    /// - `Lost`: the cells of its stripe that couldn't be had aren't covered. The array goes on.
+    /// - `TooFew`, `EpochsSpent`: the epoch without the slots that were gone was refused. The array is stopped.
+    pub fn read<R: Rack>(
+        &mut self,
+        rack: &mut R,
+        block: u64,
+        into: &mut [u8; SECTOR],
+    ) -> Result<(), ArrayFault>
+        ensures told { self.old.stopped ≡ None → Reads block (answer_as into.new result)
+            (point self.old.member (told R.Rack rack.old))
+            (point self.new.member (told R.Rack rack.new)) }
+        ensures kept { self.old.stopped ≡ None → Keeps (answer_as into.new result) self.new.stopped }
+        ensures stopped { (fault : Fault) → self.old.stopped ≡ Some fault →
+            (result ≡ Err (array_fault fault)) × (rack.new ≡ rack.old) × (self.new ≡ self.old) }
+        ensures past { block_count self.old.member.array.geometry ≤ block → rack.new ≡ rack.old }
+        ensures into { OnErr result (into.new ≡ into.old) }
+        ensures rebuild { self.new.rebuild ≡ self.old.rebuild }
+        ensures news { AddsNews (ReadBlock block) (answer_as into.new result) self.old.member.array
+            self.new.member.array self.old.news self.new.news }
+        ensures once { RisesAtMost 1 (R.reads rack.old) (R.reads rack.new) ⊎
+            LacksCell block (point self.old.member (told R.Rack rack.old)) (told R.Rack rack.new) }
+        ensures reads { RisesAtMost (1 + cells_of self.old.member.array.geometry)
+            (R.reads rack.old) (R.reads rack.new) }
+    {
+        if let Some(fault) = self.session.stopped {
+            return Err(ArrayFault::from(fault));
+        }
+        let place = self.session.place_of(block)?;
+        if self.session.read_cell(rack, place, into) {
+            return Ok(());
+        }
+        let before = self.session.member;
+        let loaded = self.session.load(rack, &mut self.code, place.stripe);
+        self.news.add_fallen(&before, &self.session.member);
+        loaded?;
+        *into = *self.session.stripe.cell(place.row, place.slot);
+        Ok(())
+    }
+
+    /// The geometry of the array.
+    pub fn geometry(&self) -> Geometry
+        ensures value { result ≡ self.now.member.array.geometry }
+        ensures rules { IsMembership self.now.member }
+    {
+        self.session.member.geometry()
+    }
+
+    /// How many blocks the array has.
+    pub fn blocks(&self) -> u64
+        ensures { result ≡ block_count self.now.member.array.geometry }
+    {
+        self.geometry().blocks()
+    }
+
+    /// The mark of each slot.
+    pub fn marks(&self) -> [Mark; 32]
+        ensures { result ≡ self.now.member.array.marks }
+    {
+        self.session.member.marks()
+    }
+
+    /// The epoch that stands.
+    pub fn epoch(&self) -> u64
+        ensures { result ≡ self.now.member.array.epoch }
+    {
+        self.session.member.epoch()
+    }
+
+    /// Whether the array is frozen.
+    pub fn frozen(&self) -> bool
+        ensures { result ≡ self.now.member.array.frozen }
+    {
+        self.session.member.frozen()
+    }
+
+    /// The label of the array.
+    pub fn label(&self) -> Label
+        ensures { result ≡ self.now.member.array.label }
+    {
+        self.session.member.label()
+    }
+
+    /// By which refusal of an epoch the array was stopped; None where it wasn't.
+    pub fn stopped(&self) -> Option<FenceFault>
+        ensures { result ≡ self.now.stopped }
+    {
+        self.session.stopped
+    }
+
+    /// What the opening and the calls since did, refused ones included; where the news were cleared, what the calls since
+    /// then did.
+    pub fn news(&self) -> News
+        ensures { result ≡ self.now.news }
+    {
+        self.news
+    }
+
+    /// Clears the news, before a step whose events are to be told.
+    pub fn clear_news(&mut self)
+        ensures { self.new ≡ record self.old { news = no_news } }
+    {
+        self.news = News::none();
+    }
+}
