@@ -3,11 +3,15 @@
 // `add` adds a multiple of 512 bytes to others by a table of 256 products. `encode N M R E..` does as many of these as
 // upstairs encoding takes steps for this geometry, each solved symbol of 512 bytes from as many known ones as it has, which
 // all stand in one array; it copies nothing else. `isal` is `add` by ISA-L's kernel, where that is there: the one with AVX2 where
-// this is compiled for it, else the one with SSE.
+// this is compiled for it, else the one with SSE. `redo N CELLS..` makes the calls of redos, each of so many cells, over the image files
+// of N devices in the current folder: their writes of sealed sectors and their syncs, and no seal.
+#define _GNU_SOURCE
+#include <fcntl.h>
 #include <stdint.h>
 #include <stdio.h>
 #include <stdlib.h>
 #include <string.h>
+#include <unistd.h>
 #ifdef ISAL
 #include <isa-l.h>
 #ifdef __AVX2__
@@ -47,6 +51,33 @@ static void encode(uint8_t (*symbols)[SYMBOL], int n, int m, int r, int s, int m
   for (int i = 0; i < (n - m) * most; i++) solve(symbols, count, i % count, r);
 }
 
+enum { SEALED = 544, GATE = 2, BODY = 3 };
+
+static int devices[32];
+
+static void put(int device, int sector) {
+  static uint8_t sealed[SEALED];
+  if (pwrite(devices[device], sealed, SEALED, (off_t)sector * SEALED) != SEALED) exit(1);
+}
+
+static void sync_all(int n) {
+  for (int j = 0; j < n; j++)
+    if (fdatasync(devices[j])) exit(1);
+}
+
+// The body, the gates, the cells, each of the device in whose turn it is, and the gates again; each is synced.
+static void redo(int n, int cells) {
+  for (int j = 0; j < n; j++)
+    for (int k = 0; k < cells; k++) put(j, BODY + k);
+  sync_all(n);
+  for (int j = 0; j < n; j++) put(j, GATE);
+  sync_all(n);
+  for (int k = 0; k < cells; k++) put(k % n, BODY + cells + k / n);
+  sync_all(n);
+  for (int j = 0; j < n; j++) put(j, GATE);
+  sync_all(n);
+}
+
 int main(int argc, char **argv) {
   if (argc < 3) return 2;
   long rounds = atol(argv[2]);
@@ -65,6 +96,16 @@ int main(int argc, char **argv) {
       if (e > most) most = e;
     }
     for (long i = 0; i < rounds; i++) encode(symbols, n, m, r, s, most);
+  } else if (!strcmp(argv[1], "redo") && argc > 4) {
+    int n = atoi(argv[3]);
+    if (n < 1 || n > 32) return 2;
+    for (int j = 0; j < n; j++) {
+      char name[16];
+      snprintf(name, sizeof name, "dev%02d.img", j);
+      if ((devices[j] = open(name, O_RDWR | O_CREAT, 0666)) < 0) return 1;
+    }
+    for (long i = 0; i < rounds; i++)
+      for (int k = 4; k < argc; k++) redo(n, atoi(argv[k]));
 #ifdef ISAL
   } else if (!strcmp(argv[1], "isal")) {
     unsigned char tables[254][32];

@@ -44,7 +44,7 @@ use Rattle.stair_array.proofs.PartsLemmas.{IsPart, WhyStays, out_after}
 abbrev pub IsLeftOut : Point → Point → Type 0
 IsLeftOut x y = AreAllLeftOut x.member y.member x.told y.told
 
-never_answered : (j : ℕ) (call : SlotCall) (h : List Happening) → ¬ WasAnswered j call h h
+pub never_answered : (j : ℕ) (call : SlotCall) (h : List Happening) → ¬ WasAnswered j call h h
 never_answered j call h was = answered_allowed {allowed = no_call} (ran_none {allowed = no_call} h) was
 
 -- an honest rack was honest before
@@ -108,7 +108,7 @@ fence_gone leaving m last answer old new e j has below =
 
 -- SLOTS THAT ARE LEFT OUT
 
-out_gone : (gone : Slots) (refusal : Option FenceFault) (x y : Point) → LeavesOut gone refusal x y → (j : ℕ) → HasSlot gone j
+pub out_gone : (gone : Slots) (refusal : Option FenceFault) (x y : Point) → LeavesOut gone refusal x y → (j : ℕ) → HasSlot gone j
     → j < x.member.array.geometry.n → why_of y.member j ≡ why.Gone
 out_gone gone refusal x y (NoneWas none same fine) j has below = absurd (none j has)
 out_gone gone refusal x y (Fenced i some answer fine e) j has below = fence_gone gone x.member y.member answer x.told y.told e j has below

@@ -160,7 +160,7 @@ module _ (s : State) (before : List Happening) (m : Membership) (encodings : Enc
   -- a redo
   module _ (redoing : IsRedoing a) (stripe : Stripe) (cells : (i c : ℕ) → HasCell a.redo.cells i c → cell stripe i c ≡ cell (a.new a.redo.stripe) i c)
       (words : AreBetween encodings.old encodings.new a.old a.new) where
-    redo_never : (stage : Stage) (refusal : Option FenceFault) (p z : Point) → Redoes a.geometry a.redo stripe stage refusal p z → (whys : List Why)
+    pub redo_never : (stage : Stage) (refusal : Option FenceFault) (p z : Point) → Redoes a.geometry a.redo stripe stage refusal p z → (whys : List Why)
         → refusal ≡ Some (TooFew whys) → IsUnderWay a stage start p.member p.told.history → IsOpening before p → StaysArray m p.member
         → IsTrue z.told.honest → IsCalmAt s.geometry before z.told.history → ⊥
     redo_never _ _ _ _ (Redoes.Ends p) whys fine way opening stays honest calm = absurd (cc)

@@ -26,9 +26,11 @@ use Rattle.stair_journal.specs.declared.body.Body.{Body}
 use Rattle.stair_journal.specs.declared.gates.Gates.{Gates}
 use Rattle.stair_journal.specs.declared.redo.Redo.{Redo}
 use Rattle.stair_journal.proofs.WritesLemmas.{body_writes_is, gate_writes_is}
+use Rattle.stair_stripes.specs.Gathering.{Gathers, IsReadOfCell}
+use Rattle.stair_stripes.specs.declared.gathering.Gathered.{Gathered}
 use Rattle.stair_stripes.proofs.PlacingLemmas.{cell_writes_is}
 use Rattle.stair_state.specs.Redoing.{AtRest, Done, InPlace, Placing, Stage, Uncommitted, next}
-use Rattle.stair_session.specs.Courses.{AreLive, AreUnopened, DoesStage, FindsBody, FindsRedo, IsOver, LeavesOut, Point, Redoes, Replays, point, stage_writes}
+use Rattle.stair_session.specs.Courses.{AreLive, AreUnopened, DoesStage, FindsBody, FindsRedo, IsOver, LeavesOut, Loads, Point, Redoes, Replays, point, stage_writes}
 use Rattle.stair_session.proofs.FindsLemmas.{live_here}
 use Rattle.stair_session.proofs.RedoingLemmas.{over_here}
 use Rattle.stair_array.specs.Causes.{WasGoneTo}
@@ -80,7 +82,7 @@ stage_in_range g redo stripe Done limits formed j k bytes is = absurd (cc)
 -- a slot that took part and was gone to a phase
 module _ (what : Writes) (to : Slots) (m : Membership) (gone : Slots) (old mid : Telling) (phase : DoesPhase what to gone old mid)
     (here : (j : ℕ) → HasSlot to j → IsHere m j) (range : IsInRange m.array.geometry what) where
-  phase_gone : (j : ℕ) → HasSlot gone j → WasGoneTo m j old mid
+  pub phase_gone : (j : ℕ) → HasSlot gone j → WasGoneTo m j old mid
   phase_gone j has =
       gone_to_by m j old mid (phase_after what to gone old mid phase) (here j (phase.among j has)) (phase.rose j has)
       (λ honest session held reach.
@@ -92,7 +94,7 @@ stage_part what to refusal x y does rules here range =
     out_part does.gone refusal x.member x.told does.mid y rules (phase_after what to does.gone x.told does.mid does.phase) does.phase.formed
     (λ j has. here j (does.phase.among j has)) (phase_gone what to x.member does.gone x.told does.mid does.phase here range) does.leaves
 
-redo_range : (g : Geometry) (redo : Redo) (stripe : Stripe) (stage : Stage) (x : Point) → g ≡ x.member.array.geometry → IsMembership x.member
+pub redo_range : (g : Geometry) (redo : Redo) (stripe : Stripe) (stage : Stage) (x : Point) → g ≡ x.member.array.geometry → IsMembership x.member
     → IsRedo g redo → IsInRange x.member.array.geometry (stage_writes g redo stripe stage)
 redo_range g redo stripe stage x same rules formed =
     subst (λ (k : Geometry). IsInRange k (stage_writes g redo stripe stage)) same
@@ -197,3 +199,28 @@ found_formed _ _ _ _ _ (FindsRedo.Again gates live mid redo opened refusal j x y
     subst (λ (g : Geometry). IfSome redo (IsRedo g)) first.geometry (found_formed redo opened refusal y z rest fine first.rules)
 found_formed _ _ _ _ _ (FindsRedo.Stops gates live mid redo opened fault x y are reads leaves) fine rules =
     absurd (let never : Some fault ≡ None = fine in cc)
+
+-- cells of a stripe are gathered, and those slots that were gone are left out
+cell_read_beside : (g : Geometry) (live : Slots) (t : ℕ) (wanted : ℕ → ℕ → Type 0) (j : ℕ) (c : SlotCall) → IsReadOfCell g live t wanted j c
+    → attaches_none j c
+cell_read_beside g live t wanted j c is = subst IsBesideAttach (sym is.is) tt
+
+pub gathers_after : (g : Geometry) (live : Slots) (t : ℕ) (wanted : ℕ → ℕ → Type 0) (gathered : Gathered) (was into : Stripe) (old new : Telling)
+    → Gathers g live t wanted gathered was into old new → IsAfter old new
+gathers_after g live t wanted gathered was into old new gathers = record {
+  later = record {
+    counts = gathers.counts;
+    honest = gathers.honest;
+    ran = λ honest. ran_any {allowed = IsReadOfCell g live t wanted} (gathers.ran honest);
+  };
+  beside = λ honest.
+      ran_weakened {allowed = IsReadOfCell g live t wanted} {more = attaches_none} (cell_read_beside g live t wanted) (gathers.ran honest);
+}
+
+pub load_part : (t : ℕ) (wanted : ℕ → ℕ → Type 0) (gathered : Gathered) (was into : Stripe) (refusal : Option FenceFault) (x y : Point)
+    → Loads t wanted gathered was into refusal x y → IsMembership x.member → IsPart 0 x y
+load_part t wanted gathered was into refusal x y loads rules =
+    out_part gathered.gone refusal x.member x.told loads.mid y rules
+    (gathers_after x.member.array.geometry loads.live t wanted gathered was into x.told loads.mid loads.gathers) loads.gathers.formed_gone
+    (λ j has. live_here x.member loads.live loads.are_live j (loads.gathers.live_gone j has).0)
+    (λ j has. WasGoneTo.Offline (loads.gathers.gone j has)) loads.leaves

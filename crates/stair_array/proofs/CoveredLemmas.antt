@@ -52,8 +52,8 @@ use Rattle.stair_session.proofs.EachAloneLemmas.{made_left}
 use Rattle.stair_session.proofs.OpenWithLemmas.{issued_apart}
 use Rattle.stair_array.proofs.EnoughLemmas.{never_few}
 use Rattle.stair_array.proofs.LeftServingLemmas.{StandsIn}
-use Rattle.stair_array.proofs.ReadPartLemmas.{Calm, HasLoaded, Stands, all_ran, any_read, array_here, gone_off, honest_mid, live_of, loading_moments, ran_gathering, ran_leaving, ran_reading, serves_first, serves_mid, to_mid}
-use Rattle.stair_array.proofs.ServingLemmas.{IsServing, cell_then, read_bad, tolerated_now}
+use Rattle.stair_array.proofs.ReadPartLemmas.{Calm, HasLoaded, Stands, all_ran, calm_going_mid, any_read, array_here, gone_off, honest_mid, live_of, loading_moments, ran_gathering, ran_leaving, ran_reading, serves_first, serves_mid, to_mid}
+use Rattle.stair_array.proofs.ServingLemmas.{IsGoing, IsServing, cell_then, read_bad, tolerated_now}
 
 -- CALLS THAT LEAVE WHAT LIES FROM THE GATE ON, and attach nothing
 
@@ -102,8 +102,8 @@ stays_damaged start old new j k from ran before =
 
 module _ (before : List Happening) (rebuild : Option Rebuild) (stopped_by : Option FenceFault) (words : Codewords) (held : Content) (x : Point)
     (of : IsOfContent x.member words held) (is : IsServing before (array_here before rebuild stopped_by words held x of) words x.told.history)
-    (t : ℕ) (gathered : Gathered) (read : Stripe) (refusal : Option FenceFault) (z : Point) (l : HasLoaded t gathered read refusal x z)
-    (honest : IsTrue z.told.honest) (calm : Calm before rebuild stopped_by words held x of z.told.history) where
+    (t : ℕ) {wanted : ℕ → ℕ → Type 0} (gathered : Gathered) (read : Stripe) (refusal : Option FenceFault) (z : Point)
+    (l : HasLoaded t wanted gathered read refusal x z) (honest : IsTrue z.told.honest) (calm : Calm before rebuild stopped_by words held x of z.told.history) where
   abbrev g : Geometry
   g = x.member.array.geometry
 
@@ -119,8 +119,11 @@ module _ (before : List Happening) (rebuild : Option Rebuild) (stopped_by : Opti
   calm_mid : Calm before rebuild stopped_by words held x of l.mid.history
   calm_mid = to_mid before rebuild stopped_by words held x of is t gathered read refusal z l honest z.told.history ran_out calm
 
+  on_mid : IsGoing before l.mid.history
+  on_mid = calm_going_mid before rebuild stopped_by words held x of is t gathered read refusal z l honest calm_mid
+
   mid_serves : IsServing before (array_here before rebuild stopped_by words held x of) words l.mid.history
-  mid_serves = serves_mid before rebuild stopped_by words held x of is t gathered read refusal z l honest calm_mid
+  mid_serves = serves_mid before rebuild stopped_by words held x of is t gathered read refusal z l honest on_mid
 
   within : IsWithinTolerance (IsOffline before z.told.history) x.member.array.geometry (image_now z.told.history)
   within =
@@ -190,12 +193,12 @@ module _ (before : List Happening) (rebuild : Option Rebuild) (stopped_by : Opti
     gathering = ran_gathering before rebuild stopped_by words held x of is t gathered read refusal z l honest
 
     first_serves : IsServing before (array_here before rebuild stopped_by words held x of) words l.first.history
-    first_serves = serves_first before rebuild stopped_by words held x of is t gathered read refusal z l honest calm_mid
+    first_serves = serves_first before rebuild stopped_by words held x of is t gathered read refusal z l honest on_mid
 
     then : IsServing before (array_here before rebuild stopped_by words held x of) words was.moment
     then =
         (cell_then before (array_here before rebuild stopped_by words held x of) words (λ s. ⊤) (λ s. ⊤) l.first.history l.mid.history first_serves
-        gathering calm_mid t i j on stripe row was).0
+        gathering on_mid t i j on stripe row was).0
 
     attached : IsAttached was.moment j
     attached = and-true_left (slot_state was.moment j).attached (not (stopped was.moment)) was.ready
@@ -214,7 +217,7 @@ module _ (before : List Happening) (rebuild : Option Rebuild) (stopped_by : Opti
         (IsKept.Here refl some
         (inr (damaged_content ((slot_state was.moment j).sector (cell_sector x.member.array.geometry t i))
         (read_bad before (array_here before rebuild stopped_by words held x of) words (λ s. ⊤) (λ s. ⊤) l.first.history l.mid.history first_serves
-        gathering calm_mid t i j on stripe row was))))
+        gathering on_mid t i j on stripe row was))))
 
     upto : (slot_state before j).pulls ≤ (slot_state was.moment j).pulls
     upto = pulls_on {allowed = any_call} j then.is_open.ran
@@ -241,26 +244,26 @@ module _ (before : List Happening) (rebuild : Option Rebuild) (stopped_by : Opti
       → (i < x.member.array.geometry.r) × (j < x.member.array.geometry.n)
       × (IsFailed (IsOffline before z.told.history) x.member.array.geometry (image_now z.told.history) within.current j
       ⊎ ((image_now z.told.history j).cell (cell_sector x.member.array.geometry t i) ≡ Damaged))
-  failed_or_damaged stripe i j has = (wanted.0, wanted.1, by (has_or_not l.live j) (has_or_not gathered.gone j))
+  failed_or_damaged stripe i j has = (inside.0, inside.1, by (has_or_not l.live j) (has_or_not gathered.gone j))
     where
-      wanted : (i < x.member.array.geometry.r) × (j < x.member.array.geometry.n)
-      wanted = l.gathers.wanted_erased i j has
+      inside : (i < x.member.array.geometry.r) × (j < x.member.array.geometry.n)
+      inside = l.inside i j (l.gathers.wanted_erased i j has)
 
       by : HasSlot l.live j ⊎ (¬ HasSlot l.live j) → HasSlot gathered.gone j ⊎ (¬ HasSlot gathered.gone j)
           → IsFailed (IsOffline before z.told.history) x.member.array.geometry (image_now z.told.history) within.current j
           ⊎ ((image_now z.told.history j).cell (cell_sector x.member.array.geometry t i) ≡ Damaged)
       by (inr out) gone =
           inl
-          (IsFailed.NotLive wanted.1
-          (λ live. out ((l.are_live.are j).1 (record { below = wanted.1; why = live_was within.current within.is_current j live }))))
+          (IsFailed.NotLive inside.1
+          (λ live. out ((l.are_live.are j).1 (record { below = inside.1; why = live_was within.current within.is_current j live }))))
       by (inl on) (inl gone) =
           inl
-          (IsFailed.Offline wanted.1
+          (IsFailed.Offline inside.1
           (offline_now
           (offline_on {allowed = untouching} j (λ c may. may.0 tt) apart_out
           (gone_off before rebuild stopped_by words held x of is t gathered read refusal z l honest j gone))))
       by (inl on) (inr stays) =
-          damaged_or_offline i j (live_of before rebuild stopped_by words held x of is t gathered read refusal z l honest j on) stripe wanted.0
+          damaged_or_offline i j (live_of before rebuild stopped_by words held x of is t gathered read refusal z l honest j on) stripe inside.0
           ((l.gathers.bad i j has (λ away. elim away [ inl out ↦ out on | inr gone ↦ stays gone ])).0.1
           (honest_mid before rebuild stopped_by words held x of is t gathered read refusal z l honest))
 

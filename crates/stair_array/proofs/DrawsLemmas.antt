@@ -35,7 +35,8 @@ never_spent step m last x y rules few room spent =
     let had : few.draw ≤ 2 ^ 64 - 2 ^ 39 = room in
     omega (arith, devices, each, all, upto, allowed, had, spent)
 
--- an opening draws on from what its member had seen
-pub opening_draws : (m : Membership) (x y : Telling) (draw : ℕ) → HadSeen Recover m x y draw → draw ≡ m.drawn
-opening_draws m x y draw (Before same) = same
-opening_draws m x y draw (OnMedium j k super never place moment geometry is least) = absurd (cc)
+-- a step that admits no slot draws on from what its member had seen
+pub draws_on : (step : Step) → ((j : ℕ) → ¬ (step ≡ ReplaceSlot j)) → (m : Membership) (x y : Telling) (draw : ℕ) → HadSeen step m x y draw
+    → draw ≡ m.drawn
+draws_on step other m x y draw (Before same) = same
+draws_on step other m x y draw (OnMedium j k super admits place moment geometry is least) = absurd (other j admits)

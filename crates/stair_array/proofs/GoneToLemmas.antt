@@ -1,5 +1,5 @@
 -- Slots that were gone to a part of a call, on any rack, and in longer stretches.
-use Rattle.std.proofs.Common.{◌≡◌, ℕ, ◌<◌, true, false, List, inl, inr, refl, sym, ◌∙◌, subst, None, Option, Some, arith}
+use Rattle.std.proofs.Common.{◌≡◌, ℕ, ◌<◌, true, List, inl, inr, refl, sym, ◌∙◌, subst, None, Option, Some, arith}
 use Rattle.std.specs.Prelude.{IsSome, IsTrue}
 use Rattle.std.proofs.lemmas.Bool.{cases_Bool, cases_lt, false≢true, lt-ltb}
 use Rattle.stair_model.specs.Geometry.{Geometry, sectors_needed}

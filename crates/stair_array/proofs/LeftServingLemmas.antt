@@ -1,9 +1,9 @@
 -- An open array while slots that were gone are left out, where no medium comes back: what a crash leaves meanwhile, and how it ends.
 use Rattle.std.proofs.Common.{◌≡◌, ℕ, ◌<◌, List, inl, inr, refl, sym, ap, ◌∙◌, subst, arith, None, Some, Option, true}
 use Rattle.std.specs.Prelude.{◌⊎◌, IsTrue, Result}
-use Rattle.stair_model.specs.Geometry.{Geometry}
+use Rattle.stair_model.specs.Geometry.{IsWithinLimits}
 use Rattle.stair_model.specs.Slots.{HasSlot, Slots}
-use Rattle.stair_rack.specs.Answers.{Ran, any_call}
+use Rattle.stair_rack.specs.Answers.{IsHistory, Ran, any_call}
 use Rattle.stair_rack.specs.Crash.{CrashMayLeave, image_now}
 use Rattle.stair_rack.specs.History.{Happening, stopped}
 use Rattle.stair_rack.specs.Media.{Image}
@@ -15,7 +15,6 @@ use Rattle.stair_rack.proofs.CrashLemmas.{CrashMayLeave-now}
 use Rattle.stair_rack.proofs.MomentLemmas.{at_every_from, at_every_none, moment_between, moment_last, ran_any, ran_before, ran_join}
 use Rattle.stair_rack.proofs.StretchLemmas.{each_after}
 use Rattle.stair_rack.proofs.TidyLemmas.{history_on}
-use Rattle.stair_super.specs.Superblock.{Superblock}
 use Rattle.stair_super.specs.declared.configuration.Configuration.{Configuration}
 use Rattle.stair_member.specs.Epochs.{IsIssuing, IsTaken}
 use Rattle.stair_member.specs.Establishing.{Fences}
@@ -24,21 +23,17 @@ use Rattle.stair_member.specs.Membership.{IsHere, Membership}
 use Rattle.stair_member.specs.declared.aim.Aim.TheVariants.{Fence, Promote}
 use Rattle.stair_member.specs.declared.fault.FenceFault.{FenceFault}
 use Rattle.stair_member.proofs.CountingLemmas.{slots_by, slots_by-at}
-use Rattle.stair_member.proofs.SuperLemmas.{one_current}
 use Rattle.stair_state.specs.Blocks.{Codewords}
 use Rattle.stair_state.specs.Represents.{AreSteady, Represents, RepresentsAlone}
 use Rattle.stair_state.specs.State.{Content, State}
-use Rattle.stair_state.specs.Tolerance.{IsToleratedAlone}
-use Rattle.stair_state.proofs.AgreeLemmas.{current_agree}
+use Rattle.stair_state.specs.Tolerance.{IsTolerated, IsToleratedAlone}
 use Rattle.stair_state.proofs.AloneLemmas.{left_stands}
 use Rattle.stair_state.proofs.OutsideLemmas.{tolerated_alone}
-use Rattle.stair_state.proofs.StillLemmas.{steady_cells}
 use Rattle.stair_session.specs.Courses.{Fenced, LeavesOut, NoneWas, Point, point}
 use Rattle.stair_session.specs.InSession.{HasEpoch, IsOfContent, IsReadyFor, state_with}
 use Rattle.stair_session.specs.Leading.{led_to}
 use Rattle.stair_session.specs.SeatSteps.{EachMayDrop}
 use Rattle.stair_session.specs.Session.{ArrayState, seats_in}
-use Rattle.stair_session.proofs.EachAloneLemmas.{each_alone}
 use Rattle.stair_session.proofs.FencesLemmas.{leaves_open}
 use Rattle.stair_session.proofs.LeavingOutLemmas.{fencing, here_before}
 use Rattle.stair_session.proofs.LeftOutLemmas.{left_fencing}
@@ -48,7 +43,8 @@ use Rattle.stair_session.proofs.ReadyLemmas.{ready_plain}
 use Rattle.stair_session.proofs.RedoingLemmas.{out_ran}
 use Rattle.stair_session.proofs.SeatLemmas.{seats_meanwhile}
 use Rattle.stair_session.proofs.SteadyEndLemmas.{fence_steady}
-use Rattle.stair_array.proofs.ServingLemmas.{IsCalmTo, IsServing, calm_sooner, goes_on, reads_serve, tolerated_now}
+use Rattle.stair_array.proofs.SeatedLemmas.{seated}
+use Rattle.stair_array.proofs.ServingLemmas.{IsCalmTo, IsGoing, IsServing, calm_going, calm_sooner, goes_on, reads_serve, tolerated_now}
 
 -- all slots, of which a set may have some
 abbrev all_slots : Slots
@@ -97,7 +93,11 @@ module _ (before : List Happening) (a : ArrayState) (words : Codewords) (kept : 
   reading_stands slots sectors old new is ran =
       at_every_from {P = StandsAt} ran.more ran.is
       (λ c at.
-      serving_stands c (λ calm. reads_serve before a words slots sectors old c is (ran_before {allowed = IsReadOf slots sectors} ran at) calm))
+      let so_far : Ran (IsReadOf slots sectors) old c = ran_before {allowed = IsReadOf slots sectors} ran at in
+      serving_stands c
+      (λ calm.
+      reads_serve before a words slots sectors old c is so_far
+      (calm_going a.member.array.geometry before c (ran_join {allowed = any_call} is.is_open.ran (ran_any {allowed = IsReadOf slots sectors} so_far)) calm)))
 
   -- A FENCE, by the member that some slots left, each of which takes part and is offline
 
@@ -174,42 +174,34 @@ module _ (before : List Happening) (a : ArrayState) (words : Codewords) (kept : 
     -- Nothing is unsynced at its end, so that the rack represents the array with these seats, refused or not.
     pub fence_represents : CalmTo new.history
         → (array : Configuration) × Represents (with_seats array) new.history × EachMayDrop (seats_in a.member.array) (seats_in array)
-    fence_represents calm = (now.current.array, stands, (fencing_stands new.history end calm (image_now new.history) (CrashMayLeave-now new.history) now).1)
+    fence_represents calm = (now.current.array, seated a.member kept None before new.history limits history tolerated steady each, (fencing_stands new.history end calm (image_now new.history) (CrashMayLeave-now new.history) now).1)
       where
-        g : Geometry
-        g = a.member.array.geometry
-
         end : IsMoment old.history new.history new.history
         end = moment_last ran.more ran.is
 
         all : Ran any_call before new.history
         all = ran_join {allowed = any_call} is.is_open.ran ran
 
+        limits : IsWithinLimits a.member.array.geometry
+        limits = is.begun.member.array.limits
+
+        history : IsHistory new.history
+        history = history_on {allowed = any_call} is.begun.history ran
+
+        tolerated : IsTolerated a.member.array.geometry before new.history
+        tolerated = tolerated_now a.member.array.geometry before new.history all calm
+
         now : IsToleratedAlone a.member.array.geometry (image_now new.history)
-        now =
-            tolerated_alone a.member.array.geometry before new.history (image_now new.history)
-            (tolerated_now a.member.array.geometry before new.history all calm) (CrashMayLeave-now new.history)
+        now = tolerated_alone a.member.array.geometry before new.history (image_now new.history) tolerated (CrashMayLeave-now new.history)
 
         steady : AreSteady a.member.array.geometry new.history
         steady =
             fence_steady leaving a.member last answer old new does is.begun (λ j has. (here j has).below) honest
             (each_after calm.1 (moment_between {a = any_call} {b = any_call} is.is_open.ran ran)) (goes_on before a words new.history all calm)
 
-        each : (image : Image) → CrashMayLeave new.history image → RepresentsAlone (with_seats now.current.array) image
-        each image left =
-            let alone =
-            tolerated_alone a.member.array.geometry before new.history image
-            (tolerated_now a.member.array.geometry before new.history all calm) left in
-            let same : alone.current ≡ now.current =
-            one_current a.member.array.geometry (image_now new.history) alone.current now.current
-            (current_agree a.member.array.geometry a.member.array.geometry.n (omega arith) image (image_now new.history) alone.current
-            (λ j k below place. steady_cells a.member.array.geometry new.history image steady left j k below place) alone.is_current) now.is_current in
-            subst (λ (s : Superblock). RepresentsAlone (with_seats s.array) image) same (fencing_stands new.history end calm image left alone).0
-
-        stands : Represents (with_seats now.current.array) new.history
-        stands =
-            each_alone (with_seats now.current.array) before new.history is.begun.member.array.limits (history_on {allowed = any_call} is.begun.history ran)
-            (tolerated_now a.member.array.geometry before new.history all calm) steady each
+        each : (image : Image) → CrashMayLeave new.history image → (alone : IsToleratedAlone a.member.array.geometry image)
+            → RepresentsAlone (with_seats alone.current.array) image
+        each image left alone = (fencing_stands new.history end calm image left alone).0
 
   -- SLOTS THAT ARE LEFT OUT, after reads
 
@@ -242,11 +234,8 @@ module _ (before : List Happening) (a : ArrayState) (words : Codewords) (kept : 
 
   -- or done: the array serves on without them
   pub left_serves : (gone : Slots) (mid : Telling) (y : Point) → LeavesOut gone None (point a.member mid) y → IsTrue y.told.honest
-      → IsServing before a words mid.history → ((j : ℕ) → HasSlot gone j → IsHere a.member j) → CalmTo y.told.history
+      → IsServing before a words mid.history → ((j : ℕ) → HasSlot gone j → IsHere a.member j) → IsGoing before y.told.history
       → IsServing before (led_to a y.member) words y.told.history
-  left_serves gone mid y leaves honest is here calm =
-      let later : Ran any_call mid.history y.told.history = out_ran gone None (point a.member mid) y leaves honest in
-      let then =
-      leaves_open gone before a mid y leaves honest (λ j has. (here j has).below) is.begun calm.1
-      (goes_on before a words y.told.history (ran_join {allowed = any_call} is.is_open.ran later) calm) words is.is_open in
+  left_serves gone mid y leaves honest is here on =
+      let then = leaves_open gone before a mid y leaves honest (λ j has. (here j has).below) is.begun on.none on.going words is.is_open in
       record { is_open = then.0; begun = then.1 }

@@ -1,6 +1,6 @@
 -- The events of news, one by one, and what they are where only slots became Down.
-use Rattle.std.proofs.Common.{◌≡◌, ◌<◌, ◌≤◌, ℕ, suc, ap, arith, inl, inr, refl, subst, sym, ◌∙◌, ◌+◌, ◌-◌}
-use Rattle.std.specs.Prelude.{true, false, not, ◌&&◌, IsOk, IsTrue, List, ◌∷◌, ◌++◌, ◌≢◌, ◌↔◌, Some, None, Ok, Err, zero, if◌then◌else◌}
+use Rattle.std.proofs.Common.{Option, ◌≡◌, ◌<◌, ◌≤◌, ℕ, suc, ap, arith, inl, inr, refl, subst, sym, ◌∙◌, ◌+◌, ◌-◌}
+use Rattle.std.specs.Prelude.{false, not, ◌&&◌, IsOk, IsTrue, List, ◌∷◌, ◌++◌, ◌≢◌, ◌↔◌, Some, None, Ok, Err, zero, if◌then◌else◌}
 use Rattle.std.specs.List.{slice_get}
 use Rattle.std.proofs.lemmas.Bool.{cond-false, cond-true, false≢true, false_from_ne_true}
 use Rattle.std.proofs.lemmas.List.{length-replicate}
@@ -13,7 +13,7 @@ use Rattle.stair_super.specs.declared.configuration.Configuration.{Configuration
 use Rattle.stair_super.specs.declared.mark.Mark.{Mark}
 use Rattle.stair_super.specs.declared.mark.Mark.TheVariants.{Down, Live, Rebuilding}
 use Rattle.stair_array.specs.Events.{events_of, events_of_answer, fenced_from, is_down}
-use Rattle.stair_array.specs.Machine.{Answer, Chunk, Dropped, LookAtSeats, Nothing, Promoted, ReadBlock, RebuildNext, Recover, ReplaceSlot, ScrubStripe, SetFrozen, SetLabel, Step, WriteBlocks}
+use Rattle.stair_array.specs.Machine.{Answer, Chunk, Dropped, LookAtSeats, Nothing, Promoted, ReadBlock, RebuildNext, Recover, ReplaceSlot, ScrubStripe, SetFrozen, SetLabel, Step, Step, WriteBlocks}
 use Rattle.stair_array.specs.News.{AddsFallen, AddsNews, Fell, admission_in, admitted_after, events_in, fenced_in, no_news, other_events, promoted_after, promotion_in, repair_in, repaired_after}
 use Rattle.stair_array.specs.declared.news.News.{News}
 
@@ -87,27 +87,30 @@ fenced_same old new set are first (suc n) within =
 
 -- THE NEWS OF A CALL
 
--- reads and openings tell of slots alone
+-- a step that repairs, admits and promotes nothing tells of slots alone
+slots_news : (step : Step) (answer : Answer step) → ((r : Option (ℕ × ℕ)) → repaired_after step answer r ≡ r)
+    → ((j : Option ℕ) → admitted_after step answer j ≡ j) → ((j : Option ℕ) → promoted_after step answer j ≡ j) → (old new : Configuration)
+    (was is : News) → AddsFallen old new was is → AddsNews step answer old new was is
+slots_news step answer repairs admits promotes old new was is adds = record {
+  fenced = adds.fenced;
+  repaired = ap (λ (n : News). n.repaired) adds.others ∙ sym (repairs was.repaired);
+  admitted = ap (λ (n : News). n.admitted) adds.others ∙ sym (admits was.admitted);
+  promoted = ap (λ (n : News). n.promoted) adds.others ∙ sym (promotes was.promoted);
+}
+
 pub read_news : (b : ℕ) (answer : Answer (ReadBlock b)) (old new : Configuration) (was is : News) → AddsFallen old new was is
     → AddsNews (ReadBlock b) answer old new was is
-read_news b answer old new was is adds =
-    record {
-      fenced = adds.fenced;
-      repaired = ap (λ (n : News). n.repaired) adds.others;
-      admitted = ap (λ (n : News). n.admitted) adds.others;
-      promoted = ap (λ (n : News). n.promoted) adds.others;
-    }
+read_news b answer = slots_news (ReadBlock b) answer (λ r. refl) (λ j. refl) (λ j. refl)
+
+pub write_news : (first : ℕ) (contents : List (List ℕ)) (answer : Answer (WriteBlocks first contents)) (old new : Configuration) (was is : News)
+    → AddsFallen old new was is → AddsNews (WriteBlocks first contents) answer old new was is
+write_news first contents answer = slots_news (WriteBlocks first contents) answer (λ r. refl) (λ j. refl) (λ j. refl)
 
 pub recover_news : (answer : Answer Recover) (old new : Configuration) (none is : News) → none ≡ no_news → AddsFallen old new none is
     → AddsNews Recover answer old new no_news is
 recover_news answer old new none is first added =
-    let adds : AddsFallen old new no_news is = subst (λ was. AddsFallen old new was is) first added in
-    record {
-      fenced = adds.fenced;
-      repaired = ap (λ (n : News). n.repaired) adds.others;
-      admitted = ap (λ (n : News). n.admitted) adds.others;
-      promoted = ap (λ (n : News). n.promoted) adds.others;
-    }
+    slots_news Recover answer (λ r. refl) (λ j. refl) (λ j. refl) old new no_news is
+    (subst (λ was. AddsFallen old new was is) first added)
 
 -- THE EVENTS OF A STEP
 

@@ -19,8 +19,7 @@ use Rattle.stair_session.specs.Courses.{Point, point}
 use Rattle.stair_session.specs.Session.{ArrayState, IsArray}
 use Rattle.stair_session.proofs.FindsLemmas.{live_here}
 use Rattle.stair_array.specs.Calls.{answer_of, refused}
-use Rattle.stair_array.specs.Causes.{HasCause, IsAllowed, IsJournalLost, MarkGoesOn, MemberGoesOn, WhyGoesOn}
-use Rattle.stair_array.specs.Draws.{Before, DrawsFew}
+use Rattle.stair_array.specs.Causes.{HasCause, IsAllowed, IsJournalLost, MarkGoesOn, MemberGoesOn}
 use Rattle.stair_array.specs.Events.{events_of}
 use Rattle.stair_array.specs.Machine.{Answer, IsFinal, JournalLost, Recover, Refusal}
 use Rattle.stair_array.specs.Openings.{ClearsJournal, Recovers}
@@ -28,8 +27,9 @@ use Rattle.stair_array.specs.Promise.{EndsIn, Found, KeepsProgress, KeepsRebuild
 use Rattle.stair_array.proofs.AnsweredLemmas.{IsLeftOut, body_left_out, fence_left_out, found_left_out, honest_before, left_out_join, replay_left_out, stage_left_out}
 use Rattle.stair_array.proofs.CauseLemmas.{ReadLost, ReadOpen, body_lost, fence_array, found_array, found_open, found_refused, left_array, left_refused, read_open_later, replay_array, replay_refused, stage_array}
 use Rattle.stair_array.proofs.CourseLemmas.{body_part, found_formed, found_part, gate_in_range, replay_part, stage_part}
+use Rattle.stair_array.proofs.GoesOnLemmas.{draws_few, why_goes_on}
 use Rattle.stair_array.proofs.GoneToLemmas.{after_join}
-use Rattle.stair_array.proofs.PartsLemmas.{IsPart, MarkStays, WhyStays, first_part, part_join}
+use Rattle.stair_array.proofs.PartsLemmas.{IsPart, MarkStays, first_part, part_join}
 
 -- ITS PARTS
 
@@ -210,12 +210,12 @@ recovered_answers _ _ _ (Recovers.Goes fallen opened redo answer x y z w e found
 
 -- WHAT STANDS
 
-final_refused : (fault : FenceFault) → IsFinal (refused fault)
+pub final_refused : (fault : FenceFault) → IsFinal (refused fault)
 final_refused (fence.TooFew whys) = tt
 final_refused fence.EpochsSpent = tt
 
 -- where the array doesn't stop no epoch was refused at the end of a chain
-goes_on : {T : Type 0} (given : T) (refusal : Option FenceFault) → ¬ Stops (answer_of given refusal) → refusal ≡ None
+pub goes_on : {T : Type 0} (given : T) (refusal : Option FenceFault) → ¬ Stops (answer_of given refusal) → refusal ≡ None
 goes_on given None going = refl
 goes_on given (Some fault) going = absurd (going (final_refused fault))
 
@@ -239,10 +239,6 @@ recovered_array _ _ _ (Recovers.Goes fallen opened redo answer x y z w e found c
 
 -- WHAT IS PROMISED
 
-why_goes_on : (x y : Point) (j : ℕ) → WhyStays x y j → WhyGoesOn Recover x.told y.told x.member y.member j
-why_goes_on x y j (WhyStays.Same same) = WhyGoesOn.Stays same
-why_goes_on x y j (WhyStays.Went gone was) = WhyGoesOn.Went gone was
-
 mark_goes_on : (x y : Point) (j : ℕ) → MarkStays x y j → MarkGoesOn Recover x.told y.told x.member y.member j
 mark_goes_on x y j (MarkStays.Same same) = MarkGoesOn.Stays same
 mark_goes_on x y j (MarkStays.WasAway live rebuilt down) = MarkGoesOn.WasAway refl live rebuilt down
@@ -251,13 +247,10 @@ mark_goes_on x y j (MarkStays.Went was down) = MarkGoesOn.Went was down
 pub member_goes_on : (more : ℕ) (x y : Point) → IsPart more x y → MemberGoesOn Recover x.told y.told x.member y.member
 member_goes_on more x y part = record {
   geometry = part.geometry;
-  whys = λ j below. why_goes_on x y j (part.whys j below);
+  whys = λ j below. why_goes_on Recover x y j (part.whys j below);
   marks = λ j below. mark_goes_on x y j (part.marks j below);
   drawn = part.drawn;
 }
-
-pub draws_few : (x y : Point) → IsPart 1 x y → DrawsFew Recover x.member y.member x.told y.told
-draws_few x y part = record { draw = x.member.drawn; had_seen = Before refl; few = part.draws }
 
 ends : (answer : Answer Recover) (last : Membership) → EndsIn Recover answer (unopened last) (session_after answer last)
 ends (Ok g) last = EndsIn.GoesOn (λ step. refl) refl refl
@@ -291,7 +284,7 @@ module _ (m last : Membership) (answer : Answer Recover) (x y : Telling) (rules 
     later = part.after.later;
     goes_on = member_goes_on 1 (point m x) (point last y) part;
     rebuild = keeps_rebuild answer m last;
-    draws_few = draws_few (point m x) (point last y) part;
+    draws_few = draws_few Recover (point m x) (point last y) part;
     events_are = refl;
     caused = caused answer refl;
     allowed = allowed answer refl;

@@ -5,11 +5,11 @@ use Rattle.stair_model.specs.Coverage.{IsCovered}
 use Rattle.stair_model.specs.Geometry.{Geometry, block_count}
 use Rattle.stair_model.specs.Stripe.{Stripe}
 use Rattle.stair_rack.specs.History.{Happening}
-use Rattle.stair_rack.specs.Telling.{Telling}
 use Rattle.stair_rack.specs.declared.watcher.Event.{Event}
 use Rattle.stair_member.specs.Membership.{Membership}
 use Rattle.stair_member.specs.declared.fault.FenceFault.{FenceFault}
 use Rattle.stair_member.specs.declared.fault.FenceFault.TheVariants as fence
+use Rattle.stair_stripes.specs.declared.gathering.Gathered.{Gathered}
 use Rattle.stair_state.specs.Blocks.{Codewords}
 use Rattle.stair_state.specs.State.{Content, State}
 use Rattle.stair_session.specs.Courses.{Point, point}
@@ -18,41 +18,45 @@ use Rattle.stair_session.specs.Rebuilding.{Rebuild}
 use Rattle.stair_session.specs.Returning.{IsCalm, NoneReturns}
 use Rattle.stair_array.specs.Calls.{IsInPlace, IsLoaded, LoadsStripe, Reads, refused}
 use Rattle.stair_array.specs.Causes.{HasCause}
-use Rattle.stair_array.specs.Draws.{Before, HadSeen, OnMedium, most_drawn}
-use Rattle.stair_array.specs.Machine.{Answer, ReadBlock, Refusal, ReplaceSlot}
+use Rattle.stair_array.specs.Draws.{most_drawn}
+use Rattle.stair_array.specs.Machine.{Answer, ReadBlock, Refusal}
 use Rattle.stair_array.specs.Promise.{CanBeDone, IsInState, LeadsStep, Performs, Seen, is_open}
 use Rattle.stair_array.proofs.CoveredLemmas.{covered, never_too_few}
-use Rattle.stair_array.proofs.DrawsLemmas.{never_spent}
-use Rattle.stair_array.proofs.ReadPartLemmas.{Calm, HasAsked, HasLoaded, array_here, has_asked, has_loaded, placed_in}
-use Rattle.stair_array.proofs.ReadStepLemmas.{calm_here, cuts, leads, of_state, open_first, serves_first}
+use Rattle.stair_array.proofs.DrawsLemmas.{draws_on, never_spent}
+use Rattle.stair_array.proofs.ReadPartLemmas.{Calm, HasAsked, HasLoaded, array_here, has_asked, placed_in, whole_loaded}
+use Rattle.stair_array.proofs.ReadStepLemmas.{begins, calm_to, cuts, leads, of_kept, serves}
 use Rattle.stair_array.proofs.ServingLemmas.{IsServing}
 
 -- NOTHING IS REFUSED but an epoch of which no number is left to draw
 
 module _ (before : List Happening) (rebuild : Option Rebuild) (stopped : Option FenceFault) (words : Codewords) (kept : Content) (x : Point)
     (of : IsOfContent x.member words kept) (is : IsServing before (array_here before rebuild stopped words kept x of) words x.told.history) where
-  stripe_refused : (t : ℕ) (into : Stripe) (y : Point) → HasAsked x y → t < x.member.array.geometry.stripes → (answer : Result (Unit {0}) Refusal)
+  pub load_refused : (t : ℕ) {wanted : ℕ → ℕ → Type 0} (gathered : Gathered) (read : Stripe) (fault : FenceFault) (z : Point)
+      → HasLoaded t wanted gathered read (Some fault) x z → IsTrue z.told.honest → Calm before rebuild stopped words kept x of z.told.history
+      → refused fault ≡ refused fence.EpochsSpent
+  load_refused t gathered read fault z l honest calm = by fault refl
+    where
+      by : (given : FenceFault) → fault ≡ given → refused fault ≡ refused fence.EpochsSpent
+      by (fence.TooFew whys) few =
+          absurd
+          (never_too_few before rebuild stopped words kept x of is t gathered read (Some fault) z l honest calm whys (ap (λ (f : FenceFault). Some f) few))
+      by fence.EpochsSpent spent = ap refused spent
+
+  pub stripe_refused : (t : ℕ) (into : Stripe) (y : Point) → HasAsked x y → t < x.member.array.geometry.stripes → (answer : Result (Unit {0}) Refusal)
       (u z : Point) → LoadsStripe t into answer u z → u ≡ y → IsTrue z.told.honest → Calm before rebuild stopped words kept x of z.told.history
       → (refusal : Refusal) → answer ≡ Err refusal → refusal ≡ refused fence.EpochsSpent
   stripe_refused t into y asked stripe _ _ _ (LoadsStripe.Loaded was read gathered answer u z loads loaded) at honest calm refusal same =
       let now = subst (HasAsked x) (sym at) asked in
-      let l = has_loaded t gathered was read None x u z now loads in
+      let l = whole_loaded t gathered was read None x u z now loads in
       let all : IsCovered x.member.array.geometry gathered.erased =
       covered before rebuild stopped words kept x of is t gathered read None z l honest calm stripe in
       let lost : IsLoaded u.member.array.geometry t gathered.erased read into (Err refusal) =
       subst (IsLoaded u.member.array.geometry t gathered.erased read into) same loaded in
       absurd (lost.0 (subst (λ (m : Membership). IsCovered m.array.geometry gathered.erased) (sym now.member) all))
-  stripe_refused t into y asked stripe _ _ _ (LoadsStripe.Stops was read gathered fault u z loads) at honest calm refusal same = by fault refl
-    where
-      l : HasLoaded t gathered read (Some fault) x z
-      l = has_loaded t gathered was read (Some fault) x u z (subst (HasAsked x) (sym at) asked) loads
-
-      by : (given : FenceFault) → fault ≡ given → refusal ≡ refused fence.EpochsSpent
-      by (fence.TooFew whys) few =
-          absurd
-          (never_too_few before rebuild stopped words kept x of is t gathered read (Some fault) z l honest calm whys (ap (λ (f : FenceFault). Some f) few))
-      by fence.EpochsSpent spent =
-          let one : refused fault ≡ refusal = cc in sym one ∙ ap refused spent
+  stripe_refused t into y asked stripe _ _ _ (LoadsStripe.Stops was read gathered fault u z loads) at honest calm refusal same =
+      let one : refused fault ≡ refusal = cc in
+      sym one
+      ∙ load_refused t gathered read fault z (whole_loaded t gathered was read (Some fault) x u z (subst (HasAsked x) (sym at) asked) loads) honest calm
 
   pub only_spent : (b : ℕ) (answer : Result (List ℕ) Refusal) (v z : Point) → Reads b answer v z → v ≡ x → IsTrue z.told.honest
       → Calm before rebuild stopped words kept x of z.told.history → b < block_count x.member.array.geometry → (refusal : Refusal)
@@ -68,37 +72,30 @@ module _ (before : List Happening) (rebuild : Option Rebuild) (stopped : Option 
       stripe_refused t into y asked (placed_in x.member.array.geometry b t i j is.is_open.array.member.array.limits inside here.place)
       (Err lost) y z loads refl honest calm refusal (ap (λ (r : Refusal). Err r) (let one : lost ≡ refusal = cc in one))
 
--- a read draws on from what its member had seen
-read_draws : (b : ℕ) (m : Membership) (x y : Telling) (draw : ℕ) → HadSeen (ReadBlock b) m x y draw → draw ≡ m.drawn
-read_draws b m x y draw (Before same) = same
-read_draws b m x y draw (OnMedium j k super never place moment geometry is least) =
-    absurd (let no : ReadBlock b ≡ ReplaceSlot j = never in cc)
-
 -- THE STEP
 
 module _ (b : ℕ) (answer : Answer (ReadBlock b)) (events : List Event) (x y : Seen) (p : Performs (ReadBlock b) answer events x y)
     (honest : IsTrue y.told.honest) (before : List Happening) (s : State) (state : IsInState NoneReturns before s x)
     (calm : IsCalm NoneReturns s.geometry (is_open x.session) before y.told.history) where
-  serves : IsServing before p.was (open_first b answer events x y p honest before s state).words x.told.history
-  serves = serves_first b answer events x y p honest before s state
-
   pub none_refused : b < block_count s.geometry → (refusal : Refusal) → answer ≡ Err refusal → refusal ≡ refused fence.EpochsSpent
   none_refused below refusal same =
-      only_spent before p.was.rebuild p.was.stopped (open_first b answer events x y p honest before s state).words s.content
-      (point p.was.member x.told) (of_state b answer events x y p honest before s state) serves b answer (point p.was.member x.told)
-      (point p.is.member y.told) p.does refl honest (calm_here b answer events x y p honest before s state y.told.history calm)
-      (subst (λ (g : Geometry). b < block_count g) (sym (open_first b answer events x y p honest before s state).geometry) below) refusal same
+      only_spent before p.was.rebuild p.was.stopped (begins b answer events x y p honest before s state).words s.content
+      (point p.was.member x.told) (of_kept b answer events x y p honest before s state) (serves b answer events x y p honest before s state) b answer
+      (point p.was.member x.told) (point p.is.member y.told) p.does refl honest
+      (calm_to b answer events x y p honest before s state y.told.history calm)
+      (subst (λ (g : Geometry). b < block_count g) (sym (begins b answer events x y p honest before s state).geometry) below) refusal same
 
   -- so it is done
   complete : CanBeDone (ReadBlock b) s p.was.member x.told.history y.told.history → IsOk answer
   complete can = by answer refl
     where
       below : b < block_count s.geometry
-      below = can.passes _ (open_first b answer events x y p honest before s state).seats
+      below = can.passes _ (begins b answer events x y p honest before s state).seats
 
       room : p.draws_few.draw ≤ most_drawn
       room =
-          subst (λ (n : ℕ). n ≤ most_drawn) (sym (read_draws b p.was.member x.told y.told p.draws_few.draw p.draws_few.had_seen)) can.draws
+          subst (λ (n : ℕ). n ≤ most_drawn)
+          (sym (draws_on (ReadBlock b) (λ j same. cc) p.was.member x.told y.told p.draws_few.draw p.draws_few.had_seen)) can.draws
 
       by : (given : Answer (ReadBlock b)) → answer ≡ given → IsOk answer
       by (Ok bytes) same = subst (λ (r : Answer (ReadBlock b)). IsOk r) (sym same) refl
@@ -107,7 +104,8 @@ module _ (b : ℕ) (answer : Answer (ReadBlock b)) (events : List Event) (x y : 
           subst (λ (r : Answer (ReadBlock b)). IfErr r (λ why. HasCause (ReadBlock b) why p.was p.is.member x.told y.told))
           (same ∙ ap (λ (why : Refusal). Err why) (none_refused below refusal same)) p.caused in
           absurd
-          (never_spent (ReadBlock b) p.was.member p.is.member x.told y.told serves.is_open.array.member p.draws_few room cause.1.spent)
+          (never_spent (ReadBlock b) p.was.member p.is.member x.told y.told
+          (serves b answer events x y p honest before s state).is_open.array.member p.draws_few room cause.1.spent)
 
 -- So it is what is promised of a step.
 pub promise : (b : ℕ) (answer : Answer (ReadBlock b)) (events : List Event) (x y : Seen) → (p : Performs (ReadBlock b) answer events x y)

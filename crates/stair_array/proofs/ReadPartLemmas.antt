@@ -1,5 +1,5 @@
 -- What a read of a block did: cells were read, and slots that were gone are left out.
-use Rattle.std.proofs.Common.{◌≡◌, ℕ, ◌<◌, List, inl, inr, sym, ap, subst, arith, Option}
+use Rattle.std.proofs.Common.{◌≡◌, ℕ, ◌<◌, List, inl, inr, refl, sym, ap, subst, arith, Option}
 use Rattle.std.specs.Prelude.{◌⊎◌, IsTrue, Ok, ⊤}
 use Rattle.std.proofs.lemmas.Nat.{div_below}
 use Rattle.stair_model.specs.Cell.{IsPlaceOf}
@@ -9,13 +9,14 @@ use Rattle.stair_model.specs.Geometry.{Geometry, IsWithinLimits, block_count, da
 use Rattle.stair_model.specs.Slots.{HasSlot, Slots}
 use Rattle.stair_model.specs.Stripe.{Stripe, cell}
 use Rattle.stair_rack.specs.Answers.{Ran, any_call}
-use Rattle.stair_rack.specs.History.{Happening, SlotCall}
+use Rattle.stair_rack.specs.History.{Happening, Read, SlotCall}
 use Rattle.stair_rack.specs.Moments.{AtEveryMoment}
 use Rattle.stair_rack.specs.Offline.{IsOfflineUntilAttached}
 use Rattle.stair_rack.specs.Reading.{IsReadOf}
 use Rattle.stair_rack.specs.Sector.{Good}
 use Rattle.stair_rack.specs.Telling.{IsReading, Telling}
-use Rattle.stair_rack.proofs.MomentLemmas.{at_every_from, at_every_join, at_moment, moment_between, ran_any, ran_before, ran_join, ran_none, ran_weakened}
+use Rattle.stair_rack.specs.declared.rack.Got.{Got}
+use Rattle.stair_rack.proofs.MomentLemmas.{IsThis, at_every_from, at_every_join, at_moment, calls_ran, moment_between, ran_any, ran_before, ran_join, ran_none, ran_weakened}
 use Rattle.stair_rack.proofs.OfflineLemmas.{held_on}
 use Rattle.stair_member.specs.Membership.{IsHere, Membership}
 use Rattle.stair_member.specs.declared.fault.FenceFault.{FenceFault}
@@ -34,7 +35,7 @@ use Rattle.stair_session.proofs.RedoingLemmas.{out_ran}
 use Rattle.stair_session.proofs.StaysArrayLemmas.{left_stays}
 use Rattle.stair_array.specs.Calls.{AsksFor, CannotHave, IsLoaded, NotLive, WasBad, WasGone}
 use Rattle.stair_array.proofs.LeftServingLemmas.{StandsAt, leaving_stands, reading_stands}
-use Rattle.stair_array.proofs.ServingLemmas.{IsCalmTo, IsServing, calm_sooner, read_good, reads_serve}
+use Rattle.stair_array.proofs.ServingLemmas.{IsCalmTo, IsGoing, IsServing, calm_going, calm_sooner, going_sooner, read_good, reads_serve}
 
 -- a block that is in range lies in a stripe of the array
 pub placed_in : (g : Geometry) (b t i j : ℕ) → IsWithinLimits g → b < block_count g → IsPlaceOf g b t i j → t < g.stripes
@@ -67,11 +68,19 @@ pub record HasAsked (x y : Point) : Type 0 where
   pub honest : x.told.honest ≡ y.told.honest
   pub ran : IsTrue y.told.honest → Ran any_read x.told.history y.told.history
 
-pub asked_of : (t i j : ℕ) (x y : Point) → AsksFor t i j x y → HasAsked x y
+-- it is a read of the cell
+pub asked_ran : {answer : Got} (t i j : ℕ) (x y : Point) → AsksFor t i j answer x y → IsTrue y.told.honest
+    → Ran (IsReadOf (λ s. s ≡ j) (λ k. k ≡ cell_sector x.member.array.geometry t i)) x.told.history y.told.history
+asked_ran {answer} t i j x y asks honest =
+    let k = cell_sector x.member.array.geometry t i in
+    ran_weakened {allowed = IsThis j (Read k answer)} {more = IsReadOf (λ s. s ≡ j) (λ s. s ≡ k)}
+    (λ a c this. subst (IsReadOf (λ s. s ≡ j) (λ s. s ≡ k) a) (sym this.1) (this.0, refl)) (calls_ran (asks.called honest))
+
+pub asked_of : {answer : Got} (t i j : ℕ) (x y : Point) → AsksFor t i j answer x y → HasAsked x y
 asked_of t i j x y asks = record {
   member = asks.member;
   honest = asks.later.honest;
-  ran = λ honest. any_of (λ s. s ≡ j) (λ k. k ≡ cell_sector x.member.array.geometry t i) (asks.ran honest);
+  ran = λ honest. any_of (λ s. s ≡ j) (λ k. k ≡ cell_sector x.member.array.geometry t i) (asked_ran t i j x y asks honest);
 }
 
 pub has_asked : (t i j : ℕ) (x y : Point) → CannotHave t i j x y → HasAsked x y
@@ -83,8 +92,9 @@ has_asked t i j x y (NotLive out same) = record {
 has_asked t i j x y (WasBad asks bad) = asked_of t i j x y asks
 has_asked t i j x y (WasGone asks gone) = asked_of t i j x y asks
 
--- A stripe was gathered by this member, after reads, and the slots that were gone are left out.
-pub record HasLoaded (t : ℕ) (gathered : Gathered) (read : Stripe) (refusal : Option FenceFault) (x z : Point) : Type 0 where
+-- Wanted cells of a stripe were gathered by this member, after reads, and the slots that were gone are left out.
+pub record HasLoaded (t : ℕ) (wanted : ℕ → ℕ → Type 0) (gathered : Gathered) (read : Stripe) (refusal : Option FenceFault) (x z : Point)
+    : Type 0 where
   pub live : Slots
   pub are_live : AreLive x.member live
   pub was : Stripe
@@ -92,14 +102,16 @@ pub record HasLoaded (t : ℕ) (gathered : Gathered) (read : Stripe) (refusal : 
   pub mid : Telling
   pub first_honest : x.told.honest ≡ first.honest
   pub first_ran : IsTrue first.honest → Ran any_read x.told.history first.history
-  pub gathers : Gathers x.member.array.geometry live t (IsCellOf x.member.array.geometry) gathered was read first mid
+  pub inside : (i j : ℕ) → wanted i j → IsCellOf x.member.array.geometry i j
+  pub gathers : Gathers x.member.array.geometry live t wanted gathered was read first mid
   pub leaves : LeavesOut gathered.gone refusal (point x.member mid) z
 
-pub has_loaded : (t : ℕ) (gathered : Gathered) (was read : Stripe) (refusal : Option FenceFault) (x y z : Point) → HasAsked x y
-    → Loads t (IsCellOf y.member.array.geometry) gathered was read refusal y z → HasLoaded t gathered read refusal x z
-has_loaded t gathered was read refusal x y z asked loads =
-    let now : Loads t (IsCellOf x.member.array.geometry) gathered was read refusal (point x.member y.told) z =
-    subst (λ (m : Membership). Loads t (IsCellOf m.array.geometry) gathered was read refusal (point m y.told) z) asked.member loads in
+pub has_loaded : (t : ℕ) (wanted : ℕ → ℕ → Type 0) (gathered : Gathered) (was read : Stripe) (refusal : Option FenceFault) (x y z : Point)
+    → HasAsked x y → ((i j : ℕ) → wanted i j → IsCellOf x.member.array.geometry i j) → Loads t wanted gathered was read refusal y z
+    → HasLoaded t wanted gathered read refusal x z
+has_loaded t wanted gathered was read refusal x y z asked inside loads =
+    let now : Loads t wanted gathered was read refusal (point x.member y.told) z =
+    subst (λ (m : Membership). Loads t wanted gathered was read refusal (point m y.told) z) asked.member loads in
     record {
       live = now.live;
       are_live = now.are_live;
@@ -108,9 +120,22 @@ has_loaded t gathered was read refusal x y z asked loads =
       mid = now.mid;
       first_honest = asked.honest;
       first_ran = asked.ran;
+      inside = inside;
       gathers = now.gathers;
       leaves = now.leaves;
     }
+
+-- so was a whole stripe
+pub whole_loaded : (t : ℕ) (gathered : Gathered) (was read : Stripe) (refusal : Option FenceFault) (x y z : Point) → HasAsked x y
+    → Loads t (IsCellOf y.member.array.geometry) gathered was read refusal y z
+    → HasLoaded t (IsCellOf x.member.array.geometry) gathered read refusal x z
+whole_loaded t gathered was read refusal x y z asked loads =
+    has_loaded t (IsCellOf x.member.array.geometry) gathered was read refusal x y z asked (λ i j is. is)
+    (subst (λ (m : Membership). Loads t (IsCellOf m.array.geometry) gathered was read refusal y z) asked.member loads)
+
+-- where nothing was asked for before
+pub none_asked : (x : Point) → HasAsked x x
+none_asked x = record { member = refl; honest = refl; ran = λ honest. ran_none {allowed = any_read} x.told.history }
 
 -- AN ARRAY THAT SERVES at x
 
@@ -128,8 +153,8 @@ module _ (before : List Happening) (rebuild : Option Rebuild) (stopped : Option 
   module _ (is : IsServing before array_here words x.told.history) where
     -- A STRIPE THAT WAS LOADED
 
-    module _ (t : ℕ) (gathered : Gathered) (read : Stripe) (refusal : Option FenceFault) (z : Point) (l : HasLoaded t gathered read refusal x z)
-        (honest : IsTrue z.told.honest) where
+    module _ (t : ℕ) {wanted : ℕ → ℕ → Type 0} (gathered : Gathered) (read : Stripe) (refusal : Option FenceFault) (z : Point)
+        (l : HasLoaded t wanted gathered read refusal x z) (honest : IsTrue z.told.honest) where
       pub honest_mid : IsTrue l.mid.honest
       honest_mid = subst IsTrue (sym (left_honest gathered.gone refusal (point x.member l.mid) z l.leaves)) honest
 
@@ -140,7 +165,7 @@ module _ (before : List Happening) (rebuild : Option Rebuild) (stopped : Option 
       ran_first = l.first_ran honest_first
 
       pub ran_gathering : Ran any_read l.first.history l.mid.history
-      ran_gathering = any_gathered x.member.array.geometry l.live t (IsCellOf x.member.array.geometry) (l.gathers.ran honest_mid)
+      ran_gathering = any_gathered x.member.array.geometry l.live t wanted (l.gathers.ran honest_mid)
 
       pub ran_reading : Ran any_read x.told.history l.mid.history
       ran_reading = ran_join {allowed = any_read} ran_first ran_gathering
@@ -167,15 +192,20 @@ module _ (before : List Happening) (rebuild : Option Rebuild) (stopped : Option 
       pub gone_off : (j : ℕ) → HasSlot gathered.gone j → IsOfflineUntilAttached before l.mid.history j
       gone_off j has = (l.gathers.gone j has).shut honest_mid before (held_on {allowed = any_read} j ran_first (is.is_open.held j (gone_here j has)))
 
-      pub serves_mid : Calm l.mid.history → IsServing before array_here words l.mid.history
-      serves_mid calm = reads_serve before array_here words (λ j. ⊤) (λ k. ⊤) x.told.history l.mid.history is ran_reading calm
+      pub going_mid : IsGoing before z.told.history → IsGoing before l.mid.history
+      going_mid on = going_sooner before l.mid.history z.told.history upto_mid ran_leaving on
 
-      pub serves_first : Calm l.mid.history → IsServing before array_here words l.first.history
-      serves_first calm =
+      pub calm_going_mid : Calm l.mid.history → IsGoing before l.mid.history
+      calm_going_mid calm = calm_going x.member.array.geometry before l.mid.history upto_mid calm
+
+      pub serves_mid : IsGoing before l.mid.history → IsServing before array_here words l.mid.history
+      serves_mid on = reads_serve before array_here words (λ j. ⊤) (λ k. ⊤) x.told.history l.mid.history is ran_reading on
+
+      pub serves_first : IsGoing before l.mid.history → IsServing before array_here words l.first.history
+      serves_first on =
           reads_serve before array_here words (λ j. ⊤) (λ k. ⊤) x.told.history l.first.history is ran_first
-          (calm_sooner x.member.array.geometry before l.first.history l.mid.history
-          (moment_between {a = any_call} {b = any_read} (ran_join {allowed = any_call} is.is_open.ran (ran_any {allowed = any_read} ran_first)) ran_gathering)
-          calm)
+          (going_sooner before l.first.history l.mid.history (ran_join {allowed = any_call} is.is_open.ran (ran_any {allowed = any_read} ran_first))
+          (ran_any {allowed = any_read} ran_gathering) on)
 
       pub stays_so : StaysArray x.member z.member
       stays_so = left_stays gathered.gone refusal (point x.member l.mid) z l.leaves is.is_open.array.member
@@ -189,26 +219,27 @@ module _ (before : List Happening) (rebuild : Option Rebuild) (stopped : Option 
           (λ c at calm.
           at_moment {P = Stands}
           (leaving_stands before array_here words kept of gathered.gone refusal l.mid z l.leaves honest
-          (serves_mid (to_mid c (ran_before {allowed = any_call} ran_leaving at) calm)) gone_here gone_off) at calm))
+          (serves_mid (calm_going_mid (to_mid c (ran_before {allowed = any_call} ran_leaving at) calm))) gone_here gone_off) at calm))
 
-      -- each cell that isn't erased was read as that of the stripe
-      pub read_same : Calm l.mid.history → t < x.member.array.geometry.stripes → (i j : ℕ) → i < x.member.array.geometry.r → j < x.member.array.geometry.n
-          → ¬ HasCell gathered.erased i j → cell (words t) i j ≡ cell read i j
-      read_same calm stripe i j row slot out =
+      -- each wanted cell that isn't erased was read as that of the stripe
+      pub read_same : IsGoing before l.mid.history → t < x.member.array.geometry.stripes → (i j : ℕ) → wanted i j → ¬ HasCell gathered.erased i j
+          → cell (words t) i j ≡ cell read i j
+      read_same on stripe i j is_wanted out =
           elim (has_or_not l.live j) [
             | inr off ↦ absurd (given.0 (inl off))
-            | inl on ↦
+            | inl has ↦
                 sym
-                (read_good before array_here words (λ s. ⊤) (λ k. ⊤) l.first.history l.mid.history (serves_first calm) ran_gathering calm t i j
-                (live_of j on) stripe row (cell read i j) (given.1 honest_mid))
+                (read_good before array_here words (λ s. ⊤) (λ k. ⊤) l.first.history l.mid.history (serves_first on) ran_gathering on t i j
+                (live_of j has) stripe (l.inside i j is_wanted).0 (cell read i j) (given.1 honest_mid))
           ]
         where
           given : (¬ ((¬ HasSlot l.live j) ⊎ HasSlot gathered.gone j))
               × IsReading j (cell_sector x.member.array.geometry t i) l.first l.mid (Good (cell read i j))
-          given = l.gathers.given i j (row, slot) out
+          given = l.gathers.given i j is_wanted out
 
-      -- so that it is restored as it is
-      pub restored : Calm l.mid.history → t < x.member.array.geometry.stripes → (into : Stripe)
-          → IsLoaded x.member.array.geometry t gathered.erased read into (Ok tt) → into ≡ words t
-      restored calm stripe into loaded =
-          let word = of.encodings.each t stripe in loaded.2 (words t) word.of word.formed word.codeword (read_same calm stripe)
+      -- so that a whole stripe is restored as it is
+      pub restored : ((i j : ℕ) → IsCellOf x.member.array.geometry i j → wanted i j) → IsGoing before l.mid.history → t < x.member.array.geometry.stripes
+          → (into : Stripe) → IsLoaded x.member.array.geometry t gathered.erased read into (Ok tt) → into ≡ words t
+      restored whole on stripe into loaded =
+          let word = of.encodings.each t stripe in
+          loaded.2 (words t) word.of word.formed word.codeword (λ i j row slot out. read_same on stripe i j (whole i j (row, slot)) out)

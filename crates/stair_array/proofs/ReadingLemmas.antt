@@ -12,13 +12,12 @@ use Rattle.stair_model.specs.Stripe.{Stripe, cell}
 use Rattle.stair_rack.specs.Answers.{Calls, IsHistory}
 use Rattle.stair_rack.specs.Count.{Rose}
 use Rattle.stair_rack.specs.History.{Happening, Read, slot_state}
-use Rattle.stair_rack.specs.Reading.{IsReadOf}
 use Rattle.stair_rack.specs.RackCounts.{NoneFalls}
 use Rattle.stair_rack.specs.Sector.{Good, content}
 use Rattle.stair_rack.specs.Telling.{IsLater, IsReading, Telling, telling}
 use Rattle.stair_rack.specs.declared.rack.Got.{Got}
 use Rattle.stair_rack.specs.declared.rack.Got.TheVariants as got
-use Rattle.stair_rack.proofs.MomentLemmas.{IsThis, calls_ran, ran_any, ran_weakened}
+use Rattle.stair_rack.proofs.MomentLemmas.{ran_any}
 use Rattle.stair_rack.proofs.PassCounts.{NoneFalls-same}
 use Rattle.stair_rack.proofs.TellingLemmas.{gone_to_read, later_called, later_join, reading_bad, reading_good}
 use Rattle.stair_member.specs.Membership.{Membership, why_of}
@@ -53,25 +52,24 @@ epoch_answer given (Err e) fault same = ap (λ (a : ArrayFault). Err (refusal_fo
 module _ (m : Membership) (t i j k : ℕ) (at : k ≡ cell_sector m.array.geometry t i) (below : j < m.array.geometry.n) (live : why_of m j ≡ Here)
     (honest : Bool) (old new : List Happening) (bads bads' : ℕ) (gones gones' : ℕ → ℕ) (counts : NoneFalls bads bads' gones gones')
     (answer : Got) (told : IsTrue honest → Calls old new j (Read k answer)) where
-  pub asked : AsksFor t i j (point m (telling honest old bads gones)) (point m (telling honest new bads' gones'))
-  asked = record {
-    live = record { below = below; why = live };
-    member = refl;
-    later = later_called honest old new bads bads' gones gones' j (Read k answer) told counts;
-    ran = λ is.
-        ran_weakened {allowed = IsThis j (Read k answer)} {more = IsReadOf (λ s. s ≡ j) (λ s. s ≡ cell_sector m.array.geometry t i)}
-        (λ a c this. subst (IsReadOf (λ s. s ≡ j) (λ s. s ≡ cell_sector m.array.geometry t i) a) (sym this.1) (this.0, at)) (calls_ran (told is));
-  }
-
   answered : (found : Got) → answer ≡ found → IsTrue honest → Calls old new j (Read (cell_sector m.array.geometry t i) found)
   answered found same is =
       subst (λ (s : ℕ). Calls old new j (Read s found)) at (subst (λ (a : Got). Calls old new j (Read k a)) same (told is))
 
+  pub asked : (found : Got) → answer ≡ found
+      → AsksFor t i j found (point m (telling honest old bads gones)) (point m (telling honest new bads' gones'))
+  asked found same = record {
+    live = record { below = below; why = live };
+    member = refl;
+    later = later_called honest old new bads bads' gones gones' j (Read k answer) told counts;
+    called = answered found same;
+  }
+
   pub was_read : (bytes : List ℕ) → answer ≡ got.Good → (IsTrue honest → content ((slot_state new j).sector k) ≡ Good bytes)
-      → AsksFor t i j (point m (telling honest old bads gones)) (point m (telling honest new bads' gones'))
+      → AsksFor t i j got.Good (point m (telling honest old bads gones)) (point m (telling honest new bads' gones'))
       × IsReading j (cell_sector m.array.geometry t i) (telling honest old bads gones) (telling honest new bads' gones') (Good bytes)
   was_read bytes good holds = (
-    asked,
+    asked got.Good good,
     reading_good honest old new bads bads' gones gones' j (cell_sector m.array.geometry t i) bytes (answered got.Good good)
         (λ is. ap (λ (s : ℕ). content ((slot_state new j).sector s)) (sym at) ∙ holds is),
   )
@@ -79,13 +77,13 @@ module _ (m : Membership) (t i j k : ℕ) (at : k ≡ cell_sector m.array.geomet
   pub was_bad : answer ≡ got.Bad → (IsTrue honest → IsHistory old) → Rose bads bads'
       → CannotHave t i j (point m (telling honest old bads gones)) (point m (telling honest new bads' gones'))
   was_bad bad began rose =
-      WasBad asked
+      WasBad (asked got.Bad bad)
       (reading_bad honest old new bads bads' gones gones' j (cell_sector m.array.geometry t i) began (answered got.Bad bad) rose)
 
   pub was_gone : answer ≡ got.Gone → Rose (gones j) (gones' j)
       → CannotHave t i j (point m (telling honest old bads gones)) (point m (telling honest new bads' gones'))
   was_gone gone rose =
-      WasGone asked
+      WasGone (asked got.Gone gone)
       (gone_to_read honest old new bads bads' gones gones' j (cell_sector m.array.geometry t i) (answered got.Gone gone) rose)
 
 -- A STRIPE
@@ -144,7 +142,7 @@ module _ (m : Membership) (g : Geometry) (same : g ≡ m.array.geometry) (live :
 -- block b is cell (i, j) of stripe t
 module _ (b t i j : ℕ) (x : Point) (place : IsInPlace x.member.array.geometry b t i j) where
   -- its own cell was read
-  pub read_own : (bytes : List ℕ) (y : Point) → AsksFor t i j x y
+  pub read_own : (bytes : List ℕ) (y : Point) → AsksFor t i j got.Good x y
       → IsReading j (cell_sector x.member.array.geometry t i) x.told y.told (Good bytes) → Reads b (Ok bytes) x y
   read_own bytes y asks reads = Reads.Own t i j bytes x y place asks reads
 

@@ -37,7 +37,7 @@ use Rattle.stair_array.specs.Draws.{HasDraws, most_drawn}
 use Rattle.stair_array.specs.Machine.{IsDecided, Recover, Refusal}
 use Rattle.stair_array.specs.Promise.{AreFound, Begun, Closed, EndsIn, Found, IsInState, IsLed, IsLeftBy, Keeps, KeepsRebuild, LeadsStep, Opened, Performs, Seen, ServesState, Session, StartsFrom, is_open}
 use Rattle.stair_array.proofs.CompleteLemmas.{recovers_never}
-use Rattle.stair_array.proofs.DrawsLemmas.{never_spent, opening_draws}
+use Rattle.stair_array.proofs.DrawsLemmas.{draws_on, never_spent}
 use Rattle.stair_array.proofs.RecoveredLemmas.{Calm, IsSurveyed, Opens, Outcome, Refuses, calm_now, calm_then, outcome, surveyed}
 use Rattle.stair_array.proofs.RecoveredMoments.{StandsHere, recover_moments}
 
@@ -260,7 +260,7 @@ module _ (answer : Result Geometry Refusal) (events : List Event) (x y : Seen) (
     where
       room : p.draws_few.draw ≤ most_drawn
       room =
-          subst (λ (n : ℕ). n ≤ most_drawn) (sym (opening_draws p.was.member x.told y.told p.draws_few.draw p.draws_few.had_seen))
+          subst (λ (n : ℕ). n ≤ most_drawn) (sym (draws_on Recover (λ j same. cc) p.was.member x.told y.told p.draws_few.draw p.draws_few.had_seen))
           draws
 
       by : (given : Result Geometry Refusal) → answer ≡ given → IsOk answer

@@ -82,7 +82,7 @@ does_ran what to refusal x y does honest =
     ran_join {allowed = any_call} (ran_any (phase_ran (does.phase.placed (mid_honest what to refusal x y does honest))))
     (out_ran does.gone refusal (point x.member does.mid) y does.leaves honest)
 
-redoes_ran : (g : Geometry) (redo : Redo) (stripe : Stripe) (stage : Stage) (refusal : Option FenceFault) (x z : Point)
+pub redoes_ran : (g : Geometry) (redo : Redo) (stripe : Stripe) (stage : Stage) (refusal : Option FenceFault) (x z : Point)
     → Redoes g redo stripe stage refusal x z → IsTrue z.told.honest → Ran any_call x.told.history z.told.history
 redoes_ran g redo stripe _ _ _ _ (Redoes.Ends x) honest = ran_none {allowed = any_call} x.told.history
 redoes_ran g redo stripe _ _ _ _ (Redoes.Goes stage to refusal x y z not_done over does more) honest =

@@ -14,7 +14,7 @@ use Rattle.stair_rack.specs.Sector.{Cell, Damaged, Good, Leaves, content}
 use Rattle.stair_rack.specs.Stretch.{NothingReturned}
 use Rattle.stair_rack.proofs.CrashLemmas.{Leaves-content}
 use Rattle.stair_rack.proofs.MomentLemmas.{moment_between, moment_last, moment_sooner, ran_after, ran_any, ran_before, ran_join, ran_weakened}
-use Rattle.stair_rack.proofs.OfflineLemmas.{and-true_left}
+use Rattle.stair_rack.proofs.OfflineLemmas.{and-true_left, stopped_on}
 use Rattle.stair_rack.proofs.StretchLemmas.{each_before}
 use Rattle.stair_member.specs.Fencing.{IsBegun}
 use Rattle.stair_journal.specs.Body.{Harmed, Holds, IsOrDamaged}
@@ -52,6 +52,20 @@ calm_sooner g before h k at calm = (λ c c_at. calm.0 c (moment_sooner c_at at),
 pub tolerated_now : (g : Geometry) (before h : List Happening) → Ran any_call before h → IsCalmTo g before h → IsTolerated g before h
 tolerated_now g before h ran calm = calm.0 h (moment_last ran.more ran.is)
 
+-- nothing has come back up to here, and the rack goes on, whatever has failed
+pub record IsGoing (before h : List Happening) : Type 0 where
+  pub none : NothingReturned before h
+  pub going : ¬ IsTrue (stopped h)
+
+pub going_sooner : (before h k : List Happening) → Ran any_call before h → Ran any_call h k → IsGoing before k → IsGoing before h
+going_sooner before h k upto ran is = record {
+  none = each_before is.none (moment_between {a = any_call} {b = any_call} upto ran);
+  going = λ stops. is.going (stopped_on {allowed = any_call} ran stops);
+}
+
+pub calm_going : (g : Geometry) (before h : List Happening) → Ran any_call before h → IsCalmTo g before h → IsGoing before h
+calm_going g before h ran calm = record { none = calm.1; going = goes_on_within g before h (tolerated_now g before h ran calm) }
+
 -- In a session that began at `before` an array serves these stripes, and its member knows the media.
 pub record IsServing (before : List Happening) (a : ArrayState) (words : Codewords) (h : List Happening) : Type 0 where
   pub is_open : IsOpenWith before a words h
@@ -66,12 +80,11 @@ module _ (before : List Happening) (a : ArrayState) (words : Codewords) where
 
   -- Reads leave it so.
   pub reads_serve : (slots sectors : ℕ → Type 0) (old new : List Happening) → IsServing before a words old → Ran (IsReadOf slots sectors) old new
-      → CalmTo new → IsServing before a words new
-  reads_serve slots sectors old new is ran calm =
-      let all : Ran any_call before new = ran_join {allowed = any_call} is.is_open.ran (ran_any {allowed = IsReadOf slots sectors} ran) in
+      → IsGoing before new → IsServing before a words new
+  reads_serve slots sectors old new is ran on =
       let then =
       beside_open before a words old new is.is_open is.begun
-      (ran_weakened {allowed = IsReadOf slots sectors} {more = IsBesideArray a} (read_beside a slots sectors) ran) calm.1 (goes_on new all calm) in
+      (ran_weakened {allowed = IsReadOf slots sectors} {more = IsBesideArray a} (read_beside a slots sectors) ran) on.none on.going in
       record { is_open = then.0; begun = then.1 }
 
   -- A CELL THAT WAS READ
@@ -96,7 +109,7 @@ module _ (before : List Happening) (a : ArrayState) (words : Codewords) where
       by (IsKept.Lost less) = absurd (omega (arith, less))
 
   module _ (slots sectors : ℕ → Type 0) (old new : List Happening) (is : IsServing before a words old) (ran : Ran (IsReadOf slots sectors) old new)
-      (calm : CalmTo new) (t i j : ℕ) (on : IsLiveIn a.member j) (stripe : t < a.member.array.geometry.stripes)
+      (still : IsGoing before new) (t i j : ℕ) (on : IsLiveIn a.member j) (stripe : t < a.member.array.geometry.stripes)
       (row : i < a.member.array.geometry.r) where
     -- at a moment at which it was read
     pub cell_then : {Q : Cell → Type 0} (was : WasRead Q old new j (cell_sector a.member.array.geometry t i))
@@ -105,10 +118,9 @@ module _ (before : List Happening) (a : ArrayState) (words : Codewords) where
     cell_then was =
         let so_far : Ran (IsReadOf slots sectors) old was.moment = ran_before {allowed = IsReadOf slots sectors} ran was.is_one in
         let upto = ran_join {allowed = any_call} is.is_open.ran (ran_any {allowed = IsReadOf slots sectors} so_far) in
-        let at =
-        moment_between {a = any_call} {b = IsReadOf slots sectors} upto
-        (ran_after {allowed = IsReadOf slots sectors} ran was.is_one) in
-        let then = reads_serve slots sectors old was.moment is so_far (calm_sooner a.member.array.geometry before was.moment new at calm) in (
+        let rest : Ran any_call was.moment new =
+        ran_any {allowed = IsReadOf slots sectors} (ran_after {allowed = IsReadOf slots sectors} ran was.is_one) in
+        let then = reads_serve slots sectors old was.moment is so_far (going_sooner before was.moment new upto rest still) in (
           then,
           cell_of was.moment then t i j on (and-true_left (slot_state was.moment j).attached (not (stopped was.moment)) was.ready) stripe row,
         )

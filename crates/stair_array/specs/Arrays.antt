@@ -1,12 +1,17 @@
 -- What the calls of an array answered.
-use Rattle.std.specs.Prelude.{◌≡◌, ◌*◌, ℕ, Option, Some, Result, Ok, Err}
+use Rattle.std.specs.Prelude.{◌≡◌, ◌*◌, ◌/◌, ℕ, List, length, Option, Some, Result, Ok, Err}
+use Rattle.std.specs.Simd.{first_chunks}
+use Rattle.stair_model.specs.CellSet.{CellSet, HasCell}
+use Rattle.stair_model.specs.Device.{cell_sector}
 use Rattle.stair_model.specs.Geometry.{Geometry}
-use Rattle.stair_rack.specs.Telling.{IsLater, Telling}
+use Rattle.stair_model.specs.Stripe.{SECTOR}
+use Rattle.stair_rack.specs.Sector.{Damaged}
+use Rattle.stair_rack.specs.Telling.{IsGone, IsLater, IsReading, Telling}
 use Rattle.stair_member.specs.Membership.{Membership}
 use Rattle.stair_member.specs.declared.fault.FenceFault.{FenceFault}
 use Rattle.stair_session.specs.Courses.{Point, point}
 use Rattle.stair_session.specs.Rebuilding.{Rebuild}
-use Rattle.stair_session.specs.Session.{ArrayState}
+use Rattle.stair_session.specs.Session.{ArrayState, IsLiveIn}
 use Rattle.stair_array.specs.Calls.{CannotHave, IsInPlace}
 use Rattle.stair_array.specs.Faults.{opening_refusal, refusal_for}
 use Rattle.stair_array.specs.Machine.{Refusal}
@@ -41,6 +46,10 @@ answer_as given (Err fault) = Err (refusal_for fault)
 abbrev pub outcome : Result (Unit {0}) ArrayFault → Result (Unit {0}) Refusal
 outcome result = answer_as tt result
 
+-- the blocks that these bytes are, where they are whole blocks
+abbrev pub blocks_of : List ℕ → List (List ℕ)
+blocks_of bytes = first_chunks SECTOR (length bytes / SECTOR) bytes
+
 -- how many cells a stripe has
 abbrev pub cells_of : Geometry → ℕ
 cells_of g = g.r * g.n
@@ -54,3 +63,11 @@ pub record LacksCell (b : ℕ) (x : Point) (now : Telling) : Type 0 where
   pub place : IsInPlace x.member.array.geometry b stripe row chunk
   pub cannot : CannotHave stripe row chunk x (point x.member mid)
   pub later : IsLater mid now
+
+-- one of these cells of stripe t couldn't be had on the way from x: its slot isn't live, it read as bad, or its slot was gone
+pub data LacksOne (t : ℕ) (cells : CellSet) (x : Point) (now : Telling) : Type 0 where
+  NotLive : (i j : ℕ) → HasCell cells i j → ¬ IsLiveIn x.member j → LacksOne t cells x now
+  WasBad : (i j : ℕ) → HasCell cells i j
+      → IsReading j (cell_sector x.member.array.geometry t i) x.told now Damaged
+      → LacksOne t cells x now
+  WasGone : (i j : ℕ) → HasCell cells i j → IsGone j x.told now → LacksOne t cells x now

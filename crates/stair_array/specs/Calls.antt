@@ -9,10 +9,12 @@ use Rattle.stair_model.specs.Device.{cell_sector}
 use Rattle.stair_model.specs.Geometry.{Geometry, block_count, data_cells}
 use Rattle.stair_model.specs.Restoring.{IsRestored, SameHeld}
 use Rattle.stair_model.specs.Stripe.{IsSector, IsStripeOf, IsWellFormed, Stripe, cell}
-use Rattle.stair_rack.specs.Answers.{Ran}
-use Rattle.stair_rack.specs.Reading.{IsReadOf}
+use Rattle.stair_rack.specs.Answers.{Calls}
+use Rattle.stair_rack.specs.History.{Read}
 use Rattle.stair_rack.specs.Sector.{Damaged, Good}
 use Rattle.stair_rack.specs.Telling.{IsGone, IsLater, IsReading}
+use Rattle.stair_rack.specs.declared.rack.Got.{Got}
+use Rattle.stair_rack.specs.declared.rack.Got.TheVariants as got
 use Rattle.stair_super.specs.declared.configuration.Configuration.{Configuration}
 use Rattle.stair_member.specs.declared.fault.FenceFault.{FenceFault}
 use Rattle.stair_member.specs.declared.fault.FenceFault.TheVariants as fence
@@ -60,21 +62,21 @@ pub data LoadsStripe (t : ℕ) (into : Stripe) : Result (Unit {0}) Refusal → P
 
 -- READING
 
--- cell (i, j) of stripe t was asked for, of a live slot
-pub record AsksFor (t i j : ℕ) (x y : Point) : Type 0 where
+-- cell (i, j) of stripe t was asked for, of a live slot, once, and this was answered
+pub record AsksFor (t i j : ℕ) (answer : Got) (x y : Point) : Type 0 where
   pub live : IsLiveIn x.member j
   pub member : y.member ≡ x.member
   pub later : IsLater x.told y.told
-  pub ran : IsTrue y.told.honest → Ran (IsReadOf (λ s. s ≡ j)
-      (λ k. k ≡ cell_sector x.member.array.geometry t i)) x.told.history y.told.history
+  pub called : IsTrue y.told.honest → Calls x.told.history y.told.history j
+      (Read (cell_sector x.member.array.geometry t i) answer)
 
 -- it couldn't be had: its slot isn't live, it read as bad, or the slot was gone
 pub data CannotHave (t i j : ℕ) (x y : Point) : Type 0 where
   NotLive : ¬ IsLiveIn x.member j → y ≡ x → CannotHave t i j x y
-  WasBad : AsksFor t i j x y
+  WasBad : AsksFor t i j got.Bad x y
       → IsReading j (cell_sector x.member.array.geometry t i) x.told y.told Damaged
       → CannotHave t i j x y
-  WasGone : AsksFor t i j x y → IsGone j x.told y.told → CannotHave t i j x y
+  WasGone : AsksFor t i j got.Gone x y → IsGone j x.told y.told → CannotHave t i j x y
 
 -- block b is in range, and cell (i, j) of stripe t
 pub record IsInPlace (g : Geometry) (b t i j : ℕ) : Type 0 where
@@ -86,7 +88,7 @@ pub data Reads (b : ℕ) : Result (List ℕ) Refusal → Point → Point → Typ
   OutOf : (x : Point) → block_count x.member.array.geometry ≤ b
       → Reads b (Err (OutOfRange b (block_count x.member.array.geometry))) x x
   Own : (t i j : ℕ) (bytes : List ℕ) (x y : Point) → IsInPlace x.member.array.geometry b t i j
-      → AsksFor t i j x y
+      → AsksFor t i j got.Good x y
       → IsReading j (cell_sector x.member.array.geometry t i) x.told y.told (Good bytes)
       → Reads b (Ok bytes) x y
   Restored : (t i j : ℕ) (into : Stripe) (x y z : Point) → IsInPlace x.member.array.geometry b t i j

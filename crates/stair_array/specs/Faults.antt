@@ -3,7 +3,7 @@ use Rattle.std.specs.Prelude.{◌≡◌, Option, None, Some, Result, Ok, Err}
 use Rattle.stair_model.specs.Geometry.{Geometry}
 use Rattle.stair_member.specs.declared.fault.FenceFault.{FenceFault}
 use Rattle.stair_member.specs.declared.fault.FenceFault.TheVariants as fence
-use Rattle.stair_array.specs.Machine.{EpochsSpent, JournalLost, Lost, OutOfRange, Refusal, TooFew}
+use Rattle.stair_array.specs.Machine.{EpochsSpent, Frozen, JournalLost, Lost, OutOfRange, Refusal, TooFew}
 use Rattle.stair_array.specs.declared.fault.ArrayFault.{ArrayFault}
 use Rattle.stair_array.specs.declared.fault.ArrayFault.TheVariants as array
 use Rattle.stair_array.specs.declared.fault.RecoverFault.{RecoverFault}
@@ -28,6 +28,7 @@ opening_refusal (recover.JournalLost sector) = Some (JournalLost sector)
 -- the refusal of another call
 abbrev pub refusal_for : ArrayFault → Refusal
 refusal_for (array.OutOfRange asked limit) = OutOfRange asked limit
+refusal_for array.Frozen = Frozen
 refusal_for (array.Lost stripe counts) = Lost stripe counts
 refusal_for (array.TooFew whys) = TooFew whys
 refusal_for array.EpochsSpent = EpochsSpent

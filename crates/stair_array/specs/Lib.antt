@@ -16,4 +16,6 @@ pub mod Openings
 pub mod Mends
 pub mod Promise
 pub mod Arrays
+pub mod WritingSteps
 pub mod Examples
+pub mod Writes

@@ -20,6 +20,7 @@ use Rattle.stair_member.specs.Seats.{Seats, seats_of}
 use Rattle.stair_member.specs.Superblocks.{Counts, HoldsSuper}
 use Rattle.stair_member.specs.Survey.{Surveys}
 use Rattle.stair_member.specs.declared.fault.FenceFault.{FenceFault}
+use Rattle.stair_member.specs.declared.why.Why.{Why}
 use Rattle.stair_member.specs.declared.why.Why.TheVariants as why
 use Rattle.stair_state.specs.Blocks.{AreEncodingsOf, Codewords}
 use Rattle.stair_state.specs.Represents.{IsLargeEnough}
@@ -208,6 +209,22 @@ KeepsRebuild RebuildNext (Ok (Dropped j)) was is =
 KeepsRebuild RebuildNext (Err (TooFew whys)) was is = ⊤
 KeepsRebuild RebuildNext (Err EpochsSpent) was is = ⊤
 KeepsRebuild step answer was is = KeepsProgress was is
+
+-- a rebuild goes on where its slot, which has this reason, is still rebuilt
+abbrev pub rebuild_of : Why → Rebuild → Option Rebuild
+rebuild_of why.Rebuilding rebuild = Some rebuild
+rebuild_of _ rebuild = None
+
+abbrev pub rebuild_after : Membership → Option Rebuild → Option Rebuild
+rebuild_after last None = None
+rebuild_after last (Some rebuild) = rebuild_of (why_of last rebuild.slot) rebuild
+
+-- an array that wasn't stopped, with a rebuild or none; and what is left of one by a step that drops slots at most
+abbrev pub running : Membership → Option Rebuild → ArrayState
+running m rebuild = record { member = m; rebuild = rebuild; stopped = None }
+
+abbrev pub left_of : Membership → Option Rebuild → Option FenceFault → ArrayState
+left_of last rebuild stopped = record { member = last; rebuild = rebuild_after last rebuild; stopped = stopped }
 
 -- what was called, whichever media come back
 abbrev pub Does : (step : Step) → ArrayState → Answer step → Point → Point → Type 0

@@ -1,16 +1,18 @@
-ghost use Rattle.std.specs.Prelude.{◌≡◌, ◌+◌, ◌≤◌, ◌⊎◌, IfErr, IfOk, OnErr, Err, None, Some};
-ghost use Rattle.stair_model.specs.Geometry.{block_count};
+ghost use Rattle.std.specs.Prelude.{◌≡◌, ◌+◌, ◌*◌, ◌/◌, ◌%◌, ◌≤◌, ◌⊎◌, ◌∷◌, [], length, IfErr, IfOk, IsTrue, OnErr, Err, None, Some};
+ghost use Rattle.stair_model.specs.CellSet.{CellSet as Cells, cell_count};
+ghost use Rattle.stair_model.specs.Geometry.{block_count, data_cells};
 ghost use Rattle.stair_rack.specs.RackCounts.{RisesAtMost};
 ghost use Rattle.stair_rack.specs.Told.{told};
 ghost use Rattle.stair_member.specs.Membership.{IsMembership};
 ghost use Rattle.stair_member.specs.declared.fault.FenceFault.{FenceFault as Fault};
+ghost use Rattle.stair_state.specs.Blocks.{AreOfOneStripe};
 ghost use Rattle.stair_session.specs.Courses.{point};
-ghost use Rattle.stair_array.specs.Arrays.{LacksCell, Opens, answer_as, cells_of};
-ghost use Rattle.stair_array.specs.Calls.{Reads};
+ghost use Rattle.stair_array.specs.Arrays.{LacksCell, LacksOne, Opens, answer_as, blocks_of, cells_of, outcome};
+ghost use Rattle.stair_array.specs.Calls.{AreOfBlocks, Reads, WritesBlocks};
 ghost use Rattle.stair_array.specs.Faults.{array_fault};
-ghost use Rattle.stair_array.specs.Machine.{ReadBlock, Recover};
+ghost use Rattle.stair_array.specs.Machine.{ReadBlock, Recover, WriteBlocks, write_block};
 ghost use Rattle.stair_array.specs.News.{AddsNews, no_news};
-ghost use Rattle.stair_array.specs.Promise.{Keeps};
+ghost use Rattle.stair_array.specs.Promise.{Keeps, rebuild_after};
 
 use crate::fault::{ArrayFault, RecoverFault};
 use crate::news::News;
@@ -113,7 +115,7 @@ impl<C: StripeCode> Array<C> {
             (result ≡ Err (array_fault fault)) × (rack.new ≡ rack.old) × (self.new ≡ self.old) }
         ensures past { block_count self.old.member.array.geometry ≤ block → rack.new ≡ rack.old }
         ensures into { OnErr result (into.new ≡ into.old) }
-        ensures rebuild { self.new.rebuild ≡ self.old.rebuild }
+        ensures rebuild { self.new.rebuild ≡ rebuild_after self.new.member self.old.rebuild }
         ensures news { AddsNews (ReadBlock block) (answer_as into.new result) self.old.member.array
             self.new.member.array self.old.news self.new.news }
         ensures once { RisesAtMost 1 (R.reads rack.old) (R.reads rack.new) ⊎
@@ -134,6 +136,93 @@ impl<C: StripeCode> Array<C> {
         loaded?;
         *into = *self.session.stripe.cell(place.row, place.slot);
         Ok(())
+    }
+
+    /// Writes a block: [`write_blocks`](Array::write_blocks) of it alone.
+    pub fn write<R: Rack>(
+        &mut self,
+        rack: &mut R,
+        block: u64,
+        from: &[u8; SECTOR],
+    ) -> Result<(), ArrayFault>
+        ensures told { self.old.stopped ≡ None → WritesBlocks block (from.now ∷ []) (outcome result)
+            (point self.old.member (told R.Rack rack.old))
+            (point self.new.member (told R.Rack rack.new)) }
+        ensures kept { self.old.stopped ≡ None → Keeps (outcome result) self.new.stopped }
+        ensures stopped { (fault : Fault) → self.old.stopped ≡ Some fault →
+            (result ≡ Err (array_fault fault)) × (rack.new ≡ rack.old) × (self.new ≡ self.old) }
+        ensures past { block_count self.old.member.array.geometry ≤ block → rack.new ≡ rack.old }
+        ensures frozen { IsTrue self.old.member.array.frozen → rack.new ≡ rack.old }
+        ensures rebuild { self.new.rebuild ≡ rebuild_after self.new.member self.old.rebuild }
+        ensures news { AddsNews (write_block block from.now) (outcome result) self.old.member.array
+            self.new.member.array self.old.news self.new.news }
+        ensures once { (cells : Cells) → AreOfBlocks self.old.member.array.geometry block 1 cells →
+            RisesAtMost (cell_count cells) (R.reads rack.old) (R.reads rack.new) ⊎
+            LacksOne (block / data_cells self.old.member.array.geometry) cells
+            (point self.old.member (told R.Rack rack.old)) (told R.Rack rack.new) }
+        ensures reads { RisesAtMost (2 * cells_of self.old.member.array.geometry)
+            (R.reads rack.old) (R.reads rack.new) }
+    {
+        // by whose rules one block is of one stripe
+        let _ = self.geometry();
+        self.write_blocks(rack, block, from)
+    }
+
+    /// Writes blocks of one stripe, from block `first` on, as one step: after a crash within it all of them are new, or none
+    /// is. `from` is one or more whole blocks, all of one stripe: `first` modulo u, the blocks of a stripe, and their number
+    /// are together at most u.
+    ///
+    /// Where they fill the stripe nothing is read. Otherwise the cells that change with them are read where they lie, if all
+    /// lie on live slots and can be had; else the stripe is gathered and restored, as for a read. Then these cells are
+    /// journalled and placed, in four phases with a sync each. Slots that were gone are left out.
+    ///
+    /// - `OutOfRange`: the array has no block `first`. No call is made.
+    /// - `Frozen`: the array is frozen. No call is made.
+    /// - `Lost`: as for a read. Nothing is changed, and the array goes on.
+    /// - `TooFew`, `EpochsSpent`: an epoch without slots that were gone was refused. The array is stopped. Its next opening finds
+    ///   all of the blocks new, or none.
+    pub fn write_blocks<R: Rack>(
+        &mut self,
+        rack: &mut R,
+        first: u64,
+        from: &[u8],
+    ) -> Result<(), ArrayFault>
+        requires whole { length from.now % 512 ≡ 0 }
+        requires together { AreOfOneStripe self.old.member.array.geometry first
+            (length from.now / 512) }
+        ensures told { self.old.stopped ≡ None → WritesBlocks first (blocks_of from.now) (outcome result)
+            (point self.old.member (told R.Rack rack.old))
+            (point self.new.member (told R.Rack rack.new)) }
+        ensures kept { self.old.stopped ≡ None → Keeps (outcome result) self.new.stopped }
+        ensures stopped { (fault : Fault) → self.old.stopped ≡ Some fault →
+            (result ≡ Err (array_fault fault)) × (rack.new ≡ rack.old) × (self.new ≡ self.old) }
+        ensures past { block_count self.old.member.array.geometry ≤ first → rack.new ≡ rack.old }
+        ensures frozen { IsTrue self.old.member.array.frozen → rack.new ≡ rack.old }
+        ensures rebuild { self.new.rebuild ≡ rebuild_after self.new.member self.old.rebuild }
+        ensures news { AddsNews (WriteBlocks first (blocks_of from.now)) (outcome result) self.old.member.array
+            self.new.member.array self.old.news self.new.news }
+        ensures unread { length from.now / 512 ≡ data_cells self.old.member.array.geometry →
+            R.reads rack.new ≡ R.reads rack.old }
+        ensures once { (cells : Cells) →
+            AreOfBlocks self.old.member.array.geometry first (length from.now / 512) cells →
+            RisesAtMost (cell_count cells) (R.reads rack.old) (R.reads rack.new) ⊎
+            LacksOne (first / data_cells self.old.member.array.geometry) cells
+            (point self.old.member (told R.Rack rack.old)) (told R.Rack rack.new) }
+        ensures reads { RisesAtMost (2 * cells_of self.old.member.array.geometry)
+            (R.reads rack.old) (R.reads rack.new) }
+    {
+        if let Some(fault) = self.session.stopped {
+            return Err(ArrayFault::from(fault));
+        }
+        self.session.place_of(first)?;
+        if self.session.member.frozen() {
+            return Err(ArrayFault::Frozen);
+        }
+        let (blocks, _) = from.as_chunks::<SECTOR>();
+        let before = self.session.member;
+        let written = self.session.write(rack, &mut self.code, first, blocks);
+        self.news.add_fallen(&before, &self.session.member);
+        written
     }
 
     /// The geometry of the array.

@@ -32,6 +32,8 @@ pub enum RecoverFault {
 pub enum ArrayFault {
     /// The number `asked` is at or past the `limit`.
     OutOfRange { asked: u64, limit: u64 },
+    /// The array is frozen: its blocks aren't written.
+    Frozen,
     /// So many cells of each slot's chunk of this stripe couldn't be had, and they aren't covered.
     Lost { stripe: u32, counts: [u8; 32] },
     /// As in [`FenceFault`]. The array is stopped.

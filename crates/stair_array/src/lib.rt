@@ -9,16 +9,15 @@ pub mod machine;
 mod new_array;
 mod new_device;
 mod news;
-#[cfg(test)]
-mod opening_tests;
 pub mod performs;
 mod reading;
 pub mod reads;
 pub mod recovered;
 mod recovery;
+mod redoing;
 mod session;
-#[cfg(test)]
-mod tests;
+pub mod writes;
+mod writing;
 
 pub use array::Array;
 pub use fault::{ArrayFault, CreateFault, RecoverFault};

@@ -51,7 +51,8 @@ impl Session {
         requires row { place.row < self.now.member.array.geometry.r }
         requires slot { place.slot < self.now.member.array.geometry.n }
         ensures told { MatchBool result
-            (AsksFor place.stripe place.row place.slot (point self.now.member (told R.Rack rack.old))
+            (AsksFor place.stripe place.row place.slot Got.Good
+            (point self.now.member (told R.Rack rack.old))
             (point self.now.member (told R.Rack rack.new)) ×
             IsReading place.slot (sector_of self.now.member.array.geometry place.stripe place.row)
             (told R.Rack rack.old) (told R.Rack rack.new) (Good into.new))

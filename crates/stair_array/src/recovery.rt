@@ -4,23 +4,10 @@ ghost use Rattle.stair_model.specs.Geometry.{Geometry as Numbers};
 ghost use Rattle.stair_model.specs.Slots.{Slots as SlotSet};
 ghost use Rattle.stair_rack.specs.Told.{told};
 ghost use Rattle.stair_member.specs.Establishing.{refusal_of};
-ghost use Rattle.stair_journal.specs.Gate.{closed_gate};
-ghost use Rattle.stair_journal.specs.Journalling.{gate_writes};
 ghost use Rattle.stair_journal.specs.Redo.{IsRedo};
 ghost use Rattle.stair_journal.specs.declared.redo.Redo.{Redo as Cells};
 ghost use Rattle.stair_journal.specs.declared.body.Body.{Body as BodyFound};
-ghost use Rattle.stair_stripes.specs.Placing.{cell_writes};
-ghost use Rattle.stair_state.specs.Redoing.{Placing};
-ghost use Rattle.stair_session.specs.Courses.{
-  AreLive,
-  DoesStage,
-  FindsBody,
-  FindsRedo,
-  Redoes,
-  Replays,
-  TakePart,
-  point,
-};
+ghost use Rattle.stair_session.specs.Courses.{FindsBody, FindsRedo, Replays, point};
 ghost use Rattle.stair_array.specs.Faults.{IsAnsweredAs};
 ghost use Rattle.stair_array.specs.Machine.{Refusal};
 ghost use Rattle.stair_array.specs.Openings.{ClearsJournal, Recovers};
@@ -28,10 +15,9 @@ ghost use Rattle.stair_array.specs.Openings.{ClearsJournal, Recovers};
 use crate::fault::RecoverFault;
 use crate::session::Session;
 use stair_base::Slots;
-use stair_journal::{Body, Gates, Redo, close_gates, open_gates, read_body, read_gates};
+use stair_journal::{Body, Gates, Redo, open_gates, read_body, read_gates};
 use stair_member::FenceFault;
 use stair_rack::Rack;
-use stair_stripes::place;
 
 impl Session {
     // Begins: an epoch shuts out each slot that isn't here, before any gate is read.
@@ -136,48 +122,5 @@ impl Session {
         let gone = open_gates(rack, unopened, &geometry, redo);
         self.leave_out(rack, gone)?;
         self.finish(rack, redo)
-    }
-
-    // Does the last two phases of a redo, whose gates are open.
-    fn finish<R: Rack>(&mut self, rack: &mut R, redo: &Redo) -> Result<(), FenceFault>
-        requires { IsRedo self.old.member.array.geometry redo.now }
-        ensures told { Redoes self.old.member.array.geometry redo.now self.old.stripe Placing
-            (refusal_of result) (point self.old.member (told R.Rack rack.old))
-            (point self.new.member (told R.Rack rack.new)) }
-        ensures geometry { self.new.member.array.geometry ≡ self.old.member.array.geometry }
-        ensures goes_on { OnOk result (self.new.stopped ≡ self.old.stopped) }
-    {
-        self.put_in_place(rack, redo)?;
-        self.close(rack)
-    }
-
-    // Places the cells of a redo on the slots that take part.
-    fn put_in_place<R: Rack>(&mut self, rack: &mut R, redo: &Redo) -> Result<(), FenceFault>
-        requires { IsRedo self.old.member.array.geometry redo.now }
-        ensures told { (to : SlotSet) × TakePart self.old.member to ×
-            DoesStage (cell_writes self.old.member.array.geometry redo.now self.old.stripe) to
-            (refusal_of result) (point self.old.member (told R.Rack rack.old))
-            (point self.new.member (told R.Rack rack.new)) }
-        ensures geometry { self.new.member.array.geometry ≡ self.old.member.array.geometry }
-        ensures goes_on { OnOk result (self.new.stopped ≡ self.old.stopped) }
-    {
-        let geometry = self.member.geometry();
-        let to = self.member.here();
-        let gone = place(rack, &geometry, to, redo, &self.stripe);
-        self.leave_out(rack, gone)
-    }
-
-    // Closes the gates of the live slots.
-    fn close<R: Rack>(&mut self, rack: &mut R) -> Result<(), FenceFault>
-        ensures told { (live : SlotSet) × AreLive self.old.member live ×
-            DoesStage (gate_writes closed_gate) live (refusal_of result)
-            (point self.old.member (told R.Rack rack.old))
-            (point self.new.member (told R.Rack rack.new)) }
-        ensures geometry { self.new.member.array.geometry ≡ self.old.member.array.geometry }
-        ensures goes_on { OnOk result (self.new.stopped ≡ self.old.stopped) }
-    {
-        let live = self.live();
-        let gone = close_gates(rack, live);
-        self.leave_out(rack, gone)
     }
 }

@@ -3,4 +3,5 @@ pub mod GlobalCounts
 pub mod RowScan
 pub mod CoverageScan
 pub mod RestRows
+pub mod CellRows
 pub mod SlotLemmas

@@ -13,6 +13,7 @@ pub use place::Place;
 pub use sets::{CellSet, Slots};
 pub use stripe::{SECTOR, Stripe};
 
+mod cells;
 mod code;
 mod coverage;
 mod device;

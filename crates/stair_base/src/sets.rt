@@ -147,6 +147,19 @@ impl CellSet {
         self.rows[usize::from(row)].has(slot)
     }
 
+    /// The cells that are in this set or in the other one.
+    pub fn union(&self, other: &CellSet) -> CellSet
+        ensures members { (i j : ℕ) →
+            HasCell result i j ↔ (HasCell self.now i j ⊎ HasCell other.now i j) }
+        ensures well_formed { IsCellSet result }
+    {
+        let mut both = *self;
+        for row in 0..32 {
+            both.rows[row] = both.rows[row].union(&other.rows[row]);
+        }
+        both
+    }
+
     /// How many cells are in the set, at most 1,024.
     pub fn count(&self) -> u16
         ensures value { result ≡ cell_count self.now }

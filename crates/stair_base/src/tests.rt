@@ -30,6 +30,25 @@ fn geometry_names_the_first_broken_limit(rt: HostRuntime) {
     }
 }
 
+#[test]
+fn cells_of_a_stripe_and_of_two_sets(rt: HostRuntime) -> Result<(), Fail> {
+    let geometry = Geometry::new(4, 1, 2, &[1], 3, [0; 16])?;
+    let cells = geometry.cells();
+    assert_eq!(rt; cells.count(), 8);
+    assert!(rt; cells.has(0, 0) && cells.has(1, 3) && !cells.has(2, 0) && !cells.has(0, 4));
+    let mut one = CellSet::empty();
+    one.add(0, 1);
+    one.add(31, 31);
+    let mut other = CellSet::empty();
+    other.add(0, 1);
+    other.add(31, 30);
+    let both = one.union(&other);
+    assert_eq!(rt; both.count(), 3);
+    assert!(rt; both.has(0, 1) && both.has(31, 31) && both.has(31, 30));
+    assert_eq!(rt; both, other.union(&one));
+    Ok(())
+}
+
 // Worked by hand: 1/3 is F4, and the global parity g meets (1/3)(1/6)·g = (1/2)(1/4), so g is 46.
 #[test]
 fn first_broken_equations_of_known_stripes(rt: HostRuntime) -> Result<(), Fail> {

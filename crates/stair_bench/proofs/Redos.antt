@@ -1,23 +1,24 @@
 -- Redos of stripe 0: of all its cells, and of the dependents of one.
 use Rattle.std.proofs.Common.{◌≡◌, ℕ, ◌<◌, arith}
+use Rattle.std.specs.Prelude.{◌↔◌}
 use Rattle.stair_model.specs.Cell.{Data, cell_at}
-use Rattle.stair_model.specs.CellSet.{CellSet, IsCellSet}
+use Rattle.stair_model.specs.CellSet.{CellSet, HasCell, IsCellSet}
 use Rattle.stair_model.specs.Dependents.{AreDependents}
 use Rattle.stair_model.specs.Geometry.{Geometry, IsWithinLimits}
 use Rattle.stair_model.proofs.DependentLaws.{dependent_itself}
 use Rattle.stair_journal.specs.Redo.{IsRedo}
-use Rattle.stair_stripes.proofs.CellLemmas.{HasRows}
 
 -- each stripe has a cell
 pub redo_of_all :
-    (g : Geometry) (cells : CellSet) → IsWithinLimits g → HasRows g.n g.r cells → IsRedo g (record { stripe = 0; cells = cells })
-redo_of_all g cells limits all = record {
+    (g : Geometry) (cells : CellSet) → IsWithinLimits g → ((i j : ℕ) → HasCell cells i j ↔ ((i < g.r) × (j < g.n))) → IsCellSet cells
+    → IsRedo g (record { stripe = 0; cells = cells })
+redo_of_all g cells limits members formed = record {
   stripe_in = omega (arith, limits.size.0);
-  formed = all.formed;
-  inside = λ i j. (all.members i j).0;
+  formed = formed;
+  inside = λ i j. (members i j).0;
   row = 0;
   slot = 0;
-  some = (all.members 0 0).1 (omega (arith, limits.rows.0), omega (arith, limits.devices.0));
+  some = (members 0 0).1 (omega (arith, limits.rows.0), omega (arith, limits.devices.0));
 }
 
 -- a data cell is one of its dependents

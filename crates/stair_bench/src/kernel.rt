@@ -1,6 +1,7 @@
 ghost use Rattle.std.specs.Prelude.{◌*◌, ◌<◌, ◌≤◌};
 
 use crate::layout::Layout;
+use crate::writes::Part;
 use stair_codec::By;
 use std::fmt;
 
@@ -98,6 +99,8 @@ pub(crate) enum Kernel {
     CreateArray,
     /// The middle block of a stripe on image files, set to other bytes by a redo.
     Redo(Layout),
+    /// Blocks of a stripe of an array on image files.
+    WriteBlocks(Part, Layout),
 }
 
 impl Kernel {
@@ -137,13 +140,16 @@ impl Kernel {
     ];
 
     /// Those over image files.
-    const OVER_FILES: [Kernel; 6] = [
+    const OVER_FILES: [Kernel; 9] = [
         Kernel::WriteSectors,
         Kernel::ReadSectors,
         Kernel::WriteAll(Devices::Eight),
         Kernel::WriteAll(Devices::ThirtyTwo),
         Kernel::CreateArray,
         Kernel::Redo(Layout::EightDevices),
+        Kernel::WriteBlocks(Part::Block, Layout::EightDevices),
+        Kernel::WriteBlocks(Part::Stripe, Layout::EightDevices),
+        Kernel::WriteBlocks(Part::EachBlock, Layout::EightDevices),
     ];
 
     /// What it does, and the numbers that it does it for.
@@ -163,6 +169,7 @@ impl Kernel {
             Kernel::WriteAll(devices) => ("write-all", devices.name()),
             Kernel::CreateArray => ("create", "array"),
             Kernel::Redo(layout) => ("redo", layout.name()),
+            Kernel::WriteBlocks(part, layout) => (part.name(), layout.name()),
         }
     }
 

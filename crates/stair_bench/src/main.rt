@@ -13,6 +13,7 @@ mod restoring;
 mod rounds;
 mod sectors;
 mod varied;
+mod writes;
 
 use fault::Fault;
 use kernel::Kernel;
@@ -47,7 +48,7 @@ fn read_request(rt: &HostRuntime) -> Result<Request, Fault> {
     }
 }
 
-/// Runs the rounds of a kernel, and prints its name, the check of what it made, and the calls of a redo.
+/// Runs the rounds of a kernel, and prints its name, the check of what it made, and the calls of redos.
 fn print_made(rt: &HostRuntime, kernel: Kernel, rounds: u32) -> Result<(), Fault> {
     match make_rounds(rt, rt.alloc(), kernel, rounds)? {
         Made::Check(check) => println!(rt; "{kernel} {check:016x}"),

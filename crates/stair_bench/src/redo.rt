@@ -1,9 +1,7 @@
 // Redos of a block's dependents, on image files.
-ghost use Rattle.std.specs.Prelude.{◌≡◌, ◌<◌, ◌⊎◌, ◌↔◌, ℕ};
-ghost use Rattle.stair_model.specs.CellSet.{HasCell, IsCellSet};
+ghost use Rattle.std.specs.Prelude.{◌≡◌, ◌<◌};
 ghost use Rattle.stair_model.specs.Stripe.{IsStripeOf};
 ghost use Rattle.stair_journal.specs.Redo.{IsRedo};
-ghost use Rattle.stair_stripes.specs.Gathering.{IsCellOf};
 
 use crate::check::check_of_stripe;
 use crate::counting::{Calls, Counting};
@@ -43,7 +41,7 @@ where
     codec.encode(&mut stripe, &mut steps);
     let mut rack = FileRack::at(rt, alloc, ".", Access::Writing)?;
     let live = attach_first(&mut rack, geometry.n())?;
-    redo_once(&mut rack, geometry, live, all_cells(geometry), &stripe)?;
+    redo_once(&mut rack, geometry, live, geometry.cells(), &stripe)?;
     let middle = middle_block(geometry);
     codec.update(
         &mut stripe,
@@ -60,31 +58,6 @@ where
     let calls = rack.calls();
     let check = check_of_gathering(&mut rack, alloc, geometry, live)?;
     Ok((check, calls))
-}
-
-/// Every cell of a stripe, for a redo of stripe 0.
-fn all_cells(geometry: &Geometry) -> CellSet
-    ensures members { (i j : ℕ) → HasCell result i j ↔ IsCellOf geometry.now i j }
-    ensures redo { IsRedo geometry.now (record { stripe = 0; cells = result }) }
-{
-    let mut cells = CellSet::empty();
-    for row in 0..geometry.r() {
-        add_row(geometry, &mut cells, row);
-    }
-    cells
-}
-
-/// Adds the cells of this row.
-fn add_row(geometry: &Geometry, cells: &mut CellSet, row: u8)
-    requires row_in { row < 32 }
-    requires formed { IsCellSet cells.old }
-    ensures members { (i j : ℕ) →
-        HasCell cells.new i j ↔ (HasCell cells.old i j ⊎ ((i ≡ row) × (j < geometry.now.n))) }
-    ensures formed { IsCellSet cells.new }
-{
-    for slot in 0..geometry.n() {
-        cells.add(row, slot);
-    }
 }
 
 /// Changes these cells of stripe 0 to those of `stripe`, by a redo.

@@ -11,6 +11,7 @@ use crate::redo::check_of_redoing;
 use crate::restoring::check_of_restoring;
 use crate::sectors::{check_of_reading, check_of_sealing, check_of_writing, check_of_writing_all};
 use crate::varied::varied;
+use crate::writes::check_of_block_writes;
 use stair_base::SECTOR;
 use stair_filerack::Lock;
 use stair_gf::{Steps, mul_add};
@@ -24,7 +25,7 @@ use std::sync::ledger::{Blank, Ledger};
 pub(crate) enum Made {
     /// Something with this check.
     Check(u64),
-    /// A stripe with this check, by so many calls.
+    /// Cells or blocks with this check, by so many calls.
     Redone(u64, Calls),
 }
 
@@ -65,6 +66,11 @@ where
         Kernel::Redo(layout) => {
             let geometry = layout.geometry();
             let (check, calls) = check_of_redoing::<F, Brand>(rt, alloc, &geometry, rounds, steps)?;
+            return Ok(Made::Redone(check, calls));
+        }
+        Kernel::WriteBlocks(part, layout) => {
+            let geometry = layout.geometry();
+            let (check, calls) = check_of_block_writes(rt, alloc, &geometry, part, rounds)?;
             return Ok(Made::Redone(check, calls));
         }
     };

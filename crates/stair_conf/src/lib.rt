@@ -1,6 +1,7 @@
 //! What the words of a command line say, and what a geometry text says.
 //!
-//! [`read_words`] reads a command and its numbers, or refuses the words. [`read_config`] reads the geometry of an array.
+//! [`read_words`] reads a command and its numbers, or refuses the words. [`read_number`] reads one number, and [`read_config`]
+//! the geometry of an array.
 #![tactic(auto)]
 
 mod commands;
@@ -19,5 +20,6 @@ pub use config::read_config;
 pub use fault::{ConfigFault, WordsFault};
 pub use job::{Job, Method, StripeCommand};
 pub use key::Key;
+pub use matches::read_number;
 pub use numbers::Numbers;
 pub use words::read_words;

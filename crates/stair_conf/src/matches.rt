@@ -91,8 +91,8 @@ fn read_numbers(alloc: Global, words: &[&str]) -> Result<Numbers, WordsFault>
     Ok(Numbers::new(numbers))
 }
 
-// Reads one number, exactly where the word is its decimal text.
-fn read_number(word: &str) -> Option<u64>
+/// Reads a number, exactly where the word is its decimal text, with no sign and no leading zero, and it is below 2^64.
+pub fn read_number(word: &str) -> Option<u64>
     ensures { (n : ℕ) → (result ≡ Some n) ↔ IsNumber word.now n }
 {
     if begins_number(word.as_bytes()) {

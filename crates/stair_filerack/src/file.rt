@@ -11,7 +11,7 @@ ghost use Rattle.stair_filerack.specs.Slot.{opened, file_after_write};
 use crate::access::Access;
 use crate::lock::{Lock, Locking};
 use crate::reason::{Reason, is_bad_sector, keep_first};
-use stair_image::{SECTOR_BYTES, Sealed, unseal};
+use stair_image::{SECTOR_BYTES, Seals, unseal};
 use stair_rack::{Got, Reply, read_retrying};
 use std::fs::{Files, Metadata, OpenFile, OpenOptions};
 use std::io::{Read, Seek, SeekFrom, Write};
@@ -188,7 +188,7 @@ pub(crate) fn write<T: Write + Seek + Drop>(
     sectors: u32,
     sector: u32,
     from: &[u8; 512],
-    last: &mut Sealed,
+    seals: &mut Seals,
 ) -> Reply
     ensures done { result ≡ Reply.Done →
         GoesOn (WritesSector T.stream_position T.contents sector from.now) file.old file.new }
@@ -207,7 +207,7 @@ pub(crate) fn write<T: Write + Seek + Drop>(
     if sectors <= sector {
         return Reply::Gone;
     }
-    let reply = reply_of(write_sector(image, access, sector, from, last), reason);
+    let reply = reply_of(write_sector(image, access, sector, from, seals), reason);
     if reply == Reply::Gone {
         *file = None;
     }
@@ -290,7 +290,7 @@ fn write_sector<T: Write + Seek>(
     access: Access,
     sector: u32,
     from: &[u8; 512],
-    last: &mut Sealed,
+    seals: &mut Seals,
 ) -> Result<(), Reason>
     ensures done { OnOk result (WritesSector T.stream_position T.contents sector from.now image.old
         image.new) }
@@ -300,8 +300,7 @@ fn write_sector<T: Write + Seek>(
         return Err(Reason::OpenForReading);
     }
     find_sector(image, sector)?;
-    last.seal(u64::from(sector), from);
-    image.file.write_all(last.sector())?;
+    image.file.write_all(seals.seal(u64::from(sector), from))?;
     image.next = Some(u64::from(sector) + 1);
     Ok(())
 }

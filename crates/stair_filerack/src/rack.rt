@@ -11,7 +11,7 @@ use crate::access::Access;
 use crate::lock::Lock;
 use crate::reason::Reason;
 use crate::slot::Slot;
-use stair_image::Sealed;
+use stair_image::Seals;
 use stair_rack::{Got, Rack, Reply};
 use std::alloc::{AllocError, Global};
 use std::fs::Files;
@@ -36,8 +36,8 @@ pub struct FileRack<F: Files> {
     runtime: F,
     access: Access,
     slots: Vec<Slot<F::File>>,
-    // The sector that was written last, of whatever slot.
-    last: Sealed,
+    // The sectors that were written last, of whatever slot.
+    seals: Seals,
     bads: u64,
 }
 
@@ -65,7 +65,7 @@ impl<F: Files + Drop> FileRack<F>
 where
     F::File: Lock,
 {
-    /// A rack over the image files of this folder. It makes their 32 paths, and opens nothing.
+    /// A rack over the image files of this folder. It makes their 32 paths and room for sealed sectors, and opens nothing.
     pub fn at(rt: F, alloc: Global, folder: &str, access: Access) -> Result<FileRack<F>, AllocError>
         ensures access { IfOk result (λ rack. rack.access ≡ access) }
         ensures bads { IfOk result (λ rack. rack.bads ≡ 0) }
@@ -81,7 +81,7 @@ where
             runtime: rt,
             access,
             slots,
-            last: Sealed::new(),
+            seals: Seals::new(alloc)?,
             bads: 0,
         })
     }
@@ -263,7 +263,7 @@ where
         ensures reason { result ≡ Reply.Gone → IsSome (slot_at self.old slot).file →
             sector < (slot_at self.old slot).sectors → IsSome (slot_at self.new slot).reason }
     {
-        self.slots[usize::from(slot)].write(self.access, sector, from, &mut self.last)
+        self.slots[usize::from(slot)].write(self.access, sector, from, &mut self.seals)
     }
 
     fn sync(&mut self, slot: u8) -> Reply

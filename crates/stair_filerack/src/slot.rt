@@ -11,7 +11,7 @@ use crate::file;
 use crate::file::{Found, Opened};
 use crate::lock::Lock;
 use crate::reason::{Reason, keep_first};
-use stair_image::Sealed;
+use stair_image::Seals;
 use stair_rack::{Got, Reply};
 use std::fs::{Files, OpenFile};
 use std::io;
@@ -174,13 +174,13 @@ impl<T: Read + Write + Seek + OpenFile + Lock + Drop> Slot<T> {
         got
     }
 
-    /// Writes a sector, which is sealed unless it was the last one that was.
+    /// Writes a sector, sealed.
     pub(crate) fn write(
         &mut self,
         access: Access,
         sector: u32,
         from: &[u8; 512],
-        last: &mut Sealed,
+        seals: &mut Seals,
     ) -> Reply
         ensures done { result ≡ Reply.Done →
             GoesOn (WritesSector T.stream_position T.contents sector from.now)
@@ -198,7 +198,7 @@ impl<T: Read + Write + Seek + OpenFile + Lock + Drop> Slot<T> {
         ensures gone { result ≡ Reply.Gone → Rose self.old.gones self.new.gones }
     {
         let (file, reason) = (&mut self.file, &mut self.reason);
-        let reply = file::write(file, reason, access, self.sectors, sector, from, last);
+        let reply = file::write(file, reason, access, self.sectors, sector, from, seals);
         if reply == Reply::Gone {
             self.gones = self.gones.saturating_add(1);
         }

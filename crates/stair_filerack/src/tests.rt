@@ -4,7 +4,7 @@ use crate::file::{counted, open};
 use crate::slot::Slot;
 use crate::{Access, FileRack, Reason};
 use faulty::{Fault, FaultyFile};
-use stair_image::Sealed;
+use stair_image::Seals;
 use stair_rack::{Got, Rack, Reply};
 use std::io::ErrorKind;
 use std::test::Fail;
@@ -141,7 +141,7 @@ fn files_with_a_fault(rt: HostRuntime) -> Result<(), Fail> {
         fs::write(&rt, path, &[0; 544])?;
         let inner = open(&rt, Access::Writing, path)?.file;
         let mut slot = Slot::new(String::from_str(rt.alloc(), path)?);
-        let mut last = Sealed::new();
+        let mut seals = Seals::new(rt.alloc())?;
         let file = FaultyFile {
             inner,
             fault,
@@ -155,7 +155,7 @@ fn files_with_a_fault(rt: HostRuntime) -> Result<(), Fail> {
         );
         assert_eq!(rt; slot.read(0, &mut [0; 512]), first, "{fault:?}");
         assert_eq!(rt;
-            slot.write(writing, 0, &[2; 512], &mut last),
+            slot.write(writing, 0, &[2; 512], &mut seals),
             written,
             "{fault:?}"
         );

@@ -7,7 +7,7 @@ use std::marker::Model;
 
 /// A sealed sector that is sealed once for all writes of the same payload under the same number, as where each device of an
 /// array gets the same sector: the tag takes far longer than a look at the payload.
-#[derive(Drop)]
+#[derive(Clone, Drop)]
 pub struct Sealed {
     number: u64,
     sector: [u8; 544],

@@ -1,12 +1,13 @@
 //! Sealed sectors: a sector of an image file is 512 bytes of payload and a tag of 32 bytes, by which a sector that was
 //! damaged, torn or put in another place is told from a good one.
 //!
-//! The tag is SHA-256 (FIPS 180-4) over the sector's number as eight bytes, big-endian, followed by the payload. No call
-//! takes memory.
+//! The tag is SHA-256 (FIPS 180-4) over the sector's number as eight bytes, big-endian, followed by the payload. [`Seals::new`]
+//! alone takes memory.
 #![tactic(auto)]
 
 mod last;
 pub mod laws;
+mod seals;
 #[cfg(test)]
 mod tests;
 
@@ -15,6 +16,7 @@ ghost use Rattle.std.specs.Option.{SomeIff};
 ghost use Rattle.stair_image.specs.Seal.{tag_of, sealed, payload_in, IsSealed};
 
 pub use last::Sealed;
+pub use seals::Seals;
 use sha2::{Digest, Sha256};
 
 /// The bytes of a payload.

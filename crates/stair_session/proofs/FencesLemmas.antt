@@ -98,7 +98,7 @@ module _ (leaving : Slots) (before : List Happening) (a : ArrayState) (last : Me
 -- SLOTS THAT ARE LEFT OUT
 
 -- where nothing is done the array goes on as it was
-stays_open : (before : List Happening) (a : ArrayState) (words : Codewords) (h : List Happening) → IsOpenWith before a words h
+pub stays_open : (before : List Happening) (a : ArrayState) (words : Codewords) (h : List Happening) → IsOpenWith before a words h
     → IsOpenWith before (led_to a a.member) words h
 stays_open before a words h is =
     rebuilds_on before a (led_to a a.member) words h is refl

@@ -82,7 +82,7 @@ module _ (a : Redoing) (stage : Stage) (redoing : (stage ≡ AtRest) ⊎ IsRedoi
   used_before j used = (used.0, attached_on old.history c j (free_of j) used.1)
 
   -- the slots are as they were
-  found : AreFound a stage start m c
+  pub found : AreFound a stage start m c
   found = record {
     own = λ j here. own_on old.history c j (free_of j) returned (way.epoch.own j here);
     cells =
@@ -101,7 +101,7 @@ module _ (a : Redoing) (stage : Stage) (redoing : (stage ≡ AtRest) ⊎ IsRedoi
 
   -- THE SUPERBLOCKS
 
-  abbrev f : IsFencing Fence e.establishes.gone e.start last old.history c new.history
+  abbrev pub f : IsFencing Fence e.establishes.gone e.start last old.history c new.history
   f = fencing leaving m last answer old new way.epoch were_here e honest c at returned
 
   promoted : (slot : ℕ) → Fence ≡ Promote slot → IsHere e.start slot
@@ -130,14 +130,14 @@ module _ (a : Redoing) (stage : Stage) (redoing : (stage ≡ AtRest) ⊎ IsRedoi
       {Q = λ j. (admitted Fence ≢ Some j) × HasReached m.array.geometry image m.array.epoch j} (λ j below has. ((λ never. cc), has.1))
       (way.epoch.reached image left))
 
-  prepared : IsPrepared Fence e.start old.history
+  pub prepared : IsPrepared Fence e.start old.history
   prepared = record { promoted = promoted; own = in_use; large = large; reached = reached }
 
-  abbrev NewlyOut : ℕ → Type 0
+  abbrev pub NewlyOut : ℕ → Type 0
   NewlyOut = IsLeftOut Fence e.establishes.gone e.start last old.history c new.history f prepared going
 
   -- slots that leave are out besides those that a new epoch has left out
-  abbrev IsOut : ℕ → Type 0
+  abbrev pub IsOut : ℕ → Type 0
   IsOut j = NewlyOut j ⊎ HasSlot leaving j
 
   module _ (image : Image) (left : CrashMayLeave c image) where
@@ -167,7 +167,7 @@ module _ (a : Redoing) (stage : Stage) (redoing : (stage ≡ AtRest) ⊎ IsRedoi
               subst (λ (x : Configuration). ¬ BearsFor x.geometry image j) e.leaves.array (without.bare j out (e.leaves.others j stays ∙ up))
         ]
 
-    with_leaving : IsChanging Fence IsOut m image
+    pub with_leaving : IsChanging Fence IsOut m image
     with_leaving = record {
       orderly = subst (λ (x : Configuration). IsOrderly x.geometry image) e.leaves.array without.orderly;
       names = λ j s bears.

@@ -61,3 +61,4 @@ pub mod SteadyEndLemmas
 pub mod RecoveryEndLemmas
 pub mod FirstEpochLemmas
 pub mod DecidedLemmas
+pub mod CutOffLemmas

@@ -17,6 +17,7 @@ use Rattle.stair_member.specs.Counting.{AtMost}
 use Rattle.stair_member.specs.Current.{IsCurrent, IsFailed, IsLive}
 use Rattle.stair_member.specs.Membership.{Membership, why_of}
 use Rattle.stair_member.specs.Reserve.{BearsFor}
+use Rattle.stair_member.specs.Superblocks.{IsOnlyIdentity}
 use Rattle.stair_member.specs.declared.aim.Aim.{Aim}
 use Rattle.stair_member.specs.declared.aim.Aim.TheVariants as aims
 use Rattle.stair_member.specs.declared.why.Why.{Why}
@@ -200,38 +201,45 @@ module _ (aim : Aim) (left_out : ℕ → Type 0) (m : Membership) (settled : IsS
           | inr down ↦ let never : mark.Rebuilding ≡ mark.Down = sym marked ∙ down.1 in absurd (cc)
         ]
 
-    -- an image by itself
+    -- an image by itself, whose current superblock names the member's epoch or a new one
+    module _ (first : Superblock) (image : Image) (current : Superblock) (is_current : IsCurrent m.array.geometry image current)
+        (now : IsNow aim left_out m current.array) (there : AreInStage aim m a stage image) where
+      up : (j : ℕ) → IsLive m.array.geometry image current j → aimed aim j (why_of m j) ≡ Here
+      up j live = live_aimed aim left_out m settled current.array j live.below now live.marked
+
+      bears : (j : ℕ) → IsLive m.array.geometry image current j → BearsFor m.array.geometry image j
+      bears j live = record { super = live.super; bears = counts_bears m.array.geometry image j live.super live.counts }
+
+      pub image_now_midway : IsOnlyIdentity m.array.geometry image → (stage ≡ Placing → HasGate (IsLive m.array.geometry image current) image)
+          → ImageRepresents (state first) (encodings first) image
+      image_now_midway identity gate = record {
+        identity = identity;
+        current = current;
+        is_current = is_current;
+        full = λ j live. there.large j (up j live) (bears j live);
+        form =
+            form_of a stage (IsLive m.array.geometry image current) image redoing gate
+            (is_left_in a stage (IsLive m.array.geometry image current) image (λ j live. there.each j (up j live) (bears j live)));
+        rebuilding = λ j other rebuilt opened.
+            there.shut j (rebuilding_is current.array j rebuilt.below now rebuilt.marked)
+            (record { super = rebuilt.super; bears = counts_bears m.array.geometry image j rebuilt.super rebuilt.counts }) other opened;
+        frozen = frozen_is current.array now;
+        label = label_is current.array now;
+      }
+
+    -- as it does within tolerance
     pub image_midway : (first : Superblock) (image : Image) → IsChanging aim left_out m image → IsToleratedAlone m.array.geometry image
         → AreInStage aim m a stage image → ImageRepresents (state first) (encodings first) image
-    image_midway first image is tolerated there = record {
-      identity = tolerated.identity;
-      current = tolerated.current;
-      is_current = tolerated.is_current;
-      full = λ j live. there.large j (up j live) (bears j live);
-      form =
-          form_of a stage (IsLive m.array.geometry image tolerated.current) image redoing
-          (λ is_placing. record {
-            slot = tolerated.journal_slot;
-            among = tolerated.journal.serves.live;
-            kept =
-                journal_gate (λ j. (image j).size ≡ None) m.array.geometry image tolerated.current tolerated.journal_slot tolerated.journal;
-          })
-          (is_left_in a stage (IsLive m.array.geometry image tolerated.current) image (λ j live. there.each j (up j live) (bears j live)));
-      rebuilding = λ j other rebuilt opened.
-          there.shut j (rebuilding_is tolerated.current.array j rebuilt.below now rebuilt.marked)
-          (record { super = rebuilt.super; bears = counts_bears m.array.geometry image j rebuilt.super rebuilt.counts }) other opened;
-      frozen = frozen_is tolerated.current.array now;
-      label = label_is tolerated.current.array now;
-    }
-      where
-        now : IsNow aim left_out m tolerated.current.array
-        now = current_now aim left_out m {offline = λ j. (image j).size ≡ None} image tolerated.current is tolerated.is_current tolerated.few
-
-        up : (j : ℕ) → IsLive m.array.geometry image tolerated.current j → aimed aim j (why_of m j) ≡ Here
-        up j live = live_aimed aim left_out m settled tolerated.current.array j live.below now live.marked
-
-        bears : (j : ℕ) → IsLive m.array.geometry image tolerated.current j → BearsFor m.array.geometry image j
-        bears j live = record { super = live.super; bears = counts_bears m.array.geometry image j live.super live.counts }
+    image_midway first image is tolerated there =
+        image_now_midway first image tolerated.current tolerated.is_current
+        (current_now aim left_out m {offline = λ j. (image j).size ≡ None} image tolerated.current is tolerated.is_current tolerated.few) there
+        tolerated.identity
+        (λ is_placing. record {
+          slot = tolerated.journal_slot;
+          among = tolerated.journal.serves.live;
+          kept =
+              journal_gate (λ j. (image j).size ≡ None) m.array.geometry image tolerated.current tolerated.journal_slot tolerated.journal;
+        })
 
     -- A rack over an image represents the state, with the marks of the image's current superblock.
     module _ (image : Image) (is : IsChanging aim left_out m image) (tolerated : IsToleratedAlone m.array.geometry image)

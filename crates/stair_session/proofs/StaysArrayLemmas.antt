@@ -13,7 +13,7 @@ use Rattle.stair_super.specs.declared.mark.Mark.TheVariants.{Down}
 use Rattle.stair_member.specs.Aims.{IsAimed, mark_for}
 use Rattle.stair_member.specs.Establishing.{Did, Fences, HasBegun, NotYet}
 use Rattle.stair_member.specs.Membership.{IsMarkedFor, IsMembership, Membership, why_of}
-use Rattle.stair_member.specs.Seats.{Seat}
+use Rattle.stair_member.specs.Seats.{Seat, Seats}
 use Rattle.stair_member.specs.declared.aim.Aim.TheVariants.{Fence}
 use Rattle.stair_member.specs.declared.fault.FenceFault.{FenceFault}
 use Rattle.stair_member.specs.declared.why.Why.{Why}
@@ -35,6 +35,9 @@ drop_again a b c (inl same) (inl again) = inl (again ∙ same)
 drop_again a b c (inl same) (inr fell) = inr (subst (λ (x : Seat). x.mark ≢ Down) same fell.0, fell.1)
 drop_again a b c (inr fell) (inl again) = inr (fell.0, again ∙ fell.1)
 drop_again a b c (inr fell) (inr twice) = absurd (twice.0 (ap (λ (x : Seat). x.mark) fell.1))
+
+pub drops_twice : (a b c : Seats) → EachMayDrop a b → EachMayDrop b c → EachMayDrop a c
+drops_twice a b c first second j = drop_again (a j) (b j) (c j) (first j) (second j)
 
 -- An epoch that is for a fence gives a slot the seat that it had, or drops it.
 module _ (gone : ℕ → Type 0) (m : Membership) (named : Configuration) (of_old : IsListed m.array) (of_new : IsListed named)
@@ -89,7 +92,7 @@ stays_again a b c first second = record {
   geometry = second.geometry ∙ first.geometry;
   frozen = second.frozen ∙ first.frozen;
   label = second.label ∙ first.label;
-  seats = λ j. drop_again (seats_in a.array j) (seats_in b.array j) (seats_in c.array j) (first.seats j) (second.seats j);
+  seats = drops_twice (seats_in a.array) (seats_in b.array) (seats_in c.array) first.seats second.seats;
 }
 
 -- whether the epoch stands or not

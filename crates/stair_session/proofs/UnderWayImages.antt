@@ -84,7 +84,7 @@ module _ (a : Redoing) (stage : Stage) (redoing : (stage ≡ AtRest) ⊎ IsRedoi
       subst (λ (g : Geometry). LeftIn (over a g) stage image j) geometry
       (slot_left a stage start h image j left (found.same j used) (slot_in a stage (IsInUse m h) start h found.cells j used))
 
-  in_stage : AreInStage Fence m (doing m a.redo a.old a.new) stage image
+  pub in_stage : AreInStage Fence m (doing m a.redo a.old a.new) stage image
   in_stage = record {
     each = λ j up for. part_of j up for;
     large = λ j up for.
@@ -102,7 +102,7 @@ module _ (a : Redoing) (stage : Stage) (redoing : (stage ≡ AtRest) ⊎ IsRedoi
         ];
   }
 
-  of_stage : (content : Content) (change : Option Change) → IsOfRedo a m content change
+  pub of_stage : (content : Content) (change : Option Change) → IsOfRedo a m content change
       → IsOfStage Fence m (doing m a.redo a.old a.new) stage (content_in stage content change) (doubt_in stage change)
   of_stage content change of = record {
     old_are = subst (λ (g : Geometry). AreEncodingsOf g (content_in stage content change).blocks (old_in a stage)) geometry (old_are stage);
@@ -175,16 +175,18 @@ kept_aimed m marks out array named j below =
     by mark.Rebuilding is same = stays mark.Rebuilding is (λ down. cc) same
 
 -- and so does what is current in an image
+pub now_keeps : (m : Membership) → ((j : ℕ) → j < m.array.geometry.n → mark_in m.array j ≡ mark_for (why_of m j)) → (left_out : ℕ → Type 0)
+    → (array : Configuration) → IsNow Fence left_out m array → AreKept m.array.geometry m.array array
+now_keeps m marks left_out array (AsBefore same) = λ j below.
+    inl (ap (λ (c : Configuration). mark_in c j) same, ap (λ (c : Configuration). joined_in c j) same)
+now_keeps m marks left_out array (New above named) = kept_aimed m marks left_out array named
+
 pub image_keeps : (m : Membership) → ((j : ℕ) → j < m.array.geometry.n → mark_in m.array j ≡ mark_for (why_of m j)) → (left_out : ℕ → Type 0)
     → (image : Image) → IsChanging Fence left_out m image → (tolerated : IsToleratedAlone m.array.geometry image)
     → AreKept m.array.geometry m.array tolerated.current.array
 image_keeps m marks left_out image is tolerated =
-    by (current_now Fence left_out m {offline = λ j. (image j).size ≡ None} image tolerated.current is tolerated.is_current tolerated.few)
-  where
-    by : IsNow Fence left_out m tolerated.current.array → AreKept m.array.geometry m.array tolerated.current.array
-    by (AsBefore same) = λ j below.
-        inl (ap (λ (c : Configuration). mark_in c j) same, ap (λ (c : Configuration). joined_in c j) same)
-    by (New above named) = kept_aimed m marks left_out tolerated.current.array named
+    now_keeps m marks left_out tolerated.current.array
+    (current_now Fence left_out m {offline = λ j. (image j).size ≡ None} image tolerated.current is tolerated.is_current tolerated.few)
 
 -- BETWEEN EPOCHS
 

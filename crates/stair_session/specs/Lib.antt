@@ -12,3 +12,4 @@ pub mod NewSession
 pub mod UnderWay
 pub mod Leading
 pub mod Opening
+pub mod CutOff

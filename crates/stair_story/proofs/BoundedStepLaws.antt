@@ -34,6 +34,7 @@ use Rattle.stair_array.specs.Machine.{Answer, LookAtSeats, Progress, ReadBlock, 
 use Rattle.stair_array.specs.Mends.{Drops, IsPreparing, Looks, OnlyPrepared, PreparesSlot, Promotes, Rebuilds, Replaces, Scrubs, SyncsSlot, WritesChunk}
 use Rattle.stair_array.specs.Openings.{ClearsJournal, Recovers}
 use Rattle.stair_array.specs.Promise.{Does}
+use Rattle.stair_array.proofs.ReadPartLemmas.{asked_ran}
 use Rattle.stair_array.proofs.RecoveredLemmas.{cleared_honest}
 use Rattle.stair_story.specs.Bounded.{StepsAreBounded}
 use Rattle.stair_story.proofs.BoundedLaws.{IsFine, fine_issued, stays_bounded}
@@ -222,8 +223,8 @@ module _ (g : Geometry) (most : ℕ) where
   stripe_honest (calls.Loaded was read gathered answer x y loads restored) = load_honest _ _ _ _ _ _ _ _ loads
   stripe_honest (calls.Stops was read gathered fault x y loads) = load_honest _ _ _ _ _ _ _ _ loads
 
-  goes_asked : {t i j : ℕ} {x y : Point} → AsksFor t i j x y → Goes x y
-  goes_asked asks = goes_kept _ _ asks.member (λ honest. ran_weakened (fine_read _ _) (asks.ran honest))
+  goes_asked : {t i j : ℕ} {answer : _} {x y : Point} → AsksFor t i j answer x y → Goes x y
+  goes_asked asks = goes_kept _ _ asks.member (λ honest. ran_weakened (fine_read _ _) (asked_ran _ _ _ _ _ asks honest))
 
   goes_without : {t i j : ℕ} {x y : Point} → CannotHave t i j x y → Goes x y
   goes_without (calls.NotLive away same) = goes_same same

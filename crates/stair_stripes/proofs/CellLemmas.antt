@@ -1,70 +1,10 @@
--- Sets of cells that grow cell by cell, row by row and chunk by chunk.
+-- Sets of cells that grow row by row of a chunk.
 use Rattle.std.proofs.Common.{◌≡◌, ℕ, ◌+◌, ◌<◌, inl, inr, arith}
 use Rattle.std.specs.Prelude.{◌⊎◌, ◌↔◌}
 use Rattle.std.proofs.lemmas.Bool.{cases_eq}
 use Rattle.stair_model.specs.CellSet.{CellSet, HasCell, IsCellSet, IsInStripe}
 use Rattle.stair_model.specs.Geometry.{Geometry}
 use Rattle.stair_stripes.specs.GatheringSteps.{ErasesChunk}
-
--- ROWS
-
--- the cells of this row in the slots before this one were added
-pub record AddsRow (row slot : ℕ) (old new : CellSet) : Type 0 where
-  pub members : (i j : ℕ) → HasCell new i j ↔ (HasCell old i j ⊎ ((i ≡ row) × (j < slot)))
-  pub formed : IsCellSet new
-
-pub adds_none : (row : ℕ) (cells : CellSet) → IsCellSet cells → AddsRow row 0 cells cells
-adds_none row cells formed = record {
-  members = λ i j. (λ has. inl has, λ either. elim either [ inl has ↦ has | inr none ↦ absurd (omega (arith, none.1)) ]);
-  formed = formed;
-}
-
-pub adds_more : (row slot : ℕ) (old mid new : CellSet) → AddsRow row slot old mid
-    → ((i j : ℕ) → HasCell new i j ↔ (HasCell mid i j ⊎ ((i ≡ row) × (j ≡ slot)))) → IsCellSet new → AddsRow row (slot + 1) old new
-adds_more row slot old mid new so_far added formed = record { members = λ i j. (into i j, from i j); formed = formed }
-  where
-    into : (i j : ℕ) → HasCell new i j → HasCell old i j ⊎ ((i ≡ row) × (j < slot + 1))
-    into i j has =
-        elim ((added i j).0 has) [
-          | inl had ↦ elim ((so_far.members i j).0 had) [ inl was ↦ inl was | inr in_row ↦ inr (in_row.0, omega (arith, in_row.1)) ]
-          | inr here ↦ inr (here.0, omega (arith, here.1))
-        ]
-
-    from : (i j : ℕ) → HasCell old i j ⊎ ((i ≡ row) × (j < slot + 1)) → HasCell new i j
-    from i j (inl was) = (added i j).1 (inl ((so_far.members i j).1 (inl was)))
-    from i j (inr in_row) =
-        elim (cases_eq j slot) [
-          | inl here ↦ (added i j).1 (inr (in_row.0, here))
-          | inr other ↦ (added i j).1 (inl ((so_far.members i j).1 (inr (in_row.0, omega (arith, in_row.1, other)))))
-        ]
-
--- EVERY CELL
-
--- the cells of the rows before this one
-pub record HasRows (n row : ℕ) (cells : CellSet) : Type 0 where
-  pub members : (i j : ℕ) → HasCell cells i j ↔ ((i < row) × (j < n))
-  pub formed : IsCellSet cells
-
-pub rows_none : (n : ℕ) (cells : CellSet) → ((i j : ℕ) → ¬ HasCell cells i j) → IsCellSet cells → HasRows n 0 cells
-rows_none n cells none formed =
-    record { members = λ i j. (λ has. absurd (none i j has), λ both. absurd (omega (arith, both.0))); formed = formed }
-
-pub rows_more : (n row : ℕ) (old new : CellSet) → HasRows n row old → AddsRow row n old new → HasRows n (row + 1) new
-rows_more n row old new so_far added = record { members = λ i j. (into i j, from i j); formed = added.formed }
-  where
-    into : (i j : ℕ) → HasCell new i j → (i < row + 1) × (j < n)
-    into i j has =
-        elim ((added.members i j).0 has) [
-          | inl had ↦ let was = (so_far.members i j).0 had in (omega (arith, was.0), was.1)
-          | inr here ↦ (omega (arith, here.0), here.1)
-        ]
-
-    from : (i j : ℕ) → (i < row + 1) × (j < n) → HasCell new i j
-    from i j both =
-        elim (cases_eq i row) [
-          | inl here ↦ (added.members i j).1 (inr (here, both.1))
-          | inr other ↦ (added.members i j).1 (inl ((so_far.members i j).1 (omega (arith, both.0, other), both.1)))
-        ]
 
 -- CHUNKS
 

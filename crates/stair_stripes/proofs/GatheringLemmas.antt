@@ -10,14 +10,17 @@ use Rattle.stair_model.specs.Slots.{Slots, HasSlot, IsSlotSet}
 use Rattle.stair_model.specs.Stripe.{Stripe, IsWellFormed, cell, with_cell}
 use Rattle.stair_model.proofs.StripeLaws.{cell-with_cell_other}
 use Rattle.stair_rack.specs.Answers.{IsBesideAttach, Ran}
-use Rattle.stair_rack.specs.History.{Happening, SlotCall}
+use Rattle.stair_rack.specs.History.{Happening, Read, SlotCall}
 use Rattle.stair_rack.specs.RackCounts.{NoneFalls}
 use Rattle.stair_rack.specs.Sector.{Cell, Good, Damaged}
+use Rattle.stair_rack.specs.Stretch.{WasAnswered}
 use Rattle.stair_rack.specs.Telling.{Telling, IsGone, IsLater, IsReading}
+use Rattle.stair_rack.specs.declared.rack.Got.TheVariants as got
 use Rattle.stair_rack.proofs.GoneLemmas.{is_gone_wider}
-use Rattle.stair_rack.proofs.MomentLemmas.{ran_any, ran_join, ran_none, ran_weakened}
+use Rattle.stair_rack.proofs.MomentLemmas.{moment_between, ran_any, ran_join, ran_none, ran_weakened}
 use Rattle.stair_rack.proofs.PassCounts.{NoneFalls-then}
 use Rattle.stair_rack.proofs.TellingLemmas.{later_none, reading_wider}
+use Rattle.stair_journal.proofs.ToldLemmas.{answered_cases}
 use Rattle.stair_stripes.specs.Gathering.{Gathers, IsAway, IsCellOf, IsReadOfCell}
 use Rattle.stair_stripes.specs.declared.gathering.Gathered.{Gathered}
 
@@ -46,6 +49,7 @@ gathers_same g live t W V gathered was into old new same before = record {
   formed_gone = before.formed_gone;
   honest = before.honest;
   counts = before.counts;
+  told = before.told;
   ran = λ is. reads_wider g live t W V old.history new.history (λ i j. (same i j).0) (before.ran is);
 }
 
@@ -89,6 +93,16 @@ module _ (g : Geometry) (live : Slots) (t : ℕ) (W V : ℕ → ℕ → Type 0) 
   ran_on : IsTrue new.honest → Ran gathering old.history new.history
   ran_on is = ran_join (reads_wider g live t W V old.history mid.history grows (before.ran (later.honest ∙ is))) (ran is)
 
+  -- each slot that answered gone is one of these, where those before are
+  told_on : (gone : Slots) → ((j : ℕ) → HasSlot gathered.gone j → HasSlot gone j)
+      → (IsTrue new.honest → (j k : ℕ) → WasAnswered j (Read k got.Gone) mid.history new.history → HasSlot gone j) → IsTrue new.honest → (j k : ℕ)
+      → WasAnswered j (Read k got.Gone) old.history new.history → HasSlot gone j
+  told_on gone kept now is j k was =
+      elim (answered_cases (moment_between {a = IsReadOfCell g live t W} {b = gathering} (before.ran (later.honest ∙ is)) (ran is)) was) [
+        | inl sooner ↦ kept j (before.told (later.honest ∙ is) j k sooner)
+        | inr late ↦ now is j k late
+      ]
+
   -- what stands in a cell is what it was, or what was read
   stands : (i j : ℕ) → IsCellOf g i j → (cell into i j ≡ cell was i j) ⊎ IsReading j (cell_sector g t i) old new (Good (cell into i j))
   stands i j in_stripe =
@@ -99,7 +113,11 @@ module _ (g : Geometry) (live : Slots) (t : ℕ) (W V : ℕ → ℕ → Type 0) 
 
   -- A cell of a live slot was read, and its slot wasn't gone.
   module _ (row slot : ℕ) (row_in : row < g.r) (slot_in : slot < g.n) (on : HasSlot live slot) (there : ¬ HasSlot gathered.gone slot)
-      (fresh : ¬ W row slot) (within : (i j : ℕ) → W i j → IsCellOf g i j) (more : (i j : ℕ) → V i j ↔ (W i j ⊎ ((i ≡ row) × (j ≡ slot)))) where
+      (fresh : ¬ W row slot) (within : (i j : ℕ) → W i j → IsCellOf g i j) (more : (i j : ℕ) → V i j ↔ (W i j ⊎ ((i ≡ row) × (j ≡ slot))))
+      (answered : IsTrue new.honest → (j k : ℕ) → ¬ WasAnswered j (Read k got.Gone) mid.history new.history) where
+    told_still : IsTrue new.honest → (j k : ℕ) → WasAnswered j (Read k got.Gone) old.history new.history → HasSlot gathered.gone j
+    told_still = told_on gathered.gone (λ j has. has) (λ is j k was. absurd (answered is j k was))
+
     in_use : ¬ IsAway live gathered.gone slot
     in_use (inl dead) = dead on
     in_use (inr gone) = there gone
@@ -170,6 +188,7 @@ module _ (g : Geometry) (live : Slots) (t : ℕ) (W V : ℕ → ℕ → Type 0) 
         formed_gone = before.formed_gone;
         honest = honest_on;
         counts = counts_on;
+        told = told_still;
         ran = ran_on;
       }
         where
@@ -218,6 +237,7 @@ module _ (g : Geometry) (live : Slots) (t : ℕ) (W V : ℕ → ℕ → Type 0) 
         formed_gone = before.formed_gone;
         honest = honest_on;
         counts = counts_on;
+        told = told_still;
         ran = ran_on;
       }
         where
@@ -244,7 +264,8 @@ module _ (g : Geometry) (live : Slots) (t : ℕ) (W V : ℕ → ℕ → Type 0) 
       (members : (i j : ℕ) → HasCell after.erased i j ↔ (HasCell gathered.erased i j ⊎ (HasCell wanted i j × (j ≡ slot))))
       (is_away : IsAway live after.gone slot) (gone_kept : (j : ℕ) → HasSlot gathered.gone j → HasSlot after.gone j)
       (gone_more : (j : ℕ) → HasSlot after.gone j → HasSlot gathered.gone j ⊎ (j ≡ slot))
-      (went : HasSlot after.gone slot → HasSlot gathered.gone slot ⊎ (HasSlot live slot × (slot < g.n) × IsGone slot mid new)) where
+      (went : HasSlot after.gone slot → HasSlot gathered.gone slot ⊎ (HasSlot live slot × (slot < g.n) × IsGone slot mid new))
+      (answered : IsTrue new.honest → (j k : ℕ) → WasAnswered j (Read k got.Gone) mid.history new.history → HasSlot after.gone j) where
     away_before : (j : ℕ) → IsAway live after.gone j → IsAway live gathered.gone j ⊎ (j ≡ slot)
     away_before j (inl dead) = inl (inl dead)
     away_before j (inr gone) = elim (gone_more j gone) [ inl had ↦ inl (inr had) | inr same ↦ inr same ]
@@ -280,6 +301,7 @@ module _ (g : Geometry) (live : Slots) (t : ℕ) (W V : ℕ → ℕ → Type 0) 
       formed_gone = formed_gone;
       honest = honest_on;
       counts = counts_on;
+      told = told_on after.gone gone_kept answered;
       ran = ran_on;
     }
       where

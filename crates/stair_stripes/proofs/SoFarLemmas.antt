@@ -7,14 +7,16 @@ use Rattle.stair_model.specs.Device.{cell_sector}
 use Rattle.stair_model.specs.Geometry.{Geometry}
 use Rattle.stair_model.specs.Slots.{Slots, HasSlot, IsSlotSet}
 use Rattle.stair_model.specs.Stripe.{Stripe, IsStripeOf, IsWellFormed, with_cell}
-use Rattle.stair_rack.specs.Answers.{Calls, Ran}
+use Rattle.stair_rack.specs.Answers.{Calls, Ran, no_call}
 use Rattle.stair_rack.specs.History.{Happening, Read}
 use Rattle.stair_rack.specs.Sector.{Good, Damaged}
+use Rattle.stair_rack.specs.Stretch.{WasAnswered}
 use Rattle.stair_rack.specs.Telling.{Telling, IsGone, IsLater, IsReading}
 use Rattle.stair_rack.specs.declared.rack.Got.{Got}
 use Rattle.stair_rack.specs.declared.rack.Got.TheVariants as got
 use Rattle.stair_rack.proofs.MomentLemmas.{IsThis, calls_ran, ran_none, ran_weakened}
 use Rattle.stair_rack.proofs.PassCounts.{NoneFalls-same}
+use Rattle.stair_rack.proofs.StretchLemmas.{answered_allowed}
 use Rattle.stair_rack.proofs.TellingLemmas.{later_none}
 use Rattle.stair_stripes.specs.Gathering.{Gathers, IsCellOf, IsReadOfCell}
 use Rattle.stair_stripes.specs.Reads.{ReadsInTurn}
@@ -109,6 +111,10 @@ read_ran g live t slot row V answer old new is_live is_wanted told =
     })
     (calls_ran told)
 
+-- where nothing happened no slot answered
+never_answered : (h : List Happening) (j k : ℕ) → ¬ WasAnswered j (Read k got.Gone) h h
+never_answered h j k was = answered_allowed {allowed = no_call} (ran_none {allowed = no_call} h) was
+
 pub goes_none : (g : Geometry) (t : ℕ) (wanted : CellSet) (slot : ℕ) (gathered : Gathered) (into : Stripe) (now : Telling)
     → GoesOn g t wanted slot slot 0 gathered gathered into into now now
 goes_none g t wanted slot gathered into now = record { on = λ live was old is_live before. before }
@@ -167,6 +173,14 @@ module _ (g : Geometry) (t : ℕ) (wanted : CellSet) (in_stripe : IsInStripe g w
     within : (i j : ℕ) → IsWantedBefore wanted slot row i j → IsCellOf g i j
     within i j before = in_stripe i j before.0
 
+    -- no other slot answered than this one
+    answers : IsTrue new.honest → (j k : ℕ) → WasAnswered j (Read k got.Gone) now.history new.history → (j ≡ slot) × (answer ≡ got.Gone)
+    answers is j k was =
+        let this = answered_allowed {allowed = IsThis slot (Read (cell_sector g t row) answer)} (calls_ran (told is)) was in
+        let call : Read k got.Gone ≡ Read (cell_sector g t row) answer = this.1 in
+        let gone : answer ≡ got.Gone = cc in
+        (this.0, gone)
+
     there : (live : Slots) (was : Stripe) (old : Telling) → GathersBefore g live t wanted slot row so_far was into' old now → ¬ HasSlot so_far.gone slot
     there live was old here gone = omega (arith, here.gone_before slot gone)
 
@@ -179,7 +193,7 @@ module _ (g : Geometry) (t : ℕ) (wanted : CellSet) (in_stripe : IsInStripe g w
             gathers =
                 gathers_good g live t (IsWantedBefore wanted slot row) (IsWantedBefore wanted slot (row + 1)) so_far was into' old now new here.gathers
                 later grows_next (ran_next live is_live) row slot row_in slot_in is_live (there live was old here) (not_before wanted slot row) within
-                (wanted_next wanted slot row is_wanted) bytes formed reading;
+                (wanted_next wanted slot row is_wanted) (λ is j k answering. answered (answers is j k answering).1) bytes formed reading;
             gone_before = here.gone_before;
             in_turn = λ is.
                 reads_cell g live t wanted slot row so_far.gone old.history now.history (here.in_turn (later.honest ∙ is)) answer new.history is_wanted
@@ -197,7 +211,7 @@ module _ (g : Geometry) (t : ℕ) (wanted : CellSet) (in_stripe : IsInStripe g w
             gathers =
                 gathers_bad g live t (IsWantedBefore wanted slot row) (IsWantedBefore wanted slot (row + 1)) so_far was into' old now new here.gathers
                 later grows_next (ran_next live is_live) row slot row_in slot_in is_live (there live was old here) (not_before wanted slot row) within
-                (wanted_next wanted slot row is_wanted) erased formed members reading;
+                (wanted_next wanted slot row is_wanted) (λ is j k answering. answered (answers is j k answering).1) erased formed members reading;
             gone_before = here.gone_before;
             in_turn = λ is.
                 reads_cell g live t wanted slot row so_far.gone old.history now.history (here.in_turn (later.honest ∙ is)) answer new.history is_wanted
@@ -223,7 +237,7 @@ module _ (g : Geometry) (t : ℕ) (wanted : CellSet) (in_stripe : IsInStripe g w
                 gathers_erased g live t (IsWantedBefore wanted slot row) (IsWantedBefore wanted (slot + 1) 0) so_far was into' old now new here.gathers
                 later (λ i j before. (wanted_chunk wanted slot row i j).1 (inl before)) (ran_chunk live is_live) slot wanted after erases.formed formed_gone (λ i j before. before.0) (wanted_chunk wanted slot row)
                 erases.members (inr ((members slot).1 (inr refl))) (λ j gone. (members j).1 (inl gone)) (λ j gone. (members j).0 gone)
-                (λ gone. inr (is_live, slot_in, is_gone));
+                (λ gone. inr (is_live, slot_in, is_gone)) (λ is j k answering. (members j).1 (inr (answers is j k answering).0));
             gone_before = λ j gone.
                 elim ((members j).0 gone) [ inl had ↦ omega (arith, here.gone_before j had) | inr same ↦ omega (arith, same) ];
             in_turn = λ is.
@@ -253,6 +267,7 @@ before_none g live t wanted gathered into now shape no_cell formed_erased no_slo
     formed_gone = formed_gone;
     honest = refl;
     counts = NoneFalls-same now.bads now.gones;
+    told = λ is j k was. absurd (never_answered now.history j k was);
     ran = λ is. ran_none now.history;
   };
   gone_before = λ j gone. absurd (no_slot j gone);
@@ -273,7 +288,7 @@ module _ (g : Geometry) (live : Slots) (t : ℕ) (wanted : CellSet) (gathered : 
         gathers_erased g live t (IsWantedBefore wanted slot 0) (IsWantedBefore wanted (slot + 1) 0) gathered was into old now now before.gathers
         (later_none now) (λ i j earlier. (wanted_chunk wanted slot 0 i j).1 (inl earlier)) (λ is. ran_none now.history) slot wanted (record { erased = erased; gone = gathered.gone }) erases.formed
         before.gathers.formed_gone (λ i j earlier. earlier.0) (wanted_chunk wanted slot 0) erases.members (inl dead) (λ j gone. gone)
-        (λ j gone. inl gone) (λ gone. inl gone);
+        (λ j gone. inl gone) (λ gone. inl gone) (λ is j k was. absurd (never_answered now.history j k was));
     gone_before = λ j gone. omega (arith, before.gone_before j gone);
     in_turn = λ is. reads_dead g live t wanted slot gathered.gone old.history now.history (before.in_turn is) dead;
   }

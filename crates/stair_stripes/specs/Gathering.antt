@@ -9,8 +9,10 @@ use Rattle.stair_rack.specs.Answers.{Ran}
 use Rattle.stair_rack.specs.History.{SlotCall, Read}
 use Rattle.stair_rack.specs.RackCounts.{NoneFalls}
 use Rattle.stair_rack.specs.Sector.{Good, Damaged}
+use Rattle.stair_rack.specs.Stretch.{WasAnswered}
 use Rattle.stair_rack.specs.Telling.{Telling, IsGone, IsReading}
 use Rattle.stair_rack.specs.declared.rack.Got.{Got}
+use Rattle.stair_rack.specs.declared.rack.Got.TheVariants as got
 use Rattle.stair_stripes.specs.declared.gathering.Gathered.{Gathered}
 
 -- each cell of a stripe
@@ -55,5 +57,8 @@ pub record Gathers (g : Geometry) (live : Slots) (t : ℕ) (wanted : ℕ → ℕ
   pub formed_erased : IsCellSet gathered.erased
   pub formed_gone : IsSlotSet gathered.gone
   pub counts : NoneFalls old.bads new.bads old.gones new.gones
-  -- on an honest rack: the calls are reads of wanted cells on live slots alone
+  -- on an honest rack: a slot that answered gone is one of them,
+  pub told : IsTrue new.honest → (j k : ℕ) → WasAnswered j (Read k got.Gone) old.history new.history
+      → HasSlot gathered.gone j
+  -- and the calls are reads of wanted cells on live slots alone
   pub ran : IsTrue new.honest → Ran (IsReadOfCell g live t wanted) old.history new.history

@@ -44,33 +44,7 @@ pub fn gather<R: Rack>(
     ensures reads { RisesAtMost (geometry.now.r * geometry.now.n) (R.reads rack.old)
         (R.reads rack.new) }
 {
-    gather_cells(rack, geometry, live, stripe, &all_cells(geometry), into)
-}
-
-// Every cell of a stripe.
-fn all_cells(geometry: &Geometry) -> CellSet
-    ensures members { (i j : ℕ) → HasCell result i j ↔ IsCellOf geometry.now i j }
-    ensures count { cell_count result ≤ geometry.now.r * geometry.now.n }
-{
-    let mut cells = CellSet::empty();
-    for row in 0..geometry.r() {
-        add_row(&mut cells, row, geometry.n());
-    }
-    cells
-}
-
-// Adds the cells of a row in the slots below `slots`.
-fn add_row(cells: &mut CellSet, row: u8, slots: u8)
-    requires row_in { row < 32 }
-    requires slots_in { slots ≤ 32 }
-    requires formed { IsCellSet cells.old }
-    ensures members { (i j : ℕ) →
-        HasCell cells.new i j ↔ (HasCell cells.old i j ⊎ ((i ≡ row) × (j < slots))) }
-    ensures formed { IsCellSet cells.new }
-{
-    for slot in 0..slots {
-        cells.add(row, slot);
-    }
+    gather_cells(rack, geometry, live, stripe, &geometry.cells(), into)
 }
 
 /// Reads these cells of a stripe alone, in the order of [`gather`] and with its promise for them. Every other cell of

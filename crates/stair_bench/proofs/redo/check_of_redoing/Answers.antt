@@ -4,8 +4,12 @@ use Rattle.stair_model.specs.Cell.{Data, cell_at}
 use Rattle.stair_model.specs.Dependents.{AreDependents}
 use Rattle.stair_model.specs.Geometry.{Geometry}
 use Rattle.stair_model.specs.Stripe.{IsStripeOf}
-use Rattle.stair_bench.proofs.Redos.{redo_of_dependents}
+use Rattle.stair_bench.proofs.Redos.{redo_of_all, redo_of_dependents}
 use Rattle.stair_bench.proofs.redo.check_of_redoing.Goals as goal
+
+pub redo_once-requires-clause-redo : goal.redo_once-requires-clause-redo
+redo_once-requires-clause-redo g c =
+    redo_of_all c.args.geometry.now c.cells.result c.cells.ensures.limits c.cells.ensures.members c.cells.ensures.well_formed
 
 pub redo_once-requires-in-loop-round-clause-redo : goal.redo_once-requires-in-loop-round-clause-redo
 redo_once-requires-in-loop-round-clause-redo g c =

@@ -1,0 +1,15 @@
+//! Tests of `stair_array`, over racks in memory.
+#![tactic(auto)]
+
+#[cfg(test)]
+mod border;
+#[cfg(test)]
+mod creating;
+#[cfg(test)]
+mod cuts;
+#[cfg(test)]
+mod opening;
+#[cfg(test)]
+mod racks;
+#[cfg(test)]
+mod writing;

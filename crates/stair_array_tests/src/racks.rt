@@ -1,0 +1,201 @@
+// Racks on which there is an array, and how one is opened there.
+ghost use Rattle.std.specs.Prelude.{◌≡◌, ◌<◌, ℕ, IfOk};
+ghost use Rattle.stair_model.specs.CellSet.{HasCell, IsCellSet, IsInStripe};
+ghost use Rattle.stair_model.specs.Stripe.{IsStripeOf};
+
+use stair_array::{Array, RecoverFault, create};
+use stair_base::{CellSet, Geometry, Kind, Slots, Stripe, StripeCode};
+use stair_codec::{By, Codec};
+use stair_journal::{Redo, open_gates, write_body};
+use stair_member::{Member, survey};
+use stair_memrack::{Act, MemRack, What};
+use stair_rack::Rack;
+use std::alloc::{AllocError, Global};
+
+// Slot 0 of four devices with one row parity, two rows, one global parity and three stripes, in the first epoch, as the
+// table of the format says. All bytes behind these are zero.
+const FIRST: [u8; 132] = [
+    0x53, 0x54, 0x41, 0x49, 0x52, 0x53, 0x42, 0x32, // STAIRSB2
+    0, 0, 0, 0, 0, 0, 0, 0, 0, 0, 0, 0, 0, 0, 0, 4, // id
+    4, 1, 2, 1, // n, m, r, m'
+    1, 0, 0, 0, 0, 0, 0, 0, 0, 0, 0, 0, 0, 0, 0, 0, // e
+    0, 0, 0, 0, 0, 0, 0, 0, 0, 0, 0, 0, 0, 0, 0, 0, //
+    0, 0, 0, 3, // stripes
+    0, 0, 0, 0, 0, 0, 0, 0, // slot
+    0, 0, 0, 0, 0, 0, 0, 1, // joined
+    0, 0, 0, 0, 0, 0, 0, 1, // draw
+    0, 0, 0, 0, 0, 0, 0, 1, // epoch
+    1, 0, 0, 0, 0, 0, 0, 0, 1, // slot 0
+    1, 0, 0, 0, 0, 0, 0, 0, 1, // slot 1
+    1, 0, 0, 0, 0, 0, 0, 0, 1, // slot 2
+    1, 0, 0, 0, 0, 0, 0, 0, 1, // slot 3
+];
+
+// The array's identity there.
+pub(crate) const ID: [u8; 16] = [0, 0, 0, 0, 0, 0, 0, 0, 0, 0, 0, 0, 0, 0, 0, 4];
+
+pub(crate) fn first_super(slot: u8) -> [u8; 512] {
+    let mut bytes = [0; 512];
+    bytes[..132].copy_from_slice(&FIRST);
+    bytes[64] = slot;
+    bytes
+}
+
+// How many calls a rack keeps.
+pub(crate) const CALLS: u32 = 6000;
+
+// How an opening went.
+#[derive(Drop)]
+pub(crate) enum Opened {
+    Open(Array<Codec>),
+    Unfound,
+    Refused(RecoverFault),
+}
+
+pub(crate) fn open(alloc: Global, rack: &mut MemRack) -> Result<Opened, AllocError> {
+    match survey(rack) {
+        Ok(member) => recover(alloc, rack, member),
+        Err(_) => Ok(Opened::Unfound),
+    }
+}
+
+pub(crate) fn recover(
+    alloc: Global,
+    rack: &mut MemRack,
+    member: Member,
+) -> Result<Opened, AllocError> {
+    let code = Codec::new(alloc, &member.geometry(), By::Fewest)?;
+    Ok(match Array::recover(alloc, rack, member, code) {
+        Ok(array) => Opened::Open(array),
+        Err(fault) => Opened::Refused(fault),
+    })
+}
+
+// A rack over this many media, on which there is a new array.
+pub(crate) fn with_array(
+    alloc: Global,
+    geometry: &Geometry,
+    acts: &[Act],
+) -> Result<MemRack, AllocError> {
+    let mut rack = MemRack::new(alloc, geometry.n(), geometry.need(), acts, CALLS)?;
+    let _ = create(&mut rack, geometry);
+    Ok(rack)
+}
+
+pub(crate) fn first_slots(count: u8) -> Slots {
+    let mut slots = Slots::empty();
+    for slot in 0..count.min(32) {
+        slots.add(slot);
+    }
+    slots
+}
+
+// The redo of two cells of stripe 1.
+fn redo_of() -> Redo
+    ensures stripe { result.stripe ≡ 1 }
+    ensures inside { (i j : ℕ) → HasCell result.cells i j → (i < 2) × (j < 4) }
+    ensures formed { IsCellSet result.cells }
+    ensures some { HasCell result.cells 0 0 }
+{
+    let mut cells = CellSet::empty();
+    cells.add(0, 0);
+    cells.add(1, 3);
+    Redo { stripe: 1, cells }
+}
+
+// Begins that redo: its body is of fives, and the gates of these first slots are opened.
+pub(crate) fn begin_redo(
+    alloc: Global,
+    rack: &mut MemRack,
+    geometry: &Geometry,
+    opened: u8,
+) -> Result<(), AllocError>
+    requires rows { geometry.now.r ≡ 2 }
+    requires devices { geometry.now.n ≡ 4 }
+    requires stripes { geometry.now.stripes ≡ 3 }
+{
+    let mut stripe = Stripe::new(alloc, geometry)?;
+    stripe.put(0, 0, &[5; 512]);
+    stripe.put(1, 3, &[5; 512]);
+    write_body(rack, geometry, first_slots(4), &redo_of(), &stripe);
+    open_gates(rack, first_slots(opened), geometry, &redo_of());
+    Ok(())
+}
+
+// What the two cells hold, 0 for one that can't be read.
+pub(crate) fn cells_found(rack: &mut MemRack) -> (u8, u8) {
+    let mut first = [0; 512];
+    let mut second = [0; 512];
+    rack.attach(0);
+    rack.attach(3);
+    rack.read(0, 13, &mut first);
+    rack.read(3, 14, &mut second);
+    (first[511], second[0])
+}
+
+pub(crate) fn act(at: u32, what: What) -> Act {
+    Act { at, what }
+}
+
+// What a crash leaves of a rack in which each sector that is pending is torn.
+pub(crate) fn torn(alloc: Global, rack: MemRack) -> Result<MemRack, AllocError> {
+    rack.after_crash(alloc, &[9; 80], &[], CALLS)
+}
+
+// The byte that fills a block.
+pub(crate) fn filling(block: u64) -> u8 {
+    (block % 100) as u8 + 1
+}
+
+// The cells of a stripe that hold no block.
+fn parities_of(geometry: &Geometry) -> CellSet
+    ensures { IsInStripe geometry.now result }
+{
+    let mut cells = CellSet::empty();
+    for row in 0..geometry.r() {
+        for slot in 0..geometry.n() {
+            if !matches!(geometry.kind(row, slot), Kind::Block(_)) {
+                cells.add(row, slot);
+            }
+        }
+    }
+    cells
+}
+
+// A stripe of the array: its blocks, of which the first one has this number, and their parities, which are worked out from
+// them as from cells that aren't erased.
+fn stripe_of(alloc: Global, geometry: &Geometry, first: u64) -> Result<Stripe, AllocError>
+    ensures { IfOk result (IsStripeOf geometry.now) }
+{
+    let mut code = Codec::new(alloc, geometry, By::Fewest)?;
+    let mut stripe = Stripe::new(alloc, geometry)?;
+    for row in 0..geometry.r() {
+        for slot in 0..geometry.n() {
+            if let Kind::Block(number) = geometry.kind(row, slot) {
+                let block = first.wrapping_add(u64::from(number));
+                stripe.put(row, slot, &[filling(block); 512]);
+            }
+        }
+    }
+    let _ = code.restore(&mut stripe, &parities_of(geometry));
+    Ok(stripe)
+}
+
+// A rack with an array all of whose blocks are filled.
+pub(crate) fn with_blocks(alloc: Global, geometry: &Geometry) -> Result<MemRack, AllocError> {
+    let mut rack = with_array(alloc, geometry, &[])?;
+    for number in 0..geometry.stripes() {
+        let first = u64::from(number).wrapping_mul(u64::from(geometry.u()));
+        let stripe = stripe_of(alloc, geometry, first)?;
+        for row in 0..geometry.r() {
+            for slot in 0..geometry.n() {
+                let sector = geometry.cell_sector(number, row);
+                rack.write(slot, sector, stripe.cell(row, slot));
+            }
+        }
+    }
+    for slot in 0..geometry.n() {
+        rack.sync(slot);
+    }
+    Ok(rack)
+}

@@ -1,0 +1,2 @@
+-- The lines of a script.
+pub mod Line

@@ -1,0 +1,15 @@
+//! The lines of a script: which line says what, and how a line is printed.
+//!
+//! [`read_line`] reads one line, or refuses it. [`print_line`] prints one, and what it printed is read back.
+#![tactic(auto)]
+
+pub mod laws;
+mod line;
+mod printing;
+mod reading;
+#[cfg(test)]
+mod tests;
+
+pub use line::{LINE_LIMIT, Line};
+pub use printing::print_line;
+pub use reading::read_line;

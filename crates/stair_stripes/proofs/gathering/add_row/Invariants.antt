@@ -1,6 +1,0 @@
--- the cells in the slots before this one were added
-use Rattle.stair_stripes.proofs.CellLemmas.{AddsRow}
-use Rattle.stair_stripes.proofs.gathering.add_row.Given as goal
-
-abbrev pub invariant-loop-slot : goal.invariant-loop-slot
-invariant-loop-slot l = AddsRow l.row l.slot l.initial.cells l.cells
