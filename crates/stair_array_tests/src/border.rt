@@ -1,8 +1,9 @@
 // Arrays at a border: of what is covered, and of what a stop may cut off.
-ghost use Rattle.std.specs.Prelude.{◌≡◌, ◌<◌};
+ghost use Rattle.stair_array_tests.specs.Geometry.{IsSmall};
 
 use crate::racks::{
-    CALLS, ID, Opened, act, begin_redo, cells_found, filling, open, torn, with_array, with_blocks,
+    CALLS, ID, Opened, act, begin_redo, cells_found, filling, is_open, open, reads_as, torn,
+    with_array, with_blocks,
 };
 use stair_array::{ArrayFault, RecoverFault};
 use stair_base::Geometry;
@@ -68,10 +69,9 @@ fn wrong_block(
     pattern: &Pattern,
     is_covered: bool,
 ) -> Result<Option<u64>, AllocError> {
-    let Opened::Open(array) = open(alloc, rack)? else {
+    let Opened::Open(mut array) = open(alloc, rack)? else {
         return Ok(Some(u64::MAX));
     };
-    let mut array = array;
     let lost = ArrayFault::Lost {
         stripe: 0,
         counts: counts_of(pattern),
@@ -206,10 +206,9 @@ fn changed_block(
     rack: &mut MemRack,
     is_done: bool,
 ) -> Result<Option<u64>, AllocError> {
-    let Opened::Open(array) = open(alloc, rack)? else {
+    let Opened::Open(mut array) = open(alloc, rack)? else {
         return Ok(Some(u64::MAX));
     };
-    let mut array = array;
     for block in 0..15u64 {
         // three blocks in the first row of a stripe, and two in the second
         let number = (block % 5) as u8;
@@ -218,8 +217,7 @@ fn changed_block(
         } else {
             byte_at((block / 5) as u32, number / 3, number % 3)
         };
-        let mut into = [0; 512];
-        if array.read(rack, block, &mut into).is_err() || into != [byte; 512] {
+        if !reads_as(&mut array, rack, block, byte) {
             return Ok(Some(block));
         }
     }
@@ -233,9 +231,7 @@ fn with_begun(
     opened: u8,
     acts: &[Act],
 ) -> Result<MemRack, AllocError>
-    requires rows { geometry.now.r ≡ 2 }
-    requires devices { geometry.now.n ≡ 4 }
-    requires stripes { geometry.now.stripes ≡ 3 }
+    requires { IsSmall geometry.now }
 {
     let rack = with_cells(alloc, geometry)?;
     let mut rack = rack.after_crash(alloc, &[], acts, CALLS)?;
@@ -281,8 +277,7 @@ fn two_openings_that_are_cut(rt: HostRuntime) -> Result<(), Fail> {
         assert!(rt; survey(&mut rack).is_ok());
         let surveyed = rack.made();
         let mut rack = torn(rt.alloc(), rack)?;
-        let is_open = matches!(open(rt.alloc(), &mut rack)?, Opened::Open(_));
-        assert!(rt; is_open);
+        assert!(rt; is_open(rt.alloc(), &mut rack)?);
         let want = if opened > 0 { (5, 5) } else { cells_before() };
         let calls = rack.made().wrapping_sub(surveyed).wrapping_add(1);
         for first in 0..calls {
@@ -317,8 +312,7 @@ fn a_redo_that_is_cut_and_an_opening(rt: HostRuntime) -> Result<(), Fail> {
             let stop = act(at, What::Stop);
             let rack = with_begun(rt.alloc(), &geometry, 4, &[stop])?;
             let mut rack = rack.after_crash(rt.alloc(), &picks, &[], CALLS)?;
-            let is_open = matches!(open(rt.alloc(), &mut rack)?, Opened::Open(_));
-            assert!(rt; is_open, "{at} {picks:?}");
+            assert!(rt; is_open(rt.alloc(), &mut rack)?, "{at} {picks:?}");
             let found = cells_found(&mut rack);
             let is_done = found == (5, 5);
             assert!(rt; is_done || found == cells_before(), "{at} {picks:?}");
@@ -338,15 +332,13 @@ fn a_redo_with_a_slot_that_is_pulled(rt: HostRuntime) -> Result<(), Fail> {
     for opened in [1, 4] {
         let rack = with_begun(rt.alloc(), &geometry, opened, &[])?;
         let mut rack = torn(rt.alloc(), rack)?;
-        let is_open = matches!(open(rt.alloc(), &mut rack)?, Opened::Open(_));
-        assert!(rt; is_open);
+        assert!(rt; is_open(rt.alloc(), &mut rack)?);
         for at in 0..=rack.made() {
             for slot in [1, 2] {
                 let rack = with_begun(rt.alloc(), &geometry, opened, &[])?;
                 let pull = act(at, What::Pull { slot });
                 let mut rack = rack.after_crash(rt.alloc(), &[], &[pull], CALLS)?;
-                let is_open = matches!(open(rt.alloc(), &mut rack)?, Opened::Open(_));
-                assert!(rt; is_open, "{opened} {at} {slot}");
+                assert!(rt; is_open(rt.alloc(), &mut rack)?, "{opened} {at} {slot}");
                 assert_eq!(rt; cells_found(&mut rack), (5, 5), "{opened} {at} {slot}");
             }
         }
@@ -372,8 +364,7 @@ fn a_body_that_one_slot_has(rt: HostRuntime) -> Result<(), Fail> {
     let others = [harm(1), harm(2), harm(3)];
     let rack = with_begun(rt.alloc(), &geometry, 4, &[])?;
     let mut rack = rack.after_crash(rt.alloc(), &[], &others, CALLS)?;
-    let is_open = matches!(open(rt.alloc(), &mut rack)?, Opened::Open(_));
-    assert!(rt; is_open);
+    assert!(rt; is_open(rt.alloc(), &mut rack)?);
     let last = rack.made();
     for at in 0..=last {
         let pull = act(at, What::Pull { slot: 0 });

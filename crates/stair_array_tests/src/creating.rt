@@ -2,8 +2,9 @@ ghost use Rattle.std.specs.Prelude.{◌≡◌, ◌<◌, ℕ, IfOk};
 ghost use Rattle.stair_model.specs.CellSet.{HasCell, IsCellSet};
 ghost use Rattle.stair_model.specs.Stripe.{IsStripeOf};
 ghost use Rattle.stair_journal.specs.Redo.{IsRedo};
+ghost use Rattle.stair_array_tests.specs.Geometry.{IsSmall};
 
-use crate::racks::{ID, act, first_super};
+use crate::racks::{ID, act, first_super, told};
 use stair_array::{CreateFault, News, create};
 use stair_base::{BODY_START, CellSet, FIRST_PLACE, Geometry, SECOND_PLACE, Slots, Stripe};
 use stair_journal::{Redo, close_gates, open_gates, read_gates, write_body};
@@ -260,9 +261,7 @@ fn cut_off(
     pulled: u8,
     picks: &[u32; 16],
 ) -> Result<MemRack, AllocError>
-    requires rows { geometry.now.r ≡ 2 }
-    requires devices { geometry.now.n ≡ 4 }
-    requires stripes { geometry.now.stripes ≡ 3 }
+    requires { IsSmall geometry.now }
 {
     let pull = What::Pull { slot: pulled };
     let script = [act(30, pull), act(stop, What::Stop)];
@@ -335,17 +334,6 @@ fn a_redo_that_is_cut_leaves_the_old_cells_or_the_new_ones(rt: HostRuntime) -> R
         }
     }
     Ok(())
-}
-
-// Event number 0 to 4 of these news.
-fn told(news: &News) -> [Option<Event>; 5] {
-    [
-        news.event(0),
-        news.event(1),
-        news.event(2),
-        news.event(3),
-        news.event(4),
-    ]
 }
 
 #[test]

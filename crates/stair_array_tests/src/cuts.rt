@@ -1,10 +1,14 @@
 // Writes in which something happens: a stop, a slot that is pulled, a cell that is damaged.
-use crate::racks::{CALLS, ID, Opened, act, filling, open, with_array};
+ghost use Rattle.std.specs.Prelude.{◌<◌};
+
+use crate::racks::{
+    CALLS, ID, Opened, act, filling, open, pulled, pulls, reads_as, told, with_array,
+};
 use crate::writing::{Change, calls_of, filled, is_done, is_done_in, write_bytes};
-use stair_array::{Array, ArrayFault};
+use stair_array::{Array, ArrayFault, News};
 use stair_base::{Geometry, StripeCode};
 use stair_codec::Codec;
-use stair_member::{FenceFault, Why};
+use stair_member::FenceFault;
 use stair_memrack::{MemRack, What};
 use stair_rack::{Event, Rack};
 use stair_super::Mark;
@@ -37,10 +41,9 @@ fn cut_off(
     picks: [u32; 3],
 ) -> Result<Option<MemRack>, AllocError> {
     let mut rack = filled(alloc, geometry, &[act(at, What::Stop)])?;
-    let Opened::Open(array) = open(alloc, &mut rack)? else {
+    let Opened::Open(mut array) = open(alloc, &mut rack)? else {
         return Ok(None);
     };
-    let mut array = array;
     let bytes = change.bytes(alloc)?;
     let answer = write_bytes(&mut array, &mut rack, change.first, &bytes);
     if !matches!(answer, Err(ArrayFault::TooFew(_))) {
@@ -96,6 +99,56 @@ fn a_write_that_is_cut(rt: HostRuntime) -> Result<(), Fail> {
     Ok(())
 }
 
+// Whether this event is told, and no other; or nothing is, where there is none.
+fn tells(news: &News, event: Option<Event>) -> bool {
+    let told = told(news);
+    told[0] == event && told[1].is_none()
+}
+
+// Whether an array left this slot out, and told of that alone, or of nothing; None where it told otherwise.
+fn left_out(array: &Array<Codec>, slot: u8) -> Option<bool>
+    requires { slot < 32 }
+{
+    let is_down = array.marks()[usize::from(slot)] == Mark::Down;
+    let event = if is_down {
+        Some(Event::Fenced { slot })
+    } else {
+        None
+    };
+    if tells(&array.news(), event) {
+        Some(is_down)
+    } else {
+        None
+    }
+}
+
+// Whether this slot, which is pulled before this call, is left out by a write in a new session; None where it isn't done, or told
+// otherwise, or its blocks aren't new there or in another session.
+fn left_out_in_a_write(
+    alloc: Global,
+    geometry: &Geometry,
+    change: &Change,
+    at: u32,
+    slot: u8,
+) -> Result<Option<bool>, AllocError>
+    requires { slot < 32 }
+{
+    let bytes = change.bytes(alloc)?;
+    let mut rack = filled(alloc, geometry, &[act(at, What::Pull { slot })])?;
+    let Opened::Open(mut array) = open(alloc, &mut rack)? else {
+        return Ok(None);
+    };
+    array.clear_news();
+    let is_ok = write_bytes(&mut array, &mut rack, change.first, &bytes).is_ok();
+    let left_out = left_out(&array, slot);
+    let is_new = is_ok && is_done(&mut rack, &mut array, change) == Some(true);
+    if is_new && is_done_in(alloc, &mut rack, change)? == Some(true) {
+        Ok(left_out)
+    } else {
+        Ok(None)
+    }
+}
+
 // A slot is pulled before a call of a write of a block, or of a whole stripe: it is done, and the slot is left out, unless that
 // was its last call. Of four devices that is each call, and of eight so many calls lie between.
 #[test]
@@ -114,7 +167,6 @@ fn a_slot_is_pulled_in_a_write(rt: HostRuntime) -> Result<(), Fail> {
             count,
             byte: 200,
         };
-        let bytes = change.bytes(rt.alloc())?;
         let (opened, ended) = calls_of(rt.alloc(), &geometry, &change)?;
         assert!(rt; opened < ended);
         // the last calls sync the closed gates, in the order of slots
@@ -122,33 +174,9 @@ fn a_slot_is_pulled_in_a_write(rt: HostRuntime) -> Result<(), Fail> {
         for at in opened..=ended {
             let slot = (at.checked_rem(devices).unwrap_or(0) % 8) as u8;
             if (ended - at).checked_rem(step) == Some(0) {
-                let pull = act(at, What::Pull { slot });
-                let mut rack = filled(rt.alloc(), &geometry, &[pull])?;
-                let Opened::Open(array) = open(rt.alloc(), &mut rack)? else {
-                    return Ok(assert!(rt; false));
-                };
-                let mut array = array;
-                array.clear_news();
-                let answer = write_bytes(&mut array, &mut rack, first, &bytes);
-                assert_eq!(rt; answer, Ok(()), "{count} {at}");
                 let is_asked = at <= last.wrapping_add(u32::from(slot));
-                let event = if is_asked {
-                    Some(Event::Fenced { slot })
-                } else {
-                    None
-                };
-                let news = array.news();
-                assert_eq!(rt;
-                    (news.event(0), news.event(1)),
-                    (event, None),
-                    "{count} {at}"
-                );
-                let is_down = array.marks()[usize::from(slot)] == Mark::Down;
-                assert_eq!(rt; is_down, is_asked, "{count} {at}");
-                let found = is_done(&mut rack, &mut array, &change);
-                assert_eq!(rt; found, Some(true), "{count} {at}");
-                let found = is_done_in(rt.alloc(), &mut rack, &change)?;
-                assert_eq!(rt; found, Some(true), "{count} {at}");
+                let left_out = left_out_in_a_write(rt.alloc(), &geometry, &change, at, slot)?;
+                assert_eq!(rt; left_out, Some(is_asked), "{count} {at}");
             }
         }
     }
@@ -172,10 +200,9 @@ fn a_cell_is_damaged_in_a_write(rt: HostRuntime) -> Result<(), Fail> {
         let (slot, sector) = dependents[(at / 4 + at % 4) as usize % 4];
         let harm = act(at, What::Damage { slot, sector });
         let mut rack = filled(rt.alloc(), &geometry, &[harm])?;
-        let Opened::Open(array) = open(rt.alloc(), &mut rack)? else {
+        let Opened::Open(mut array) = open(rt.alloc(), &mut rack)? else {
             return Ok(assert!(rt; false));
         };
-        let mut array = array;
         array.clear_news();
         assert_eq!(rt; array.write(&mut rack, 5, &[200; 512]), Ok(()), "{at}");
         assert_eq!(rt; array.news().event(0), None, "{at}");
@@ -183,6 +210,30 @@ fn a_cell_is_damaged_in_a_write(rt: HostRuntime) -> Result<(), Fail> {
         assert_eq!(rt; found, Some(true), "{at}");
     }
     Ok(())
+}
+
+// Whether block 0 is written twice in a new session, the first time with just this last call, and with nothing told; slot 0 is
+// left out by the second time, and then the blocks are as after this change.
+fn is_written_twice(
+    alloc: Global,
+    rack: &mut MemRack,
+    ended: u32,
+    change: &Change,
+) -> Result<bool, AllocError> {
+    let Opened::Open(mut array) = open(alloc, rack)? else {
+        return Ok(false);
+    };
+    array.clear_news();
+    if array.write(rack, 0, &[0xAA; 512]).is_err()
+        || rack.made() != ended
+        || told(&array.news())[0].is_some()
+        || array.write(rack, 0, &[0xBB; 512]).is_err()
+        || !tells(&array.news(), Some(Event::Fenced { slot: 0 }))
+    {
+        return Ok(false);
+    }
+    let is_new = is_done_in(alloc, rack, change)? == Some(true);
+    Ok(is_new && is_done(rack, &mut array, change) == Some(true))
 }
 
 // A medium is pulled after a write and put back before the next one: it is left out, and reads give the newer block.
@@ -198,21 +249,7 @@ fn a_medium_is_put_back_between_two_writes(rt: HostRuntime) -> Result<(), Fail> 
     let pull = act(ended, What::Pull { slot: 0 });
     let back = act(ended, What::InsertOld { slot: 0, index: 0 });
     let mut rack = filled(rt.alloc(), &geometry, &[pull, back])?;
-    let Opened::Open(array) = open(rt.alloc(), &mut rack)? else {
-        return Ok(assert!(rt; false));
-    };
-    let mut array = array;
-    array.clear_news();
-    assert_eq!(rt; array.write(&mut rack, 0, &[0xAA; 512]), Ok(()));
-    assert_eq!(rt; (rack.made(), array.news().event(0)), (ended, None));
-    assert_eq!(rt; array.write(&mut rack, 0, &[0xBB; 512]), Ok(()));
-    let news = array.news();
-    assert_eq!(rt;
-        (news.event(0), news.event(1)),
-        (Some(Event::Fenced { slot: 0 }), None)
-    );
-    assert_eq!(rt; is_done_in(rt.alloc(), &mut rack, &change)?, Some(true));
-    assert_eq!(rt; is_done(&mut rack, &mut array, &change), Some(true));
+    assert!(rt; is_written_twice(rt.alloc(), &mut rack, ended, &change)?);
     Ok(())
 }
 
@@ -225,10 +262,9 @@ fn written_without(
     let rack = with_array(alloc, geometry, &[])?;
     let pull = act(0, What::Pull { slot: away });
     let mut rack = rack.after_crash(alloc, &[], &[pull], CALLS)?;
-    let Opened::Open(array) = open(alloc, &mut rack)? else {
+    let Opened::Open(mut array) = open(alloc, &mut rack)? else {
         return Ok(None);
     };
-    let mut array = array;
     for block in 0..array.blocks() {
         if array
             .write(&mut rack, block, &[filling(block); 512])
@@ -247,10 +283,9 @@ fn reads_without(
     away: u8,
     then: u8,
 ) -> Result<bool, AllocError> {
-    let Opened::Open(array) = open(alloc, rack)? else {
+    let Opened::Open(mut array) = open(alloc, rack)? else {
         return Ok(false);
     };
-    let mut array = array;
     let marks = array.marks();
     for slot in 0..5u8 {
         let is_down = marks[usize::from(slot)] == Mark::Down;
@@ -259,8 +294,7 @@ fn reads_without(
         }
     }
     for block in 0..array.blocks() {
-        let mut into = [0; 512];
-        if array.read(rack, block, &mut into).is_err() || into != [filling(block); 512] {
+        if !reads_as(&mut array, rack, block, filling(block)) {
             return Ok(false);
         }
     }
@@ -334,6 +368,19 @@ fn refuses_all(
     Ok(into == [9; 512] && rack.made() == made)
 }
 
+// Whether a write in a new session is refused, since two slots are gone, and the array is stopped then, with each later call.
+fn is_stopped(alloc: Global, rack: &mut MemRack) -> Result<bool, AllocError> {
+    let Opened::Open(mut array) = open(alloc, rack)? else {
+        return Ok(false);
+    };
+    let fault = ArrayFault::TooFew(pulled());
+    let is_refused = array.write(rack, 1, &[99; 512]) == Err(fault);
+    if !is_refused || array.stopped() != Some(FenceFault::TooFew(pulled())) {
+        return Ok(false);
+    }
+    refuses_all(alloc, &mut array, rack, fault)
+}
+
 // More slots go away in a write than may: it is refused, and so is each later call, which makes no call of the rack. Once the
 // media are back all blocks are as before.
 #[test]
@@ -345,19 +392,8 @@ fn a_write_that_stops_the_array(rt: HostRuntime) -> Result<(), Fail> {
         byte: 99,
     };
     let (opened, _) = calls_of(rt.alloc(), &geometry, &change)?;
-    let pull = |slot: u8| act(opened, What::Pull { slot });
-    let mut rack = filled(rt.alloc(), &geometry, &[pull(1), pull(2)])?;
-    let Opened::Open(array) = open(rt.alloc(), &mut rack)? else {
-        return Ok(assert!(rt; false));
-    };
-    let mut array = array;
-    let mut whys = [Why::Here; 32];
-    whys[1] = Why::Gone;
-    whys[2] = Why::Gone;
-    let fault = ArrayFault::TooFew(whys);
-    assert_eq!(rt; array.write(&mut rack, 1, &[99; 512]), Err(fault));
-    assert_eq!(rt; array.stopped(), Some(FenceFault::TooFew(whys)));
-    assert!(rt; refuses_all(rt.alloc(), &mut array, &mut rack, fault)?);
+    let mut rack = filled(rt.alloc(), &geometry, &pulls(opened))?;
+    assert!(rt; is_stopped(rt.alloc(), &mut rack)?);
     let back = |slot: u8| act(0, What::InsertOld { slot, index: 0 });
     let mut rack = rack.after_crash(rt.alloc(), &[], &[back(1), back(2)], CALLS)?;
     assert_eq!(rt; is_done_in(rt.alloc(), &mut rack, &change)?, Some(false));

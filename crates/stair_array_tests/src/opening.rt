@@ -1,14 +1,17 @@
-ghost use Rattle.std.specs.Prelude.{◌≡◌, ◌<◌};
+ghost use Rattle.std.specs.Prelude.{◌<◌};
+ghost use Rattle.stair_array_tests.specs.Geometry.{IsSmall};
 
 use crate::racks::{
-    CALLS, ID, Opened, act, begin_redo, cells_found, first_super, open, torn, with_array,
+    CALLS, ID, Opened, act, bad_chunks, begin_redo, cells_found, first_super, is_open, lost_chunks,
+    open, pulled, pulls, reads_as, torn, with_array,
 };
-use stair_array::{ArrayFault, RecoverFault};
+use stair_array::{Array, ArrayFault, RecoverFault};
 use stair_base::{FIRST_PLACE, GATE_SECTOR, Geometry, SECOND_PLACE};
+use stair_codec::Codec;
 use stair_journal::closed_gate;
-use stair_member::{FenceFault, Why, survey};
+use stair_member::{FenceFault, survey};
 use stair_memrack::{Act, MemRack, What};
-use stair_rack::{Got, Rack, Reply};
+use stair_rack::{Got, Rack};
 use stair_super::Mark;
 use std::alloc::{AllocError, Global};
 use std::test::Fail;
@@ -30,38 +33,51 @@ fn first_byte(alloc: Global, rack: &mut MemRack, block: u64) -> Result<u8, Alloc
     Ok(into[0])
 }
 
-// What an opening and a read of a block ask of the rack, and what the array shows.
-#[test]
-fn a_new_array_is_opened(rt: HostRuntime) -> Result<(), Fail> {
-    let geometry = Geometry::new(4, 1, 2, &[1], 3, ID)?;
-    let mut rack = with_array(rt.alloc(), &geometry, &[])?;
-    let before = rack.reads();
-    let Opened::Open(array) = open(rt.alloc(), &mut rack)? else {
-        return Ok(assert!(rt; false));
-    };
-    let mut array = array;
-    assert_eq!(rt; rack.reads().saturating_sub(before), 8 + 4);
+// Whether a read of this block is refused so, and nothing is read.
+fn is_refused(array: &mut Array<Codec>, rack: &mut MemRack, block: u64, fault: ArrayFault) -> bool {
     let mut into = [9; 512];
+    array.read(rack, block, &mut into) == Err(fault) && into == [9; 512]
+}
+
+// Whether each of 15 blocks is read as zeros, by one read of the rack, and the next one is refused, with no call.
+fn is_blank(array: &mut Array<Codec>, rack: &mut MemRack) -> bool {
     for block in 0..15 {
         let before = rack.reads();
-        assert_eq!(rt; array.read(&mut rack, block, &mut into), Ok(()));
-        assert_eq!(rt; (into, rack.reads().saturating_sub(before)), ([0; 512], 1));
-        into = [9; 512];
+        if !reads_as(array, rack, block, 0) || rack.reads().saturating_sub(before) != 1 {
+            return false;
+        }
     }
     let made = rack.made();
     let past = ArrayFault::OutOfRange {
         asked: 15,
         limit: 15,
     };
-    assert_eq!(rt; array.read(&mut rack, 15, &mut into), Err(past));
-    assert_eq!(rt; (into, rack.made()), ([9; 512], made));
-    assert_eq!(rt; (array.blocks(), array.epoch()), (15, 2));
-    assert_eq!(rt;
-        (array.marks()[3], array.marks()[4]),
-        (Mark::Live, Mark::Down)
-    );
-    assert_eq!(rt; array.stopped(), None);
-    assert!(rt; !array.frozen());
+    is_refused(array, rack, 15, past) && rack.made() == made
+}
+
+// Whether an array shows what one of four devices does after its first opening.
+fn is_new(array: &Array<Codec>) -> bool {
+    let marks = array.marks();
+    array.blocks() == 15
+        && array.epoch() == 2
+        && marks[3] == Mark::Live
+        && marks[4] == Mark::Down
+        && array.stopped().is_none()
+        && !array.frozen()
+}
+
+// What an opening and a read of a block ask of the rack, and what the array shows.
+#[test]
+fn a_new_array_is_opened(rt: HostRuntime) -> Result<(), Fail> {
+    let geometry = Geometry::new(4, 1, 2, &[1], 3, ID)?;
+    let mut rack = with_array(rt.alloc(), &geometry, &[])?;
+    let before = rack.reads();
+    let Opened::Open(mut array) = open(rt.alloc(), &mut rack)? else {
+        return Ok(assert!(rt; false));
+    };
+    assert_eq!(rt; rack.reads().saturating_sub(before), 8 + 4);
+    assert!(rt; is_blank(&mut array, &mut rack));
+    assert!(rt; is_new(&array));
     Ok(())
 }
 
@@ -72,9 +88,7 @@ fn with_redo(
     opened: u8,
     acts: &[Act],
 ) -> Result<MemRack, AllocError>
-    requires rows { geometry.now.r ≡ 2 }
-    requires devices { geometry.now.n ≡ 4 }
-    requires stripes { geometry.now.stripes ≡ 3 }
+    requires { IsSmall geometry.now }
 {
     let mut rack = with_array(alloc, geometry, acts)?;
     begin_redo(alloc, &mut rack, geometry, opened)?;
@@ -100,8 +114,7 @@ fn a_redo_is_done_again(rt: HostRuntime) -> Result<(), Fail> {
     for (opened, want) in [(0, (0, 0)), (1, (5, 5)), (3, (5, 5)), (4, (5, 5))] {
         let mut rack = with_redo(rt.alloc(), &geometry, opened, &[])?;
         let before = rack.reads();
-        let is_open = matches!(open(rt.alloc(), &mut rack)?, Opened::Open(_));
-        assert!(rt; is_open, "{opened}");
+        assert!(rt; is_open(rt.alloc(), &mut rack)?, "{opened}");
         let body = if opened > 0 { 2 } else { 0 };
         assert_eq!(rt;
             rack.reads().saturating_sub(before),
@@ -112,6 +125,14 @@ fn a_redo_is_done_again(rt: HostRuntime) -> Result<(), Fail> {
         assert!(rt; are_closed(&mut rack), "{opened}");
     }
     Ok(())
+}
+
+// By which fault an opening is refused; None where it isn't, or no array is found.
+fn refusal(alloc: Global, rack: &mut MemRack) -> Result<Option<RecoverFault>, AllocError> {
+    Ok(match open(alloc, rack)? {
+        Opened::Refused(fault) => Some(fault),
+        _ => None,
+    })
 }
 
 // A sector of the body is bad on all slots: the redo isn't done, and its gates stay open, also at the next opening. Where one
@@ -127,17 +148,12 @@ fn a_body_that_is_lost(rt: HostRuntime) -> Result<(), Fail> {
     let acts = [harm(0), harm(1), harm(2), harm(3)];
     let mut rack = with_redo(rt.alloc(), &geometry, 4, &acts)?;
     for _again in 0..2 {
-        match open(rt.alloc(), &mut rack)? {
-            Opened::Refused(fault) => {
-                assert_eq!(rt; fault, RecoverFault::JournalLost { sector: 10 });
-            }
-            _ => assert!(rt; false),
-        }
+        let refused = refusal(rt.alloc(), &mut rack)?;
+        assert_eq!(rt; refused, Some(RecoverFault::JournalLost { sector: 10 }));
         assert_eq!(rt; cells_found(&mut rack), (0, 0));
     }
     let mut rack = with_redo(rt.alloc(), &geometry, 4, &acts[1..])?;
-    let is_open = matches!(open(rt.alloc(), &mut rack)?, Opened::Open(_));
-    assert!(rt; is_open);
+    assert!(rt; is_open(rt.alloc(), &mut rack)?);
     assert_eq!(rt; cells_found(&mut rack), (5, 5));
     Ok(())
 }
@@ -150,9 +166,7 @@ fn cut_off(
     at: u32,
     picks: &[u32; 3],
 ) -> Result<MemRack, AllocError>
-    requires rows { geometry.now.r ≡ 2 }
-    requires devices { geometry.now.n ≡ 4 }
-    requires stripes { geometry.now.stripes ≡ 3 }
+    requires { IsSmall geometry.now }
 {
     let stop = Act {
         at,
@@ -171,8 +185,7 @@ fn an_opening_that_is_cut(rt: HostRuntime) -> Result<(), Fail> {
     for opened in [1, 4] {
         let mut rack = with_redo(rt.alloc(), &geometry, opened, &[])?;
         let first = rack.made();
-        let is_open = matches!(open(rt.alloc(), &mut rack)?, Opened::Open(_));
-        assert!(rt; is_open);
+        assert!(rt; is_open(rt.alloc(), &mut rack)?);
         for at in first..=rack.made() {
             for picks in [
                 [0, 0, 0],
@@ -183,8 +196,7 @@ fn an_opening_that_is_cut(rt: HostRuntime) -> Result<(), Fail> {
                 [1, 2, 0],
             ] {
                 let mut rack = cut_off(rt.alloc(), &geometry, opened, at, &picks)?;
-                let is_open = matches!(open(rt.alloc(), &mut rack)?, Opened::Open(_));
-                assert!(rt; is_open, "{at} {picks:?}");
+                assert!(rt; is_open(rt.alloc(), &mut rack)?, "{at} {picks:?}");
                 assert_eq!(rt; cells_found(&mut rack), (5, 5), "{at} {picks:?}");
                 assert!(rt; are_closed(&mut rack), "{at} {picks:?}");
             }
@@ -214,77 +226,70 @@ fn a_slot_is_pulled(rt: HostRuntime) -> Result<(), Fail> {
 fn a_stripe_that_is_lost(rt: HostRuntime) -> Result<(), Fail> {
     let geometry = Geometry::new(8, 2, 4, &[1, 1, 2], 4, ID)?;
     let at = with_array(rt.alloc(), &geometry, &[])?.made();
-    let mut acts = [Act {
-        at,
-        what: What::Stop,
-    }; 12];
-    for number in 0..12u8 {
-        let slot = number / 4;
-        let sector = 35 + u32::from(number % 4);
-        acts[usize::from(number)].what = What::Damage { slot, sector };
-    }
-    let mut rack = with_array(rt.alloc(), &geometry, &acts)?;
-    let Opened::Open(array) = open(rt.alloc(), &mut rack)? else {
+    let mut rack = with_array(rt.alloc(), &geometry, &bad_chunks(at))?;
+    let Opened::Open(mut array) = open(rt.alloc(), &mut rack)? else {
         return Ok(assert!(rt; false));
     };
-    let mut array = array;
-    let mut counts = [0; 32];
-    counts[0] = 4;
-    counts[1] = 4;
-    counts[2] = 4;
-    let lost = ArrayFault::Lost { stripe: 0, counts };
-    let mut into = [9; 512];
-    assert_eq!(rt; array.read(&mut rack, 0, &mut into), Err(lost));
-    assert_eq!(rt; (into, array.stopped()), ([9; 512], None));
-    assert_eq!(rt; array.read(&mut rack, 3, &mut into), Ok(()));
-    assert_eq!(rt; into, [0; 512]);
+    assert!(rt; is_refused(&mut array, &mut rack, 0, lost_chunks()));
+    assert_eq!(rt; array.stopped(), None);
+    assert!(rt; reads_as(&mut array, &mut rack, 3, 0));
     Ok(())
 }
 
-fn pulls(at: u32) -> [Act; 2] {
-    [
-        Act {
-            at,
-            what: What::Pull { slot: 1 },
-        },
-        Act {
-            at,
-            what: What::Pull { slot: 2 },
-        },
-    ]
+// How many calls were made of a rack once it was surveyed; None where no array is found.
+fn calls_of_survey(rack: MemRack) -> Option<u32> {
+    let mut rack = rack;
+    if survey(&mut rack).is_ok() {
+        Some(rack.made())
+    } else {
+        None
+    }
+}
+
+// How many calls were made of a rack once its array was opened; None where it isn't.
+fn calls_of_opening(alloc: Global, rack: MemRack) -> Result<Option<u32>, AllocError> {
+    let mut rack = rack;
+    if is_open(alloc, &mut rack)? {
+        Ok(Some(rack.made()))
+    } else {
+        Ok(None)
+    }
+}
+
+// Whether an array is opened of which the first read is refused, since too few slots are left, and which is stopped then: later
+// reads are refused so too, with no call of the rack.
+fn is_stopped(alloc: Global, rack: MemRack) -> Result<bool, AllocError> {
+    let mut rack = rack;
+    let Opened::Open(mut array) = open(alloc, &mut rack)? else {
+        return Ok(false);
+    };
+    let fault = ArrayFault::TooFew(pulled());
+    let is_first = is_refused(&mut array, &mut rack, 1, fault);
+    if !is_first || array.stopped() != Some(FenceFault::TooFew(pulled())) {
+        return Ok(false);
+    }
+    let made = rack.made();
+    let is_next = is_refused(&mut array, &mut rack, 0, fault);
+    Ok(is_next && is_refused(&mut array, &mut rack, 99, fault) && rack.made() == made)
 }
 
 // More slots are away than one: the opening is refused, and so is a read of an open array, which is stopped then.
 #[test]
 fn too_few_slots(rt: HostRuntime) -> Result<(), Fail> {
     let geometry = Geometry::new(5, 1, 2, &[2], 2, ID)?;
-    let mut whys = [Why::Here; 32];
-    whys[1] = Why::Gone;
-    whys[2] = Why::Gone;
-    let mut rack = with_array(rt.alloc(), &geometry, &[])?;
-    assert!(rt; survey(&mut rack).is_ok());
-    let found = rack.made();
-    let mut rack = with_array(rt.alloc(), &geometry, &pulls(found))?;
-    match open(rt.alloc(), &mut rack)? {
-        Opened::Refused(fault) => assert_eq!(rt; fault, RecoverFault::TooFew(whys)),
-        _ => assert!(rt; false),
-    }
-    let mut rack = with_array(rt.alloc(), &geometry, &[])?;
-    let is_open = matches!(open(rt.alloc(), &mut rack)?, Opened::Open(_));
-    assert!(rt; is_open);
-    let mut rack = with_array(rt.alloc(), &geometry, &pulls(rack.made()))?;
-    let Opened::Open(array) = open(rt.alloc(), &mut rack)? else {
+    let found = calls_of_survey(with_array(rt.alloc(), &geometry, &[])?);
+    let Some(found) = found else {
         return Ok(assert!(rt; false));
     };
-    let mut array = array;
-    let mut into = [9; 512];
-    let fault = ArrayFault::TooFew(whys);
-    assert_eq!(rt; array.read(&mut rack, 1, &mut into), Err(fault));
-    assert_eq!(rt; array.stopped(), Some(FenceFault::TooFew(whys)));
-    let made = rack.made();
-    assert_eq!(rt; array.read(&mut rack, 0, &mut into), Err(fault));
-    assert_eq!(rt; array.read(&mut rack, 99, &mut into), Err(fault));
-    assert_eq!(rt; (into, rack.made()), ([9; 512], made));
+    let mut rack = with_array(rt.alloc(), &geometry, &pulls(found))?;
+    let refused = refusal(rt.alloc(), &mut rack)?;
+    assert_eq!(rt; refused, Some(RecoverFault::TooFew(pulled())));
+    let rack = with_array(rt.alloc(), &geometry, &[])?;
+    let Some(opened) = calls_of_opening(rt.alloc(), rack)? else {
+        return Ok(assert!(rt; false));
+    };
+    let rack = with_array(rt.alloc(), &geometry, &pulls(opened))?;
+    assert!(rt; is_stopped(rt.alloc(), rack)?);
     Ok(())
 }
 
@@ -350,8 +355,9 @@ fn is_as_new(rack: &mut MemRack, epoch: u64) -> bool {
     true
 }
 
-fn is_spent(opened: Opened) -> bool {
-    matches!(opened, Opened::Refused(RecoverFault::EpochsSpent))
+// Whether an opening is refused, since the greatest draw stands.
+fn is_spent(alloc: Global, rack: &mut MemRack) -> Result<bool, AllocError> {
+    Ok(refusal(alloc, rack)? == Some(RecoverFault::EpochsSpent))
 }
 
 // The greatest draw stands: an opening is refused, and writes nothing.
@@ -360,12 +366,28 @@ fn draws_that_are_spent(rt: HostRuntime) -> Result<(), Fail> {
     let geometry = Geometry::new(4, 1, 2, &[1], 3, ID)?;
     let mut rack = with_draw(rt.alloc(), &geometry, u64::MAX, &[])?;
     for _again in 0..2 {
-        let spent = is_spent(open(rt.alloc(), &mut rack)?);
-        assert!(rt; spent);
+        assert!(rt; is_spent(rt.alloc(), &mut rack)?);
     }
     let mut rack = torn(rt.alloc(), rack)?;
     assert!(rt; is_as_new(&mut rack, 1));
     Ok(())
+}
+
+// Whether the array is opened in the last epoch, and all reads are refused since a slot is away.
+fn is_stopped_at_last(alloc: Global, rack: &mut MemRack) -> Result<bool, AllocError> {
+    let Opened::Open(mut array) = open(alloc, rack)? else {
+        return Ok(false);
+    };
+    let is_last = array.epoch() == u64::MAX;
+    // block 1 lies on slot 1
+    for block in [1, 0, 99] {
+        if !is_refused(&mut array, rack, block, ArrayFault::EpochsSpent)
+            || array.stopped() != Some(FenceFault::EpochsSpent)
+        {
+            return Ok(false);
+        }
+    }
+    Ok(is_last)
 }
 
 // The greatest draw but one stands: the array is opened once more, in the last epoch that there is. A slot that has to be left
@@ -373,33 +395,36 @@ fn draws_that_are_spent(rt: HostRuntime) -> Result<(), Fail> {
 #[test]
 fn draws_that_are_nearly_spent(rt: HostRuntime) -> Result<(), Fail> {
     let geometry = Geometry::new(4, 1, 2, &[1], 3, ID)?;
-    let mut rack = with_draw(rt.alloc(), &geometry, u64::MAX - 1, &[])?;
-    let is_open = matches!(open(rt.alloc(), &mut rack)?, Opened::Open(_));
-    assert!(rt; is_open);
-    let pull = act(rack.made(), What::Pull { slot: 1 });
-    let mut rack = with_draw(rt.alloc(), &geometry, u64::MAX - 1, &[pull])?;
-    let Opened::Open(array) = open(rt.alloc(), &mut rack)? else {
+    let rack = with_draw(rt.alloc(), &geometry, u64::MAX - 1, &[])?;
+    let Some(opened) = calls_of_opening(rt.alloc(), rack)? else {
         return Ok(assert!(rt; false));
     };
-    let mut array = array;
-    let mut into = [9; 512];
-    assert_eq!(rt; array.epoch(), u64::MAX);
-    // block 1 lies on slot 1
-    for block in [1, 0, 99] {
-        let answer = array.read(&mut rack, block, &mut into);
-        assert_eq!(rt; answer, Err(ArrayFault::EpochsSpent), "{block}");
-        assert_eq!(rt;
-            (into, array.stopped()),
-            ([9; 512], Some(FenceFault::EpochsSpent))
-        );
-    }
+    let pull = act(opened, What::Pull { slot: 1 });
+    let mut rack = with_draw(rt.alloc(), &geometry, u64::MAX - 1, &[pull])?;
+    assert!(rt; is_stopped_at_last(rt.alloc(), &mut rack)?);
     let mut rack = torn(rt.alloc(), rack)?;
     assert!(rt; is_as_new(&mut rack, u64::MAX));
-    let spent = is_spent(open(rt.alloc(), &mut rack)?);
-    assert!(rt; spent);
+    assert!(rt; is_spent(rt.alloc(), &mut rack)?);
     let mut rack = torn(rt.alloc(), rack)?;
     assert!(rt; is_as_new(&mut rack, u64::MAX));
     Ok(())
+}
+
+// How that last opening ends where slot 1 is pulled before this call, by the epoch in which the array is then or the refusal,
+// None where none is found; and whether the next one is refused.
+fn last_opening(
+    alloc: Global,
+    geometry: &Geometry,
+    at: u32,
+) -> Result<(Option<Result<u64, RecoverFault>>, bool), AllocError> {
+    let pull = act(at, What::Pull { slot: 1 });
+    let mut rack = with_draw(alloc, geometry, u64::MAX - 1, &[pull])?;
+    let ended = match open(alloc, &mut rack)? {
+        Opened::Open(array) => Some(Ok(array.epoch())),
+        Opened::Refused(fault) => Some(Err(fault)),
+        Opened::Unfound => None,
+    };
+    Ok((ended, is_spent(alloc, &mut rack)?))
 }
 
 // A slot is pulled before each call of that last opening: it is done without the slot where it was never seen, or where nothing
@@ -407,31 +432,26 @@ fn draws_that_are_nearly_spent(rt: HostRuntime) -> Result<(), Fail> {
 #[test]
 fn the_last_opening_with_a_slot_that_is_pulled(rt: HostRuntime) -> Result<(), Fail> {
     let geometry = Geometry::new(4, 1, 2, &[1], 3, ID)?;
-    let mut rack = with_draw(rt.alloc(), &geometry, u64::MAX - 1, &[])?;
+    let rack = with_draw(rt.alloc(), &geometry, u64::MAX - 1, &[])?;
     let first = rack.made();
-    assert!(rt; survey(&mut rack).is_ok());
     // slot 1 is attached by the fourth call of a survey, and its last sector is read by the sixth
     let seen = first.saturating_add(5);
-    let surveyed = rack.made();
-    let mut rack = with_draw(rt.alloc(), &geometry, u64::MAX - 1, &[])?;
-    let is_open = matches!(open(rt.alloc(), &mut rack)?, Opened::Open(_));
-    assert!(rt; is_open);
-    for at in first..=rack.made() {
-        let pull = act(at, What::Pull { slot: 1 });
-        let mut rack = with_draw(rt.alloc(), &geometry, u64::MAX - 1, &[pull])?;
-        match open(rt.alloc(), &mut rack)? {
-            Opened::Open(array) => {
-                assert_eq!(rt; array.epoch(), u64::MAX, "{at}");
-                assert!(rt; at <= seen || at > surveyed, "{at}");
-            }
-            Opened::Refused(fault) => {
-                assert_eq!(rt; fault, RecoverFault::EpochsSpent, "{at}");
-                assert!(rt; at > seen, "{at}");
-            }
-            Opened::Unfound => assert!(rt; false, "{at}"),
+    let Some(surveyed) = calls_of_survey(rack) else {
+        return Ok(assert!(rt; false));
+    };
+    let rack = with_draw(rt.alloc(), &geometry, u64::MAX - 1, &[])?;
+    let Some(last) = calls_of_opening(rt.alloc(), rack)? else {
+        return Ok(assert!(rt; false));
+    };
+    for at in first..=last {
+        let (ended, is_spent) = last_opening(rt.alloc(), &geometry, at)?;
+        if ended == Some(Ok(u64::MAX)) {
+            assert!(rt; at <= seen || at > surveyed, "{at}");
+        } else {
+            assert_eq!(rt; ended, Some(Err(RecoverFault::EpochsSpent)), "{at}");
+            assert!(rt; at > seen, "{at}");
         }
-        let spent = is_spent(open(rt.alloc(), &mut rack)?);
-        assert!(rt; spent, "{at}");
+        assert!(rt; is_spent, "{at}");
     }
     Ok(())
 }

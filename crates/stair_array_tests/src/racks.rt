@@ -2,14 +2,15 @@
 ghost use Rattle.std.specs.Prelude.{◌≡◌, ◌<◌, ℕ, IfOk};
 ghost use Rattle.stair_model.specs.CellSet.{HasCell, IsCellSet, IsInStripe};
 ghost use Rattle.stair_model.specs.Stripe.{IsStripeOf};
+ghost use Rattle.stair_array_tests.specs.Geometry.{IsSmall};
 
-use stair_array::{Array, RecoverFault, create};
+use stair_array::{Array, ArrayFault, News, RecoverFault, create};
 use stair_base::{CellSet, Geometry, Kind, Slots, Stripe, StripeCode};
 use stair_codec::{By, Codec};
 use stair_journal::{Redo, open_gates, write_body};
-use stair_member::{Member, survey};
+use stair_member::{Member, Why, survey};
 use stair_memrack::{Act, MemRack, What};
-use stair_rack::Rack;
+use stair_rack::{Event, Rack};
 use std::alloc::{AllocError, Global};
 
 // Slot 0 of four devices with one row parity, two rows, one global parity and three stripes, in the first epoch, as the
@@ -71,6 +72,17 @@ pub(crate) fn recover(
     })
 }
 
+// Whether an array is opened there.
+pub(crate) fn is_open(alloc: Global, rack: &mut MemRack) -> Result<bool, AllocError> {
+    Ok(matches!(open(alloc, rack)?, Opened::Open(_)))
+}
+
+// Whether a block is read, and filled with this byte.
+pub(crate) fn reads_as(array: &mut Array<Codec>, rack: &mut MemRack, block: u64, byte: u8) -> bool {
+    let mut into = [!byte; 512];
+    array.read(rack, block, &mut into).is_ok() && into == [byte; 512]
+}
+
 // A rack over this many media, on which there is a new array.
 pub(crate) fn with_array(
     alloc: Global,
@@ -110,9 +122,7 @@ pub(crate) fn begin_redo(
     geometry: &Geometry,
     opened: u8,
 ) -> Result<(), AllocError>
-    requires rows { geometry.now.r ≡ 2 }
-    requires devices { geometry.now.n ≡ 4 }
-    requires stripes { geometry.now.stripes ≡ 3 }
+    requires { IsSmall geometry.now }
 {
     let mut stripe = Stripe::new(alloc, geometry)?;
     stripe.put(0, 0, &[5; 512]);
@@ -135,6 +145,54 @@ pub(crate) fn cells_found(rack: &mut MemRack) -> (u8, u8) {
 
 pub(crate) fn act(at: u32, what: What) -> Act {
     Act { at, what }
+}
+
+// The acts by which two slots are pulled before this call.
+pub(crate) fn pulls(at: u32) -> [Act; 2] {
+    [
+        act(at, What::Pull { slot: 1 }),
+        act(at, What::Pull { slot: 2 }),
+    ]
+}
+
+// What is known of the slots then.
+pub(crate) fn pulled() -> [Why; 32] {
+    let mut whys = [Why::Here; 32];
+    whys[1] = Why::Gone;
+    whys[2] = Why::Gone;
+    whys
+}
+
+// The acts before this call by which of eight devices, with chunks of four sectors, the slots 0 to 2 have no good cell in
+// stripe 0.
+pub(crate) fn bad_chunks(at: u32) -> [Act; 12] {
+    let mut acts = [act(at, What::Stop); 12];
+    for number in 0..12u8 {
+        let slot = number / 4;
+        let sector = 35 + u32::from(number % 4);
+        acts[usize::from(number)].what = What::Damage { slot, sector };
+    }
+    acts
+}
+
+// By which fault the blocks there are lost.
+pub(crate) fn lost_chunks() -> ArrayFault {
+    let mut counts = [0; 32];
+    counts[0] = 4;
+    counts[1] = 4;
+    counts[2] = 4;
+    ArrayFault::Lost { stripe: 0, counts }
+}
+
+// Event number 0 to 4 of these news.
+pub(crate) fn told(news: &News) -> [Option<Event>; 5] {
+    [
+        news.event(0),
+        news.event(1),
+        news.event(2),
+        news.event(3),
+        news.event(4),
+    ]
 }
 
 // What a crash leaves of a rack in which each sector that is pending is torn.

@@ -1,4 +1,7 @@
-use crate::racks::{CALLS, ID, Opened, act, filling, open, with_array, with_blocks};
+use crate::racks::{
+    CALLS, ID, Opened, act, bad_chunks, filling, lost_chunks, open, reads_as, with_array,
+    with_blocks,
+};
 use stair_array::{Array, ArrayFault};
 use stair_base::{GATE_SECTOR, Geometry, StripeCode};
 use stair_codec::{By, Codec};
@@ -87,10 +90,9 @@ pub(crate) fn is_done_in(
     rack: &mut MemRack,
     change: &Change,
 ) -> Result<Option<bool>, AllocError> {
-    let Opened::Open(array) = open(alloc, rack)? else {
+    let Opened::Open(mut array) = open(alloc, rack)? else {
         return Ok(None);
     };
-    let mut array = array;
     Ok(is_done(rack, &mut array, change))
 }
 
@@ -101,10 +103,9 @@ pub(crate) fn calls_of(
     change: &Change,
 ) -> Result<(u32, u32), AllocError> {
     let mut rack = filled(alloc, geometry, &[])?;
-    let Opened::Open(array) = open(alloc, &mut rack)? else {
+    let Opened::Open(mut array) = open(alloc, &mut rack)? else {
         return Ok((0, 0));
     };
-    let mut array = array;
     let opened = rack.made();
     let bytes = change.bytes(alloc)?;
     let _ = write_bytes(&mut array, &mut rack, change.first, &bytes);
@@ -166,36 +167,52 @@ fn gates_are(rack: &mut MemRack, want: &[u8; 512]) -> bool {
     true
 }
 
+// The first write of block 0: its answer, how many reads of the rack it makes, and how many calls.
+fn first_write(array: &mut Array<Codec>, rack: &mut MemRack) -> (Result<(), ArrayFault>, u64, u32) {
+    let (reads, made) = (rack.reads(), rack.made());
+    let answer = array.write(rack, 0, &[1; 512]);
+    let reads = rack.reads().saturating_sub(reads);
+    (answer, reads, rack.made().saturating_sub(made))
+}
+
+// Whether that write is refused where it is stopped before this call, and these gates are left by a crash.
+fn stop_leaves(
+    alloc: Global,
+    geometry: &Geometry,
+    at: u32,
+    gate: &[u8; 512],
+) -> Result<bool, AllocError> {
+    let mut rack = with_array(alloc, geometry, &[act(at, What::Stop)])?;
+    let Opened::Open(mut array) = open(alloc, &mut rack)? else {
+        return Ok(false);
+    };
+    let is_refused = first_write(&mut array, &mut rack).0.is_err();
+    let mut rack = rack.after_crash(alloc, &[], &[], CALLS)?;
+    Ok(is_refused && gates_are(&mut rack, gate))
+}
+
 #[test]
 fn the_first_write_of_a_block(rt: HostRuntime) -> Result<(), Fail> {
     let geometry = Geometry::new(4, 1, 2, &[1], 3, ID)?;
     let mut rack = with_array(rt.alloc(), &geometry, &[])?;
-    let Opened::Open(array) = open(rt.alloc(), &mut rack)? else {
+    let Opened::Open(mut array) = open(rt.alloc(), &mut rack)? else {
         return Ok(assert!(rt; false));
     };
-    let mut array = array;
-    let (reads, made) = (rack.reads(), rack.made());
-    assert_eq!(rt; array.write(&mut rack, 0, &[1; 512]), Ok(()));
+    let made = rack.made();
     // block 0 has four dependents, which are read; each of four slots gets four cells of the body and two gates, and four
     // cells are placed; each of the four phases syncs four slots
-    assert_eq!(rt; rack.reads().saturating_sub(reads), 4);
-    assert_eq!(rt; rack.made().saturating_sub(made), 4 + 16 + 8 + 4 + 16);
+    assert_eq!(rt;
+        first_write(&mut array, &mut rack),
+        (Ok(()), 4, 4 + 16 + 8 + 4 + 16)
+    );
     assert!(rt; has_first_write(&mut rack));
-    let mut into = [9; 512];
-    assert_eq!(rt; array.read(&mut rack, 0, &mut into), Ok(()));
-    assert_eq!(rt; into, [1; 512]);
+    assert!(rt; reads_as(&mut array, &mut rack, 0, 1));
     assert!(rt; gates_are(&mut rack, &gate(false, 0)));
     // a stop once the gates are open and synced, and before the first cell is placed
     let at = made.wrapping_add(4 + 16 + 4 + 8);
-    let mut rack = with_array(rt.alloc(), &geometry, &[act(at, What::Stop)])?;
-    let Opened::Open(array) = open(rt.alloc(), &mut rack)? else {
-        return Ok(assert!(rt; false));
-    };
-    let mut array = array;
-    assert!(rt; array.write(&mut rack, 0, &[1; 512]).is_err());
-    let mut rack = rack.after_crash(rt.alloc(), &[], &[], CALLS)?;
     // cells 0, 3, 6 and 7 of stripe 0
-    assert!(rt; gates_are(&mut rack, &gate(true, 0x93)));
+    let gate = gate(true, 0x93);
+    assert!(rt; stop_leaves(rt.alloc(), &geometry, at, &gate)?);
     Ok(())
 }
 
@@ -209,14 +226,12 @@ fn a_write_with_a_bad_cell(rt: HostRuntime) -> Result<(), Fail> {
     };
     let rack = with_array(rt.alloc(), &geometry, &[])?;
     let mut rack = rack.after_crash(rt.alloc(), &[], &[act(0, harm)], CALLS)?;
-    let Opened::Open(array) = open(rt.alloc(), &mut rack)? else {
+    let Opened::Open(mut array) = open(rt.alloc(), &mut rack)? else {
         return Ok(assert!(rt; false));
     };
-    let mut array = array;
     assert_eq!(rt; sector(&mut rack, 2, 12), None);
-    let reads = rack.reads();
-    assert_eq!(rt; array.write(&mut rack, 0, &[1; 512]), Ok(()));
-    assert_eq!(rt; rack.reads().saturating_sub(reads), 4 + 8);
+    let (answer, reads, _) = first_write(&mut array, &mut rack);
+    assert_eq!(rt; (answer, reads), (Ok(()), 4 + 8));
     assert!(rt; has_first_write(&mut rack));
     assert!(rt; gates_are(&mut rack, &gate(false, 0)));
     Ok(())
@@ -317,13 +332,58 @@ fn is_lost(array: &mut Array<Codec>, rack: &mut MemRack, block: u64, lost: Array
 
 // Whether this block reads as what fills it, and after a write as what was written.
 fn is_written_over(array: &mut Array<Codec>, rack: &mut MemRack, block: u64) -> bool {
-    let mut into = [0; 512];
-    if array.read(rack, block, &mut into).is_err() || into != [filling(block); 512] {
-        return false;
+    reads_as(array, rack, block, filling(block))
+        && array.write(rack, block, &[97; 512]).is_ok()
+        && reads_as(array, rack, block, 97)
+}
+
+// The first block on the slots without a good cell in stripe 0 that isn't lost.
+fn kept_block(array: &mut Array<Codec>, rack: &mut MemRack) -> Option<u64> {
+    // the slots 0 to 2 have these blocks of stripe 0
+    for block in [0, 1, 2, 6, 7, 8, 12, 13, 14, 17, 18, 19] {
+        if !is_lost(array, rack, block, lost_chunks()) {
+            return Some(block);
+        }
     }
-    array.write(rack, block, &[97; 512]).is_ok()
-        && array.read(rack, block, &mut into).is_ok()
-        && into == [97; 512]
+    None
+}
+
+// Writes blocks 2 to 4 at once, the first of which is lost.
+fn write_three(array: &mut Array<Codec>, rack: &mut MemRack) -> Result<(), ArrayFault> {
+    write_bytes(array, rack, 2, &[98; 1536])
+}
+
+// Whether that is refused, and the array isn't stopped.
+fn are_lost(array: &mut Array<Codec>, rack: &mut MemRack) -> bool {
+    let is_lost = write_three(array, rack) == Err(lost_chunks());
+    is_lost && array.stopped().is_none()
+}
+
+// The first block on the other slots that isn't written over.
+fn unwritten_block(array: &mut Array<Codec>, rack: &mut MemRack) -> Option<u64> {
+    for block in [3, 4, 5, 9, 10, 11, 15, 16] {
+        if !is_written_over(array, rack, block) {
+            return Some(block);
+        }
+    }
+    None
+}
+
+// Whether a whole stripe is written, with no read of the rack, and reads as after it, also in a new session.
+fn is_written_whole(
+    alloc: Global,
+    array: &mut Array<Codec>,
+    rack: &mut MemRack,
+    whole: &Change,
+) -> Result<bool, AllocError> {
+    let bytes = whole.bytes(alloc)?;
+    let reads = rack.reads();
+    let answer = write_bytes(array, rack, whole.first, &bytes);
+    if answer.is_err() || rack.reads() != reads {
+        return Ok(false);
+    }
+    let is_new = is_done(rack, array, whole) == Some(true);
+    Ok(is_new && is_done_in(alloc, rack, whole)? == Some(true))
 }
 
 // All cells of stripe 0 are bad on three slots. A block there is lost and none of its stripe is changed; one all of whose
@@ -331,43 +391,20 @@ fn is_written_over(array: &mut Array<Codec>, rack: &mut MemRack, block: u64) -> 
 #[test]
 fn a_lost_stripe_is_written_over(rt: HostRuntime) -> Result<(), Fail> {
     let geometry = Geometry::new(8, 2, 4, &[1, 1, 2], 2, ID)?;
-    let mut acts = [act(0, What::Stop); 12];
-    for number in 0..12u8 {
-        let slot = number / 4;
-        let sector = 35 + u32::from(number % 4);
-        acts[usize::from(number)].what = What::Damage { slot, sector };
-    }
-    let mut rack = filled(rt.alloc(), &geometry, &acts)?;
-    let Opened::Open(array) = open(rt.alloc(), &mut rack)? else {
+    let mut rack = filled(rt.alloc(), &geometry, &bad_chunks(0))?;
+    let Opened::Open(mut array) = open(rt.alloc(), &mut rack)? else {
         return Ok(assert!(rt; false));
     };
-    let mut array = array;
-    let mut counts = [0; 32];
-    counts[0] = 4;
-    counts[1] = 4;
-    counts[2] = 4;
-    let lost = ArrayFault::Lost { stripe: 0, counts };
-    // the slots 0 to 2 have these blocks of stripe 0
-    for block in [0, 1, 2, 6, 7, 8, 12, 13, 14, 17, 18, 19] {
-        assert!(rt; is_lost(&mut array, &mut rack, block, lost), "{block}");
-    }
-    let three = write_bytes(&mut array, &mut rack, 2, &[98; 1536]);
-    assert_eq!(rt; (three, array.stopped()), (Err(lost), None));
-    for block in [3, 4, 5, 9, 10, 11, 15, 16] {
-        assert!(rt; is_written_over(&mut array, &mut rack, block), "{block}");
-    }
+    assert_eq!(rt; kept_block(&mut array, &mut rack), None);
+    assert!(rt; are_lost(&mut array, &mut rack));
+    assert_eq!(rt; unwritten_block(&mut array, &mut rack), None);
     assert_eq!(rt; array.write(&mut rack, 20, &[filling(20); 512]), Ok(()));
     let whole = Change {
         first: 0,
         count: 20,
         byte: 150,
     };
-    let bytes = whole.bytes(rt.alloc())?;
-    let reads = rack.reads();
-    assert_eq!(rt; write_bytes(&mut array, &mut rack, 0, &bytes), Ok(()));
-    assert_eq!(rt; rack.reads(), reads);
-    assert_eq!(rt; is_done(&mut rack, &mut array, &whole), Some(true));
-    assert_eq!(rt; is_done_in(rt.alloc(), &mut rack, &whole)?, Some(true));
+    assert!(rt; is_written_whole(rt.alloc(), &mut array, &mut rack, &whole)?);
     Ok(())
 }
 
@@ -404,30 +441,37 @@ fn is_unwritable(array: &mut Array<Codec>, rack: &mut MemRack) -> bool {
     rack.made() == made && array.stopped().is_none()
 }
 
+// Whether an array is opened that is frozen and not written, and whose blocks are as before this change.
+fn is_kept(alloc: Global, rack: &mut MemRack, change: &Change) -> Result<bool, AllocError> {
+    let Opened::Open(mut array) = open(alloc, rack)? else {
+        return Ok(false);
+    };
+    let is_frozen = array.frozen() && is_unwritable(&mut array, rack);
+    Ok(is_frozen && is_done(rack, &mut array, change) == Some(false))
+}
+
+// Whether an array is opened in which this change of a block is written.
+fn is_written(alloc: Global, rack: &mut MemRack, change: &Change) -> Result<bool, AllocError> {
+    let Opened::Open(mut array) = open(alloc, rack)? else {
+        return Ok(false);
+    };
+    let answer = array.write(rack, change.first, &[change.byte; 512]);
+    Ok(answer.is_ok() && is_done(rack, &mut array, change) == Some(true))
+}
+
 // A frozen array: no write of it makes a call, and whether a block is past it is asked first. Once thawed it is written.
 #[test]
 fn a_frozen_array_is_not_written(rt: HostRuntime) -> Result<(), Fail> {
     let geometry = Geometry::new(4, 1, 2, &[1], 3, ID)?;
     let rack = with_blocks(rt.alloc(), &geometry)?;
     let mut rack = stamped(rt.alloc(), rack, true)?;
-    let Opened::Open(array) = open(rt.alloc(), &mut rack)? else {
-        return Ok(assert!(rt; false));
-    };
-    let mut array = array;
-    assert!(rt; array.frozen());
-    assert!(rt; is_unwritable(&mut array, &mut rack));
     let change = Change {
         first: 6,
         count: 1,
         byte: 99,
     };
-    assert_eq!(rt; is_done(&mut rack, &mut array, &change), Some(false));
+    assert!(rt; is_kept(rt.alloc(), &mut rack, &change)?);
     let mut rack = stamped(rt.alloc(), rack, false)?;
-    let Opened::Open(array) = open(rt.alloc(), &mut rack)? else {
-        return Ok(assert!(rt; false));
-    };
-    let mut array = array;
-    assert_eq!(rt; array.write(&mut rack, 6, &[99; 512]), Ok(()));
-    assert_eq!(rt; is_done(&mut rack, &mut array, &change), Some(true));
+    assert!(rt; is_written(rt.alloc(), &mut rack, &change)?);
     Ok(())
 }

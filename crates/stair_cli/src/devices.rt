@@ -9,7 +9,8 @@ use std::fs::File;
 /// What a command opens the image files for. One that can't be read opens none.
 pub(crate) fn access_of(alloc: Global, command: &[String]) -> Access {
     match read_words(alloc, command) {
-        Ok(Job::Create) => Access::Writing,
+        // An opening may write, that of a read too.
+        Ok(Job::Create | Job::Read { .. } | Job::Write { .. }) => Access::Writing,
         Ok(Job::Show | Job::OneStripe { .. }) | Err(_) => Access::Reading,
     }
 }

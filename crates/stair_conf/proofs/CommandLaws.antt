@@ -10,18 +10,19 @@ use Rattle.clap.specs.Values.{reading_of}
 use Rattle.clap.specs.ValueTests.{accepts}
 use Rattle.clap.specs.Walk.{Row, Rule, Text, Walk, all_of, finished, first_of, nothing_held, rows_after, rows_of, walk_from}
 use Rattle.clap.specs.Matches.{found_of}
-use Rattle.clap.specs.Simple.{App, HasMatchesOf, Shape, built, entered, is_simple, matches_of}
+use Rattle.clap.specs.Simple.{App, HasMatchesOf, Shape, argument_words, built, entered, is_simple, matches_of}
+use Rattle.clap.specs.Faults.{built_fault, fault_of, is_simple_and_free}
 use Rattle.clap.specs.Takes.{built_takes, default_passes, entered_passes, is_valid, settle_passes}
 use Rattle.clap.specs.declared.builder.value_parser.ValueParser.TheVariants as vp
 use Rattle.clap.specs.declared.parser.matches.ValueSource.TheVariants.{CommandLine}
 use Rattle.clap.specs.declared.parser.matches.ArgMatches.{ArgMatches}
 use Rattle.stair_conf.specs.declared.job.Method.{Method}
-use Rattle.stair_conf.specs.Commands.{HasNoOption, geometry_app, stripe_app}
-use Rattle.stair_conf.specs.Rows.{HasGeometry, HasMethodWord}
-use Rattle.stair_conf.specs.Words.{SpellsGeometry, method_word}
-use Rattle.stair_conf.proofs.RowLemmas.{HoldsGeometry, geometry_held, geometry_spelled}
+use Rattle.stair_conf.specs.Commands.{HasNoOption, blocks_app, geometry_app, stripe_app}
+use Rattle.stair_conf.specs.Rows.{HasBlocks, HasGeometry, HasMethodWord}
+use Rattle.stair_conf.specs.Words.{SpellsBlocks, SpellsGeometry, method_word}
+use Rattle.stair_conf.proofs.RowLemmas.{HoldsBlocks, HoldsGeometry, blocks_held, blocks_spelled, geometry_held, geometry_spelled}
 use Rattle.stair_conf.proofs.WordsLemmas.{behind, in_front}
-use Rattle.stair_conf.proofs.WalkLaws.{IsPlainWalk, all_placed, all_placed-last, at_last, has_no_tail, places_pass, places_pass-last, walk-placed, walk_passes-placed}
+use Rattle.stair_conf.proofs.WalkLaws.{IsPlainWalk, all_placed, all_placed-last, at_last, has_no_tail, neither_fails, places_pass, places_pass-last, walk-placed, walk_fault-places, walk_passes-placed}
 
 -- ---- a command of positionals alone
 
@@ -109,6 +110,14 @@ stripe_holds method a b c d rest none =
         e_row = ap (all_of (codes "E")) rows;
       },
     )
+
+abbrev blocks_rules : List Rule
+blocks_rules = (built blocks_app).top.rules
+
+blocks_holds : (a b : Text) → HasNoOption (a ∷ b ∷ []) → HoldsBlocks (rows_after blocks_rules [] (a ∷ b ∷ [])) a b
+blocks_holds a b none =
+    let rows = rows_after-placed blocks_rules refl (a ∷ b ∷ []) none in
+    record { block_row = ap (first_of (codes "BLOCK")) rows; count_row = ap (first_of (codes "COUNT")) rows }
 
 -- ---- the words are taken
 
@@ -200,8 +209,44 @@ pub stripe_taken : (words : List Text) → HasNoOption words → length words �
 stripe_taken (w ∷ a ∷ b ∷ c ∷ d ∷ rest) none few method n m r e spells = stripe_takes w a b c d rest none (omega arith)
 stripe_taken words none few method n m r e spells = absurd (omega (arith, enough (method_word method ∷ []) words n m r e spells))
 
+-- words that are a block and a count are two
+two_words : (words : List Text) (block count : ℕ) → SpellsBlocks [] words block count → length words ≡ 2
+two_words words block count spells = ap length spells.spelled
+
+-- where no row COUNT stands no blocks are told
+no_count_row : (rows placed : List Row) (block count : ℕ) → rows ≡ placed → first_of (codes "COUNT") placed ≡ None → HasBlocks rows block count → ⊥
+no_count_row rows placed block count same none has = let word = has.count_word.first in let rows_none = ap (first_of (codes "COUNT")) same in cc
+
+-- clap refuses more than two words
+blocks_refused : (a b c : Text) (rest : List Text) → HasNoOption (a ∷ b ∷ c ∷ rest)
+    → built_fault (built blocks_app) nothing_held (a ∷ b ∷ c ∷ rest) ≡ [] → ⊥
+blocks_refused a b c rest none free =
+    let no_stray = walk_fault-places (built blocks_app).top refl (a ∷ b ∷ c ∷ rest) none start start_plain (neither_fails _ _ free).0 in
+    cc
+
+pub blocks_told : (words : List Text) → HasNoOption words → built_fault (built blocks_app) nothing_held words ≡ [] → (block count : ℕ)
+    → HasBlocks (rows_after blocks_rules [] words) block count → SpellsBlocks [] words block count
+blocks_told [] none free block count has = absurd (no_count_row _ _ block count (rows_after-placed blocks_rules refl [] none) refl has)
+blocks_told (a ∷ []) none free block count has = absurd (no_count_row _ _ block count (rows_after-placed blocks_rules refl (a ∷ []) none) refl has)
+blocks_told (a ∷ b ∷ []) none free block count has = blocks_spelled _ a b block count (blocks_holds a b none) has
+blocks_told (a ∷ b ∷ c ∷ rest) none free block count has = absurd (blocks_refused a b c rest none free)
+
+pub blocks_tells : (words : List Text) → HasNoOption words → (block count : ℕ)
+    → SpellsBlocks [] words block count → HasBlocks (rows_after blocks_rules [] words) block count
+blocks_tells (a ∷ b ∷ []) none block count spells = blocks_held _ a b block count (blocks_holds a b none) spells
+blocks_tells words none block count spells = absurd (omega (arith, two_words words block count spells))
+
+pub blocks_taken : (words : List Text) → HasNoOption words → (block count : ℕ)
+    → SpellsBlocks [] words block count → built_takes (built blocks_app) nothing_held words ≡ true
+blocks_taken (a ∷ b ∷ []) none block count spells = built_takes-placed (built blocks_app).top refl (a ∷ b ∷ []) none
+blocks_taken words none block count spells = absurd (omega (arith, two_words words block count spells))
+
 -- ---- a command that clap was given
 
 pub rows_of-matches : (given app : App) (words : List Text) (m : ArgMatches) → given ≡ app → is_simple app ≡ true → HasMatchesOf given words m
     → rows_of (found_of m) ≡ matches_of app words
 rows_of-matches given app words m same simple matched = (matched (ap is_simple same ∙ simple)).0 ∙ ap (λ (a : App). matches_of a words) same
+
+pub built_fault-none : (given app : App) (words : List Text) → given ≡ app → is_simple_and_free app ≡ true
+    → (is_simple_and_free given ≡ true → fault_of given words ≡ []) → built_fault (built app) nothing_held (argument_words app words) ≡ []
+built_fault-none given app words same simple none = ap (λ (a : App). fault_of a words) (sym same) ∙ none (ap is_simple_and_free same ∙ simple)

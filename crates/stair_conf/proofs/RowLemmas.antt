@@ -7,8 +7,8 @@ use Rattle.clap.specs.Words.{Text, Row, all_of, first_of, first_value, matched_o
 use Rattle.clap.specs.declared.parser.matches.Found.{Found}
 use Rattle.clap.proofs.WalkLemmas.{first_value-rows, raw_values-rows}
 use Rattle.stair_conf.specs.declared.job.Method.{Method}
-use Rattle.stair_conf.specs.Rows.{HasGeometry, HasMethodWord, HasNumberWord}
-use Rattle.stair_conf.specs.Words.{IsNumber, SpellsGeometry, method_word}
+use Rattle.stair_conf.specs.Rows.{HasBlocks, HasGeometry, HasMethodWord, HasNumberWord}
+use Rattle.stair_conf.specs.Words.{IsNumber, SpellsBlocks, SpellsGeometry, method_word}
 
 -- ---- what the getters tell
 
@@ -87,4 +87,29 @@ geometry_held rows a b c d n m r e holds spells =
       m_word = record { first = holds.m_row ∙ ap Some m_is; fits = spells.m_fits };
       r_word = record { first = holds.r_row ∙ ap Some r_is; fits = spells.r_fits };
       e_words = record { all = holds.e_row ∙ ap Some e_are; fit = spells.e_fit };
+    }
+
+-- ---- the words that name blocks
+
+-- these words stand in the rows of a block and a count
+pub record HoldsBlocks (rows : List Row) (a b : Text) : Type 0 where
+  pub block_row : first_of (codes "BLOCK") rows ≡ Some a
+  pub count_row : first_of (codes "COUNT") rows ≡ Some b
+
+pub blocks_spelled : (rows : List Row) (a b : Text) (block count : ℕ) → HoldsBlocks rows a b → HasBlocks rows block count
+    → SpellsBlocks [] (a ∷ b ∷ []) block count
+blocks_spelled rows a b block count holds has =
+    let block_is : Some a ≡ Some (decimal block) = sym holds.block_row ∙ has.block_word.first in
+    let count_is : Some b ≡ Some (decimal count) = sym holds.count_row ∙ has.count_word.first in
+    record { spelled = cc; block_fits = has.block_word.fits; count_fits = has.count_word.fits }
+
+pub blocks_held : (rows : List Row) (a b : Text) (block count : ℕ) → HoldsBlocks rows a b → SpellsBlocks [] (a ∷ b ∷ []) block count
+    → HasBlocks rows block count
+blocks_held rows a b block count holds spells =
+    let words = spells.spelled in
+    let block_is : a ≡ decimal block = cc in
+    let count_is : b ≡ decimal count = cc in
+    record {
+      block_word = record { first = holds.block_row ∙ ap Some block_is; fits = spells.block_fits };
+      count_word = record { first = holds.count_row ∙ ap Some count_is; fits = spells.count_fits };
     }

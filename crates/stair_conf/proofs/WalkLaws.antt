@@ -9,8 +9,11 @@ use Rattle.std.proofs.lemmas.List.Elements.{All-head, All-tail}
 use Rattle.std.proofs.lemmas.Slice.Eq.{bytes_eq-Decides}
 use Rattle.clap.specs.Lexer.{strip_byte}
 use Rattle.clap.specs.Walk.{Held, Row, Rule, Step, Text, Waiting, Walk, after_step, arg_by_index, idle, is_multiple, option, positional, to_positional, value, walked, walked_from, word_met}
+use Rattle.clap.specs.Kinds.{Kinds, or_else}
 use Rattle.clap.specs.Simple.{Shape, filled, with_index}
+use Rattle.clap.specs.Faults.{positional_fault, step_fault, stray_fault, turn_fault, walk_fault, word_fault}
 use Rattle.clap.specs.Takes.{positional_passes, step_passes, turn_passes, walk_passes, word_passes}
+use Rattle.clap.specs.declared.error.kind.ErrorKind.{ErrorKind}
 use Rattle.stair_conf.specs.Commands.{HasNoOption, IsPlainWord, some_words}
 
 -- ---- a walk over positionals
@@ -149,6 +152,49 @@ walk_passes-placed s no_tail (word ∷ words) none w plain =
     (ap (λ v. walk_passes s [] v words) (walked-placed s.rules w word plain no_flag)
     ∙ walk_passes-placed s no_tail words (All-tail IsPlainWord word words none) (placed s.rules w word)
     (placed-plain s.rules no_tail w word plain))
+
+-- ---- a word for which no positional is left
+
+-- each word has a positional whose turn it is
+abbrev pub have_places : List Rule → Walk → List Text → Bool
+have_places c w [] = true
+have_places c w (word ∷ words) = is_some (arg_by_index c w.position) && have_places c (placed c w word) words
+
+pub neither_fails : (first second : Kinds) → or_else first second ≡ [] → (first ≡ []) × (second ≡ [])
+neither_fails [] second none = (refl, none)
+neither_fails (k ∷ ks) second none = cc
+
+-- one kind or another
+some_kind : (leaf : Bool) (k : ErrorKind) (more : Kinds) → cond leaf (k ∷ []) (k ∷ more) ≡ [] → ⊥
+some_kind true k more none = cc
+some_kind false k more none = cc
+
+found_place : (s : Shape) (o : Option Rule) (h : Held)
+    → option_map_or (λ a. positional_fault s.rules s.args_override_self a h) o (stray_fault s) ≡ [] → is_some o ≡ true
+found_place s (Some a) h none = refl
+found_place s None h none = absurd (some_kind s.is_leaf _ _ none)
+
+turn_fault-place : (s : Shape) (w : Walk) (word : Text) → IsPlainWalk w → IsPlainWord word → turn_fault s [] w word ≡ []
+    → is_some (arg_by_index s.rules w.position) ≡ true
+turn_fault-place s w word plain no_flag none =
+    let flag_fault = word_fault s [] w.is_trailing w.waiting word w.held in
+    let met = word_met s.rules [] w.is_trailing w.waiting w.position word w.held in
+    let turn : turn_fault s [] w word ≡ or_else flag_fault (step_fault s w.position w.held value) =
+    ap (λ stop. cond (is_some stop) [] (or_else flag_fault (step_fault s w.position met.0 met.1))) plain.going_on
+    ∙ ap (λ (p : Held × Step). or_else flag_fault (step_fault s w.position p.0 p.1)) (met_is s.rules w word plain no_flag) in
+    found_place s (arg_by_index s.rules w.position) w.held (neither_fails _ _ (sym turn ∙ none)).1
+
+-- a walk that doesn't fail has a place for each word
+pub walk_fault-places : (s : Shape) → has_no_tail s.rules ≡ true → (words : List Text) → HasNoOption words → (w : Walk) → IsPlainWalk w
+    → walk_fault s [] w words ≡ [] → have_places s.rules w words ≡ true
+unfolding walk_fault
+walk_fault-places s no_tail [] none w plain free = refl
+walk_fault-places s no_tail (word ∷ words) none w plain free =
+    let no_flag = All-head IsPlainWord word words none in
+    let both = neither_fails (turn_fault s [] w word) (walk_fault s [] (walked s.rules [] w word) words) free in
+    both_true _ _ (turn_fault-place s w word plain no_flag both.0)
+    (walk_fault-places s no_tail words (All-tail IsPlainWord word words none) (placed s.rules w word) (placed-plain s.rules no_tail w word plain)
+    (ap (λ v. walk_fault s [] v words) (sym (walked-placed s.rules w word plain no_flag)) ∙ both.1))
 
 -- ---- the last positional, which takes all words that are left
 

@@ -8,11 +8,11 @@ use Rattle.std.proofs.lemmas.List.Elements.{All-append, All-cons, All-map, All-n
 use Rattle.stair_conf.specs.declared.job.Method.{Method}
 use Rattle.stair_conf.specs.declared.job.Method.TheVariants.{Standard, Up, Down, Fewest}
 use Rattle.stair_conf.specs.declared.job.Job.{Job}
-use Rattle.stair_conf.specs.declared.job.Job.TheVariants.{OneStripe, Create, Show}
+use Rattle.stair_conf.specs.declared.job.Job.TheVariants.{OneStripe, Create, Show, Read, Write}
 use Rattle.stair_conf.specs.declared.job.StripeCommand.{StripeCommand}
 use Rattle.stair_conf.specs.declared.job.StripeCommand.TheVariants.{Check, Encode, Restore}
 use Rattle.stair_conf.specs.Commands.{HasNoOption, IsPlainWord}
-use Rattle.stair_conf.specs.Words.{IsCommandLine, IsCommandWord, Spells, SpellsGeometry, command_words, method_word}
+use Rattle.stair_conf.specs.Words.{IsCommandLine, IsCommandWord, Spells, SpellsBlocks, SpellsGeometry, command_words, method_word}
 use Rattle.stair_conf.proofs.NumberLemmas.{begins-decimal, map_decimal_injective}
 
 -- ---- the first words
@@ -48,6 +48,8 @@ word_of (OneStripe (Encode method) n m r e) = codes "stripe"
 word_of (OneStripe Restore n m r e) = codes "restore"
 word_of Create = codes "create"
 word_of Show = codes "show"
+word_of (Read block count) = codes "read"
+word_of (Write block count) = codes "write"
 
 -- the words of a job begin with the command's
 pub first_word : (words : List (List ℕ)) (job : Job) → Spells words job → get_or words 0 [] ≡ word_of job
@@ -56,6 +58,8 @@ first_word words (OneStripe (Encode method) n m r e) spells = ap (λ ws. get_or 
 first_word words (OneStripe Restore n m r e) spells = ap (λ ws. get_or ws 0 []) spells.spelled
 first_word words Create spells = ap (λ ws. get_or ws 0 []) spells
 first_word words Show spells = ap (λ ws. get_or ws 0 []) spells
+first_word words (Read block count) spells = ap (λ ws. get_or ws 0 []) spells.spelled
+first_word words (Write block count) spells = ap (λ ws. get_or ws 0 []) spells.spelled
 
 -- ---- no word of a job begins with a hyphen
 
@@ -72,6 +76,12 @@ geometry_plain before words n m r e plain spells =
     let n_on : HasNoOption (decimal n ∷ decimal m ∷ decimal r ∷ map decimal e) =
     All-cons IsPlainWord (decimal n) (decimal m ∷ decimal r ∷ map decimal e) (decimal_plain n spells.n_fits) m_on in
     rw spells.spelled (All-append IsPlainWord before (decimal n ∷ decimal m ∷ decimal r ∷ map decimal e) plain n_on)
+
+blocks_plain : (before words : List (List ℕ)) (block count : ℕ) → HasNoOption before → SpellsBlocks before words block count → HasNoOption words
+blocks_plain before words block count plain spells =
+    let behind_block = All-cons IsPlainWord (decimal count) [] (decimal_plain count spells.count_fits) (All-nil IsPlainWord) in
+    rw spells.spelled (All-append IsPlainWord before (decimal block ∷ decimal count ∷ []) plain
+    (All-cons IsPlainWord (decimal block) (decimal count ∷ []) (decimal_plain block spells.block_fits) behind_block))
 
 method_plain : (method : Method) → IsPlainWord (method_word method)
 method_plain Standard = omega arith
@@ -90,13 +100,17 @@ job_plain words (OneStripe (Encode method) n m r e) spells =
 job_plain words (OneStripe Restore n m r e) spells = geometry_plain _ words n m r e (one_plain (codes "restore") (omega arith)) spells
 job_plain words Create spells = rw spells (one_plain (codes "create") (omega arith))
 job_plain words Show spells = rw spells (one_plain (codes "show") (omega arith))
+job_plain words (Read block count) spells = blocks_plain _ words block count (one_plain (codes "read") (omega arith)) spells
+job_plain words (Write block count) spells = blocks_plain _ words block count (one_plain (codes "write") (omega arith)) spells
 
 command_word : (words : List (List ℕ)) (job : Job) → Spells words job → IsCommandWord (get_or words 0 [])
 command_word words (OneStripe Check n m r e) spells = inl (ap (λ ws. get_or ws 0 []) spells.spelled)
 command_word words (OneStripe (Encode method) n m r e) spells = inr (inl (ap (λ ws. get_or ws 0 []) spells.spelled))
 command_word words (OneStripe Restore n m r e) spells = inr (inr (inl (ap (λ ws. get_or ws 0 []) spells.spelled)))
 command_word words Create spells = inr (inr (inr (inl (ap (λ ws. get_or ws 0 []) spells))))
-command_word words Show spells = inr (inr (inr (inr (ap (λ ws. get_or ws 0 []) spells))))
+command_word words Show spells = inr (inr (inr (inr (inl (ap (λ ws. get_or ws 0 []) spells)))))
+command_word words (Read block count) spells = inr (inr (inr (inr (inr (inl (ap (λ ws. get_or ws 0 []) spells.spelled))))))
+command_word words (Write block count) spells = inr (inr (inr (inr (inr (inr (ap (λ ws. get_or ws 0 []) spells.spelled))))))
 
 -- the words of a job are a command line
 pub job_line : (words : List (List ℕ)) (job : Job) → Spells words job → IsCommandLine words
@@ -148,20 +162,35 @@ one_stripe_once words a b n m r e n' m' r' e' one two =
     let first = sym (first_word words (OneStripe a n m r e) one) ∙ first_word words (OneStripe b n' m' r' e') two in
     cc
 
--- no command on one stripe is one word
-no_stripe : (words : List (List ℕ)) (command : StripeCommand) (n m r : ℕ) (e : List ℕ) (word : List ℕ)
-    → SpellsGeometry (command_words command) words n m r e → words ≡ word ∷ [] → ⊥
-no_stripe words Check n m r e word one two = let same = sym one.spelled ∙ two in cc
-no_stripe words (Encode method) n m r e word one two = let same = sym one.spelled ∙ two in cc
-no_stripe words Restore n m r e word one two = let same = sym one.spelled ∙ two in cc
+-- words with the same words before spell one block and one count
+blocks_once : (before words : List (List ℕ)) (block count block' count' : ℕ)
+    → SpellsBlocks before words block count → SpellsBlocks before words block' count' → (block ≡ block') × (count ≡ count')
+blocks_once before words block count block' count' one two =
+    let same = append_cancel_left before _ _ (sym one.spelled ∙ two.spelled) in
+    let block_texts : decimal block ≡ decimal block' = cc in
+    let count_texts : decimal count ≡ decimal count' = cc in (
+      decimal_injective block block' one.block_fits two.block_fits block_texts,
+      decimal_injective count count' one.count_fits two.count_fits count_texts,
+    )
+
+-- jobs of the same words have one command's word
+same_word : (words : List (List ℕ)) (a b : Job) → Spells words a → Spells words b → word_of a ≡ word_of b
+same_word words a b one two = sym (first_word words a one) ∙ first_word words b two
 
 pub spells_once : (words : List (List ℕ)) (a b : Job) → Spells words a → Spells words b → a ≡ b
 spells_once words (OneStripe a n m r e) (OneStripe b n' m' r' e') one two = one_stripe_once words a b n m r e n' m' r' e' one two
-spells_once words (OneStripe a n m r e) Create one two = absurd (no_stripe words a n m r e (codes "create") one two)
-spells_once words (OneStripe a n m r e) Show one two = absurd (no_stripe words a n m r e (codes "show") one two)
-spells_once words Create (OneStripe b n m r e) one two = absurd (no_stripe words b n m r e (codes "create") two one)
-spells_once words Show (OneStripe b n m r e) one two = absurd (no_stripe words b n m r e (codes "show") two one)
 spells_once words Create Create one two = refl
-spells_once words Create Show one two = let same = sym one ∙ two in cc
-spells_once words Show Create one two = let same = sym one ∙ two in cc
 spells_once words Show Show one two = refl
+spells_once words (Read block count) (Read block' count') one two =
+    let same = blocks_once (codes "read" ∷ []) words block count block' count' one two in
+    λ i. Read (same.0 i) (same.1 i)
+spells_once words (Write block count) (Write block' count') one two =
+    let same = blocks_once (codes "write" ∷ []) words block count block' count' one two in
+    λ i. Write (same.0 i) (same.1 i)
+spells_once words (OneStripe Check n m r e) b one two = let same = same_word words (OneStripe Check n m r e) b one two in cc
+spells_once words (OneStripe (Encode method) n m r e) b one two = let same = same_word words (OneStripe (Encode method) n m r e) b one two in cc
+spells_once words (OneStripe Restore n m r e) b one two = let same = same_word words (OneStripe Restore n m r e) b one two in cc
+spells_once words a (OneStripe Check n m r e) one two = let same = same_word words a (OneStripe Check n m r e) one two in cc
+spells_once words a (OneStripe (Encode method) n m r e) one two = let same = same_word words a (OneStripe (Encode method) n m r e) one two in cc
+spells_once words a (OneStripe Restore n m r e) one two = let same = same_word words a (OneStripe Restore n m r e) one two in cc
+spells_once words a b one two = let same = same_word words a b one two in cc

@@ -46,3 +46,9 @@ geometry_app = with_geometry (bare_app (codes "stair"))
 -- `METHOD N M R E..`
 abbrev pub stripe_app : App
 stripe_app = with_geometry (with_rule (bare_app (codes "stair")) (one_word (codes "METHOD")))
+
+-- `BLOCK COUNT`
+abbrev pub blocks_app : App
+blocks_app =
+    with_rule (with_rule (bare_app (codes "stair")) (one_word (codes "BLOCK")))
+    (one_word (codes "COUNT"))

@@ -31,3 +31,8 @@ pub record HasThreeNumbers (rows : List Row) : Type 0 where
   pub n_word : (n : ℕ) × HasNumberWord rows (codes "N") n
   pub m_word : (m : ℕ) × HasNumberWord rows (codes "M") m
   pub r_word : (r : ℕ) × HasNumberWord rows (codes "R") r
+
+-- the rows BLOCK and COUNT have these numbers
+pub record HasBlocks (rows : List Row) (block count : ℕ) : Type 0 where
+  pub block_word : HasNumberWord rows (codes "BLOCK") block
+  pub count_word : HasNumberWord rows (codes "COUNT") count

@@ -6,7 +6,7 @@ use Rattle.stair_conf.specs.Commands.{HasNoOption}
 use Rattle.stair_conf.specs.declared.job.Method.{Method}
 use Rattle.stair_conf.specs.declared.job.Method.TheVariants.{Standard, Up, Down, Fewest}
 use Rattle.stair_conf.specs.declared.job.Job.{Job}
-use Rattle.stair_conf.specs.declared.job.Job.TheVariants.{OneStripe, Create, Show}
+use Rattle.stair_conf.specs.declared.job.Job.TheVariants.{OneStripe, Create, Show, Read, Write}
 use Rattle.stair_conf.specs.declared.job.StripeCommand.{StripeCommand}
 use Rattle.stair_conf.specs.declared.job.StripeCommand.TheVariants.{Check, Encode, Restore}
 
@@ -41,6 +41,12 @@ pub record SpellsGeometry (before words : List (List ℕ)) (n m r : ℕ) (e : Li
   pub r_fits : r < 2 ^ 64
   pub e_fit : All (λ x. x < 2 ^ 64) e
 
+-- the words are those before, and then the decimal texts of the number of a block and of a count
+pub record SpellsBlocks (before words : List (List ℕ)) (block count : ℕ) : Type 0 where
+  pub spelled : words ≡ before ++ decimal block ∷ decimal count ∷ []
+  pub block_fits : block < 2 ^ 64
+  pub count_fits : count < 2 ^ 64
+
 -- the words before the numbers
 abbrev pub command_words : StripeCommand → List (List ℕ)
 command_words Check = codes "check" ∷ []
@@ -52,6 +58,8 @@ abbrev pub Spells : List (List ℕ) → Job → Type 0
 Spells words (OneStripe command n m r e) = SpellsGeometry (command_words command) words n m r e
 Spells words Create = words ≡ codes "create" ∷ []
 Spells words Show = words ≡ codes "show" ∷ []
+Spells words (Read block count) = SpellsBlocks (codes "read" ∷ []) words block count
+Spells words (Write block count) = SpellsBlocks (codes "write" ∷ []) words block count
 
 -- the words spell a job
 abbrev pub IsSpelled : List (List ℕ) → Type 0
@@ -61,6 +69,7 @@ IsSpelled words = (job : Job) × Spells words job
 abbrev pub IsCommandWord : List ℕ → Type 0
 IsCommandWord word = (word ≡ codes "check") ⊎ (word ≡ codes "stripe")
     ⊎ (word ≡ codes "restore") ⊎ (word ≡ codes "create") ⊎ (word ≡ codes "show")
+    ⊎ (word ≡ codes "read") ⊎ (word ≡ codes "write")
 
 -- a command's word comes first, and no word begins with a hyphen: memory is taken for such words alone
 pub record IsCommandLine (words : List (List ℕ)) : Type 0 where

@@ -3,12 +3,12 @@
 //! The first of the words stands for the program's name, which clap drops.
 
 ghost use Rattle.std.specs.Prelude.{◌≡◌, ℕ, ◌∷◌, [], List, codes, drop, false, true, map, string_bytes, IfOk};
-ghost use Rattle.clap.specs.Words.{HasMatchesOf, app_of, rule_of, takes};
-ghost use Rattle.stair_conf.specs.Commands.{HasNoOption, bare_app, geometry_app, one_word, stripe_app, with_geometry};
-ghost use Rattle.stair_conf.specs.Words.{SpellsGeometry, method_word};
+ghost use Rattle.clap.specs.Words.{HasMatchesOf, app_of, fault_of, is_simple_and_free, rule_of, takes};
+ghost use Rattle.stair_conf.specs.Commands.{HasNoOption, bare_app, blocks_app, geometry_app, one_word, stripe_app, with_geometry};
+ghost use Rattle.stair_conf.specs.Words.{SpellsBlocks, SpellsGeometry, method_word};
 ghost use Rattle.stair_conf.specs.declared.job.Method.{Method};
 
-use crate::matches::{GeometryNumbers, geometry_of, method_of};
+use crate::matches::{BlockNumbers, GeometryNumbers, blocks_of, geometry_of, method_of};
 use crate::{Method, WordsFault};
 use clap::{Arg, ArgMatches, Command};
 use std::alloc::{AllocError, Global};
@@ -43,10 +43,24 @@ pub(crate) fn read_stripe(
     Ok((method, geometry_of(alloc, &matches)?))
 }
 
+// Reads `BLOCK COUNT` behind the first word.
+pub(crate) fn read_blocks(alloc: Global, words: &[String]) -> Result<BlockNumbers, WordsFault>
+    requires { HasNoOption (map string_bytes words.now) }
+    ensures ok { IfOk result (λ b. SpellsBlocks []
+        (drop 1 (map string_bytes words.now)) b.block b.count) }
+    ensures usage { result ≡ Err WordsFault.Usage → (block count : ℕ)
+        → SpellsBlocks [] (drop 1 (map string_bytes words.now)) block count → ⊥ }
+{
+    let matches = parse(blocks_command(alloc)?, words)?;
+    blocks_of(&matches)
+}
+
 // Matches the words to the values of the command.
 fn parse<'a>(command: Command<'a>, words: &'a [String]) -> Result<ArgMatches<'a>, WordsFault>
     ensures ok { IfOk result (HasMatchesOf (app_of command.entry)
         (map string_bytes words.entry.now)) }
+    ensures no_fault { IfOk result (λ _. is_simple_and_free (app_of command.entry) ≡ true
+        → fault_of (app_of command.entry) (map string_bytes words.entry.now) ≡ []) }
     ensures usage { result ≡ Err WordsFault.Usage
         → takes (app_of command.entry) (map string_bytes words.entry.now) ≡ true → ⊥ }
 {
@@ -65,6 +79,15 @@ fn stripe_command<'a>(alloc: Global) -> Result<Command<'a>, AllocError>
     ensures { IfOk result (λ command. app_of command ≡ stripe_app) }
 {
     with_geometry(alloc, bare(alloc).arg(one_word(alloc, "METHOD"))?)
+}
+
+// `BLOCK COUNT`
+fn blocks_command<'a>(alloc: Global) -> Result<Command<'a>, AllocError>
+    ensures { IfOk result (λ command. app_of command ≡ blocks_app) }
+{
+    bare(alloc)
+        .arg(one_word(alloc, "BLOCK"))?
+        .arg(one_word(alloc, "COUNT"))
 }
 
 // The command with the words of a geometry behind those that it has.

@@ -26,8 +26,9 @@ pub enum StripeCommand {
 
 /// What the words ask for.
 ///
-/// The numbers are as written: whether they are the shape of an array is not tested here. The letters are those of Li and
-/// Lee, STAIR Codes (FAST 2014): N devices, M of which may fail, R sectors in a chunk, and the coverage E.. of the others.
+/// The numbers are as written: whether they are the shape of an array, or blocks that it has, is not tested here. The letters
+/// are those of Li and Lee, STAIR Codes (FAST 2014): N devices, M of which may fail, R sectors in a chunk, and the coverage E..
+/// of the others.
 #[derive(Debug, Drop)]
 pub enum Job {
     /// `check N M R E..`, `stripe METHOD N M R E..` or `restore N M R E..`: one stripe.
@@ -47,4 +48,18 @@ pub enum Job {
     Create,
     /// `show`: what there is of an array.
     Show,
+    /// `read BLOCK COUNT`: blocks of an array are put out.
+    Read {
+        /// The first block.
+        block: u64,
+        /// How many blocks.
+        count: u64,
+    },
+    /// `write BLOCK COUNT`: blocks of an array are written.
+    Write {
+        /// The first block.
+        block: u64,
+        /// How many blocks.
+        count: u64,
+    },
 }

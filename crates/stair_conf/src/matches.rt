@@ -1,8 +1,8 @@
 //! Reads the words that clap matched.
 
-ghost use Rattle.std.specs.Prelude.{◌≡◌, ℕ, ◌↔◌, List, [], map, slice_index_or, IfOk, IsTrue, Some};
+ghost use Rattle.std.specs.Prelude.{◌≡◌, ◌≢◌, ℕ, ◌↔◌, List, [], map, slice_index_or, IfOk, IsTrue, Some};
 ghost use Rattle.clap.specs.Words.{found_of, rows_of};
-ghost use Rattle.stair_conf.specs.Rows.{HasGeometry, HasThreeNumbers, HasMethodWord, HasNumberWord, HasNumberWords};
+ghost use Rattle.stair_conf.specs.Rows.{HasBlocks, HasGeometry, HasThreeNumbers, HasMethodWord, HasNumberWord, HasNumberWords};
 ghost use Rattle.stair_conf.specs.Words.{AreNumbers, BeginsNumber, IsNumber, method_word};
 ghost use Rattle.stair_conf.specs.declared.job.Method.{Method};
 
@@ -17,6 +17,13 @@ pub(crate) struct GeometryNumbers {
     pub(crate) m: u64,
     pub(crate) r: u64,
     pub(crate) e: Numbers,
+}
+
+// The numbers of words that name blocks.
+#[derive(Clone, Copy)]
+pub(crate) struct BlockNumbers {
+    pub(crate) block: u64,
+    pub(crate) count: u64,
 }
 
 // Reads the numbers N, M, R and E.
@@ -35,6 +42,19 @@ pub(crate) fn geometry_of(
         m: number_of(matches, "M").ok_or(WordsFault::Usage)?,
         r: number_of(matches, "R").ok_or(WordsFault::Usage)?,
         e: numbers_of(alloc, matches, "E")?,
+    })
+}
+
+// Reads the numbers BLOCK and COUNT. It takes no memory.
+pub(crate) fn blocks_of(matches: &ArgMatches<'_>) -> Result<BlockNumbers, WordsFault>
+    ensures ok { IfOk result (λ b. HasBlocks (rows_of (found_of matches.now)) b.block b.count) }
+    ensures usage { result ≡ Err WordsFault.Usage → (block count : ℕ)
+        → HasBlocks (rows_of (found_of matches.now)) block count → ⊥ }
+    ensures memory { result ≢ Err WordsFault.Memory }
+{
+    Ok(BlockNumbers {
+        block: number_of(matches, "BLOCK").ok_or(WordsFault::Usage)?,
+        count: number_of(matches, "COUNT").ok_or(WordsFault::Usage)?,
     })
 }
 

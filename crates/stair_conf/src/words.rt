@@ -4,13 +4,13 @@ ghost use Rattle.stair_conf.specs.Words.{Spells, IsCommandLine};
 ghost use Rattle.stair_conf.specs.declared.job.Job.{Job};
 ghost use Rattle.stair_conf.specs.declared.job.Job.TheVariants.{OneStripe};
 
-use crate::commands::{read_geometry, read_stripe};
-use crate::matches::GeometryNumbers;
+use crate::commands::{read_blocks, read_geometry, read_stripe};
+use crate::matches::{BlockNumbers, GeometryNumbers};
 use crate::{Job, StripeCommand, WordsFault};
 use std::alloc::Global;
 
 /// Reads the words of a command: `check N M R E..`, `stripe METHOD N M R E..` or `restore N M R E..`, with at least one E,
-/// or `create` or `show` alone.
+/// `read BLOCK COUNT` or `write BLOCK COUNT`, or `create` or `show` alone.
 ///
 /// METHOD is `standard`, `up`, `down` or `fewest`. A number is decimal digits with no sign and no leading zero, below 2^64.
 /// All other words are `Usage`, unless memory runs out before that is known. Memory is taken only where a command's word
@@ -36,6 +36,14 @@ pub fn read_words(alloc: Global, words: &[String]) -> Result<Job, WordsFault>
         "restore" => Ok(one_stripe(StripeCommand::Restore, read_geometry(alloc, words)?)),
         "create" => alone(words, Job::Create),
         "show" => alone(words, Job::Show),
+        "read" => {
+            let BlockNumbers { block, count } = read_blocks(alloc, words)?;
+            Ok(Job::Read { block, count })
+        }
+        "write" => {
+            let BlockNumbers { block, count } = read_blocks(alloc, words)?;
+            Ok(Job::Write { block, count })
+        }
         _ => Err(WordsFault::Usage),
     }
 }

@@ -16,13 +16,13 @@ use Rattle.stair_conf.specs.Words.{IsSpelled, Spells}
 use Rattle.stair_conf.specs.declared.fault.ConfigFault.{ConfigFault}
 use Rattle.stair_conf.proofs.WordsLemmas.{spells_once}
 use Rattle.stair_conf.specs.declared.job.Job.{Job}
-use Rattle.stair_conf.specs.declared.job.Job.TheVariants.{OneStripe, Create, Show}
+use Rattle.stair_conf.specs.declared.job.Job.TheVariants.{OneStripe, Create, Read, Show, Write}
 use Rattle.stair_story.specs.Action.{status_of_create}
 use Rattle.stair_story.specs.Action as action
 use Rattle.stair_story.specs.Story.{Did}
 use Rattle.stair_engine.specs.Cause.{IfRefusedAtOnce}
 use Rattle.stair_story.specs.Fault.{status_of_config}
-use Rattle.stair_engine.specs.Laws.{AllIsKept, ArrayIsLeft, ArrayIsMade, ArraysAreSpared, MemoryComesFirst, RackIsLeft, ShowOnlyLooks, UsageIsExact}
+use Rattle.stair_engine.specs.Laws.{AllIsKept, ArrayIsLeft, ArrayIsMade, ArraysAreSpared, MemoryComesFirst, RackIsLeft, ShowOnlyLooks, UsageIsExact, ReadTakesNothing}
 use Rattle.stair_engine.specs.Create.{IsOnceMade, MakesArray, SparesArrays}
 use Rattle.stair_story.specs.Outside.{Outside, Views, outside}
 use Rattle.stair_engine.specs.Plans.{create_plan, job_plan, making_plan, plan_of, show_plan}
@@ -31,13 +31,18 @@ use Rattle.stair_story.specs.Rack.{MeansOver, RackView, Works, told_of}
 use Rattle.stair_engine.specs.Task.{one_stripe}
 use Rattle.stair_story.specs.declared.status.Status.{Status}
 use Rattle.stair_story.specs.declared.status.Status.TheVariants.{Done, Usage, InputFault, OutputFault, OutOfMemory}
-use Rattle.stair_engine.proofs.JobLaws.{IsOfJob, config_own, create_own, job_looks, job_own, survey_own, words_first, words_leave}
+use Rattle.stair_engine.proofs.JobLaws.{config_own, create_own, job_looks, job_own, read_takes_none, survey_own, words_first, words_no_step, words_put, words_tell, words_unwritten}
+use Rattle.stair_engine.proofs.OpenLaws.{IsOfJob}
+use Rattle.stair_engine.specs.Jobs.{MakesCalls, MayWrite, NotSpelled, OpensArray}
+use Rattle.stair_story.specs.Devices.{DeviceView, MeansWhole}
+use Rattle.stair_story.specs.Ending.{TakesNothing}
+use Rattle.stair_story.proofs.DeviceLaws.{over_rack}
 use Rattle.stair_engine.proofs.MeaningLaws.{tested_all}
 use Rattle.stair_engine.proofs.StandLaws.{looked_stands, still_stands}
-use Rattle.stair_engine.proofs.WordLaws.{over_spelled, over_words}
-use Rattle.stair_story.proofs.AllEnds.{AllEnd, ends_all}
-use Rattle.stair_story.proofs.EndingLaws.{short_first, weaker}
-use Rattle.stair_story.proofs.LookLaws.{looks_all}
+use Rattle.stair_engine.proofs.WordLaws.{over_spelled, over_words, words_all}
+use Rattle.stair_story.proofs.AllEnds.{AllEnd, Nowhere, ends_all, means_all}
+use Rattle.stair_story.proofs.EndingLaws.{none_taken, short_first, weaker}
+use Rattle.stair_story.proofs.LookLaws.{looks_all, short_unwritten}
 
 -- ---- how `create` ends where it made nothing
 
@@ -71,22 +76,26 @@ IsExact words end = end ≢ OutOfMemory → ((end ≡ Usage) ↔ (IsSpelled word
 other_than : (words : List (List ℕ)) → IsSpelled words → (end : Status) → end ≢ Usage → IsExact words end
 other_than words spelled end not memory = ((λ is. absurd (not is), λ none. absurd (none spelled)), λ other. spelled)
 
-module _ {R S K : Type 0} (rack : RackView R) (view : Views S K) (a : Outside S K) (x : R) where
-  exact_all : (words : List (List ℕ)) (job : Job) → IsSpelled words → AllEnd (Works rack) view (λ end o z. IsExact words end) (job_plan job) a x
-  exact_all words job spelled =
-      ends_all (Works rack) view (IsExact words) (other_than words spelled InputFault (λ is. cc)) (other_than words spelled OutputFault (λ is. cc))
-      (λ memory. absurd (memory refl)) (job_plan job) a x
+module _ {S K : Type 0} (view : Views S K) where
+  exact_all : (words : List (List ℕ)) (job : Job) (a : Outside S K) → IsSpelled words
+      → AllEnd Nowhere view (λ end o z. IsExact words end) (job_plan job) a tt
+  exact_all words job a spelled =
+      ends_all Nowhere view (IsExact words) (other_than words spelled InputFault (λ is. cc)) (other_than words spelled OutputFault (λ is. cc))
+      (λ memory. absurd (memory refl)) (job_plan job) a tt
       (weaker IsOfJob (IsExact words) (λ end is. other_than words spelled end is.1) (job_plan job) (job_own job))
 
+module _ {R S K : Type 0} (rack : RackView R) (view : Views S K) (a : Outside S K) (x : R) where
   -- no call was made, and what was refused at once left all
   abbrev Left : Status → Outside S K → R → Type 0
   Left end o z = (z ≡ x) × IfRefusedAtOnce end (o ≡ a)
 
-  left_all : (job : Job) → job ≢ Create → job ≢ Show → AllEnd (Works rack) view Left (job_plan job) a x
-  left_all (OneStripe command n m r e) other no_show =
+  left_all : (job : Job) → ¬ MakesCalls job → AllEnd (Works rack) view Left (job_plan job) a x
+  left_all (OneStripe command n m r e) other =
       tested_all (Works rack) view (one_stripe n m r e) a x Left command (λ end o does refused. (refl, refused))
-  left_all Create other no_show = absurd (other refl)
-  left_all Show other no_show = absurd (no_show refl)
+  left_all Create other = absurd (other tt)
+  left_all Show other = absurd (other tt)
+  left_all (Read first count) other = absurd (other tt)
+  left_all (Write first count) other = absurd (other tt)
 
   -- the source and the counter are left, and the source can't fail the call
   abbrev Untaken : Status → Outside S K → R → Type 0
@@ -150,45 +159,49 @@ module _ {R S K : Type 0} (rack : RackView R) (view : Views S K) (a : Outside S 
 
 -- ---- so of every call
 
+pub all_is_kept : (S K : Type 0) → AllIsKept S K
+all_is_kept S K view words status a b means = (words_tell view words status a b means, words_put view words status a b means)
+
+pub usage_is_exact : (S K : Type 0) → UsageIsExact S K
+usage_is_exact S K view words status a b means =
+    means_all view (λ end o z. IsExact words end) (plan_of words) status a b means
+    (words_all Nowhere view (λ end o z. IsExact words end) words a tt (λ memory. absurd (memory refl))
+    (λ not memory. ((λ is. not, λ none. refl), λ other. absurd (other refl))) (λ job spells. exact_all view words job a (job, spells)))
+
+-- what doesn't open an array is over a rack alone
+only : (IsSo : Job → Type 0) (words : List (List ℕ)) (of : Job) → Spells words of → ¬ IsSo of → NotSpelled IsSo words
+only IsSo words of spells not job also so = not (subst IsSo (spells_once words job of also spells) so)
+
+module _ {R W S K : Type 0} (devices : DeviceView R W) (view : Views S K) where
+  pub stepless : (words : List (List ℕ)) (status : Status) (a b : Outside S K) (x y : R) (watchers left : List W)
+      → MeansWhole devices view (plan_of words) (Over status) a b x y watchers left → NotSpelled OpensArray words
+      → MeansOver devices.rack view (plan_of words) (Over status) a b x y
+  stepless words status a b x y watchers left whole other =
+      over_rack devices view (plan_of words) (Over status) a b _ _ (words_no_step words other) whole.with
+
 module _ {R S K : Type 0} (rack : RackView R) (view : Views S K) where
-  pub all_is_kept : AllIsKept rack view
-  all_is_kept words status a b x y over = words_leave view words status a b over.means
-
-  pub memory_comes_first : MemoryComesFirst rack view
-  memory_comes_first words a b x y over = short_first rack over.means.story (plan_of words) x y (words_first words) over.means.follows over.works
-
-  pub usage_is_exact : UsageIsExact rack view
-  usage_is_exact words status a b x y over =
-      over_words rack view (λ end o z. IsExact words end) words status a b x y over (λ memory. absurd (memory refl))
-      (λ not memory. ((λ is. not, λ none. refl), λ other. absurd (other refl))) (λ job spells. exact_all rack view a x words job (job, spells))
-
-  pub rack_is_left : RackIsLeft rack view
-  rack_is_left words status a b x y over other no_show =
+  left_over : (words : List (List ℕ)) (status : Status) (a b : Outside S K) (x y : R) → MeansOver rack view (plan_of words) (Over status) a b x y
+      → NotSpelled MakesCalls words → (y ≡ x) × IfRefusedAtOnce status (b ≡ a)
+  left_over words status a b x y over other =
       over_words rack view (Left rack view a x) words status a b x y over (refl, refl) (λ not. (refl, refl))
-      (λ job spells. left_all rack view a x job (λ is. other (subst (Spells words) is spells)) (λ is. no_show (subst (Spells words) is spells)))
+      (λ job spells. left_all rack view a x job (other job spells))
 
-  -- every command but `create` only looks
+  -- what writes nothing only looks
   no_sector_changed : (words : List (List ℕ)) (status : Status) (a b : Outside S K) (x y : R)
-      → MeansOver rack view (plan_of words) (Over status) a b x y → (Spells words Create → ⊥) → IsTrue rack.honest
+      → MeansOver rack view (plan_of words) (Over status) a b x y → NotSpelled MayWrite words → IsTrue rack.honest
       → Ran LeavesSectors (rack.history x) (rack.history y)
   no_sector_changed words status a b x y over other honest =
       over_words rack view (λ end o z. Ran LeavesSectors (rack.history x) (rack.history z)) words status a b x y over (ran_none (rack.history x))
       (λ not. ran_none (rack.history x))
-      (λ job spells. looks_all rack view honest x (job_plan job) a x (job_looks job (λ is. other (subst (Spells words) is spells))) (ran_none (rack.history x)))
+      (λ job spells. looks_all rack view honest x (job_plan job) a x (job_looks job (other job spells)) (ran_none (rack.history x)))
 
-  pub show_only_looks : ShowOnlyLooks rack view
-  show_only_looks words status a b x y over spells =
+  looked_over : (words : List (List ℕ)) (status : Status) (a b : Outside S K) (x y : R) → MeansOver rack view (plan_of words) (Over status) a b x y
+      → Spells words Show → (status ≢ InputFault) × (b.source ≡ a.source) × (b.counter ≡ a.counter)
+      × (IsTrue rack.honest → Ran LeavesSectors (rack.history x) (rack.history y))
+  looked_over words status a b x y over spells =
       let untaken = over_spelled rack view (Untaken rack view a x) words status a b x y over Show spells ((λ is. cc), refl, refl)
-      (untaken_all rack view a x) in (
-        untaken.0,
-        untaken.1,
-        untaken.2,
-        no_sector_changed words status a b x y over (λ create. let clash : Create ≡ Show = spells_once words Create Show create spells in cc),
-      )
-
-  pub array_is_left : ArrayIsLeft rack view
-  array_is_left words status a b x y over other honest =
-      looked_stands (rack.history x) (rack.history y) (unwritten_ran (no_sector_changed words status a b x y over other honest))
+      (untaken_all rack view a x) in
+      (untaken.0, untaken.1, untaken.2, no_sector_changed words status a b x y over (only MayWrite words Show spells (λ no. no)))
 
   created : (words : List (List ℕ)) (status : Status) (a b : Outside S K) (x y : R) → MeansOver rack view (plan_of words) (Over status) a b x y
       → Spells words Create → IsTrue rack.honest → Owes rack view a x status y
@@ -196,8 +209,64 @@ module _ {R S K : Type 0} (rack : RackView R) (view : Views S K) where
       over_spelled rack view (λ end o z. Owes rack view a x end z) words status a b x y over Create spells
       (not_begun rack view a x OutOfMemory (never (λ is. cc) (λ is. cc))) (create_owes rack view a x honest)
 
-  pub array_is_made : ArrayIsMade rack view
-  array_is_made words status a b x y over spells honest = (created words status a b x y over spells honest).0
+pub none_opened : (words : List (List ℕ)) (of : Job) → Spells words of → ¬ OpensArray of → NotSpelled OpensArray words
+none_opened words of spells not = only OpensArray words of spells not
 
-  pub arrays_are_spared : ArraysAreSpared rack view
-  arrays_are_spared words status a b x y over spells honest = (created words status a b x y over spells honest).1
+opens_calls : (job : Job) → OpensArray job → MakesCalls job
+opens_calls (Read first count) opens = tt
+opens_calls (Write first count) opens = tt
+opens_calls _ opens = absurd opens
+
+opens_writes : (job : Job) → OpensArray job → MayWrite job
+opens_writes (Read first count) opens = tt
+opens_writes (Write first count) opens = tt
+opens_writes _ opens = absurd opens
+
+pub rack_is_left : (R W S K : Type 0) → RackIsLeft R W S K
+rack_is_left R W S K devices view words status a b x y watchers left whole other =
+    left_over devices.rack view words status a b x y
+    (stepless devices view words status a b x y watchers left whole (λ job spells opens. other job spells (opens_calls job opens))) other
+
+pub show_only_looks : (R W S K : Type 0) → ShowOnlyLooks R W S K
+show_only_looks R W S K devices view words status a b x y watchers left whole spells =
+    looked_over devices.rack view words status a b x y
+    (stepless devices view words status a b x y watchers left whole (none_opened words Show spells (λ no. no))) spells
+
+pub read_takes_nothing : (S K : Type 0) → ReadTakesNothing S K
+read_takes_nothing S K view words block count status a b spells means =
+    none_taken view.source means.story (plan_of words) status a.source b.source none means.follows means.bears.gives
+  where
+    none : TakesNothing (plan_of words)
+    none None is = absurd (is (Read block count, spells))
+    none (Some job) also = subst (λ (j : Job). TakesNothing (job_plan j)) (spells_once words (Read block count) job spells also) (read_takes_none block count)
+
+pub array_is_left : (R W S K : Type 0) → ArrayIsLeft R W S K
+array_is_left R W S K devices view words status a b x y watchers left whole other honest =
+    looked_stands (devices.rack.history x) (devices.rack.history y)
+    (unwritten_ran
+    (no_sector_changed devices.rack view words status a b x y
+    (stepless devices view words status a b x y watchers left whole (λ job spells opens. other job spells (opens_writes job opens))) other honest))
+
+pub memory_comes_first : (R W S K : Type 0) → MemoryComesFirst R W S K
+memory_comes_first R W S K devices view words a b x y watchers left whole = (
+  λ honest. short_unwritten devices honest whole.with.means.story (plan_of words) _ _ (words_unwritten words) whole.with.means.follows whole.with.works,
+  λ other.
+      let over = stepless devices view words OutOfMemory a b x y watchers left whole other in
+      short_first devices.rack over.means.story (plan_of words) x y (words_first words other) over.means.follows over.works,
+)
+
+-- what `create` made and spared
+owes_whole : {R W S K : Type 0} (devices : DeviceView R W) (view : Views S K) (words : List (List ℕ)) (status : Status) (a b : Outside S K) (x y : R)
+    (watchers left : List W) → MeansWhole devices view (plan_of words) (Over status) a b x y watchers left → Spells words Create
+    → IsTrue devices.rack.honest → Owes devices.rack view a x status y
+owes_whole devices view words status a b x y watchers left whole spells honest =
+    created devices.rack view words status a b x y
+    (stepless devices view words status a b x y watchers left whole (none_opened words Create spells (λ no. no))) spells honest
+
+pub array_is_made : (R W S K : Type 0) → ArrayIsMade R W S K
+array_is_made R W S K devices view words status a b x y watchers left whole spells honest =
+    (owes_whole devices view words status a b x y watchers left whole spells honest).0
+
+pub arrays_are_spared : (R W S K : Type 0) → ArraysAreSpared R W S K
+arrays_are_spared R W S K devices view words status a b x y watchers left whole spells honest =
+    (owes_whole devices view words status a b x y watchers left whole spells honest).1

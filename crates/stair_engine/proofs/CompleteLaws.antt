@@ -1,23 +1,28 @@
 -- Where a job can be done it is done, if there was memory.
-use Rattle.std.proofs.Common.{◌≡◌, ◌∙◌, inl, inr, ℕ, ◌*◌, ◌≤◌, List, [], ◌∷◌, ◌++◌, All, Option, None, Some, IfSome, Result, Ok, Err, length, take, drop, true, false, refl, sym, ap, subst, arith}
+use Rattle.std.proofs.Common.{◌≡◌, ◌∙◌, inl, inr, ℕ, zero, suc, ◌+◌, ◌-◌, ◌*◌, ◌/◌, ◌<◌, ◌≤◌, length-append, List, [], ◌∷◌, ◌++◌, All, Option, None, Some, IfSome, Result, Ok, Err, length, take, drop, true, false, refl, sym, ap, subst, arith}
 use Rattle.std.specs.List.{concat}
+use Rattle.std.specs.Prelude.{Bool, nat_lt}
+use Rattle.std.proofs.lemmas.Bool.{ltb-false, ltb-true}
+use Rattle.std.proofs.lemmas.List.{nil_from_length}
 use lib.Seq.{drop-append_seam, take-append_seam}
 use Rattle.std.proofs.lemmas.List.Elements.{All-head, All-tail}
 use Rattle.stair_model.specs.CellSet.{CellSet, HasCell}
 use Rattle.stair_model.specs.Codeword.{IsCodeword}
-use Rattle.stair_model.specs.Geometry.{Geometry}
-use Rattle.stair_model.specs.Stripe.{Stripe, IsSector}
+use Rattle.stair_model.specs.Geometry.{Geometry, block_count}
+use Rattle.stair_model.specs.Stripe.{SECTOR, Stripe, IsSector}
 use Rattle.stair_model.proofs.LimitLaws.{none_broken}
 use Rattle.stair_model.proofs.RestLaws.{subset_covered}
 use Rattle.stair_base.specs.Equations.{equation_of}
 use Rattle.stair_base.proofs.EquationLaws.{not_codeword}
 use Rattle.stair_array.specs.Creates.{CanBeMade, Creates}
-use Rattle.stair_model.specs.Slots.{no_slots}
-use Rattle.stair_state.specs.State.{State, without_seats}
+use Rattle.stair_state.specs.Blocks.{AreOfOneStripe}
+use Rattle.stair_state.specs.State.{Content, State, without_seats}
+use Rattle.stair_array.specs.Arrays.{blocks_of}
+use Rattle.stair_array.specs.Machine.{IsDecided, WriteBlocks}
 use Rattle.stair_conf.specs.Config.{TextReadsAs}
 use Rattle.stair_conf.specs.declared.fault.ConfigFault.{ConfigFault}
 use Rattle.stair_conf.specs.declared.job.Job.{Job}
-use Rattle.stair_conf.specs.declared.job.Job.TheVariants.{OneStripe, Create, Show}
+use Rattle.stair_conf.specs.declared.job.Job.TheVariants.{OneStripe, Create, Read, Show, Write}
 use Rattle.stair_conf.specs.declared.job.StripeCommand.{StripeCommand}
 use Rattle.stair_conf.specs.declared.job.StripeCommand.TheVariants.{Check, Encode, Restore}
 use Rattle.stair_conf.specs.Words.{Spells}
@@ -25,20 +30,26 @@ use Rattle.stair_conf.proofs.ConfigLaws.{one_answer}
 use Rattle.stair_conf.proofs.WordsLemmas.{spells_once}
 use Rattle.stair_story.specs.Answer.{HasBytes, Judges}
 use Rattle.stair_engine.specs.Cause.{HasCause}
-use Rattle.stair_engine.specs.Complete.{IsComplete, IsValidInput}
+use Rattle.stair_engine.specs.Complete.{IsComplete, IsThawed, IsValidInput}
 use Rattle.stair_engine.specs.Laws.{AllIsComplete}
 use Rattle.stair_story.specs.Outside.{Outside, Views, outside}
 use Rattle.stair_engine.specs.Plans.{create_plan, job_plan, making_plan, plan_of}
 use Rattle.stair_engine.specs.Show.{show_text}
-use Rattle.stair_story.specs.Rack.{RackView, Works, told_of}
+use Rattle.stair_story.specs.Rack.{MeansOver, RackView, Works, told_of}
 use Rattle.stair_story.specs.Restore.{HoldsCells, IsErasedBy}
 use Rattle.stair_engine.specs.Task.{one_stripe}
 use Rattle.stair_story.specs.declared.status.Status.{Status}
 use Rattle.stair_story.specs.declared.status.Status.TheVariants.{Done, NotCodeword, NoCodeword, Limit, Input, InputFault, OutputFault, Lost, OutOfMemory}
 use Rattle.stair_engine.proofs.MeaningLaws.{told_more, words_are_done}
-use Rattle.stair_engine.proofs.JobLaws.{words_leave}
+use Rattle.stair_engine.specs.Blocks.{IsInRange, if_in_range, if_left, opens_array, part_of, piece_blocks, read_plan, reads, whole_of, within_range, write_plan, writes, wrote}
+use Rattle.stair_story.specs.Plan.{Plan, Over, Take, take_step}
+use Rattle.stair_engine.proofs.CallLaws.{none_opened, stepless}
+use Rattle.stair_engine.proofs.JobLaws.{words_tell, words_used}
+use Rattle.stair_engine.proofs.RangeLaws.{in_range_is}
+use Rattle.stair_engine.proofs.TurnLaws.{blocks_count, few_whole, part_long, part_short, piece_left, piece_some, piece_together, some_whole}
 use Rattle.stair_engine.proofs.WordLaws.{over_spelled}
-use Rattle.stair_story.specs.Sure.{Assurance, IsDone, IsSure}
+use Rattle.stair_story.specs.Sure.{IsDone, IsSure, no_assurance}
+use Rattle.stair_story.proofs.PlannedSureLaws.{planned_sure}
 use Rattle.stair_story.proofs.AllEnds.{AllEnd}
 use Rattle.stair_story.proofs.SureLaws.{look_sure, stepless_done}
 
@@ -163,28 +174,168 @@ module _ {R S K : Type 0} (rack : RackView R) (view : Views S K) (a : Outside S 
     λ bytes source few gives none can. absurd (none.source gives.4),
   )
 
--- The plan of `show` is sure in every state, and counts on no slot.
-none_assured : Assurance
-none_assured = record { kept = no_slots; away = no_slots }
+-- ---- what is sure
 
-show_sure : (words : List (List ℕ)) (s : State) (left : Option (List ℕ)) → Spells words Show → IsSure none_assured (plan_of words) s left
-show_sure words s left spells None not = absurd (not (Show, spells))
-show_sure words s left spells (Some job) read =
-    subst (λ (j : Job). IsSure none_assured (job_plan j) s left) (spells_once words Show job spells read) (look_sure none_assured show_text s left)
+-- blocks in range are read
+reads_sure : (g : Geometry) (first count : ℕ) (s : State) (left : Option (List ℕ)) → first + count ≤ block_count s.geometry
+    → IsSure no_assurance (reads g first count) s left
+reads_sure g first zero s left within = refl
+reads_sure g first (suc count) s left within = (
+  λ seats is. omega (arith, within),
+  λ bytes gone later done. reads_sure g (first + 1) count later left (omega (arith, within, ap (λ (k : Geometry). block_count k) done.row.geometry)),
+)
+
+-- what is in range isn't refused for its range
+within_sure : (g : Geometry) (first count : ℕ) (plan : Plan) (s : State) (left : Option (List ℕ)) → IsInRange g first count
+    → IsSure no_assurance plan s left → IsSure no_assurance (within_range g first count plan) s left
+within_sure g first count plan s left within sure =
+    subst (λ (is : Bool). IsSure no_assurance (if_in_range g first is plan) s left) (sym (in_range_is g first count within)) sure
+
+-- a session whose command is sure is sure
+opens_sure : (k : Geometry → Plan) (s : State) (left : Option (List ℕ))
+    → ((later : State) → IsDecided s later → later.geometry ≡ s.geometry → IsSure no_assurance (k s.geometry) later left)
+    → IsSure no_assurance (opens_array k) s left
+opens_sure k s left sure = λ member same. (
+  λ seats is. tt,
+  λ g gone later done.
+      subst (λ (h : Geometry). IsSure no_assurance (k h) later left) (sym done.row.holds.0) (sure later done.row.holds.1 done.row.geometry),
+)
+
+read_sure : (first count : ℕ) (s : State) (left : Option (List ℕ)) → IsInRange s.geometry first count
+    → IsSure no_assurance (read_plan first count) s left
+read_sure first count s left within =
+    opens_sure (λ g. within_range g first count (reads g first count)) s left
+    (λ later decided same.
+    within_sure s.geometry first count (reads s.geometry first count) later left within
+    (none_or first count s.geometry later left same within))
+  where
+    none_or : (first count : ℕ) (g : Geometry) (later : State) (left : Option (List ℕ)) → later.geometry ≡ g → IsInRange g first count
+        → IsSure no_assurance (reads g first count) later left
+    none_or first zero g later left same within = refl
+    none_or first (suc count) g later left same within =
+        reads_sure g first (suc count) later left (omega (arith, within (omega arith), ap (λ (k : Geometry). block_count k) same))
+
+-- the end comes behind the last block
+wrote_sure : (all : ℕ) (s : State) → IsSure no_assurance (wrote all) s (Some [])
+wrote_sure all s = (
+  λ bytes rest told enough. absurd (omega (arith, ap length told, enough.enough, length-append bytes rest)),
+  λ few. refl,
+)
+
+-- Blocks are written, as they come, of an array that isn't frozen.
+module _ (g : Geometry) (first all : ℕ) (within : first + all ≤ block_count g) where
+  writes_sure : (turns done : ℕ) (held : List ℕ) (s : State) (told : List ℕ) → all ≤ done + turns → done ≤ all
+      → length held + length told ≡ SECTOR * (all - done) → length held < SECTOR → s.geometry ≡ g → s.content.frozen ≡ false
+      → IsSure no_assurance (writes g first all turns done held) s (Some told)
+  writes_sure zero done held s told fuel below long part same thawed =
+      subst (λ (rest : List ℕ). IsSure no_assurance (wrote all) s (Some rest)) (sym (nil_from_length told (omega (arith, long, fuel, below))))
+      (wrote_sure all s)
+  writes_sure (suc turns) done held s told fuel below long part same thawed =
+      by (nat_lt done all) refl
+      (λ bytes later rest whole fits left. writes_sure turns (done + length (held ++ bytes) / SECTOR) (part_of (held ++ bytes)) later rest left
+      fits.0 fits.1 (part_short (held ++ bytes)) whole.0 whole.1)
+    where
+      by : (left : Bool) → nat_lt done all ≡ left
+          → ((bytes : List ℕ) (later : State) (rest : List ℕ) → (later.geometry ≡ g) × (later.content.frozen ≡ false)
+          → (done + length (held ++ bytes) / SECTOR ≤ all)
+          × (length (part_of (held ++ bytes)) + length rest ≡ SECTOR * (all - (done + length (held ++ bytes) / SECTOR)))
+          → all ≤ done + length (held ++ bytes) / SECTOR + turns
+          → IsSure no_assurance (writes g first all turns (done + length (held ++ bytes) / SECTOR) (part_of (held ++ bytes))) later (Some rest))
+          → IsSure no_assurance
+          (if_left left
+          (Take (SECTOR - length held) (SECTOR * piece_blocks g (first + done) (all - done) - length held)
+          (λ bytes. take_step g.n (WriteBlocks (first + done) (blocks_of (whole_of (held ++ bytes))))
+          (λ ok. writes g first all turns (done + length (held ++ bytes) / SECTOR) (part_of (held ++ bytes))))
+          (λ bytes. Over (Input (SECTOR * all) (SECTOR * done + length (held ++ bytes))))) (wrote all)) s (Some told)
+      by false is again =
+          subst (λ (rest : List ℕ). IsSure no_assurance (wrote all) s (Some rest))
+          (sym (nil_from_length told (omega (arith, long, ltb-false done all is)))) (wrote_sure all s)
+      by true is again =
+          let left = ltb-true done all is in (
+            λ bytes rest all_told came.
+                let some = piece_some g first all done left within in
+                let blocks = piece_blocks g (first + done) (all - done) in
+                let count = length (held ++ bytes) / SECTOR in
+                let some_came : 0 < count = some_whole blocks held bytes part some came in
+                let few : count ≤ blocks = few_whole blocks held bytes part some came in
+                let fits : count ≤ all - done = omega (arith, few, piece_left g first all done left within) in
+                let counted : length (blocks_of (whole_of (held ++ bytes))) ≡ count = blocks_count (held ++ bytes) in (
+                  λ seats known. (
+                    subst (λ (k : Geometry). first + done < block_count k) (sym same) (omega (arith, within, left)),
+                    subst (λ (k : Geometry). AreOfOneStripe k (first + done) (length (blocks_of (whole_of (held ++ bytes))))) (sym same)
+                        (piece_together g first all done left within (length (blocks_of (whole_of (held ++ bytes)))) (omega (arith, counted, some_came))
+                        (omega (arith, counted, few))),
+                    thawed,
+                  ),
+                  λ ok gone later did.
+                      again bytes later rest (did.row.geometry ∙ same, ap (λ (c : Content). c.frozen) did.row.holds.content ∙ thawed) (
+                        omega (arith, fits, left),
+                        omega (arith, ap length all_told, length-append bytes rest, length-append held bytes, part_long (held ++ bytes), long, fits, left),
+                      )
+                      (omega (arith, fuel, some_came)),
+                ),
+            λ few. absurd (omega (arith, few, long, left, part)),
+          )
+
+write_sure : (first count : ℕ) (s : State) (told : List ℕ) → IsInRange s.geometry first count → length told ≡ SECTOR * count
+    → (0 < count → IsThawed s) → IsSure no_assurance (write_plan first count) s (Some told)
+write_sure first count s told within long thawed =
+    opens_sure (λ g. within_range g first count (writes g first count count 0 [])) s (Some told)
+    (λ later decided same.
+    within_sure s.geometry first count (writes s.geometry first count count 0 []) later (Some told) within
+    (by count s.geometry later same within long (λ some. still later decided (thawed some))))
+  where
+    still : (later : State) → IsDecided s later → IsThawed s → later.content.frozen ≡ false
+    still later (inl kept) is = ap (λ (c : Content). c.frozen) kept.content ∙ is.0
+    still later (inr made) is = ap (λ (c : Content). c.frozen) made.content ∙ is.1
+
+    by : (count : ℕ) (g : Geometry) (later : State) → later.geometry ≡ g → IsInRange g first count → length told ≡ SECTOR * count
+        → (0 < count → later.content.frozen ≡ false) → IsSure no_assurance (writes g first count count 0 []) later (Some told)
+    by zero g later same within long thawed =
+        subst (λ (rest : List ℕ). IsSure no_assurance (wrote 0) later (Some rest)) (sym (nil_from_length told (omega (arith, long)))) (wrote_sure 0 later)
+    by (suc count) g later same within long thawed =
+        writes_sure g first (suc count) (within (omega arith)) (suc count) 0 [] later told (omega arith) (omega arith) (omega (arith, long)) (omega arith)
+        same (thawed (omega arith))
+
+-- so is a call of the words of a sure command
+words_sure : (words : List (List ℕ)) (of : Job) (s : State) (left : Option (List ℕ)) → Spells words of → IsSure no_assurance (job_plan of) s left
+    → IsSure no_assurance (plan_of words) s left
+words_sure words of s left spells sure None not = absurd (not (of, spells))
+words_sure words of s left spells sure (Some job) read =
+    subst (λ (j : Job). IsSure no_assurance (job_plan j) s left) (spells_once words of job spells read) sure
 
 module _ {R S K : Type 0} (rack : RackView R) (view : Views S K) where
-  pub all_is_complete : AllIsComplete rack view
-  all_is_complete words (OneStripe command n m r e) status a b x y spells over none can =
-      let of = one_stripe n m r e in
-      let does = words_are_done view words command n m r e status a b spells over.means in
-      let left = words_leave view words status a b over.means in
-      stripe_done command of can.0 (view.sink.held a.sink) (view.sink.held b.sink) status can.2
-      (of_told (view.source.left a.source) can.0 (λ bytes. HasCause command of bytes (view.sink.held a.sink) (view.sink.held b.sink) status) can.1 does.cause)
-      (λ is. none.source (left.input_fault is)) (λ is. none.sink (left.output_fault is))
-  all_is_complete words Create status a b x y spells over none can =
-      over_spelled rack view (Complete rack view a x Create) words status a b x y over Create spells (λ no input. inr refl) (create_done rack view a x)
-      none can
-  all_is_complete words Show status a b x y spells over none can =
+  show_done : (words : List (List ℕ)) (status : Status) (a b : Outside S K) (x y : R) → Spells words Show
+      → MeansOver rack view (plan_of words) (Over status) a b x y → IsComplete rack view Show status a b x y
+  show_done words status a b x y spells over none can =
       let since = can.1 in
-      stepless_done rack can.0 none_assured since.before view (plan_of words) status since.state a b x y over since.since since.represents
-      since.tolerated since.returned none (show_sure words (without_seats since.state) (view.source.left a.source) spells)
+      stepless_done rack can.0 no_assurance since.before view (plan_of words) status since.state a b x y over since.since since.represents
+      since.tolerated since.returned none
+      (words_sure words Show (without_seats since.state) (view.source.left a.source) spells
+      (look_sure no_assurance show_text (without_seats since.state) (view.source.left a.source)))
+
+pub all_is_complete : (R W S K : Type 0) → AllIsComplete R W S K
+all_is_complete R W S K devices view words (OneStripe command n m r e) status a b x y watchers left spells whole none can =
+    let of = one_stripe n m r e in
+    let does = words_are_done view words command n m r e status a b spells whole.with.means in
+    let told = words_tell view words status a b whole.with.means in
+    stripe_done command of can.0 (view.sink.held a.sink) (view.sink.held b.sink) status can.2
+    (of_told (view.source.left a.source) can.0 (λ bytes. HasCause command of bytes (view.sink.held a.sink) (view.sink.held b.sink) status) can.1 does.cause)
+    (λ is. none.source (told.input_fault is)) (λ is. none.sink (told.output_fault is))
+all_is_complete R W S K devices view words Create status a b x y watchers left spells whole none can =
+    over_spelled devices.rack view (Complete devices.rack view a x Create) words status a b x y
+    (stepless devices view words status a b x y watchers left whole (none_opened words Create spells (λ no. no))) Create spells (λ no input. inr refl)
+    (create_done devices.rack view a x) none can
+all_is_complete R W S K devices view words Show status a b x y watchers left spells whole none can =
+    show_done devices.rack view words status a b x y spells
+    (stepless devices view words status a b x y watchers left whole (none_opened words Show spells (λ no. no))) none can
+all_is_complete R W S K devices view words (Read first count) status a b x y watchers left spells whole none can =
+    planned_sure devices view (plan_of words) status can.0 a b x y watchers left whole (words_used words) can.1 none
+    (words_sure words (Read first count) (without_seats can.0) (view.source.left a.source) spells
+    (read_sure first count (without_seats can.0) (view.source.left a.source) can.2))
+all_is_complete R W S K devices view words (Write first count) status a b x y watchers left spells whole none can =
+    let is = can.2 in
+    planned_sure devices view (plan_of words) status is.0 a b x y watchers left whole (words_used words) is.1 none
+    (words_sure words (Write first count) (without_seats is.0) (view.source.left a.source) spells
+    (subst (λ (told : Option (List ℕ)). IsSure no_assurance (write_plan first count) (without_seats is.0) told) (sym can.1)
+    (write_sure first count (without_seats is.0) can.0 is.2 is.3 is.4)))

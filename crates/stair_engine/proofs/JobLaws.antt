@@ -1,5 +1,5 @@
 -- What each command's plan does by itself: a row for each command, and what follows of every call.
-use Rattle.std.proofs.Common.{◌≢◌, ℕ, List, Option, None, Some, Result, Ok, Err, refl}
+use Rattle.std.proofs.Common.{◌≡◌, ◌≢◌, ℕ, List, Option, None, Some, Result, Ok, Err, refl}
 use Rattle.stair_model.specs.Geometry.{Geometry}
 use Rattle.stair_array.specs.declared.fault.CreateFault.{CreateFault}
 use Rattle.stair_array.specs.declared.fault.CreateFault.TheVariants as create
@@ -12,25 +12,26 @@ use Rattle.stair_conf.specs.declared.job.StripeCommand.TheVariants.{Check, Encod
 use Rattle.stair_member.specs.declared.fault.SurveyFault.{SurveyFault}
 use Rattle.stair_member.specs.declared.fault.SurveyFault.TheVariants as survey
 use Rattle.stair_story.specs.declared.status.Status.{Status}
-use Rattle.stair_story.specs.declared.status.Status.TheVariants.{Done, NotCodeword, NoCodeword, Lost, Usage, OutOfMemory}
+use Rattle.stair_story.specs.declared.status.Status.TheVariants.{Done, NotCodeword, NoCodeword, Lost, OutOfMemory}
 use Rattle.stair_story.specs.Action.{status_of_create, status_of_survey}
 use Rattle.stair_story.specs.Answer.{Judges}
-use Rattle.stair_story.specs.Ending.{AsksFirst, EndsIn, IsNoFault, Leaves, OnlyLooks, PutsLast, TakesNoStep}
+use Rattle.stair_story.specs.Ending.{AsksFirst, AsksUnwritten, EachStep, EndsIn, IfNothingIsPutOut, IsInUse, IsNoFault, OnlyLooks, PutsLast, TakesNoStep, TakesNothing, TellsFaults}
 use Rattle.stair_story.specs.Fault.{status_of_config}
 use Rattle.stair_story.specs.Means.{Means}
 use Rattle.stair_story.specs.Outside.{Outside, Views}
 use Rattle.stair_story.specs.Plan.{Over, answer}
 use Rattle.stair_story.proofs.DeviceLaws.{ActsOnce, calls_once, once_no_step}
-use Rattle.stair_story.proofs.EndingLaws.{leaves, weaker}
-use Rattle.stair_story.proofs.LookLaws.{calls_look}
+use Rattle.stair_story.proofs.EndingLaws.{nothing_put, tells_faults, weaker}
+use Rattle.stair_story.proofs.LookLaws.{calls_look, first_unwritten}
+use Rattle.stair_story.proofs.PlannedLaws.{none_each}
+use Rattle.stair_engine.proofs.OpenLaws.{IsOfJob, read_none, read_own, read_untaken, read_used, write_last, write_none, write_own, write_used}
+use Rattle.stair_engine.specs.Blocks.{read_plan}
+use Rattle.stair_engine.specs.Jobs.{IsReading, MayWrite, NotSpelled, OpensArray}
 use Rattle.stair_engine.proofs.StripeLaws.{stripe_calls_none}
-use Rattle.stair_engine.specs.Plans.{job_plan, making_plan, plan_of, stripe_plan, tested_plan, within_limits}
+use Rattle.stair_engine.specs.Plans.{create_plan, job_plan, making_plan, plan_of, show_plan, stripe_plan, tested_plan, within_limits}
 use Rattle.stair_engine.specs.Task.{one_stripe}
 
 -- ---- no plan ends by itself with a fault, and none of a job with Usage
-
-abbrev pub IsOfJob : Status → Type 0
-IsOfJob status = IsNoFault status × (status ≢ Usage)
 
 judged_own : (command : StripeCommand) (g : Geometry) (input : List ℕ) (status : Status) (output : List ℕ) → Judges command g input status output
     → EndsIn IsOfJob (answer status output)
@@ -75,6 +76,8 @@ pub job_own : (job : Job) → EndsIn IsOfJob (job_plan job)
 job_own (job.OneStripe command n m r e) = λ reply is. stripe_own command _ reply
 job_own job.Create = (λ more. ((λ is. cc, λ is. cc), λ is. cc), λ text reply reads. making_own reply)
 job_own job.Show = (λ member. ((λ is. cc, λ is. cc), λ is. cc), λ fault. (survey_own fault).0)
+job_own (job.Read first count) = (λ member. read_own member.array.geometry.n first count, λ fault. (survey_own fault).0)
+job_own (job.Write first count) = (λ member. write_own member.array.geometry.n first count, λ fault. (survey_own fault).0)
 
 -- ---- what is put out is put out last
 
@@ -83,40 +86,55 @@ judged_last Done output = refl
 judged_last _ output = tt
 
 stripe_last : (command : StripeCommand) (g : Geometry) (reply : Option ℕ) → PutsLast (within_limits (stripe_plan command g) reply)
-stripe_last command g None = (λ bytes. (λ more. tt, λ none reply. judged_last reply.0 reply.1), λ bytes. tt)
+stripe_last command g None = (λ bytes. (λ more. tt, λ none reply is. judged_last reply.0 reply.1), λ bytes. tt)
 stripe_last command g (Some k) = tt
 
 making_last : (reply : Result Geometry ConfigFault) → PutsLast (making_plan reply)
 making_last (Ok g) = λ done. refl
 making_last (Err fault) = tt
 
-job_last : (job : Job) → PutsLast (job_plan job)
-job_last (job.OneStripe command n m r e) = λ reply. stripe_last command _ reply
-job_last job.Create = (λ more. tt, λ text reply. making_last reply)
-job_last job.Show = λ member. refl
+job_last : (of : Job) → ¬ IsReading of → PutsLast (job_plan of)
+job_last (job.OneStripe command n m r e) other = λ reply is. stripe_last command _ reply
+job_last job.Create other = (λ more. tt, λ text reply is. making_last reply)
+job_last job.Show other = λ member. refl
+job_last (job.Read first count) other = absurd (other tt)
+job_last (job.Write first count) other = λ member. write_last member.array.geometry.n first count
 
--- ---- memory is asked for before anything is done to an array
+-- ---- memory is asked for before anything is done to an array, or before it is written
 
 judged_first : (status : Status) (output : List ℕ) → AsksFirst (answer status output)
 judged_first Done output = tt
 judged_first _ output = tt
 
 stripe_first : (command : StripeCommand) (g : Geometry) (reply : Option ℕ) → AsksFirst (within_limits (stripe_plan command g) reply)
-stripe_first command g None = (λ bytes. (λ more. tt, λ none reply. judged_first reply.0 reply.1), λ bytes. tt)
+stripe_first command g None = (λ bytes. (λ more. tt, λ none reply is. judged_first reply.0 reply.1), λ bytes. tt)
 stripe_first command g (Some k) = tt
 
 making_first : (reply : Result Geometry ConfigFault) → AsksFirst (making_plan reply)
 making_first (Ok g) = (λ done is. cc, λ fault. (create_own fault).2)
 making_first (Err fault) = tt
 
-job_first : (job : Job) → AsksFirst (job_plan job)
-job_first (job.OneStripe command n m r e) = λ reply. stripe_first command _ reply
-job_first job.Create = (λ more. tt, λ text reply. making_first reply)
-job_first job.Show = (λ member is. cc, λ fault. (survey_own fault).1)
+job_first : (of : Job) → ¬ OpensArray of → AsksFirst (job_plan of)
+job_first (job.OneStripe command n m r e) other = λ reply is. stripe_first command _ reply
+job_first job.Create other = (λ more. tt, λ text reply is. making_first reply)
+job_first job.Show other = (λ member is. cc, λ fault. (survey_own fault).1)
+job_first (job.Read first count) other = absurd (other tt)
+job_first (job.Write first count) other = absurd (other tt)
 
-pub words_first : (words : List (List ℕ)) → AsksFirst (plan_of words)
-words_first words None = tt
-words_first words (Some job) = job_first job
+pub words_first : (words : List (List ℕ)) → NotSpelled OpensArray words → AsksFirst (plan_of words)
+words_first words other None is = tt
+words_first words other (Some of) spells = job_first of (other of spells)
+
+job_unwritten : (of : Job) → AsksUnwritten (job_plan of)
+job_unwritten (job.Read first count) = λ member. read_none member.array.geometry.n first count
+job_unwritten (job.Write first count) = λ member. write_none member.array.geometry.n first count
+job_unwritten (job.OneStripe command n m r e) = first_unwritten (job_plan (job.OneStripe command n m r e)) (job_first (job.OneStripe command n m r e) (λ no. no))
+job_unwritten job.Create = first_unwritten create_plan (job_first job.Create (λ no. no))
+job_unwritten job.Show = first_unwritten show_plan (job_first job.Show (λ no. no))
+
+pub words_unwritten : (words : List (List ℕ)) → AsksUnwritten (plan_of words)
+words_unwritten words None is = tt
+words_unwritten words (Some of) spells = job_unwritten of
 
 -- ---- one thing at most is done to an array, and no step is taken
 
@@ -124,40 +142,67 @@ making_once : (reply : Result Geometry ConfigFault) → ActsOnce (making_plan re
 making_once (Ok g) = λ done. tt
 making_once (Err fault) = tt
 
-pub job_once : (job : Job) → ActsOnce (job_plan job)
-job_once (job.OneStripe command n m r e) =
+pub job_once : (of : Job) → ¬ OpensArray of → ActsOnce (job_plan of)
+job_once (job.OneStripe command n m r e) other =
     let of = one_stripe n m r e in
     calls_once (tested_plan command of) (stripe_calls_none command of)
-job_once job.Create = (λ more. tt, λ text reply. making_once reply)
-job_once job.Show = λ member. tt
+job_once job.Create other = (λ more. tt, λ text reply is. making_once reply)
+job_once job.Show other = λ member. tt
+job_once (job.Read first count) other = absurd (other tt)
+job_once (job.Write first count) other = absurd (other tt)
 
-pub words_once : (words : List (List ℕ)) → ActsOnce (plan_of words)
-words_once words None = tt
-words_once words (Some job) = job_once job
+-- where no array is opened no step is taken
+job_no_step : (of : Job) → ¬ OpensArray of → TakesNoStep (job_plan of)
+job_no_step of other = once_no_step (job_plan of) (job_once of other)
 
-pub words_no_step : (words : List (List ℕ)) → TakesNoStep (plan_of words)
-words_no_step words = once_no_step (plan_of words) (words_once words)
+pub words_no_step : (words : List (List ℕ)) → NotSpelled OpensArray words → TakesNoStep (plan_of words)
+words_no_step words other None is = tt
+words_no_step words other (Some of) spells = job_no_step of (other of spells)
+
+-- and where one is, it is opened, read and written
+job_used : (of : Job) → EachStep IsInUse (job_plan of)
+job_used (job.Read first count) = λ member. (tt, read_used member.array.geometry.n first count)
+job_used (job.Write first count) = λ member. (tt, write_used member.array.geometry.n first count)
+job_used (job.OneStripe command n m r e) =
+    none_each IsInUse (job_plan (job.OneStripe command n m r e)) (job_no_step (job.OneStripe command n m r e) (λ no. no))
+job_used job.Create = none_each IsInUse create_plan (job_no_step job.Create (λ no. no))
+job_used job.Show = none_each IsInUse show_plan (job_no_step job.Show (λ no. no))
+
+pub words_used : (words : List (List ℕ)) → EachStep IsInUse (plan_of words)
+words_used words None is = tt
+words_used words (Some of) spells = job_used of
+
+-- ---- `read` takes nothing
+
+pub read_takes_none : (first count : ℕ) → TakesNothing (read_plan first count)
+read_takes_none first count = (λ member. read_untaken member.array.geometry.n first count, λ fault. (survey_own fault).0.0.0)
 
 -- ---- every command but `create` only looks at the rack
 
-pub job_looks : (of : Job) → of ≢ job.Create → OnlyLooks (job_plan of)
+pub job_looks : (of : Job) → ¬ MayWrite of → OnlyLooks (job_plan of)
 job_looks (job.OneStripe command n m r e) other =
     let of = one_stripe n m r e in
     calls_look (tested_plan command of) (stripe_calls_none command of)
-job_looks job.Create other = absurd (other refl)
+job_looks job.Create other = absurd (other tt)
 job_looks job.Show other = λ member. tt
+job_looks (job.Read first count) other = absurd (other tt)
+job_looks (job.Write first count) other = absurd (other tt)
 
 -- ---- so of every call
 
 module _ {S K : Type 0} (view : Views S K) where
-  pub words_leave : (words : List (List ℕ)) (status : Status) (a b : Outside S K) → Means view (plan_of words) (Over status) a b → Leaves view status a b
-  words_leave words status a b means =
-      leaves view IsNoFault (λ end is. is) (plan_of words) status a b (own words) (last words) means
+  pub words_tell : (words : List (List ℕ)) (status : Status) (a b : Outside S K) → Means view (plan_of words) (Over status) a b
+      → TellsFaults view status a b
+  words_tell words status a b means = tells_faults view IsNoFault (λ end is. is) (plan_of words) status a b (own words) means
     where
       own : (words : List (List ℕ)) → EndsIn IsNoFault (plan_of words)
       own words None spelled = (λ is. cc, λ is. cc)
       own words (Some job) spells = weaker IsOfJob IsNoFault (λ end is. is.0) (job_plan job) (job_own job)
 
-      last : (words : List (List ℕ)) → PutsLast (plan_of words)
-      last words None = tt
-      last words (Some job) = job_last job
+  pub words_put : (words : List (List ℕ)) (status : Status) (a b : Outside S K) → Means view (plan_of words) (Over status) a b
+      → NotSpelled IsReading words → IfNothingIsPutOut status (b.sink ≡ a.sink)
+  words_put words status a b means other = nothing_put view (plan_of words) status a b (last words other) means
+    where
+      last : (words : List (List ℕ)) → NotSpelled IsReading words → PutsLast (plan_of words)
+      last words other None is = tt
+      last words other (Some of) spells = job_last of (other of spells)

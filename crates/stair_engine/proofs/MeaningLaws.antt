@@ -26,7 +26,7 @@ use Rattle.stair_story.specs.Story.{Deed, Found, Took, IsPart}
 use Rattle.stair_story.proofs.AllEnds.{AllEnd, Nowhere, means_all}
 use Rattle.stair_engine.proofs.WordLaws.{spelled_all}
 use Rattle.stair_engine.proofs.AnswerLaws.{HasBytes-cells}
-use Rattle.stair_engine.proofs.JobLaws.{words_leave}
+use Rattle.stair_engine.proofs.JobLaws.{words_tell}
 
 -- ---- told bytes
 
@@ -296,7 +296,7 @@ module _ {S K : Type 0} (view : Views S K) where
   pub bytes_are_answered : BytesAreAnswered view
   bytes_are_answered words command n m r e status a b spells means sound_input sound_output memory =
       let does = words_are_done words command n m r e status a b spells means in
-      let left = words_leave view words status a b means in
+      let left = words_tell view words status a b means in
       IfSome_then (view.source.left a.source) does.cause
       (λ bytes cause. status_of_cause command (one_stripe n m r e) bytes (view.sink.held a.sink) (view.sink.held b.sink) status cause
       (λ is. sound_input (left.input_fault is), λ is. sound_output (left.output_fault is), memory))

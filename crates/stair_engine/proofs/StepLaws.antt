@@ -43,11 +43,7 @@ module _ {R S K : Type 0} (rack : RackView R) (view : Views S K) where
       (are_all (TEXT_LIMIT + 1) takes.2.0 takes.2.1, refl) takes.2.2 refl refl refl)
   text_refused fault.Input into source source' sink n x takes =
       over_one rack view (TakeFailed takes.0) create_plan (Over InputFault) _ _ x x (takes.1, refl) takes.2 refl refl refl
-  text_refused fault.Memory into source source' sink n x takes = absurd takes
-  text_refused fault.Output into source source' sink n x takes = absurd takes
-  text_refused (fault.Text config) into source source' sink n x takes = absurd takes
-  text_refused (fault.Create refusal) into source source' sink n x takes = absurd takes
-  text_refused (fault.Survey refusal) into source source' sink n x takes = absurd takes
+  text_refused _ into source source' sink n x takes = absurd takes
 
   -- a text was taken
   pub takes_text : (count : ℕ) (into : List ℕ) (source source' : S) (sink : K) (n : ℕ) (x : R) → TakesText view.source (Ok count) into source source'

@@ -96,11 +96,11 @@ answer_calls_none _ output = tt
 
 limits_call_none : (command : StripeCommand) (g : Geometry) (reply : Option ℕ) → MakesNoCall (within_limits (stripe_plan command g) reply)
 limits_call_none command g None = (
-  λ bytes. (λ more. tt, λ none reply. answer_calls_none reply.0 reply.1),
+  λ bytes. (λ more. tt, λ none reply is. answer_calls_none reply.0 reply.1),
   λ bytes. tt,
 )
 limits_call_none command g (Some k) = tt
 
 -- the commands on one stripe make none
 pub stripe_calls_none : (command : StripeCommand) (g : Geometry) → MakesNoCall (tested_plan command g)
-stripe_calls_none command g = λ reply. limits_call_none command g reply
+stripe_calls_none command g = λ reply is. limits_call_none command g reply

@@ -15,7 +15,7 @@ use Rattle.stair_engine.specs.Plans.{if_spelled, job_plan, plan_of}
 
 module _ {X S K : Type 0} (One : Deed → X → X → Type 0) (view : Views S K) (Q : Status → Outside S K → X → Type 0) (words : List (List ℕ))
     (a : Outside S K) (x : X) where
-  words_all : Q OutOfMemory a x → ((IsSpelled words → ⊥) → Q Usage a x) → ((job : Job) → Spells words job → AllEnd One view Q (job_plan job) a x)
+  pub words_all : Q OutOfMemory a x → ((IsSpelled words → ⊥) → Q Usage a x) → ((job : Job) → Spells words job → AllEnd One view Q (job_plan job) a x)
       → AllEnd One view Q (plan_of words) a x
   words_all short usage jobs = (asked, short)
     where

@@ -1,10 +1,11 @@
 -- When a command is sure to be done.
-use Rattle.std.specs.Prelude.{◌≡◌, ◌≤◌, ℕ, IsTrue, List, length, drop, take, Option, Some, Ok}
+use Rattle.std.specs.Prelude.{◌≡◌, ◌*◌, ◌<◌, ◌≤◌, ℕ, false, IsTrue, List, length, drop, take, Option, Some, Ok}
 use Rattle.stair_model.specs.CellSet.{CellSet}
 use Rattle.stair_model.specs.Codeword.{IsCodeword}
 use Rattle.stair_model.specs.Coverage.{IsCovered}
 use Rattle.stair_model.specs.Geometry.{Geometry, IsWithinLimits}
-use Rattle.stair_model.specs.Stripe.{Stripe}
+use Rattle.stair_model.specs.Stripe.{SECTOR, Stripe}
+use Rattle.stair_state.specs.State.{State, changed_if}
 use Rattle.stair_array.specs.Creates.{CanBeMade}
 use Rattle.stair_conf.specs.Config.{TextReadsAs}
 use Rattle.stair_conf.specs.declared.job.Job.{Job}
@@ -13,14 +14,14 @@ use Rattle.stair_conf.specs.declared.job.StripeCommand.{StripeCommand}
 use Rattle.stair_conf.specs.declared.job.StripeCommand.TheVariants.{Check, Encode, Restore}
 use Rattle.stair_story.specs.Answer.{HasBytes, bytes_needed, map_bytes}
 use Rattle.stair_story.specs.Outside.{Outside, Views}
+use Rattle.stair_engine.specs.Blocks.{IsInRange}
 use Rattle.stair_engine.specs.Plans.{TEXT_LIMIT}
 use Rattle.stair_story.specs.Rack.{RackView}
 use Rattle.stair_story.specs.Restore.{HoldsCells, IsErasedBy}
-use Rattle.stair_story.specs.Sure.{HasNoFault, IsDone}
+use Rattle.stair_story.specs.Sure.{HasNoFault, IsDone, ServesThroughout}
 use Rattle.stair_engine.specs.Stands.{StandsThroughout}
 use Rattle.stair_engine.specs.Task.{one_stripe}
 use Rattle.stair_story.specs.declared.status.Status.{Status}
-use Rattle.stair_story.specs.declared.status.Status.TheVariants.{Done}
 
 -- what is judged Done: the cells of a codeword, any blocks, and cells of which the erased ones are covered and the others are
 -- those of some codeword
@@ -43,6 +44,11 @@ pub record IsValidInput (command : StripeCommand) (g : Geometry) (input : List �
 abbrev pub TellsInput : Option (List ℕ) → (List ℕ → Type 0) → Type 0
 TellsInput told IsSo = (input : List ℕ) × (told ≡ Some input) × IsSo input
 
+-- an array in this state isn't frozen, whatever becomes of a change that is in doubt
+abbrev pub IsThawed : State → Type 0
+IsThawed s =
+    (s.content.frozen ≡ false) × ((changed_if s.in_doubt s.content).frozen ≡ false)
+
 -- what is told and the rack are such that the job can be done
 abbrev pub CanBeDone : {R : Type 0} → RackView R → Job → Option (List ℕ) → R → R → Type 0
 CanBeDone rack (job.OneStripe command n m r e) told first last =
@@ -52,6 +58,11 @@ CanBeDone rack job.Create told first last = TellsInput told (λ input.
     × CanBeMade g (rack.history first) (rack.history last))
 CanBeDone rack job.Show told first last =
     IsTrue rack.honest × StandsThroughout (rack.history first) (rack.history last)
+CanBeDone rack (job.Read block count) told first last = (s : State)
+    × ServesThroughout rack s first last × IsInRange s.geometry block count
+CanBeDone rack (job.Write block count) told first last = TellsInput told (λ input. (s : State)
+    × ServesThroughout rack s first last × IsInRange s.geometry block count
+    × (length input ≡ SECTOR * count) × (0 < count → IsThawed s))
 
 -- The job is done, if there was memory, where it can be and neither source nor sink failed.
 abbrev pub IsComplete : {R S K : Type 0} → RackView R → Views S K → Job → Status → Outside S K →

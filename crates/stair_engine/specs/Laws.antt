@@ -7,7 +7,7 @@ use Rattle.stair_rack.specs.Count.{Rose}
 use Rattle.stair_member.specs.Asked.{LeavesSectors}
 use Rattle.stair_conf.specs.Words.{IsSpelled, Spells}
 use Rattle.stair_conf.specs.declared.job.Job.{Job}
-use Rattle.stair_conf.specs.declared.job.Job.TheVariants.{OneStripe, Create, Show}
+use Rattle.stair_conf.specs.declared.job.Job.TheVariants.{OneStripe, Create, Read, Show, Write}
 use Rattle.stair_conf.specs.declared.job.StripeCommand.{StripeCommand}
 use Rattle.stair_story.specs.declared.status.Status.{Status}
 use Rattle.stair_story.specs.declared.status.Status.TheVariants.{Usage, InputFault, OutOfMemory}
@@ -16,12 +16,16 @@ use Rattle.stair_engine.specs.Cause.{Answers, IfRefusedAtOnce}
 use Rattle.stair_engine.specs.Complete.{IsComplete}
 use Rattle.stair_engine.specs.Create.{IsOnceMade, MakesArray, SparesArrays}
 use Rattle.stair_engine.specs.Does.{Does}
-use Rattle.stair_story.specs.Ending.{Leaves}
+use Rattle.stair_array.specs.Arrays.{blocks_of}
+use Rattle.stair_engine.specs.Blocks.{whole_of}
+use Rattle.stair_engine.specs.Came.{AreWritten, IsUnrefused, taken_in}
+use Rattle.stair_engine.specs.Jobs.{IsReading, MakesCalls, MayWrite, NotSpelled, OpensArray}
+use Rattle.stair_story.specs.Devices.{DeviceView, MeansWhole}
+use Rattle.stair_story.specs.Ending.{IfNothingIsPutOut, TellsFaults}
 use Rattle.stair_story.specs.Means.{Means}
 use Rattle.stair_story.specs.Outside.{Outside, Views}
 use Rattle.stair_story.specs.Plan.{Over}
 use Rattle.stair_engine.specs.Plans.{plan_of}
-use Rattle.stair_story.specs.Rack.{MeansOver, RackView}
 use Rattle.stair_engine.specs.Stands.{ArrayStands}
 use Rattle.stair_engine.specs.Task.{one_stripe}
 
@@ -50,11 +54,11 @@ WordsAreDone {S} {K} view =
     Does view command (one_stripe n m r e) status old new
 
 -- the words spell no job exactly where the answer is Usage, if there was memory
-abbrev pub UsageIsExact : {R S K : Type 0} → RackView R → Views S K → Type 0
-UsageIsExact {R} {S} {K} rack view =
-    (words : List (List ℕ)) (status : Status) (old new : Outside S K) (first last : R) →
-    MeansOver rack view (plan_of words) (Over status) old new first last → status ≢ OutOfMemory →
-    ((status ≡ Usage) ↔ (IsSpelled words → ⊥)) × (status ≢ Usage → IsSpelled words)
+abbrev pub UsageIsExact : (S K : Type 0) → Type 0
+UsageIsExact S K = (view : Views S K) (words : List (List ℕ)) (status : Status)
+    (old new : Outside S K) → Means view (plan_of words) (Over status) old new
+    → status ≢ OutOfMemory
+    → ((status ≡ Usage) ↔ (IsSpelled words → ⊥)) × (status ≢ Usage → IsSpelled words)
 
 -- of a source that tells its bytes, without faults and want of memory, status and output are those
 -- for these bytes
@@ -68,64 +72,85 @@ BytesAreAnswered {S} {K} view =
     IfSome (view.source.left old.source) (λ bytes. Answers command (one_stripe n m r e) bytes
     (view.sink.held old.sink) (view.sink.held new.sink) status)
 
--- whatever the words are
-abbrev pub AllIsKept : {R S K : Type 0} → RackView R → Views S K → Type 0
-AllIsKept {R} {S} {K} rack view =
-    (words : List (List ℕ)) (status : Status) (old new : Outside S K) (first last : R) →
-    MeansOver rack view (plan_of words) (Over status) old new first last →
-    Leaves view status old new
+-- A fault comes only where its count rose, and no count falls, whatever the words are. No command but `read` puts anything out that
+-- isn't done.
+abbrev pub AllIsKept : (S K : Type 0) → Type 0
+AllIsKept S K = (view : Views S K) (words : List (List ℕ)) (status : Status)
+    (old new : Outside S K) → Means view (plan_of words) (Over status) old new
+    → TellsFaults view status old new
+    × (NotSpelled IsReading words → IfNothingIsPutOut status (new.sink ≡ old.sink))
 
--- No command but `create` and `show` makes a call on the rack; and what it refuses before the input leaves source, sink and
--- counter.
-abbrev pub RackIsLeft : {R S K : Type 0} → RackView R → Views S K → Type 0
-RackIsLeft {R} {S} {K} rack view =
-    (words : List (List ℕ)) (status : Status) (old new : Outside S K) (first last : R) →
-    MeansOver rack view (plan_of words) (Over status) old new first last →
-    (Spells words Create → ⊥) → (Spells words Show → ⊥) →
-    (last ≡ first) × IfRefusedAtOnce status (new ≡ old)
+-- Only `create`, `show` and what opens an array make calls on the devices; and what another command refuses before the input
+-- leaves source, sink and counter.
+abbrev pub RackIsLeft : (R W S K : Type 0) → Type 0
+RackIsLeft R W S K = (view : DeviceView R W) (streams : Views S K) (words : List (List ℕ))
+    (status : Status) (old new : Outside S K) (first last : R) (watchers left : List W)
+    → MeansWhole view streams (plan_of words) (Over status) old new first last watchers left
+    → NotSpelled MakesCalls words → (last ≡ first) × IfRefusedAtOnce status (new ≡ old)
 
 -- `show` makes no call on the source and counts no step; on an honest rack it changes no sector
-abbrev pub ShowOnlyLooks : {R S K : Type 0} → RackView R → Views S K → Type 0
-ShowOnlyLooks {R} {S} {K} rack view =
-    (words : List (List ℕ)) (status : Status) (old new : Outside S K) (first last : R) →
-    MeansOver rack view (plan_of words) (Over status) old new first last → Spells words Show →
-    (status ≢ InputFault) × (new.source ≡ old.source) × (new.counter ≡ old.counter)
-    × (IsTrue rack.honest → Ran LeavesSectors (rack.history first) (rack.history last))
+abbrev pub ShowOnlyLooks : (R W S K : Type 0) → Type 0
+ShowOnlyLooks R W S K = (view : DeviceView R W) (streams : Views S K) (words : List (List ℕ))
+    (status : Status) (old new : Outside S K) (first last : R) (watchers left : List W)
+    → MeansWhole view streams (plan_of words) (Over status) old new first last watchers left
+    → Spells words Show
+    → (status ≢ InputFault) × (new.source ≡ old.source) × (new.counter ≡ old.counter)
+    × (IsTrue view.rack.honest
+    → Ran LeavesSectors (view.rack.history first) (view.rack.history last))
 
--- every command but `create` leaves an array as it was
-abbrev pub ArrayIsLeft : {R S K : Type 0} → RackView R → Views S K → Type 0
-ArrayIsLeft {R} {S} {K} rack view =
-    (words : List (List ℕ)) (status : Status) (old new : Outside S K) (first last : R) →
-    MeansOver rack view (plan_of words) (Over status) old new first last →
-    (Spells words Create → ⊥) → IsTrue rack.honest →
-    ArrayStands (rack.history first) (rack.history last)
+-- `read` makes no call on the source, which can't fail it
+abbrev pub ReadTakesNothing : (S K : Type 0) → Type 0
+ReadTakesNothing S K = (view : Views S K) (words : List (List ℕ)) (block count : ℕ)
+    (status : Status) (old new : Outside S K) → Spells words (Read block count)
+    → Means view (plan_of words) (Over status) old new
+    → (new.source ≡ old.source) × (status ≢ InputFault)
+
+-- Where no step of a `write` was refused, the blocks that were written are the whole blocks of what came of its input, all of them.
+abbrev pub WholeBlocksStand : (S K : Type 0) → Type 0
+WholeBlocksStand S K = (view : Views S K) (words : List (List ℕ)) (first count : ℕ)
+    (status : Status) (old new : Outside S K) → Spells words (Write first count)
+    → (means : Means view (plan_of words) (Over status) old new) → IsUnrefused status
+    → AreWritten first (blocks_of (whole_of (take (SECTOR * count) (taken_in means.story))))
+    means.story
+
+-- every command but those that make or open an array leaves one as it was
+abbrev pub ArrayIsLeft : (R W S K : Type 0) → Type 0
+ArrayIsLeft R W S K = (view : DeviceView R W) (streams : Views S K) (words : List (List ℕ))
+    (status : Status) (old new : Outside S K) (first last : R) (watchers left : List W)
+    → MeansWhole view streams (plan_of words) (Over status) old new first last watchers left
+    → NotSpelled MayWrite words → IsTrue view.rack.honest
+    → ArrayStands (view.rack.history first) (view.rack.history last)
 
 -- `create` made an array, of the geometry that the input says, where its rack is honest
-abbrev pub ArrayIsMade : {R S K : Type 0} → RackView R → Views S K → Type 0
-ArrayIsMade {R} {S} {K} rack view =
-    (words : List (List ℕ)) (status : Status) (old new : Outside S K) (first last : R) →
-    MeansOver rack view (plan_of words) (Over status) old new first last →
-    Spells words Create → IsTrue rack.honest → IsOnceMade status →
-    MakesArray (view.source.left old.source) (rack.history first) (rack.history last)
+abbrev pub ArrayIsMade : (R W S K : Type 0) → Type 0
+ArrayIsMade R W S K = (view : DeviceView R W) (streams : Views S K) (words : List (List ℕ))
+    (status : Status) (old new : Outside S K) (first last : R) (watchers left : List W)
+    → MeansWhole view streams (plan_of words) (Over status) old new first last watchers left
+    → Spells words Create → IsTrue view.rack.honest → IsOnceMade status
+    → MakesArray (streams.source.left old.source) (view.rack.history first)
+    (view.rack.history last)
 
 -- `create` writes over no array that is within tolerance, where its rack is honest
-abbrev pub ArraysAreSpared : {R S K : Type 0} → RackView R → Views S K → Type 0
-ArraysAreSpared {R} {S} {K} rack view =
-    (words : List (List ℕ)) (status : Status) (old new : Outside S K) (first last : R) →
-    MeansOver rack view (plan_of words) (Over status) old new first last →
-    Spells words Create → IsTrue rack.honest →
-    SparesArrays status (rack.history first) (rack.history last)
+abbrev pub ArraysAreSpared : (R W S K : Type 0) → Type 0
+ArraysAreSpared R W S K = (view : DeviceView R W) (streams : Views S K) (words : List (List ℕ))
+    (status : Status) (old new : Outside S K) (first last : R) (watchers left : List W)
+    → MeansWhole view streams (plan_of words) (Over status) old new first last watchers left
+    → Spells words Create → IsTrue view.rack.honest
+    → SparesArrays status (view.rack.history first) (view.rack.history last)
 
--- where memory was short no device was written
-abbrev pub MemoryComesFirst : {R S K : Type 0} → RackView R → Views S K → Type 0
-MemoryComesFirst {R} {S} {K} rack view =
-    (words : List (List ℕ)) (old new : Outside S K) (first last : R) →
-    MeansOver rack view (plan_of words) (Over OutOfMemory) old new first last → last ≡ first
+-- where memory was short no device was written; and no call was made on one but to look for an array that is to be opened
+abbrev pub MemoryComesFirst : (R W S K : Type 0) → Type 0
+MemoryComesFirst R W S K = (view : DeviceView R W) (streams : Views S K) (words : List (List ℕ))
+    (old new : Outside S K) (first last : R) (watchers left : List W)
+    → MeansWhole view streams (plan_of words) (Over OutOfMemory) old new first last watchers left
+    → (IsTrue view.rack.honest
+    → Ran LeavesSectors (view.rack.history first) (view.rack.history last))
+    × (NotSpelled OpensArray words → last ≡ first)
 
 -- each job is done where it can be
-abbrev pub AllIsComplete : {R S K : Type 0} → RackView R → Views S K → Type 0
-AllIsComplete {R} {S} {K} rack view =
-    (words : List (List ℕ)) (job : Job) (status : Status) (old new : Outside S K)
-    (first last : R) → Spells words job →
-    MeansOver rack view (plan_of words) (Over status) old new first last →
-    IsComplete rack view job status old new first last
+abbrev pub AllIsComplete : (R W S K : Type 0) → Type 0
+AllIsComplete R W S K = (view : DeviceView R W) (streams : Views S K) (words : List (List ℕ))
+    (job : Job) (status : Status) (old new : Outside S K) (first last : R)
+    (watchers left : List W) → Spells words job
+    → MeansWhole view streams (plan_of words) (Over status) old new first last watchers left
+    → IsComplete view.rack streams job status old new first last

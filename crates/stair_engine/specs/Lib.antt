@@ -1,5 +1,9 @@
 -- What the top call does.
+pub mod Jobs
 pub mod Task
+pub mod Blocks
+pub mod Piece
+pub mod Came
 pub mod Plans
 pub mod Create
 pub mod Show

@@ -14,6 +14,7 @@ use Rattle.stair_story.specs.Answer.{bytes_needed}
 use Rattle.stair_story.specs.Fault.{status_of_config}
 use Rattle.stair_story.specs.Plan.{Plan, Over, Ask, Put, Allocate, Do, answer, take_exactly, whole_input}
 use Rattle.stair_story.specs.Question.{Words, Limits, Text, Judgement}
+use Rattle.stair_engine.specs.Blocks.{read_plan, write_plan}
 use Rattle.stair_engine.specs.Show.{show_text}
 use Rattle.stair_engine.specs.Task.{one_stripe}
 
@@ -64,6 +65,8 @@ abbrev pub job_plan : Job → Plan
 job_plan (job.OneStripe command n m r e) = tested_plan command (one_stripe n m r e)
 job_plan job.Create = create_plan
 job_plan job.Show = show_plan
+job_plan (job.Read block count) = read_plan block count
+job_plan (job.Write block count) = write_plan block count
 
 abbrev pub if_spelled : Option Job → Plan
 if_spelled None = Over Usage

@@ -12,23 +12,23 @@ ghost use Rattle.stair_engine.specs.Laws.{
   BytesAreAnswered,
   DifferAtErased,
   MemoryComesFirst,
+  ReadTakesNothing,
   RackIsLeft,
   ShowOnlyLooks,
   UsageIsExact,
+  WholeBlocksStand,
   WordsAreDone,
 };
 ghost use Rattle.stair_story.specs.Outside.{views};
-ghost use Rattle.stair_story.specs.Rack.{rack_view};
 ghost use Rattle.stair_story.specs.declared.status.Status.{Status};
 ghost use Rattle.stair_conf.specs.declared.job.StripeCommand.TheVariants.{Restore};
 
-use stair_rack::{Rack, Sink, Source};
+use stair_rack::{Sink, Source};
 
 /// What follows from a call that means what its words say. It does nothing.
-pub fn plan_laws<R: Rack, S: Source, K: Sink>()
+pub fn plan_laws<R, W, S: Source, K: Sink>()
     // the words spell no job exactly where the answer is Usage, if there was memory
-    ensures usage { UsageIsExact (rack_view R.is_honest R.history R.bads R.gones)
-        (views S.left S.ended S.faults K.held K.faults) }
+    ensures usage { UsageIsExact S K }
     // of a command on one stripe: limits, cause, what is taken, that the end is looked for, what is put out, and the
     // steps, by the status
     ensures done { WordsAreDone (views S.left S.ended S.faults K.held K.faults) }
@@ -36,29 +36,25 @@ pub fn plan_laws<R: Rack, S: Source, K: Sink>()
     // for these bytes
     ensures answers { BytesAreAnswered (views S.left S.ended S.faults K.held K.faults) }
     // a fault comes only where its count rose, no count falls, and what nothing is put out of
-    ensures kept { AllIsKept (rack_view R.is_honest R.history R.bads R.gones)
-        (views S.left S.ended S.faults K.held K.faults) }
-    // no command but `create` and `show` makes a call on the rack, and what the others refuse before the input leaves all
-    ensures left { RackIsLeft (rack_view R.is_honest R.history R.bads R.gones)
-        (views S.left S.ended S.faults K.held K.faults) }
+    ensures kept { AllIsKept S K }
+    // a command on one stripe makes no call on the devices, and what it refuses before the input leaves all
+    ensures left { RackIsLeft R W S K }
     // `show` makes no call on the source, and changes no sector of an honest rack
-    ensures looks { ShowOnlyLooks (rack_view R.is_honest R.history R.bads R.gones)
-        (views S.left S.ended S.faults K.held K.faults) }
-    // every command but `create` leaves an array as it was
-    ensures stands { ArrayIsLeft (rack_view R.is_honest R.history R.bads R.gones)
-        (views S.left S.ended S.faults K.held K.faults) }
-    // where memory was short no call was made on the rack
-    ensures memory { MemoryComesFirst (rack_view R.is_honest R.history R.bads R.gones)
-        (views S.left S.ended S.faults K.held K.faults) }
+    ensures looks { ShowOnlyLooks R W S K }
+    // `read` makes no call on the source
+    ensures untaken { ReadTakesNothing S K }
+    // where no step of `write` was refused the whole blocks that came are written, and no others
+    ensures written { WholeBlocksStand S K }
+    // every command but those that make or open an array leaves one as it was
+    ensures stands { ArrayIsLeft R W S K }
+    // where memory was short no device was written
+    ensures memory { MemoryComesFirst R W S K }
     // what `create` made
-    ensures created { ArrayIsMade (rack_view R.is_honest R.history R.bads R.gones)
-        (views S.left S.ended S.faults K.held K.faults) }
+    ensures created { ArrayIsMade R W S K }
     // `create` writes over no array that is within tolerance
-    ensures spared { ArraysAreSpared (rack_view R.is_honest R.history R.bads R.gones)
-        (views S.left S.ended S.faults K.held K.faults) }
+    ensures spared { ArraysAreSpared R W S K }
     // a job is done where it can be, if there was memory
-    ensures complete { AllIsComplete (rack_view R.is_honest R.history R.bads R.gones)
-        (views S.left S.ended S.faults K.held K.faults) }
+    ensures complete { AllIsComplete R W S K }
 {}
 
 /// What stands in the place of an erased cell makes no difference. It does nothing.

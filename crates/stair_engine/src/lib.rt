@@ -8,11 +8,15 @@ mod create;
 mod encode;
 pub mod laws;
 mod map;
+mod open;
+mod piece;
+mod read;
 mod restore;
 mod show;
 mod task;
 #[cfg(test)]
 mod tests;
+mod write;
 
 ghost use Rattle.std.specs.Prelude.{◌≡◌, IsTrue, map, string_bytes};
 ghost use Rattle.stair_conf.specs.Words.{IsCommandLine, Spells};
@@ -22,19 +26,21 @@ ghost use Rattle.stair_engine.specs.Complete.{IsComplete};
 ghost use Rattle.stair_engine.specs.Create.{IsOnceMade, MakesArray, SparesArrays};
 ghost use Rattle.stair_story.specs.Fault.{status_of};
 ghost use Rattle.stair_rack.specs.Watching.{watcher_view};
-ghost use Rattle.stair_story.specs.Devices.{device_view};
+ghost use Rattle.stair_engine.specs.Jobs.{MayWrite, NotSpelled};
+ghost use Rattle.stair_story.specs.Devices.{MeansWhole, device_view};
 ghost use Rattle.stair_story.specs.Headline.{IsBorneOut};
 ghost use Rattle.stair_story.specs.Means.{Means};
 ghost use Rattle.stair_story.specs.Outside.{outside, views};
 ghost use Rattle.stair_story.specs.Plan.{Over};
 ghost use Rattle.stair_engine.specs.Plans.{job_plan, plan_of, stripe_plan};
-ghost use Rattle.stair_story.specs.Rack.{MeansOver, rack_view};
+ghost use Rattle.stair_story.specs.Rack.{rack_view};
 ghost use Rattle.stair_engine.specs.Stands.{ArrayStands};
 ghost use Rattle.stair_watch.specs.WatcherList.{AllStay};
 
 use check::check;
 use create::create;
 use encode::encode;
+use read::read;
 use restore::restore;
 use show::show;
 use stair_base::Geometry;
@@ -46,22 +52,27 @@ pub use stair_story::Status;
 use std::alloc::Global;
 use std::sync::ledger::Ledger;
 use task::one_stripe;
+use write::write;
 
 /// Does what the words say, over this input and output and the devices of the rack, and tells what came of it.
 ///
 /// `docs/formats.md` has what each command takes, does and puts out, and when each status comes. In short: `check`, `stripe` and
 /// `restore` work on one stripe of n·r cells of 512 bytes and make no call on the rack; `create` takes a geometry text, of at
 /// most 4,096 bytes, and makes an array of it ([`stair_array::create`]); `show` looks for an array ([`stair_member::survey`]),
-/// takes nothing and changes nothing on a device.
+/// takes nothing and changes nothing on a device. `read` and `write` look for an array, open it ([`stair_array::Array`]) and put out
+/// blocks of it, or take and write them: `read` puts out each block before it reads the next, and `write` writes the whole
+/// blocks of a stripe that came, as one step, before it takes more.
 ///
 /// The words are tested first, then the limits of the geometry of a stripe, then the input: what is refused before the input
 /// is taken leaves input, output and counter as they were, and nothing is put out before the answer is known. `InputFault`
 /// leaves the output as it was, and after `OutputFault` a part of the output stands; after that of `create` there is an array.
+/// What `read` put out before a refusal stands, and so does each block that `write` wrote before one, or before an input that
+/// ends or fails. Where a step is refused with `TooFew` or `EpochsSpent` its blocks are old, new, or in doubt.
 ///
 /// The counter rises by exactly the steps of the encoder that METHOD of `stripe` chooses. No other command counts.
 ///
 /// The watchers are told, in order, of each event of an array in the steps of the call; one that leaves is taken out and
-/// dropped. No command takes a step yet, so they are told nothing.
+/// dropped.
 ///
 /// `OutOfMemory` may come in place of any other answer, once a command's word came first and no word begins with a hyphen.
 /// No device was written then.
@@ -101,8 +112,9 @@ pub fn stair<R: Rack, S: Source, K: Sink, L: Ledger>(
     ensures spared { IsTrue R.is_honest → Spells (map string_bytes words.now) Create →
         SparesArrays result (R.history rack.old) (R.history rack.new) }
 
-    // On an honest rack every other command leaves an array as it was: at every moment, and at the end.
-    ensures stands { IsTrue R.is_honest → (Spells (map string_bytes words.now) Create → ⊥) →
+    // On an honest rack every command but those that make or open an array leaves one as it was: at every moment, and at the
+    // end.
+    ensures stands { IsTrue R.is_honest → NotSpelled MayWrite (map string_bytes words.now) →
         ArrayStands (R.history rack.old) (R.history rack.new) }
 
     // Where it can be done, and neither source nor sink fails, the answer is Done or want of memory.
@@ -113,7 +125,7 @@ pub fn stair<R: Rack, S: Source, K: Sink, L: Ledger>(
         rack.old rack.new }
 {
     match read_words(alloc, words) {
-        Ok(job) => work(alloc, job, rack, input, output, steps),
+        Ok(job) => work(alloc, job, rack, input, output, watchers, steps),
         Err(WordsFault::Usage) => Status::Usage,
         Err(WordsFault::Memory) => Status::OutOfMemory,
     }
@@ -126,12 +138,16 @@ fn work<R: Rack, S: Source, K: Sink, L: Ledger>(
     rack: &mut R,
     input: &mut S,
     output: &mut K,
+    watchers: &mut Vec<Box<dyn Watcher>>,
     steps: &mut Steps<L>,
 ) -> Status
-    ensures { MeansOver (rack_view R.is_honest R.history R.bads R.gones)
+    requires stay { AllStay (watcher_view told count (λ w. (Watcher-box w).left w.value) patience) watchers.old.items }
+    ensures means { MeansWhole
+        (device_view (rack_view R.is_honest R.history R.bads R.gones) (watcher_view told count (λ w. (Watcher-box w).left w.value) patience))
         (views S.left S.ended S.faults K.held K.faults) (job_plan job) (Over result)
         (outside input.old output.old steps.old) (outside input.new output.new steps.new)
-        rack.old rack.new }
+        rack.old rack.new watchers.old.items watchers.new.items }
+    ensures stay { AllStay (watcher_view told count (λ w. (Watcher-box w).left w.value) patience) watchers.new.items }
 {
     match job {
         Job::OneStripe {
@@ -149,6 +165,14 @@ fn work<R: Rack, S: Source, K: Sink, L: Ledger>(
         },
         Job::Create => create(alloc, rack, input, output).unwrap_or_else(Status::from),
         Job::Show => show(rack, output).unwrap_or_else(Status::from),
+        Job::Read { block, count } => {
+            let done = read(alloc, block, count, rack, output, watchers);
+            done.unwrap_or_else(Status::from)
+        }
+        Job::Write { block, count } => {
+            let done = write(alloc, block, count, rack, input, output, watchers);
+            done.unwrap_or_else(Status::from)
+        }
     }
 }
 

@@ -8,7 +8,7 @@ use stair_conf::Key;
 use stair_member::Why;
 use stair_memrack::{Act, MemRack, What};
 use stair_rack::{MemSink, MemSource, Put};
-use stair_watch::{Tally, add};
+use stair_watch::{Kept, Tally, add};
 use std::alloc::AllocError;
 use std::marker::Brand;
 use std::sync::ledger::Blank;
@@ -296,7 +296,7 @@ fn each_command_is_done_and_a_fault_ends_it(rt: HostRuntime) -> Result<(), Fail>
         assert_eq!(rt; came.status, status, "{line} {input:?} {ends:?}");
         assert!(rt; came.put == front, "{line} {input:?} {ends:?}");
     }
-    laws::plan_laws::<MemRack, MemSource, MemSink>();
+    laws::plan_laws::<MemRack, Kept, MemSource, MemSink>();
     Ok(())
 }
 

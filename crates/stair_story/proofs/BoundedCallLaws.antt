@@ -1,6 +1,6 @@
 -- How great the draws in an image become over a call.
 use Rattle.std.proofs.Common.{◌≡◌, ◌∙◌, ◌*◌, ◌+◌, ◌<◌, ◌≤◌, ℕ, List, [], ◌∷◌, Ok, Err, inl, inr, sym, ap, subst, arith}
-use Rattle.std.specs.Prelude.{IsTrue}
+use Rattle.std.specs.Prelude.{IsTrue, Result}
 use Rattle.stair_model.specs.Geometry.{Geometry}
 use Rattle.stair_rack.specs.History.{Attach, Happening, Read, Sectors, SlotCall, Sync, Write}
 use Rattle.stair_rack.specs.Sector.{Cell, Good}
@@ -14,6 +14,7 @@ use Rattle.stair_member.specs.Findings as found
 use Rattle.stair_member.specs.Membership.{Membership}
 use Rattle.stair_member.specs.Superblocks.{HoldsSuper}
 use Rattle.stair_member.specs.Survey.{Surveys}
+use Rattle.stair_member.specs.declared.fault.SurveyFault.{SurveyFault}
 use Rattle.stair_member.proofs.AskedLemmas.{asked_ran}
 use Rattle.stair_member.proofs.JudgeLemmas.{counts_in}
 use Rattle.stair_member.proofs.SuperLemmas.{counts_limits, super_at}
@@ -35,7 +36,7 @@ use Rattle.stair_story.proofs.KeptLaws.{known_begun, same_session}
 -- ---- surveys
 
 -- the greatest draw that a survey sees was borne
-survey_few : (m : Membership) (old new : Telling) (most : ℕ) → IsTrue new.honest → Surveys (Ok m) old new
+pub survey_few : (m : Membership) (old new : Telling) (most : ℕ) → IsTrue new.honest → Surveys (Ok m) old new
     → StaysBounded m.array.geometry most old.history new.history → m.drawn ≤ most
 survey_few m old new most honest surveys stays =
     let f = surveys.findings in
@@ -63,7 +64,7 @@ survey_few m old new most honest surveys stays =
     seen j k s place (Unread gone is) holds same = absurd (let good = holds.good in cc)
 
 -- an array that a survey finds has at most 32 slots
-survey_slots : (m : Membership) (old new : Telling) → Surveys (Ok m) old new → m.array.geometry.n ≤ 32
+pub survey_slots : (m : Membership) (old new : Telling) → Surveys (Ok m) old new → m.array.geometry.n ≤ 32
 survey_slots m old new surveys =
     let drawn = surveys.answered.0.drawn in
     (counts_limits m.array.geometry surveys.findings.image drawn.slot drawn.super drawn.counts).devices.1
@@ -84,6 +85,12 @@ module _ (g : Geometry) (most : ℕ) where
   no_write_fine j (Sectors size) is = tt
   no_write_fine j (Read k answer) is = tt
   no_write_fine j (Sync answer) is = tt
+
+-- while an array is looked for no draw becomes greater
+pub survey_stays : (g : Geometry) (most : ℕ) (found : Result Membership SurveyFault) (old new : Telling) → IsTrue new.honest → Surveys found old new
+    → IsBoundedAt g most old.history → StaysBounded g most old.history new.history
+survey_stays g most found old new honest surveys bounded =
+    stays_bounded g most (ran_weakened (leaves_fine g most) (asked_ran 32 old.history new.history (surveys.asked honest))) bounded
 
 -- ---- a call
 
@@ -126,9 +133,8 @@ module _ {R W : Type 0} (view : DeviceView R W) (honest : IsTrue view.rack.hones
       (over_closed story works.0 y works.2 works.1.2
       (weaker g most bound low (view.rack.history works.0.rack) (at_last stays)))
   from_begun (Did Survey (Ok m) ∷ story) x y works of begun room bounded =
-      let ran = asked_ran 32 (view.rack.history x.rack) (view.rack.history works.0.rack) (works.1.0.asked honest) in
       let stays : StaysBounded g most (view.rack.history x.rack) (view.rack.history works.0.rack) =
-      stays_bounded g most (ran_weakened (leaves_fine g most) ran) bounded in
+      survey_stays g most (Ok m) (seen_of view x).told (seen_of view works.0).told honest works.1.0 bounded in
       let low : most ≤ bound = omega (arith, room) in
       let few : m.drawn ≤ most =
       survey_few m (seen_of view x).told (seen_of view works.0).told most honest works.1.0
@@ -137,9 +143,8 @@ module _ {R W : Type 0} (view : DeviceView R W) (honest : IsTrue view.rack.hones
       (over_found m story works.0 y works.2 works.1.2 of.0 few
       (survey_slots m (seen_of view x).told (seen_of view works.0).told works.1.0) (omega (arith, room)) (at_last stays))
   from_begun (Did Survey (Err fault) ∷ story) x y works of begun room bounded =
-      let ran = asked_ran 32 (view.rack.history x.rack) (view.rack.history works.0.rack) (works.1.0.asked honest) in
       let stays : StaysBounded g most (view.rack.history x.rack) (view.rack.history works.0.rack) =
-      stays_bounded g most (ran_weakened (leaves_fine g most) ran) bounded in
+      survey_stays g most (Err fault) (seen_of view x).told (seen_of view works.0).told honest works.1.0 bounded in
       let low : most ≤ bound = omega (arith, room) in
       at_every_join (stays_weaker g most bound low stays)
       (over_closed story works.0 y works.2 works.1.2

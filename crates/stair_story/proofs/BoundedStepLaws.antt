@@ -25,7 +25,7 @@ use Rattle.stair_state.specs.Redoing.{Stage}
 use Rattle.stair_session.specs.Courses as course
 use Rattle.stair_session.specs.Courses.{DoesStage, FindsBody, FindsRedo, LeavesOut, Loads, Point, Redoes, Replays, point, stage_writes}
 use Rattle.stair_session.specs.Session.{ArrayState}
-use Rattle.stair_session.proofs.HonestLemmas.{body_honest, found_honest, left_honest, load_honest, redo_honest, replay_honest, stage_honest}
+use Rattle.stair_session.proofs.HonestLemmas.{found_honest, left_honest, load_honest, redo_honest, replay_honest}
 use Rattle.stair_array.specs.Calls as calls
 use Rattle.stair_array.specs.Mends as mends
 use Rattle.stair_array.specs.Openings as opening

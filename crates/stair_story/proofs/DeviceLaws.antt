@@ -9,18 +9,23 @@ use Rattle.stair_story.specs.Laws.{AreTold}
 use Rattle.stair_watch.proofs.WatchLemmas.{all_told, stay_throughout, told_then}
 use Rattle.stair_story.specs.declared.fault.Fault.{Fault}
 use Rattle.stair_story.specs.declared.status.Status.{Status}
+use Rattle.stair_story.specs.declared.status.Status.TheVariants.{OutputFault}
 use Rattle.stair_story.specs.Fault.{status_of, status_of_fault}
 use Rattle.stair_story.specs.Means.{Counts, Gives, Holds, Means}
+use Rattle.stair_story.proofs.EndingLaws.{gives_along}
 use Rattle.stair_story.proofs.PlanLaws.{and_then, does, leads_then}
 use Rattle.stair_story.proofs.RackLaws.{IsOffDevices, no_call_moves, still_along}
 use Rattle.stair_story.specs.Action.{Action, Create, OkOf, Outcome, Survey}
-use Rattle.stair_story.specs.Devices.{DeviceView, Devices, MeansWith, WorksAll, devices, session_after}
-use Rattle.stair_story.specs.Ending.{MakesNoCall, TakesNoStep}
-use Rattle.stair_story.specs.Outside.{Outside, Views}
-use Rattle.stair_story.specs.Plan.{Plan, Over, Ask, Take, Put, Allocate, Do, Try, RebuildAll}
-use Rattle.stair_story.specs.Question.{Reply}
+use Rattle.stair_story.specs.Devices.{DeviceView, Devices, MeansWhole, MeansWith, WorksAll, devices, session_after}
+use Rattle.stair_story.specs.Ending.{MakesNoCall, TakesNoStep, TakesNothing}
+use Rattle.stair_story.specs.Outside.{Outside, SinkView, SourceView, Views, no_source, outside}
+use Rattle.stair_story.specs.Plan.{Plan, Over, Ask, Take, Put, Allocate, Do, Try, RebuildAll, take_step}
+use Rattle.stair_story.specs.Refused.{status_of_refusal}
+use Rattle.stair_story.specs.Steps.{Takes}
+use Rattle.stair_array.specs.Machine.{GivenBy, Refusal, Step}
+use Rattle.stair_story.specs.Question.{IsReply, Reply}
 use Rattle.stair_story.specs.Rack.{MeansOver, Works}
-use Rattle.stair_story.specs.Story.{Deed, Found, Took, TookLast, TakeFailed, HasPut, PutFailed, Grew, RanOut, Did, Stepped, Leads, Moves, after, events_of_story}
+use Rattle.stair_story.specs.Story.{Deed, Found, Took, TookLast, TakeFailed, HasPut, PutFailed, Grew, RanOut, Did, Stepped, IsPart, Leads, Moves, after, events_of_story}
 
 after_no_step : (action : Action) (k : OkOf action → Plan) (outcome : Outcome action) → ((done : OkOf action) → TakesNoStep (k done))
     → TakesNoStep (after action k outcome)
@@ -33,7 +38,7 @@ module _ {R W : Type 0} (view : DeviceView R W) where
 
   pub one_deed : (deed : Deed) (plan rest : Plan) (x y : Devices R W) → TakesNoStep plan → Moves deed plan rest → WorksAll view deed x y
       → Works view.rack deed x.rack y.rack × TakesNoStep rest
-  one_deed (Found asked) (Ask question k) rest x y none moves works = (same_rack works, subst TakesNoStep (sym moves.3) (none moves.0))
+  one_deed (Found asked) (Ask question k) rest x y none moves works = (same_rack works, subst TakesNoStep (sym moves.3) (none moves.0 moves.2))
   one_deed (Took bytes) (Take least most k short) rest x y none moves works = (same_rack works, subst TakesNoStep (sym moves.1) (none.0 bytes))
   one_deed (TookLast bytes) (Take least most k short) rest x y none moves works = (same_rack works, subst TakesNoStep (sym moves.1) (none.1 bytes))
   one_deed (TakeFailed bytes) (Take least most k short) rest x y none moves works = (same_rack works, subst TakesNoStep (sym moves.1) tt)
@@ -69,7 +74,7 @@ module _ {R W : Type 0} (view : DeviceView R W) where
 -- before anything is done to an array, and behind it; no step is taken
 abbrev pub ActsOnce : Plan → Type 0
 ActsOnce (Over status) = ⊤
-ActsOnce (Ask question k) = (reply : Reply question) → ActsOnce (k reply)
+ActsOnce (Ask question k) = (reply : Reply question) → IsReply question reply → ActsOnce (k reply)
 ActsOnce (Take least most k short) = ((bytes : List ℕ) → ActsOnce (k bytes)) × ((bytes : List ℕ) → ActsOnce (short bytes))
 ActsOnce (Put bytes plan) = ActsOnce plan
 ActsOnce (Allocate plan) = ActsOnce plan
@@ -80,7 +85,7 @@ ActsOnce (RebuildAll slots done k) = ⊥
 -- a plan that makes no call takes no step
 pub call_no_step : (plan : Plan) → MakesNoCall plan → TakesNoStep plan
 call_no_step (Over status) none = tt
-call_no_step (Ask question k) none = λ reply. call_no_step (k reply) (none reply)
+call_no_step (Ask question k) none = λ reply is. call_no_step (k reply) (none reply is)
 call_no_step (Take least most k short) none = (λ bytes. call_no_step (k bytes) (none.0 bytes), λ bytes. call_no_step (short bytes) (none.1 bytes))
 call_no_step (Put bytes plan) none = call_no_step plan none
 call_no_step (Allocate plan) none = call_no_step plan none
@@ -91,7 +96,7 @@ call_no_step (RebuildAll slots done k) none = absurd none
 -- nor does one that acts once
 pub once_no_step : (plan : Plan) → ActsOnce plan → TakesNoStep plan
 once_no_step (Over status) once = tt
-once_no_step (Ask question k) once = λ reply. once_no_step (k reply) (once reply)
+once_no_step (Ask question k) once = λ reply is. once_no_step (k reply) (once reply is)
 once_no_step (Take least most k short) once = (λ bytes. once_no_step (k bytes) (once.0 bytes), λ bytes. once_no_step (short bytes) (once.1 bytes))
 once_no_step (Put bytes plan) once = once_no_step plan once
 once_no_step (Allocate plan) once = once_no_step plan once
@@ -101,7 +106,7 @@ once_no_step (RebuildAll slots done k) once = absurd once
 
 pub calls_once : (plan : Plan) → MakesNoCall plan → ActsOnce plan
 calls_once (Over status) none = tt
-calls_once (Ask question k) none = λ reply. calls_once (k reply) (none reply)
+calls_once (Ask question k) none = λ reply is. calls_once (k reply) (none reply is)
 calls_once (Take least most k short) none = (λ bytes. calls_once (k bytes) (none.0 bytes), λ bytes. calls_once (short bytes) (none.1 bytes))
 calls_once (Put bytes plan) none = calls_once plan none
 calls_once (Allocate plan) none = calls_once plan none
@@ -160,7 +165,7 @@ module _ {R W : Type 0} (view : DeviceView R W) (watchers : List W) where
   once_beside [] plan rest x y once follows works = (Begun, ap (beside Begun) works)
   once_beside (Found asked ∷ story) (Ask question k) rest x y once follows works =
       beside_then (Found asked) story x works.0 y tt works.1
-      (once_beside story follows.0 rest works.0 y (subst ActsOnce (sym follows.1.3) (once follows.1.0)) follows.2 works.2)
+      (once_beside story follows.0 rest works.0 y (subst ActsOnce (sym follows.1.3) (once follows.1.0 follows.1.2)) follows.2 works.2)
   once_beside (Took bytes ∷ story) (Take least most k short) rest x y once follows works =
       beside_then (Took bytes) story x works.0 y tt works.1
       (once_beside story follows.0 rest works.0 y (subst ActsOnce (sym follows.1.1) (once.0 bytes)) follows.2 works.2)
@@ -212,6 +217,36 @@ module _ {R W S K : Type 0} (view : DeviceView R W) (streams : Views S K) where
   with_one deed plan rest a b x y moves gives holds counts works =
       record { means = does streams deed plan rest a b moves gives holds counts; works = (y, works, refl) }
 
+  pub with_none : (plan : Plan) (a : Outside S K) (x : Devices R W) → MeansWith view streams plan plan a a x x
+  with_none plan a x = record {
+    means = record { story = []; follows = refl; bears = record { gives = refl; holds = refl; counts = refl } };
+    works = refl;
+  }
+
+  -- a step that was done, and one that was refused
+  pub with_step : (slots : ℕ) (step : Step) (given : GivenBy step) (k : GivenBy step → Plan) (a : Outside S K) (x y : Devices R W)
+      → Takes view step (Ok given) x y → MeansWith view streams (take_step slots step k) (k given) a a x y
+  with_step slots step given k a x y takes =
+      with_one (Stepped step (Ok given) takes.events takes.left) (take_step slots step k) (k given) a a x y (Ok given, refl, refl) refl refl refl takes.works
+
+  pub with_refusal : (slots : ℕ) (step : Step) (refusal : Refusal) (k : GivenBy step → Plan) (a : Outside S K) (x y : Devices R W)
+      → Takes view step (Err refusal) x y → MeansWith view streams (take_step slots step k) (Over (status_of_refusal slots refusal)) a a x y
+  with_refusal slots step refusal k a x y takes =
+      with_one (Stepped step (Err refusal) takes.events takes.left) (take_step slots step k) (Over (status_of_refusal slots refusal)) a a x y
+      (Err refusal, refl, refl) refl refl refl takes.works
+
+  -- all was put out, or a part of it
+  pub with_put : (bytes : List ℕ) (plan : Plan) (source : S) (sink later : K) (n : ℕ) (x : Devices R W) → Holds streams.sink (HasPut bytes) sink later
+      → MeansWith view streams (Put bytes plan) plan (outside source sink n) (outside source later n) x x
+  with_put bytes plan source sink later n x holds =
+      with_one (HasPut bytes) (Put bytes plan) plan (outside source sink n) (outside source later n) x x (refl, refl) refl holds refl refl
+
+  pub with_part : (bytes part : List ℕ) (plan : Plan) (source : S) (sink later : K) (n : ℕ) (x : Devices R W) → IsPart part bytes
+      → Holds streams.sink (PutFailed part) sink later
+      → MeansWith view streams (Put bytes plan) (Over OutputFault) (outside source sink n) (outside source later n) x x
+  with_part bytes part plan source sink later n x is holds =
+      with_one (PutFailed part) (Put bytes plan) (Over OutputFault) (outside source sink n) (outside source later n) x x (is, refl) refl holds refl refl
+
   -- a plan that makes no call
   pub with_still : (plan rest : Plan) (a b : Outside S K) (x : R) (session : Session) (watchers : List W) → MakesNoCall plan
       → Means streams plan rest a b → MeansWith view streams plan rest a b (devices x session watchers) (devices x session watchers)
@@ -224,10 +259,16 @@ module _ {R W S K : Type 0} (view : DeviceView R W) (streams : Views S K) where
 
   -- a whole call that does one thing to an array at most, from a session's beginning on
   pub with_once : (plan rest : Plan) (a b : Outside S K) (x y : R) (watchers : List W) → ActsOnce plan → MeansOver view.rack streams plan rest a b x y
-      → (session : Session) × MeansWith view streams plan rest a b (devices x Begun watchers) (devices y session watchers)
+      → MeansWhole view streams plan rest a b x y watchers watchers
   with_once plan rest a b x y watchers once over =
       let led = once_beside view watchers over.means.story plan rest x y once over.means.follows over.works in
-      (led.0, record { means = over.means; works = led.1 })
+      record { session = led.0; with = record { means = over.means; works = led.1 } }
+
+  -- what comes before any call on the devices
+  pub whole_behind : (plan mid rest : Plan) (a b c : Outside S K) (x y : R) (watchers left : List W)
+      → MeansWith view streams plan mid a b (devices x Begun watchers) (devices x Begun watchers)
+      → MeansWhole view streams mid rest b c x y watchers left → MeansWhole view streams plan rest a c x y watchers left
+  whole_behind plan mid rest a b c x y watchers left front whole = record { session = whole.session; with = with_then front whole.with }
 
   -- a fault that was handed on
   pub with_hands_on : (plan : Plan) (a b : Outside S K) (x y : Devices R W) (result : Result Status Fault) (fault : Fault)
@@ -236,6 +277,37 @@ module _ {R W S K : Type 0} (view : DeviceView R W) (streams : Views S K) where
   with_hands_on plan a b x y (Ok status) fault is means = absurd is
   with_hands_on plan a b x y (Err f) fault is means =
       subst (λ (k : Fault). MeansWith view streams plan (Over (status_of_fault k)) a b x y) (sym is) means
+
+module _ {R W S K : Type 0} (view : DeviceView R W) (streams : Views S K) where
+  -- a fault that a whole call handed on
+  pub whole_hands_on : (plan : Plan) (a b : Outside S K) (x y : R) (watchers left : List W) (result : Result Status Fault) (fault : Fault)
+      → IsErrAnd result (λ f. f ≡ fault) → MeansWhole view streams plan (Over (status_of_fault fault)) a b x y watchers left
+      → MeansWhole view streams plan (Over (status_of result)) a b x y watchers left
+  whole_hands_on plan a b x y watchers left result fault is whole = record {
+    session = whole.session;
+    with = with_hands_on view streams plan a b _ _ result fault is whole.with;
+  }
+
+-- A call of a plan that takes nothing is one over each source.
+module _ {R W S K : Type 0} (view : DeviceView R W) (source : SourceView S) (sink : SinkView K) where
+  pub any_source : (plan rest : Plan) (held later : K) (n n' : ℕ) (x y : R) (watchers left : List W) → TakesNothing plan
+      → MeansWhole view (record { source = no_source; sink = sink }) plan rest (outside tt held n) (outside tt later n') x y watchers left
+      → (s : S) → MeansWhole view (record { source = source; sink = sink }) plan rest (outside s held n) (outside s later n') x y watchers left
+  any_source plan rest held later n n' x y watchers left none whole s = record {
+    session = whole.session;
+    with = record {
+      means = record {
+        story = whole.with.means.story;
+        follows = whole.with.means.follows;
+        bears = record {
+          gives = gives_along source whole.with.means.story plan rest s none whole.with.means.follows;
+          holds = whole.with.means.bears.holds;
+          counts = whole.with.means.bears.counts;
+        };
+      };
+      works = whole.with.works;
+    };
+  }
 
 -- ---- watchers
 

@@ -153,7 +153,7 @@ module _ {R W : Type 0} (view : DeviceView R W) where
 
 -- ---- plain numbers
 
-weights_small : (m : Membership) → m.array.geometry.n ≤ 32 → weights m ≤ 64
+pub weights_small : (m : Membership) → m.array.geometry.n ≤ 32 → weights m ≤ 64
 weights_small m few =
     let sums = sum_below_le m.array.geometry.n (weighs m) (λ j. 2) (λ j below. weight_small (why_of m j)) in
     omega (arith, sums, sum_below_constant m.array.geometry.n 2)

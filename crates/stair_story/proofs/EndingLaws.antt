@@ -7,7 +7,7 @@ use Rattle.stair_array.specs.Machine as array
 use Rattle.stair_story.specs.declared.status.Status.{Status}
 use Rattle.stair_story.specs.declared.status.Status.TheVariants.{Done, InputFault, OutputFault, OutOfMemory}
 use Rattle.stair_story.specs.Action.{Action, OkOf, Outcome, refused}
-use Rattle.stair_story.specs.Ending.{AsksFirst, AsksForNone, ByMemory, ByPlan, BySink, BySource, Ended, EndsIn, IfNothingIsPutOut, Leaves, PutsLast, TakesNothing}
+use Rattle.stair_story.specs.Ending.{AsksFirst, AsksForNone, ByMemory, ByPlan, BySink, BySource, Ended, EndsIn, IfNothingIsPutOut, PutsLast, TakesNothing, TellsFaults}
 use Rattle.stair_story.specs.Means.{Gives, Holds, Means}
 use Rattle.stair_story.specs.Outside.{Outside, SinkView, SourceView, Views}
 use Rattle.stair_story.specs.Plan.{Plan, Over, Ask, Take, Put, Allocate, Do, Try, RebuildAll, after_rebuild}
@@ -178,7 +178,7 @@ pub puts_last : {K : Type 0} (view : SinkView K) (story : List Deed) (plan : Pla
 puts_last view [] plan status k k' last follows holds = if_none_put status k k' holds
 puts_last view (Found asked ∷ story) (Ask question h) status k k' last follows holds =
     none_put_then status k holds.0 k' holds.1
-    (puts_last view story follows.0 status holds.0 k' (subst PutsLast (sym follows.1.3) (last follows.1.0)) follows.2 holds.2)
+    (puts_last view story follows.0 status holds.0 k' (subst PutsLast (sym follows.1.3) (last follows.1.0 follows.1.2)) follows.2 holds.2)
 puts_last view (Took bytes ∷ story) (Take least most h short) status k k' last follows holds =
     none_put_then status k holds.0 k' holds.1
     (puts_last view story follows.0 status holds.0 k' (subst PutsLast (sym follows.1.1) (last.0 bytes)) follows.2 holds.2)
@@ -211,10 +211,10 @@ puts_last view (Stepped did came events left ∷ story) (RebuildAll slots done h
     (puts_last view story follows.0 status holds.0 k' (subst PutsLast (sym follows.1.2) (rebuilt_last slots done h follows.1.0 last)) follows.2 holds.2)
 puts_last view (deed ∷ story) plan status k k' last follows holds = absurd follows.1
 
--- What a call leaves, whose plan ends with no fault by itself and puts out last.
-pub leaves : {S K : Type 0} (view : Views S K) (P : Status → Type 0) → ((end : Status) → P end → (end ≢ InputFault) × (end ≢ OutputFault))
-    → (plan : Plan) (status : Status) (a b : Outside S K) → EndsIn P plan → PutsLast plan → Means view plan (Over status) a b → Leaves view status a b
-leaves view P own plan status a b ends last means = record {
+-- Faults are those of source and sink, where a plan ends with none by itself.
+pub tells_faults : {S K : Type 0} (view : Views S K) (P : Status → Type 0) → ((end : Status) → P end → (end ≢ InputFault) × (end ≢ OutputFault))
+    → (plan : Plan) (status : Status) (a b : Outside S K) → EndsIn P plan → Means view plan (Over status) a b → TellsFaults view status a b
+tells_faults view P own plan status a b ends means = record {
   input_fault = λ is.
       elim (ended view P plan status a b ends means) as (λ _. Rose (view.source.faults a.source) (view.source.faults b.source)) [
         | ByPlan so ↦ absurd ((own status so).0 is)
@@ -231,8 +231,13 @@ leaves view P own plan status a b ends last means = record {
       ];
   input_count = source_on view.source means.story a.source b.source means.bears.gives;
   output_count = sink_on view.sink means.story a.sink b.sink means.bears.holds;
-  untouched = puts_last view.sink means.story plan status a.sink b.sink last means.follows means.bears.holds;
 }
+
+-- nothing is put out of what isn't done
+pub nothing_put : {S K : Type 0} (view : Views S K) (plan : Plan) (status : Status) (a b : Outside S K) → PutsLast plan
+    → Means view plan (Over status) a b → IfNothingIsPutOut status (b.sink ≡ a.sink)
+nothing_put view plan status a b last means =
+    puts_last view.sink means.story plan status a.sink b.sink last means.follows means.bears.holds
 
 -- no call ends with a status that is no fault, no want of memory, and none of its plan
 pub ends_otherwise : {S K : Type 0} (view : Views S K) (P : Status → Type 0) (other : Status) → ((end : Status) → P end → end ≢ other)
@@ -288,7 +293,7 @@ rebuilt_takes slots done k (Err refusal) none = (refusals_are slots refusal).0
 
 move_takes : {S : Type 0} (view : SourceView S) (deed : Deed) (plan rest : Plan) (s s' : S) → TakesNothing plan → Moves deed plan rest
     → Gives view deed s s' → (s' ≡ s) × TakesNothing rest
-move_takes view (Found asked) (Ask question k) rest s s' none moves gives = (gives, subst TakesNothing (sym moves.3) (none moves.0))
+move_takes view (Found asked) (Ask question k) rest s s' none moves gives = (gives, subst TakesNothing (sym moves.3) (none moves.0 moves.2))
 move_takes view (HasPut bytes) (Put all plan) rest s s' none moves gives = (gives, subst TakesNothing (sym moves.1) none)
 move_takes view (PutFailed part) (Put all plan) rest s s' none moves gives = (gives, subst TakesNothing (sym moves.1) (λ is. cc))
 move_takes view Grew (Allocate plan) rest s s' none moves gives = (gives, subst TakesNothing (sym moves) none)
@@ -313,6 +318,27 @@ none_taken view (deed ∷ story) plan status s s' none follows gives =
     let later = none_taken view story follows.0 status gives.0 s' one.1 follows.2 gives.2 in
     (later.0 ∙ one.0, later.1)
 
+-- Nothing was asked of any source, so the story is one over each.
+gives_none : {S : Type 0} (view : SourceView S) (deed : Deed) (plan rest : Plan) (s : S) → TakesNothing plan → Moves deed plan rest → Gives view deed s s
+gives_none view (Found asked) plan rest s none moves = refl
+gives_none view (HasPut bytes) plan rest s none moves = refl
+gives_none view (PutFailed part) plan rest s none moves = refl
+gives_none view Grew plan rest s none moves = refl
+gives_none view RanOut plan rest s none moves = refl
+gives_none view (Did did came) plan rest s none moves = refl
+gives_none view (Stepped did came events left) plan rest s none moves = refl
+gives_none view (Took bytes) (Take least most k short) rest s none moves = absurd none
+gives_none view (TookLast bytes) (Take least most k short) rest s none moves = absurd none
+gives_none view (TakeFailed bytes) (Take least most k short) rest s none moves = absurd none
+gives_none view _ _ rest s none moves = absurd moves
+
+pub gives_along : {S : Type 0} (view : SourceView S) (story : List Deed) (plan rest : Plan) (s : S) → TakesNothing plan → Leads Moves story plan rest
+    → Leads (Gives view) story s s
+gives_along view [] plan rest s none follows = refl
+gives_along view (deed ∷ story) plan rest s none follows =
+    let one = gives_none view deed plan follows.0 s none follows.1 in
+    (s, one, gives_along view story follows.0 rest s (move_takes view deed plan follows.0 s s none follows.1 one).1 follows.2)
+
 -- ---- want of memory
 
 did_asks : (action : Action) (k : OkOf action → Plan) (outcome : Outcome action) → AsksForNone (Do action k) → AsksForNone (after action k outcome)
@@ -328,7 +354,7 @@ rebuilt_asks slots done k (Ok (Dropped j)) none = none
 rebuilt_asks slots done k (Err refusal) none = (refusals_are slots refusal).1
 
 pub move_asks : (deed : Deed) (plan rest : Plan) → AsksForNone plan → Moves deed plan rest → AsksForNone rest
-move_asks (Found asked) (Ask question k) rest none moves = subst AsksForNone (sym moves.3) (none moves.0)
+move_asks (Found asked) (Ask question k) rest none moves = subst AsksForNone (sym moves.3) (none moves.0 moves.2)
 move_asks (Took bytes) (Take least most k short) rest none moves = subst AsksForNone (sym moves.1) (none.0 bytes)
 move_asks (TookLast bytes) (Take least most k short) rest none moves = subst AsksForNone (sym moves.1) (none.1 bytes)
 move_asks (TakeFailed bytes) (Take least most k short) rest none moves = subst AsksForNone (sym moves.1) (λ is. cc)
@@ -359,7 +385,7 @@ module _ {R : Type 0} (rack : RackView R) where
   short_first [] plan x y first follows works = works
   short_first (Found asked ∷ story) (Ask question k) x y first follows works =
       left_then x works.0 y works.1
-      (short_first story follows.0 works.0 y (subst AsksFirst (sym follows.1.3) (first follows.1.0)) follows.2 works.2)
+      (short_first story follows.0 works.0 y (subst AsksFirst (sym follows.1.3) (first follows.1.0 follows.1.2)) follows.2 works.2)
   short_first (Took bytes ∷ story) (Take least most k short) x y first follows works =
       left_then x works.0 y works.1
       (short_first story follows.0 works.0 y (subst AsksFirst (sym follows.1.1) (first.0 bytes)) follows.2 works.2)

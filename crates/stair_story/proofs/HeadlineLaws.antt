@@ -39,11 +39,11 @@ module _ {R W : Type 0} (returning : Returning) (view : DeviceView R W) where
   -- where all that is performed leads on, so does every story
   pub all_lead : PerformedLeads returning → (story : List Deed) (x y : Devices R W) (works : Leads (WorksAll view) story x y) → StoryLeads returning view story x y works
   all_lead lead [] x y works = tt
-  all_lead lead (deed ∷ story) x y works = (one deed works.0, all_lead lead story works.0 y works.2)
+  all_lead lead (deed ∷ story) x y works = (one deed works.0 works.1, all_lead lead story works.0 y works.2)
     where
-      one : (deed : Deed) (z : Devices R W) → DeedLeads returning view deed x z
-      one (Stepped step answer events left) z = λ performs. lead step answer events (seen_of view x) (seen_of view z) performs
-      one _ z = tt
+      one : (deed : Deed) (z : Devices R W) → WorksAll view deed x z → DeedLeads returning view deed x z
+      one (Stepped step answer events left) z works = λ performs. lead step answer events (seen_of view x) (seen_of view z) performs works.3
+      one _ z works = tt
 
   no_step_leads : (deed : Deed) (plan rest : Plan) (x y : Devices R W) → TakesNoStep plan → Moves deed plan rest → DeedLeads returning view deed x y
   no_step_leads (Stepped step answer events left) plan rest x y none moves = absurd (no_step plan none moves)
@@ -174,5 +174,5 @@ module _ {R W S K : Type 0} (view : DeviceView R W) (streams : Views S K) where
   pub borne_once : (plan rest : Plan) (a b : Outside S K) (x y : R) (watchers : List W) → ActsOnce plan → MeansOver view.rack streams plan rest a b x y
       → IsBorneOut view streams plan rest a b x y watchers watchers
   borne_once plan rest a b x y watchers once over =
-      let with = with_once view streams plan rest a b x y watchers once over in
-      borne_stepless plan rest a b x y watchers watchers with.0 (once_no_step plan once) with.1
+      let whole = with_once view streams plan rest a b x y watchers once over in
+      borne_stepless plan rest a b x y watchers watchers whole.session (once_no_step plan once) whole.with

@@ -14,7 +14,7 @@ use Rattle.stair_story.specs.Outside.{SourceView}
 use Rattle.stair_story.specs.declared.status.Status.TheVariants.{Input, InputFault}
 use Rattle.stair_story.specs.Plan.{Over, take_exactly}
 use Rattle.stair_story.specs.Story.{AreEnough, Took, TookLast, TakeFailed}
-use Rattle.stair_story.specs.Taking.{CutsShort, GoesOn, TakesBytes, TakesWhole, TookSoFar, intake_of}
+use Rattle.stair_story.specs.Taking.{CutsShort, GoesOn, PieceIsCut, TakesBytes, TakesWhole, TookSoFar, intake_of}
 
 -- exactly as many as were asked for
 pub are_all : (n : ℕ) (bytes : List ℕ) → length bytes ≡ n → AreEnough n n bytes
@@ -159,11 +159,6 @@ module _ {S : Type 0} (view : SourceView S) where
   -- a piece that was cut short after these bytes cuts the whole short
   pub CutsShort-later : (first mid : Intake) (xs : List ℕ) (a b c : S) (fault : Fault)
       → TakesBytes view first mid xs a b → CutsShort view mid b c fault → CutsShort view first a c fault
-  CutsShort-later first mid xs a b c fault.Memory before cut = absurd cut
-  CutsShort-later first mid xs a b c fault.Output before cut = absurd cut
-  CutsShort-later first mid xs a b c (fault.Text config) before cut = absurd cut
-  CutsShort-later first mid xs a b c (fault.Create refusal) before cut = absurd cut
-  CutsShort-later first mid xs a b c (fault.Survey refusal) before cut = absurd cut
   CutsShort-later first mid xs a b c (fault.Length needed took) before cut =
       let ys = cut.1.0 in
       let mid_took : mid.took ≡ first.took + length xs = ap (λ (k : Intake). k.took) before.counted in
@@ -177,6 +172,15 @@ module _ {S : Type 0} (view : SourceView S) where
       let mid_needed : mid.needed ≡ first.needed = ap (λ (k : Intake). k.needed) before.counted in
       let few : first.took + length (xs ++ ys) < first.needed = omega (arith, cut.1, mid_took, mid_needed, length-append xs ys) in
       (xs ++ ys, few, Gives-failed xs ys a b c before.taken cut.2)
+  CutsShort-later first mid xs a b c _ before cut = absurd cut
+
+  -- a piece of so many bytes at least, which are needed, came in part
+  pub piece_cuts : (least : ℕ) (intake : Intake) (a b : S) (fault : Fault) → intake.took + least ≤ intake.needed
+      → PieceIsCut view least intake a b fault → CutsShort view intake a b fault
+  piece_cuts least intake a b (fault.Length needed took) room cut =
+      (cut.0, (cut.1.0, cut.1.1, omega (arith, cut.0, cut.1.1, cut.1.2, room), cut.1.3))
+  piece_cuts least intake a b fault.Input room cut = (cut.0, omega (arith, cut.1, room), cut.2)
+  piece_cuts least intake a b _ room cut = absurd cut
 
 -- all the bytes that are needed were taken
 pub all_counted : {S : Type 0} (view : SourceView S) (first last : Intake) (xs : List ℕ) (needed : ℕ) (a b : S) → first ≡ intake_of needed → length xs ≡ needed
@@ -192,11 +196,6 @@ all_counted view first last xs needed a b none long taken =
 module _ {S T : Type 0} (view : SourceView S) (needed : ℕ) (IsInput : T → List ℕ → Type 0) where
   -- it ended or failed within the bytes that are needed
   pub whole_cut : (a b : S) (fault : Fault) → CutsShort view (intake_of needed) a b fault → TakesWhole view needed (Err fault) IsInput a b
-  whole_cut a b fault.Memory cut = absurd cut
-  whole_cut a b fault.Output cut = absurd cut
-  whole_cut a b (fault.Text config) cut = absurd cut
-  whole_cut a b (fault.Create refusal) cut = absurd cut
-  whole_cut a b (fault.Survey refusal) cut = absurd cut
   whole_cut a b (fault.Length wanted took) cut =
       let bytes = cut.1.0 in
       let took_is : took ≡ length bytes = omega (arith, cut.1.1) in
@@ -216,6 +215,7 @@ module _ {S T : Type 0} (view : SourceView S) (needed : ℕ) (IsInput : T → Li
     follows = λ k. (Over InputFault, (omega (arith, cut.1), refl), refl);
     gives = (b, cut.2, refl);
   }
+  whole_cut a b _ cut = absurd cut
 
   -- the end was seen behind them
   pub whole_ended : (bytes : List ℕ) (a b c : S) (x : T) → 0 < needed → length bytes ≡ needed → TookSoFar view bytes a b → Gives view (TookLast []) b c
@@ -236,11 +236,6 @@ module _ {S T : Type 0} (view : SourceView S) (needed : ℕ) (IsInput : T → Li
   -- it was not
   pub whole_goes_on : (bytes : List ℕ) (a b c : S) (fault : Fault) (looked : ℕ) → looked ≡ needed → 0 < needed → length bytes ≡ needed
       → TookSoFar view bytes a b → GoesOn view looked b c fault → TakesWhole view needed (Err fault) IsInput a c
-  whole_goes_on bytes a b c fault.Memory looked same some long took more = absurd more
-  whole_goes_on bytes a b c fault.Output looked same some long took more = absurd more
-  whole_goes_on bytes a b c (fault.Text config) looked same some long took more = absurd more
-  whole_goes_on bytes a b c (fault.Create refusal) looked same some long took more = absurd more
-  whole_goes_on bytes a b c (fault.Survey refusal) looked same some long took more = absurd more
   whole_goes_on bytes a b c (fault.Length wanted count) looked same some long took more = record {
     bytes = [];
     is_input = tt;
@@ -265,6 +260,7 @@ module _ {S T : Type 0} (view : SourceView S) (needed : ℕ) (IsInput : T → Li
     );
     gives = (b, Gives-took view bytes a b (omega (arith, some, long)) took, (c, more, refl));
   }
+  whole_goes_on bytes a b c _ looked same some long took more = absurd more
 
   -- either, where the result is that of looking for it
   pub whole_end : (bytes : List ℕ) (a b c : S) (r : Result T Fault) (looked : ℕ) → looked ≡ needed → 0 < needed → length bytes ≡ needed

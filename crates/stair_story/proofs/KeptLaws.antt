@@ -16,7 +16,7 @@ use Rattle.stair_story.specs.Kept.{HasMember, IsOpenAs, WasGoneAt, WasGoneIn}
 use Rattle.stair_story.specs.Story.{Deed, Did, Stepped, Leads}
 
 -- a step starts from what its session knows of its slots
-starts_known : (step : Step) (was : ArrayState) (session : Session) → StartsFrom step was session → HasMember session was.member
+pub starts_known : (step : Step) (was : ArrayState) (session : Session) → StartsFrom step was session → HasMember session was.member
 starts_known Recover was (Found m) starts = ap (λ a. a.member) starts
 starts_known (ReadBlock b) was (Opened a) starts = ap (λ a. a.member) starts.0
 starts_known (WriteBlocks b contents) was (Opened a) starts = ap (λ a. a.member) starts.0
@@ -74,7 +74,7 @@ module _ {R W : Type 0} (view : DeviceView R W) where
   comes deed x y m has works = Same (same_session works)
 
   -- a session that ended stays so
-  closed_on : (deed : Deed) (x y : Devices R W) → x.session ≡ Closed → WorksAll view deed x y → y.session ≡ Closed
+  pub closed_on : (deed : Deed) (x y : Devices R W) → x.session ≡ Closed → WorksAll view deed x y → y.session ≡ Closed
   closed_on (Stepped step answer events left) x y closed works =
       elim works.0 [
         | inl does ↦ absurd (known_closed x.session does.was.member closed (starts_known step does.was x.session does.starts))

@@ -1,4 +1,6 @@
 pub mod StreamLaws
+pub mod TellingLaws
+pub mod TakenLaws
 pub mod IntakeLaws
 pub mod TextLaws
 pub mod EndLaws
@@ -14,6 +16,7 @@ pub mod HeadlineLaws
 pub mod SureLaws
 pub mod SureStepLaws
 pub mod SureKeptLaws
+pub mod PlannedLaws
 pub mod AllEnds
 pub mod LifeLaws
 pub mod SessionLaws
@@ -24,4 +27,5 @@ pub mod BoundedLaws
 pub mod BoundedStepLaws
 pub mod BoundedStoryLaws
 pub mod BoundedCallLaws
+pub mod PlannedSureLaws
 pub mod RebuiltLaws

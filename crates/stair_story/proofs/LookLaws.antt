@@ -10,7 +10,7 @@ use Rattle.stair_member.proofs.AskedLemmas.{asked_ran}
 use Rattle.stair_story.specs.Action.{Create, Outcome, Survey}
 use Rattle.stair_story.specs.declared.status.Status.TheVariants.{OutOfMemory}
 use Rattle.stair_story.specs.Devices.{DeviceView, Devices, WorksAll}
-use Rattle.stair_story.specs.Ending.{AsksUnwritten, MakesNoCall, OnlyLooks}
+use Rattle.stair_story.specs.Ending.{AsksFirst, AsksForNone, AsksUnwritten, MakesNoCall, OnlyLooks}
 use Rattle.stair_story.specs.Outside.{Outside, Views, outside}
 use Rattle.stair_story.specs.Plan.{Plan, Over, Ask, Take, Put, Allocate, Do, Try, RebuildAll}
 use Rattle.stair_story.specs.Rack.{RackView, Works, told_of}
@@ -32,7 +32,7 @@ module _ {R : Type 0} (rack : RackView R) (honest : IsTrue rack.honest) where
 
   move_looks : (deed : Deed) (plan rest : Plan) (x y : R) → OnlyLooks plan → Moves deed plan rest → Works rack deed x y
       → Ran LeavesSectors (rack.history x) (rack.history y) × OnlyLooks rest
-  move_looks (Found asked) (Ask question k) rest x y looks moves works = (at_rest works, subst OnlyLooks (sym moves.3) (looks moves.0))
+  move_looks (Found asked) (Ask question k) rest x y looks moves works = (at_rest works, subst OnlyLooks (sym moves.3) (looks moves.0 moves.2))
   move_looks (Took bytes) (Take least most k short) rest x y looks moves works = (at_rest works, subst OnlyLooks (sym moves.1) (looks.0 bytes))
   move_looks (TookLast bytes) (Take least most k short) rest x y looks moves works = (at_rest works, subst OnlyLooks (sym moves.1) (looks.1 bytes))
   move_looks (TakeFailed bytes) (Take least most k short) rest x y looks moves works = (at_rest works, subst OnlyLooks (sym moves.1) tt)
@@ -60,7 +60,7 @@ module _ {R : Type 0} (rack : RackView R) (honest : IsTrue rack.honest) where
 -- a plan that makes no call
 pub calls_look : (plan : Plan) → MakesNoCall plan → OnlyLooks plan
 calls_look (Over status) none = tt
-calls_look (Ask question k) none = λ reply. calls_look (k reply) (none reply)
+calls_look (Ask question k) none = λ reply is. calls_look (k reply) (none reply is)
 calls_look (Take least most k short) none = (λ bytes. calls_look (k bytes) (none.0 bytes), λ bytes. calls_look (short bytes) (none.1 bytes))
 calls_look (Put bytes plan) none = calls_look plan none
 calls_look (Allocate plan) none = calls_look plan none
@@ -75,7 +75,7 @@ module _ {R S K : Type 0} (rack : RackView R) (view : Views S K) (honest : IsTru
 
   pub looks_all : (plan : Plan) (a : Outside S K) (z : R) → OnlyLooks plan → Looked z → AllEnd (Works rack) view (λ status b w. Looked w) plan a z
   looks_all (Over status) a z looks ran = ran
-  looks_all (Ask question k) a z looks ran = λ reply n is counts. looks_all (k reply) (outside a.source a.sink n) z (looks reply) ran
+  looks_all (Ask question k) a z looks ran = λ reply n is counts. looks_all (k reply) (outside a.source a.sink n) z (looks reply is) ran
   looks_all (Take least most k short) a z looks ran = (
     λ bytes s enough gives. looks_all (k bytes) (outside s a.sink a.counter) z (looks.0 bytes) ran,
     λ bytes s few gives. looks_all (short bytes) (outside s a.sink a.counter) z (looks.1 bytes) ran,
@@ -112,7 +112,7 @@ module _ {R W : Type 0} (view : DeviceView R W) (honest : IsTrue view.rack.hones
   short_unwritten [] plan x y asks follows works = same_unwritten works
   short_unwritten (Found asked ∷ story) (Ask question k) x y asks follows works =
       ran_join (same_unwritten works.1)
-      (short_unwritten story follows.0 works.0 y (subst AsksUnwritten (sym follows.1.3) (asks follows.1.0)) follows.2 works.2)
+      (short_unwritten story follows.0 works.0 y (subst AsksUnwritten (sym follows.1.3) (asks follows.1.0 follows.1.2)) follows.2 works.2)
   short_unwritten (Took bytes ∷ story) (Take least most k short) x y asks follows works =
       ran_join (same_unwritten works.1)
       (short_unwritten story follows.0 works.0 y (subst AsksUnwritten (sym follows.1.1) (asks.0 bytes)) follows.2 works.2)
@@ -146,3 +146,29 @@ module _ {R W : Type 0} (view : DeviceView R W) (honest : IsTrue view.rack.hones
       (never_short story follows.0 OutOfMemory (move_asks (Stepped did came events left) (RebuildAll slots done k) follows.0 asks follows.1) follows.2
       refl)
   short_unwritten (deed ∷ story) plan x y asks follows works = absurd follows.1
+
+-- ---- memory that is asked for first
+
+none_unwritten : (plan : Plan) → AsksForNone plan → AsksUnwritten plan
+none_unwritten (Over status) none = tt
+none_unwritten (Ask question k) none = λ reply is. none_unwritten (k reply) (none reply is)
+none_unwritten (Take least most k short) none =
+    (λ bytes. none_unwritten (k bytes) (none.0 bytes), λ bytes. none_unwritten (short bytes) (none.1 bytes))
+none_unwritten (Put bytes plan) none = none_unwritten plan none
+none_unwritten (Allocate plan) none = absurd none
+none_unwritten (Do (Create g) k) none = none
+none_unwritten (Do Survey k) none = λ member. none_unwritten (k member) (none.0 member)
+none_unwritten (Try step k) none = none
+none_unwritten (RebuildAll slots done k) none = none
+
+-- before anything is done to an array: then it is so before anything is written
+pub first_unwritten : (plan : Plan) → AsksFirst plan → AsksUnwritten plan
+first_unwritten (Over status) first = tt
+first_unwritten (Ask question k) first = λ reply is. first_unwritten (k reply) (first reply is)
+first_unwritten (Take least most k short) first =
+    (λ bytes. first_unwritten (k bytes) (first.0 bytes), λ bytes. first_unwritten (short bytes) (first.1 bytes))
+first_unwritten (Put bytes plan) first = first_unwritten plan first
+first_unwritten (Allocate plan) first = first_unwritten plan first
+first_unwritten (Do action k) first = none_unwritten (Do action k) first
+first_unwritten (Try step k) first = none_unwritten (Try step k) first
+first_unwritten (RebuildAll slots done k) first = none_unwritten (RebuildAll slots done k) first

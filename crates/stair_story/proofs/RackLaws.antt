@@ -49,7 +49,7 @@ still_works rack RanOut x off = refl
 
 -- one move of such a plan
 pub no_call_moves : (deed : Deed) (plan rest : Plan) → MakesNoCall plan → Moves deed plan rest → IsOffDevices deed × MakesNoCall rest
-no_call_moves (Found asked) (Ask question k) rest none moves = (tt, subst MakesNoCall (sym moves.3) (none moves.0))
+no_call_moves (Found asked) (Ask question k) rest none moves = (tt, subst MakesNoCall (sym moves.3) (none moves.0 moves.2))
 no_call_moves (Took bytes) (Take least most k short) rest none moves = (tt, subst MakesNoCall (sym moves.1) (none.0 bytes))
 no_call_moves (TookLast bytes) (Take least most k short) rest none moves = (tt, subst MakesNoCall (sym moves.1) (none.1 bytes))
 no_call_moves (TakeFailed bytes) (Take least most k short) rest none moves = (tt, subst MakesNoCall (sym moves.1) tt)

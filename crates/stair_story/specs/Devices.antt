@@ -1,8 +1,8 @@
 -- What a rack, the array of a session and the watchers show of a call.
-use Rattle.std.specs.Prelude.{◌≡◌, Bool, List, Result, Ok, Err, length, not, nat_le}
+use Rattle.std.specs.Prelude.{◌≡◌, Bool, List, Result, Ok, Err, length, not, nat_le, ⊤}
 use Rattle.stair_rack.specs.Watching.{WatcherView}
 use Rattle.stair_watch.specs.WatcherList.{TellsAll}
-use Rattle.stair_member.specs.Membership.{Membership}
+use Rattle.stair_member.specs.Membership.{IsMembership, Membership}
 use Rattle.stair_member.specs.Survey.{Surveys}
 use Rattle.stair_member.specs.declared.fault.SurveyFault.{SurveyFault}
 use Rattle.stair_array.specs.Creates.{Creates}
@@ -42,9 +42,15 @@ session_after (Err fault) = Closed
 abbrev pub SomeLeft : {W : Type 0} → Bool → List W → List W → Type 0
 SomeLeft left old new = left ≡ not (nat_le (length old) (length new))
 
+-- what was found of an array keeps the rules of what is known of one
+abbrev pub KeepsRules : Session → Type 0
+KeepsRules (Found member) = IsMembership member
+KeepsRules _ = ⊤
+
 -- What they show of a deed: what was done to an array came so, where nothing was done before in the session, which has then
 -- found it or is closed; and a step is what a call of the session's array promises, whose events were told, one after the
--- other, to all that were left. A deed of another kind leaves them as they were, so no call was made on them.
+-- other, to all that were left, and what it was opened from keeps its rules. A deed of another kind leaves them as they were, so
+-- no call was made on them.
 abbrev pub WorksAll : {R W : Type 0} → DeviceView R W → Deed → Devices R W → Devices R W → Type 0
 WorksAll view (Did (Create g) outcome) old new =
     Creates g outcome (told_of view.rack old.rack) (told_of view.rack new.rack)
@@ -57,6 +63,7 @@ WorksAll view (Stepped step answer events left) old new =
     DoesStep step answer events (seen_of view old) (seen_of view new)
     × TellsAll view.watcher events old.watchers new.watchers
     × SomeLeft left old.watchers new.watchers
+    × KeepsRules old.session
 WorksAll view _ old new = new ≡ old
 
 -- The call went from this plan to that rest, and they bear out the same story.
@@ -64,3 +71,11 @@ pub record MeansWith {R W S K : Type 0} (view : DeviceView R W) (streams : Views
     (plan rest : Plan) (old new : Outside S K) (first last : Devices R W) : Type 0 where
   pub means : Means streams plan rest old new
   pub works : Leads (WorksAll view) means.story first last
+
+-- A whole call: a session of its own, from its beginning on. What it has of an array in the end is let go.
+pub record MeansWhole {R W S K : Type 0} (view : DeviceView R W) (streams : Views S K)
+    (plan rest : Plan) (old new : Outside S K) (first last : R) (watchers left : List W) : Type 0
+  where
+    pub session : Session
+    pub with : MeansWith view streams plan rest old new (devices first Begun watchers)
+        (devices last session left)

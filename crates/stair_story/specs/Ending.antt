@@ -1,6 +1,6 @@
 -- How a call ends, and predicates on plans by which that is told for all commands at once.
 use Rattle.std.specs.Prelude.{◌≡◌, ◌≢◌, ◌≤◌, ℕ, Bool, List, ⊤}
-use Rattle.stair_array.specs.Machine.{Answer, Refusal}
+use Rattle.stair_array.specs.Machine.{Answer, ReadBlock, RebuildNext, Recover, Refusal, Step, WriteBlocks}
 use Rattle.stair_rack.specs.Count.{Rose}
 use Rattle.stair_story.specs.declared.status.Status.{Status}
 use Rattle.stair_story.specs.declared.status.Status.TheVariants.{Done, InputFault, OutputFault, OutOfMemory}
@@ -32,7 +32,8 @@ IsNoFault status = (status ≢ InputFault) × (status ≢ OutputFault)
 -- what is put out is put out at once, where all was done
 abbrev pub PutsLast : Plan → Type 0
 PutsLast (Over status) = ⊤
-PutsLast (Ask question k) = (reply : Reply question) → PutsLast (k reply)
+PutsLast (Ask question k) =
+    (reply : Reply question) → IsReply question reply → PutsLast (k reply)
 PutsLast (Take least most k short) =
     ((bytes : List ℕ) → PutsLast (k bytes)) × ((bytes : List ℕ) → PutsLast (short bytes))
 PutsLast (Put bytes plan) = plan ≡ Over Done
@@ -44,7 +45,8 @@ PutsLast (RebuildAll slots done k) = (count : ℕ) → PutsLast (k count)
 -- nothing is taken, so the source can't fail it
 abbrev pub TakesNothing : Plan → Type 0
 TakesNothing (Over status) = status ≢ InputFault
-TakesNothing (Ask question k) = (reply : Reply question) → TakesNothing (k reply)
+TakesNothing (Ask question k) =
+    (reply : Reply question) → IsReply question reply → TakesNothing (k reply)
 TakesNothing (Take least most k short) = ⊥
 TakesNothing (Put bytes plan) = TakesNothing plan
 TakesNothing (Allocate plan) = TakesNothing plan
@@ -56,7 +58,8 @@ TakesNothing (RebuildAll slots done k) = (count : ℕ) → TakesNothing (k count
 -- no call is made on a rack
 abbrev pub MakesNoCall : Plan → Type 0
 MakesNoCall (Over status) = ⊤
-MakesNoCall (Ask question k) = (reply : Reply question) → MakesNoCall (k reply)
+MakesNoCall (Ask question k) =
+    (reply : Reply question) → IsReply question reply → MakesNoCall (k reply)
 MakesNoCall (Take least most k short) = ((bytes : List ℕ) → MakesNoCall (k bytes)) × ((bytes : List ℕ) → MakesNoCall (short bytes))
 MakesNoCall (Put bytes plan) = MakesNoCall plan
 MakesNoCall (Allocate plan) = MakesNoCall plan
@@ -67,7 +70,8 @@ MakesNoCall (RebuildAll slots done k) = ⊥
 -- a rack is only looked at: no array is made, and no step is taken
 abbrev pub OnlyLooks : Plan → Type 0
 OnlyLooks (Over status) = ⊤
-OnlyLooks (Ask question k) = (reply : Reply question) → OnlyLooks (k reply)
+OnlyLooks (Ask question k) =
+    (reply : Reply question) → IsReply question reply → OnlyLooks (k reply)
 OnlyLooks (Take least most k short) =
     ((bytes : List ℕ) → OnlyLooks (k bytes)) × ((bytes : List ℕ) → OnlyLooks (short bytes))
 OnlyLooks (Put bytes plan) = OnlyLooks plan
@@ -80,7 +84,8 @@ OnlyLooks (RebuildAll slots done k) = ⊥
 -- no step of a session's array is taken
 abbrev pub TakesNoStep : Plan → Type 0
 TakesNoStep (Over status) = ⊤
-TakesNoStep (Ask question k) = (reply : Reply question) → TakesNoStep (k reply)
+TakesNoStep (Ask question k) =
+    (reply : Reply question) → IsReply question reply → TakesNoStep (k reply)
 TakesNoStep (Take least most k short) =
     ((bytes : List ℕ) → TakesNoStep (k bytes)) × ((bytes : List ℕ) → TakesNoStep (short bytes))
 TakesNoStep (Put bytes plan) = TakesNoStep plan
@@ -89,10 +94,33 @@ TakesNoStep (Do action k) = (done : OkOf action) → TakesNoStep (k done)
 TakesNoStep (Try step k) = ⊥
 TakesNoStep (RebuildAll slots done k) = ⊥
 
+-- each step that is taken is such a one
+abbrev pub EachStep : (Step → Type 0) → Plan → Type 0
+EachStep IsSo (Over status) = ⊤
+EachStep IsSo (Ask question k) =
+    (reply : Reply question) → IsReply question reply → EachStep IsSo (k reply)
+EachStep IsSo (Take least most k short) = ((bytes : List ℕ) → EachStep IsSo (k bytes))
+    × ((bytes : List ℕ) → EachStep IsSo (short bytes))
+EachStep IsSo (Put bytes plan) = EachStep IsSo plan
+EachStep IsSo (Allocate plan) = EachStep IsSo plan
+EachStep IsSo (Do action k) = (done : OkOf action) → EachStep IsSo (k done)
+EachStep IsSo (Try step k) = IsSo step
+    × ((answer : Answer step) (left : Bool) → EachStep IsSo (k answer left))
+EachStep IsSo (RebuildAll slots done k) = IsSo RebuildNext
+    × ((count : ℕ) → EachStep IsSo (k count))
+
+-- the steps of which it is proved so far what they lead to
+abbrev pub IsInUse : Step → Type 0
+IsInUse Recover = ⊤
+IsInUse (ReadBlock b) = ⊤
+IsInUse (WriteBlocks first contents) = ⊤
+IsInUse _ = ⊥
+
 -- memory isn't asked for, so it can't be short
 abbrev pub AsksForNone : Plan → Type 0
 AsksForNone (Over status) = status ≢ OutOfMemory
-AsksForNone (Ask question k) = (reply : Reply question) → AsksForNone (k reply)
+AsksForNone (Ask question k) =
+    (reply : Reply question) → IsReply question reply → AsksForNone (k reply)
 AsksForNone (Take least most k short) =
     ((bytes : List ℕ) → AsksForNone (k bytes)) × ((bytes : List ℕ) → AsksForNone (short bytes))
 AsksForNone (Put bytes plan) = AsksForNone plan
@@ -105,7 +133,8 @@ AsksForNone (RebuildAll slots done k) = (count : ℕ) → AsksForNone (k count)
 -- memory is asked for before anything is done to an array, and not after it
 abbrev pub AsksFirst : Plan → Type 0
 AsksFirst (Over status) = ⊤
-AsksFirst (Ask question k) = (reply : Reply question) → AsksFirst (k reply)
+AsksFirst (Ask question k) =
+    (reply : Reply question) → IsReply question reply → AsksFirst (k reply)
 AsksFirst (Take least most k short) =
     ((bytes : List ℕ) → AsksFirst (k bytes)) × ((bytes : List ℕ) → AsksFirst (short bytes))
 AsksFirst (Put bytes plan) = AsksFirst plan
@@ -117,7 +146,8 @@ AsksFirst (RebuildAll slots done k) = AsksForNone (RebuildAll slots done k)
 -- memory is asked for before an array is made or a step is taken, and not after it
 abbrev pub AsksUnwritten : Plan → Type 0
 AsksUnwritten (Over status) = ⊤
-AsksUnwritten (Ask question k) = (reply : Reply question) → AsksUnwritten (k reply)
+AsksUnwritten (Ask question k) =
+    (reply : Reply question) → IsReply question reply → AsksUnwritten (k reply)
 AsksUnwritten (Take least most k short) = ((bytes : List ℕ) → AsksUnwritten (k bytes))
     × ((bytes : List ℕ) → AsksUnwritten (short bytes))
 AsksUnwritten (Put bytes plan) = AsksUnwritten plan
@@ -144,9 +174,8 @@ IfNothingIsPutOut Done fact = ⊤
 IfNothingIsPutOut OutputFault fact = ⊤
 IfNothingIsPutOut _ fact = fact
 
--- A fault comes only where the count of faults of that source or sink rose, no count falls, and but at Done and at a fault of the
--- sink nothing is put out.
-pub record Leaves {S K : Type 0} (view : Views S K) (status : Status) (old new : Outside S K)
+-- A fault comes only where the count of faults of that source or sink rose, and no count falls.
+pub record TellsFaults {S K : Type 0} (view : Views S K) (status : Status) (old new : Outside S K)
     : Type 0 where
   pub input_fault : status ≡ InputFault →
       Rose (view.source.faults old.source) (view.source.faults new.source)
@@ -154,4 +183,3 @@ pub record Leaves {S K : Type 0} (view : Views S K) (status : Status) (old new :
       Rose (view.sink.faults old.sink) (view.sink.faults new.sink)
   pub input_count : view.source.faults old.source ≤ view.source.faults new.source
   pub output_count : view.sink.faults old.sink ≤ view.sink.faults new.sink
-  pub untouched : IfNothingIsPutOut status (new.sink ≡ old.sink)

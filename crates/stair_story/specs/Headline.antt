@@ -14,13 +14,13 @@ use Rattle.stair_state.specs.Tolerance.{ToleratedSince}
 use Rattle.stair_session.specs.Returning.{IsCalm, NoneReturns, Returning, StandsFor}
 use Rattle.stair_array.specs.Creates.{Creates}
 use Rattle.stair_array.specs.declared.fault.CreateFault.{CreateFault}
-use Rattle.stair_array.specs.Machine.{Answer, GivenBy, Step}
-use Rattle.stair_array.specs.Promise.{Begun, LeadsStep, Performs, Seen, Session}
-use Rattle.stair_story.specs.Devices.{DeviceView, Devices, MeansWith, WorksAll, devices}
-use Rattle.stair_story.specs.Ending.{TakesNoStep}
+use Rattle.stair_array.specs.Machine.{GivenBy, Step}
+use Rattle.stair_array.specs.Promise.{Begun, Session}
+use Rattle.stair_story.specs.Devices.{DeviceView, Devices, MeansWhole, MeansWith, WorksAll, devices}
+use Rattle.stair_story.specs.Ending.{EachStep, IsInUse, TakesNoStep}
 use Rattle.stair_story.specs.Outside.{Outside, Views}
 use Rattle.stair_story.specs.Plan.{Plan}
-use Rattle.stair_story.specs.Run.{Goes, IsCalmUpTo, IsRun, IsSafe, Now, StoryLeads, TakesStep, history_of}
+use Rattle.stair_story.specs.Run.{Goes, IsCalmUpTo, IsRun, IsSafe, Now, StepLeads, StoryLeads, TakesStep, history_of}
 use Rattle.stair_story.specs.Story.{Deed, Stepped, Leads, Moves}
 
 -- On an honest rack that represents a state, to which no medium comes back, and within tolerance from the beginning to the end,
@@ -113,15 +113,20 @@ CallsAreRuns R W S K = (view : DeviceView R W) (streams : Views S K) (plan rest 
 
 -- all that is performed leads on
 abbrev pub PerformedLeads : Returning → Type 0
-PerformedLeads returning = (step : Step) (answer : Answer step) (events : List Event) (x y : Seen)
-    (performs : Performs step answer events x y)
-    → LeadsStep returning performs.was.member step answer x y
+PerformedLeads returning = (step : Step) → StepLeads returning step
 
 -- Then every story does.
 abbrev pub StoriesLead : (R W : Type 0) → Type 0
 StoriesLead R W = (returning : Returning) → PerformedLeads returning → (view : DeviceView R W)
     (story : List Deed) (x y : Devices R W) (works : Leads (WorksAll view) story x y)
     → StoryLeads returning view story x y works
+
+-- A call whose plan takes no steps but openings, reads and writes is borne out.
+abbrev pub PlannedIsBorneOut : (R W S K : Type 0) → Type 0
+PlannedIsBorneOut R W S K = (view : DeviceView R W) (streams : Views S K) (plan rest : Plan)
+    (old new : Outside S K) (first last : R) (watchers left : List W)
+    → EachStep IsInUse plan → MeansWhole view streams plan rest old new first last watchers left
+    → IsBorneOut view streams plan rest old new first last watchers left
 
 -- A call whose plan takes no step is borne out, whatever is proved of steps.
 abbrev pub SteplessIsBorneOut : (R W S K : Type 0) → Type 0

@@ -7,7 +7,7 @@ use Rattle.stair_watch.specs.WatcherList.{AllStay, AreLeft, TellsAll}
 use Rattle.stair_story.specs.declared.status.Status.{Status}
 use Rattle.stair_story.specs.declared.status.Status.TheVariants.{InputFault, OutOfMemory}
 use Rattle.stair_story.specs.Devices.{DeviceView, Devices, MeansWith}
-use Rattle.stair_story.specs.Ending.{AsksFirst, AsksUnwritten, EndsIn, IsNoFault, Leaves, MakesNoCall, OnlyLooks, PutsLast, TakesNoStep, TakesNothing}
+use Rattle.stair_story.specs.Ending.{AsksFirst, AsksUnwritten, EndsIn, IfNothingIsPutOut, IsNoFault, MakesNoCall, OnlyLooks, PutsLast, TakesNoStep, TakesNothing, TellsFaults}
 use Rattle.stair_story.specs.Means.{Means}
 use Rattle.stair_story.specs.Outside.{Outside, Views}
 use Rattle.stair_story.specs.Plan.{Plan, Over}
@@ -22,11 +22,17 @@ pub record AreTold {W : Type 0} (view : WatcherView W) (story : List Deed) (old 
   pub left : AreLeft view (events_of_story story) old new
   pub stay : AllStay view new
 
--- a fault only where its count rose, no count falls, and nothing is put out but at Done and at a fault of the sink
+-- a fault only where its count rose, and no count falls
 abbrev pub FaultsAreTold : (S K : Type 0) → Type 0
 FaultsAreTold S K = (view : Views S K) (plan : Plan) (status : Status) (old new : Outside S K)
-    → EndsIn IsNoFault plan → PutsLast plan → Means view plan (Over status) old new
-    → Leaves view status old new
+    → EndsIn IsNoFault plan → Means view plan (Over status) old new
+    → TellsFaults view status old new
+
+-- of a plan that puts out last nothing is put out but at Done and at a fault of the sink
+abbrev pub NothingIsPutOut : (S K : Type 0) → Type 0
+NothingIsPutOut S K = (view : Views S K) (plan : Plan) (status : Status) (old new : Outside S K)
+    → PutsLast plan → Means view plan (Over status) old new
+    → IfNothingIsPutOut status (new.sink ≡ old.sink)
 
 -- a status that is no fault, no want of memory, and none that the plan ends with by itself doesn't come
 abbrev pub OthersNeverCome : (S K : Type 0) → Type 0

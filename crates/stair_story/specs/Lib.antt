@@ -14,9 +14,9 @@ pub mod Means
 pub mod Rack
 pub mod Ending
 pub mod Devices
+pub mod Steps
 pub mod Run
 pub mod Headline
-pub mod Sure
 pub mod Streams
 pub mod Taking
 pub mod Laws
@@ -26,4 +26,5 @@ pub mod LifeExample
 pub mod Kept
 pub mod Drawn
 pub mod Bounded
+pub mod Sure
 pub mod Rebuilt

@@ -1,5 +1,5 @@
 -- What the outside of a call shows: its source, its sink and its counter.
-use Rattle.std.specs.Prelude.{ℕ, Bool, List, Option}
+use Rattle.std.specs.Prelude.{ℕ, Bool, false, List, Option, None}
 
 -- what a source shows: the bytes that are left, where it tells them, whether it has answered its
 -- end, and its count of faults
@@ -29,6 +29,13 @@ views left ended faults held put_faults = record {
   source = source_view left ended faults;
   sink = sink_view held put_faults;
 }
+
+-- where nothing is taken it doesn't matter of which source
+abbrev pub no_source : SourceView (Unit {0})
+no_source = source_view (λ none. None) (λ none. false) (λ none. 0)
+
+abbrev pub sink_alone : {K : Type 0} → (K → Option (List ℕ)) → (K → ℕ) → Views (Unit {0}) K
+sink_alone held faults = record { source = no_source; sink = sink_view held faults }
 
 -- source, sink and counter, at a moment
 pub record Outside (S K : Type 0) : Type 0 where

@@ -10,8 +10,9 @@ use Rattle.stair_member.specs.Membership.{Membership}
 use Rattle.stair_state.specs.State.{State}
 use Rattle.stair_session.specs.Returning.{IsCalm, Returning, StandsForAlone}
 use Rattle.stair_array.specs.Machine.{Answer, EpochsSpent, RebuildNext, Refusal, Step, TooFew}
-use Rattle.stair_array.specs.Promise.{IsInState, IsLeftBy, IsStep, LeadsStep, Performs, is_open}
-use Rattle.stair_story.specs.Devices.{DeviceView, Devices, WorksAll, seen_of}
+use Rattle.stair_array.specs.Promise.{IsInState, IsLeftBy, IsStep, LeadsStep, Performs, Seen, is_open}
+use Rattle.stair_rack.specs.declared.watcher.Event.{Event}
+use Rattle.stair_story.specs.Devices.{DeviceView, Devices, KeepsRules, WorksAll, seen_of}
 use Rattle.stair_story.specs.Plan.{Plan, Try, RebuildAll}
 use Rattle.stair_story.specs.Story.{Deed, Did, Stepped, Leads, Moves}
 
@@ -96,6 +97,12 @@ IsCalmUpTo view returning g before c (deed ∷ story) x y works =
     × IsCalmUpTo view returning g before c story works.0 y works.2
 
 -- STEPS
+
+-- what is performed of this step leads on as the machine does
+abbrev pub StepLeads : Returning → Step → Type 0
+StepLeads returning step = (answer : Answer step) (events : List Event) (x y : Seen)
+    (performs : Performs step answer events x y) → KeepsRules x.session
+    → LeadsStep returning performs.was.member step answer x y
 
 -- a step that was performed led on as the machine does
 abbrev pub DeedLeads : {R W : Type 0} → Returning → DeviceView R W → Deed → Devices R W

@@ -1,7 +1,7 @@
 -- When a command is sure to end with Done: all that completeness asks of it is a fact of its plan alone.
-use Rattle.std.specs.Prelude.{◌≡◌, ◌≢◌, ◌⊎◌, ◌<◌, ℕ, Bool, IsTrue, List, [], ◌∷◌, ◌++◌, Option, None, Some, Ok, length, ⊤}
+use Rattle.std.specs.Prelude.{◌≡◌, ◌≢◌, ◌⊎◌, ◌<◌, ◌-◌, ◌^◌, ℕ, Bool, IsTrue, List, [], ◌∷◌, ◌++◌, Option, None, Some, Ok, length, ⊤}
 use Rattle.stair_model.specs.Geometry.{Geometry}
-use Rattle.stair_model.specs.Slots.{HasSlot, Slots}
+use Rattle.stair_model.specs.Slots.{HasSlot, Slots, no_slots}
 use Rattle.stair_rack.specs.Answers.{IsHistory, Ran, any_call}
 use Rattle.stair_rack.specs.Count.{Rose}
 use Rattle.stair_rack.specs.History.{Happening, slot_state}
@@ -22,7 +22,9 @@ use Rattle.stair_array.specs.Promise.{Begun, Found, IsFitFor, Opened, Session}
 use Rattle.stair_story.specs.declared.status.Status.{Status}
 use Rattle.stair_story.specs.declared.status.Status.TheVariants.{Done, OutOfMemory}
 use Rattle.stair_story.specs.Action.{Create, Survey}
-use Rattle.stair_story.specs.Devices.{DeviceView, Devices, MeansWith, WorksAll}
+use Rattle.stair_story.specs.Bounded.{IsBoundedAt}
+use Rattle.stair_story.specs.Devices.{DeviceView, Devices, MeansWhole, MeansWith, WorksAll}
+use Rattle.stair_story.specs.Ending.{EachStep, IsInUse}
 use Rattle.stair_story.specs.Outside.{Outside, Views}
 use Rattle.stair_story.specs.Plan.{Plan, Over, Ask, Take, Put, Allocate, Do, Try, RebuildAll}
 use Rattle.stair_story.specs.Question.{IsReply, Reply}
@@ -198,6 +200,34 @@ SureIsDone R W S K = (view : DeviceView R W) (streams : Views S K) (plan : Plan)
     → EachKeeps view assured.kept with.means.story first last with.works
     → EachIsAway view assured.away with.means.story first last with.works
     → IsSure assured plan (without_seats s) (streams.source.left old.source) → IsDone status
+
+-- a draw up to this one, as a call begins, leaves room for all that it draws
+abbrev pub most_borne : ℕ
+most_borne = 2 ^ 64 - 2 ^ 40
+
+-- On an honest rack an array is in this state as a call begins, and stays within tolerance to its end. No medium comes back, and no
+-- superblock of the array bears a draw behind which too few are left.
+pub record ServesThroughout {R : Type 0} (rack : RackView R) (s : State) (first last : R) : Type 0
+  where
+    pub honest : IsTrue rack.honest
+    pub history : IsHistory (rack.history first)
+    pub represents : Represents s (rack.history first)
+    pub tolerated : ToleratedSince s.geometry (rack.history first) (rack.history last)
+    pub returned : NothingReturned (rack.history first) (rack.history last)
+    pub drawn : IsBoundedAt s.geometry most_borne (rack.history first)
+
+-- no slot is counted on
+abbrev pub no_assurance : Assurance
+no_assurance = record { kept = no_slots; away = no_slots }
+
+-- Of a plan that takes no steps but openings, reads and writes nothing is asked of the story: it is done where it is sure without
+-- counting on a slot.
+abbrev pub PlannedSureIsDone : (R W S K : Type 0) → Type 0
+PlannedSureIsDone R W S K = (view : DeviceView R W) (streams : Views S K) (plan : Plan)
+    (status : Status) (s : State) (old new : Outside S K) (first last : R) (watchers left : List W)
+    → MeansWhole view streams plan (Over status) old new first last watchers left
+    → EachStep IsInUse plan → ServesThroughout view.rack s first last → HasNoFault streams old new
+    → IsSure no_assurance plan (without_seats s) (streams.source.left old.source) → IsDone status
 
 -- Over a rack alone, which suffices for a plan that takes no step, nothing is asked of steps. The session began at `before`.
 abbrev pub SteplessSureIsDone : (R S K : Type 0) → Type 0

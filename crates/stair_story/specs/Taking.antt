@@ -40,6 +40,15 @@ CutsShort view intake old new fault.Input =
     × Gives view (TakeFailed taken) old new
 CutsShort view intake old new _ = ⊥
 
+-- Why fewer bytes than `least` came of a piece, where the intake had counted some before.
+abbrev pub PieceIsCut : {S : Type 0} → SourceView S → (least : ℕ) → Intake → S → S → Fault → Type 0
+PieceIsCut view least intake old new (fault.Length needed took) =
+    (needed ≡ intake.needed) × ((taken : List ℕ) × (took ≡ intake.took + length taken)
+    × (length taken < least) × Gives view (TookLast taken) old new)
+PieceIsCut view least intake old new fault.Input =
+    (taken : List ℕ) × (length taken < least) × Gives view (TakeFailed taken) old new
+PieceIsCut view least intake old new _ = ⊥
+
 -- Why the end was not found behind the bytes that are needed: one more came, or the source failed.
 abbrev pub GoesOn : {S : Type 0} → SourceView S → ℕ → S → S → Fault → Type 0
 GoesOn view bytes old new (fault.Length needed took) = (needed ≡ bytes) × (took ≡ bytes + 1)

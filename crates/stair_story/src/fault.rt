@@ -1,7 +1,7 @@
 ghost use Rattle.std.specs.Prelude.{◌≡◌};
-ghost use Rattle.stair_story.specs.declared.fault.Fault.TheVariants.{Memory, Text, Create, Survey};
+ghost use Rattle.stair_story.specs.declared.fault.Fault.TheVariants.{Memory, Text, Create, Survey, Opening};
 
-use stair_array::CreateFault;
+use stair_array::{ArrayFault, CreateFault, RecoverFault};
 use stair_conf::ConfigFault;
 use stair_member::SurveyFault;
 use std::alloc::AllocError;
@@ -23,6 +23,12 @@ pub enum Fault {
     Create(CreateFault),
     /// No array was found.
     Survey(SurveyFault),
+    /// The array that was found wasn't opened.
+    Opening(RecoverFault),
+    /// An open array of so many slots refused a step.
+    Step { fault: ArrayFault, slots: u8 },
+    /// The number `asked` is at or past the `limit`.
+    OutOfRange { asked: u64, limit: u64 },
 }
 
 impl From<AllocError> for Fault {
@@ -54,5 +60,13 @@ impl From<SurveyFault> for Fault {
 
     fn from(fault: SurveyFault) -> Fault {
         Fault::Survey(fault)
+    }
+}
+
+impl From<RecoverFault> for Fault {
+    ghost from_gives = { λ refusal fault. fault ≡ Opening refusal };
+
+    fn from(fault: RecoverFault) -> Fault {
+        Fault::Opening(fault)
     }
 }

@@ -1,8 +1,8 @@
-ghost use Rattle.std.specs.Prelude.{◌≡◌, ◌+◌, ◌^◌, ◌<◌, ◌≤◌, [], length, OnOk, IfErr};
+ghost use Rattle.std.specs.Prelude.{◌≡◌, ◌+◌, ◌^◌, ◌<◌, ◌≤◌, [], length, take, OnOk, IfErr, IfOk};
 ghost use Rattle.stair_story.specs.Means.{Gives};
 ghost use Rattle.stair_story.specs.Outside.{source_view};
-ghost use Rattle.stair_story.specs.Story.{TookLast};
-ghost use Rattle.stair_story.specs.Taking.{CutsShort, GoesOn, TakesBytes, intake_of};
+ghost use Rattle.stair_story.specs.Story.{Took, TookLast};
+ghost use Rattle.stair_story.specs.Taking.{CutsShort, GoesOn, PieceIsCut, TakesBytes, intake_of};
 
 use crate::fault::Fault;
 use crate::streams::{Filled, take_at_least};
@@ -32,10 +32,32 @@ impl Intake {
         ensures cut { IfErr result (CutsShort (source_view S.left S.ended S.faults)
             self.old input.old input.new) }
     {
-        match take_at_least(input, into.len(), into) {
-            Filled::Enough(_) => {
-                self.took += into.len() as u64;
-                Ok(())
+        self.take(input, into.len(), into)?;
+        Ok(())
+    }
+
+    /// Takes at least so many bytes, and at most as many as the piece has room for, and tells how many came.
+    pub fn take<S: Source>(
+        &mut self,
+        input: &mut S,
+        least: usize,
+        into: &mut [u8],
+    ) -> Result<usize, Fault>
+        requires some { 0 < least }
+        requires piece { least ≤ length into.old }
+        requires room { self.old.took + length into.old ≤ self.old.needed }
+        ensures ok { IfOk result (λ count. (least ≤ count) × (count ≤ length into.new)
+            × Gives (source_view S.left S.ended S.faults) (Took (take count into.new))
+            input.old input.new) }
+        ensures counted { IfOk result (λ count.
+            self.new ≡ record self.old { took = self.old.took + count }) }
+        ensures cut { IfErr result (PieceIsCut (source_view S.left S.ended S.faults)
+            least self.old input.old input.new) }
+    {
+        match take_at_least(input, least, into) {
+            Filled::Enough(count) => {
+                self.took += count as u64;
+                Ok(count)
             }
             Filled::Short(count) => Err(Fault::Length {
                 needed: self.needed,

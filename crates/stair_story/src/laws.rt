@@ -4,6 +4,7 @@ ghost use Rattle.stair_story.specs.Laws.{
   FaultsAreTold,
   MemoryIsAskedFirst,
   MemoryIsAskedUnwritten,
+  NothingIsPutOut,
   OthersNeverCome,
   RacksAreLeft,
   RacksAreLookedAt,
@@ -14,8 +15,10 @@ ghost use Rattle.stair_story.specs.Laws.{
 
 /// What follows of every call that means its plan, by a predicate on the plan. It does nothing.
 pub fn story_laws<R, W, S, K>()
-    // a fault comes only where its count rose, no count falls, and nothing is put out of what isn't done
+    // a fault comes only where its count rose, and no count falls
     ensures faults { FaultsAreTold S K }
+    // a plan that puts out last puts out nothing of what isn't done
+    ensures unput { NothingIsPutOut S K }
     // no status comes that is no fault, no want of memory, and none of the plan's own
     ensures others { OthersNeverCome S K }
     // a plan that takes nothing leaves the source, which can't fail it

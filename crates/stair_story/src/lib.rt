@@ -9,6 +9,7 @@ pub mod lives;
 pub mod runs;
 pub mod session;
 mod status;
+mod steps;
 mod streams;
 pub mod sure;
 #[cfg(test)]
@@ -18,5 +19,6 @@ mod text;
 pub use fault::Fault;
 pub use intake::Intake;
 pub use status::Status;
+pub use steps::Opened;
 pub use streams::{Filled, put_all, take_at_least};
 pub use text::identity_digits;

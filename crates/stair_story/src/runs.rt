@@ -4,6 +4,7 @@ ghost use Rattle.stair_story.specs.Headline.{
   AcknowledgedAreTaken,
   CallsAreRuns,
   CreatesAreRefused,
+  PlannedIsBorneOut,
   SteplessIsBorneOut,
   StoriesAreCutSafely,
   StoriesAreRuns,
@@ -24,6 +25,8 @@ pub fn run_laws<R, W, S, K>()
     ensures refused { CreatesAreRefused }
     // what a call means gives both, where no medium comes back
     ensures borne_out { CallsAreRuns R W S K }
+    // a call whose plan takes no steps but openings, reads and writes is borne out
+    ensures planned { PlannedIsBorneOut R W S K }
     // a call whose plan takes no step is borne out, whatever is proved of steps
     ensures stepless { SteplessIsBorneOut R W S K }
 {}

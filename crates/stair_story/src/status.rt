@@ -1,9 +1,11 @@
 ghost use Rattle.std.specs.Prelude.{◌≡◌, Some};
+ghost use Rattle.stair_array.specs.Faults.{refusal_for};
+ghost use Rattle.stair_story.specs.Refused.{status_of_refusal};
 ghost use Rattle.stair_story.specs.Status.{words_of as words_of_mark};
 
 use crate::fault::Fault;
 use crate::text::identity_digits;
-use stair_array::CreateFault;
+use stair_array::{ArrayFault, CreateFault, RecoverFault};
 use stair_base::Broken;
 use stair_conf::{ConfigFault, Key};
 use stair_member::{SurveyFault, Why};
@@ -97,7 +99,42 @@ impl From<Fault> for Status {
             Fault::Text(fault) => Status::from(fault),
             Fault::Create(fault) => Status::from(fault),
             Fault::Survey(fault) => Status::from(fault),
+            Fault::Opening(fault) => Status::from(fault),
+            Fault::Step { fault, slots } => status_of_step(fault, slots),
+            Fault::OutOfRange { asked, limit } => Status::OutOfRange { asked, limit },
         }
+    }
+}
+
+impl From<RecoverFault> for Status {
+    ghost use Rattle.stair_story.specs.Fault.{status_of_opening};
+
+    ghost from_gives = { λ fault status. status ≡ status_of_opening fault };
+
+    fn from(fault: RecoverFault) -> Status {
+        match fault {
+            RecoverFault::Memory => Status::OutOfMemory,
+            RecoverFault::TooFew(whys) => Status::TooFew(whys),
+            RecoverFault::EpochsSpent => Status::EpochsSpent,
+            RecoverFault::JournalLost { sector } => Status::JournalLost { sector },
+        }
+    }
+}
+
+// The status of a step that an open array of so many slots refused.
+fn status_of_step(fault: ArrayFault, slots: u8) -> Status
+    ensures { result ≡ status_of_refusal slots (refusal_for fault) }
+{
+    match fault {
+        ArrayFault::OutOfRange { asked, limit } => Status::OutOfRange { asked, limit },
+        ArrayFault::Frozen => Status::Frozen,
+        ArrayFault::Lost { stripe, counts } => Status::Lost {
+            stripe,
+            counts,
+            n: slots,
+        },
+        ArrayFault::TooFew(whys) => Status::TooFew(whys),
+        ArrayFault::EpochsSpent => Status::EpochsSpent,
     }
 }
 
@@ -197,7 +234,10 @@ impl fmt::Display for Status {
                 write!(f, "not a codeword: global {l} {h} byte {byte}")
             }
             Status::NoCodeword => write!(f, "no codeword holds these cells"),
-            Status::Usage => write!(f, "usage: stair FOLDER check|stripe|restore|create|show"),
+            Status::Usage => write!(
+                f,
+                "usage: stair FOLDER check|stripe|restore|create|show|read|write"
+            ),
             Status::Limit(limit) => write!(f, "geometry: limit {limit}"),
             Status::Key(key) => write!(f, "geometry: key {}", key.name()),
             Status::NotToml => write!(f, "geometry: not TOML"),

@@ -1,10 +1,15 @@
-//! The codes and lines of statuses, as the formats have them.
+//! The codes and lines of statuses, as the formats have them; and the steps of an array as watchers are told of them.
 
 use super::*;
-use stair_base::Broken;
+use stair_array::{ArrayFault, create};
+use stair_base::{Broken, Geometry, StripeCode};
+use stair_codec::{By, Codec};
 use stair_conf::Key;
-use stair_member::Why;
+use stair_member::{Why, survey};
+use stair_memrack::{Act, MemRack, What};
+use stair_rack::{Event, Watcher};
 use stair_super::Mark;
+use stair_watch::{Kept, add};
 use std::test::Fail;
 
 const IN_ROW: Status = Status::NotCodeword(Broken::Row {
@@ -63,7 +68,7 @@ const LINES: [(Status, u8, &str); 24] = [
     (
         Status::Usage,
         2,
-        "usage: stair FOLDER check|stripe|restore|create|show",
+        "usage: stair FOLDER check|stripe|restore|create|show|read|write",
     ),
     (Status::Limit(3), 3, "geometry: limit 3"),
     (Status::Key(Key::Stripes), 3, "geometry: key stripes"),
@@ -123,5 +128,49 @@ fn each_status_has_its_code_and_line(rt: HostRuntime) -> Result<(), Fail> {
         format!(in rt.alloc(); "{few}")?.as_str(),
         "too few devices: 0 gone, 2 no superblock, 3 other array, 4 other slot, 5 marked down, 6 other joined, 7 rebuilding"
     );
+    Ok(())
+}
+
+/// What the first watcher has kept of its event `at`.
+fn told(watchers: &Vec<Box<dyn Watcher>>, at: u64) -> Option<Event> {
+    watchers.first()?.kept(at)
+}
+
+/// An opening tells of the slot that was away before it; the steps after it don't tell it again.
+#[test]
+fn steps_are_told(rt: HostRuntime) -> Result<(), Fail> {
+    let alloc = rt.alloc();
+    let geometry = Geometry::new(5, 2, 2, &[1], 3, [7; 16])?;
+    let mut rack = MemRack::new(alloc, 5, geometry.need(), &[], 999)?;
+    assert_eq!(rt; create(&mut rack, &geometry), Ok(()));
+    let pull = Act {
+        at: 0,
+        what: What::Pull { slot: 2 },
+    };
+    let mut rack = rack.after_crash(alloc, &[], &[pull], 999)?;
+    let mut watchers: Vec<Box<dyn Watcher>> = Vec::new(alloc);
+    add(&mut watchers, Box::new(alloc, Kept::new(alloc, 9)?)?)?;
+    let Ok(member) = survey(&mut rack) else {
+        return Ok(assert!(rt; false));
+    };
+    let code = Codec::new(alloc, &member.geometry(), By::Fewest)?;
+    let Ok(array) = Opened::open(alloc, &mut rack, member, code, &mut watchers) else {
+        return Ok(assert!(rt; false));
+    };
+    let mut array = array;
+    assert_eq!(rt; told(&watchers, 0), Some(Event::Fenced { slot: 2 }));
+    assert_eq!(rt; told(&watchers, 1), None);
+    let mut into = [9; 512];
+    let past = ArrayFault::OutOfRange {
+        asked: 99,
+        limit: 15,
+    };
+    assert_eq!(rt;
+        array.read(&mut rack, 99, &mut into, &mut watchers),
+        Err(past)
+    );
+    assert_eq!(rt; array.read(&mut rack, 3, &mut into, &mut watchers), Ok(()));
+    assert_eq!(rt; into, [0; 512]);
+    assert_eq!(rt; told(&watchers, 1), None);
     Ok(())
 }

@@ -2,9 +2,9 @@ use crate::{Job, Method, StripeCommand, WordsFault, read_words};
 use std::alloc::{AllocError, Global};
 use std::test::Fail;
 
-// Each row is a command line, a blank behind each word but the last, and the numbers N M R E.. that it has, None where it is
-// faulty.
-const LINES: [(&str, Option<&[u64]>); 30] = [
+// Each row is a command line, a blank behind each word but the last, and the numbers N M R E.. or BLOCK COUNT that it has,
+// None where it is faulty.
+const LINES: [(&str, Option<&[u64]>); 39] = [
     ("check 4 1 2 1", Some(&[4, 1, 2, 1])),
     ("restore 8 2 4 1 1 2", Some(&[8, 2, 4, 1, 1, 2])),
     (
@@ -41,6 +41,15 @@ const LINES: [(&str, Option<&[u64]>); 30] = [
     ("show", Some(&[])),
     ("show 0", None),
     ("Show", None),
+    ("read 0 1", Some(&[0, 1])),
+    ("write 3 18446744073709551615", Some(&[3, u64::MAX])),
+    ("read", None),
+    ("read 0", None),
+    ("read 0 1 2", None),
+    ("read 00 1", None),
+    ("write 0 18446744073709551616", None),
+    ("read -1 1", None),
+    ("write x 1", None),
 ];
 
 fn words_of(alloc: Global, line: &str) -> Result<Vec<String>, AllocError> {
@@ -64,16 +73,21 @@ fn front_of(job: &Job) -> &'static str {
         },
         Job::Create => "create",
         Job::Show => "show",
+        Job::Read { .. } => "read ",
+        Job::Write { .. } => "write ",
     }
 }
 
 fn numbers_of(alloc: Global, job: &Job) -> Result<Vec<u64>, AllocError> {
-    let Job::OneStripe { n, m, r, e, .. } = job else {
-        return Ok(Vec::new(alloc));
-    };
-    let mut numbers = [*n, *m, *r].to_vec(alloc)?;
-    numbers.extend_from_slice(e.as_slice())?;
-    Ok(numbers)
+    match job {
+        Job::OneStripe { n, m, r, e, .. } => {
+            let mut numbers = [*n, *m, *r].to_vec(alloc)?;
+            numbers.extend_from_slice(e.as_slice())?;
+            Ok(numbers)
+        }
+        Job::Create | Job::Show => Ok(Vec::new(alloc)),
+        Job::Read { block, count } | Job::Write { block, count } => [*block, *count].to_vec(alloc),
+    }
 }
 
 #[test]

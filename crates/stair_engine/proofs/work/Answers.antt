@@ -5,7 +5,13 @@ use Rattle.stair_model.specs.Geometry.{Geometry}
 use Rattle.stair_conf.specs.declared.job.Job.{Job}
 use Rattle.stair_story.specs.Fault.{status_of, status_of_fault}
 use Rattle.stair_story.specs.Means.{Means}
-use Rattle.stair_story.specs.Outside.{outside, views}
+use Rattle.stair_story.specs.Outside.{outside, sink_alone, views}
+use Rattle.stair_rack.specs.Watching.{watcher_view}
+use Rattle.stair_conf.specs.declared.job.Job.TheVariants.{Create, Show}
+use Rattle.stair_story.specs.Devices.{MeansWhole, device_view}
+use Rattle.stair_story.proofs.DeviceLaws.{any_source, calls_once, with_once}
+use Rattle.stair_engine.specs.Blocks.{read_plan, write_plan}
+use Rattle.stair_engine.proofs.JobLaws.{job_once, read_takes_none}
 use Rattle.stair_story.specs.Plan.{Over}
 use Rattle.stair_engine.specs.Plans.{create_plan, job_plan, show_plan, stripe_plan, tested_plan, within_limits}
 use Rattle.stair_story.specs.Question.{Limits}
@@ -25,10 +31,17 @@ status_is : (status : Status) (done : Result Status Fault) → MatchResult done 
 status_is status (Ok answer) is = is
 status_is status (Err fault) is = is
 
-pub returns-in-Ok : goal.returns-in-Ok
-returns-in-Ok g c =
+pub returns-in-Ok-clause-means : goal.returns-in-Ok-clause-means
+returns-in-Ok-clause-means g c =
     let view = views g.S.Source.left g.S.Source.ended g.S.Source.faults g.K.Sink.held g.K.Sink.faults in
     let rack = rack_view g.R.Rack.is_honest g.R.Rack.history g.R.Rack.bads g.R.Rack.gones in
+    let told = watcher_view
+    (λ b. (goal.Watcher-dyn g (b.vtable, b.value)).told b.value)
+    (λ b. (goal.Watcher-dyn g (b.vtable, b.value)).count b.value)
+    (λ b. (goal.Watcher-dyn g (b.vtable, b.value)).left b.value)
+    (λ b. (goal.Watcher-dyn g (b.vtable, b.value)).patience b.value)
+    in
+    let devices = device_view rack told in
     let o = c.in-OneStripe in
     let of = one_stripe o.n o.m o.r o.e in
     let status = c.unwrap_or_else.result in
@@ -39,42 +52,115 @@ returns-in-Ok g c =
     subst (λ (k : Geometry). Means view (stripe_plan o.command k) (Over status) old new) c.in-Ok.ensures.ok
     (subst (λ (s : Status). Means view (stripe_plan o.command c.in-Ok.geometry) (Over s) old new) (sym is) c.run-done.ensures)
     in
-    subst (λ (job : Job). MeansOver rack view (job_plan job) (Over status) old new c.args.rack.now c.args.rack.now) (sym o.is)
+    subst (λ (job : Job). MeansWhole devices view (job_plan job) (Over status) old new c.args.rack.now c.args.rack.now c.args.watchers.now.items c.args.watchers.now.items) (sym o.is)
+    (with_once devices view (tested_plan o.command of) (Over status) old new c.args.rack.now c.args.rack.now c.args.watchers.now.items
+    (calls_once (tested_plan o.command of) (stripe_calls_none o.command of))
     (over_still rack view (tested_plan o.command of) (Over status) old new c.args.rack.now (stripe_calls_none o.command of)
     (and_then view
-    (finds view (Limits of) (within_limits (stripe_plan o.command of)) None _ _ _ _ c.in-Ok.ensures.within refl) ran))
+    (finds view (Limits of) (within_limits (stripe_plan o.command of)) None _ _ _ _ c.in-Ok.ensures.within refl) ran)))
 
-pub returns-in-OneStripe : goal.returns-in-OneStripe
-returns-in-OneStripe g c =
+pub returns-in-OneStripe-clause-means : goal.returns-in-OneStripe-clause-means
+returns-in-OneStripe-clause-means g c =
     let view = views g.S.Source.left g.S.Source.ended g.S.Source.faults g.K.Sink.held g.K.Sink.faults in
     let rack = rack_view g.R.Rack.is_honest g.R.Rack.history g.R.Rack.bads g.R.Rack.gones in
+    let told = watcher_view
+    (λ b. (goal.Watcher-dyn g (b.vtable, b.value)).told b.value)
+    (λ b. (goal.Watcher-dyn g (b.vtable, b.value)).count b.value)
+    (λ b. (goal.Watcher-dyn g (b.vtable, b.value)).left b.value)
+    (λ b. (goal.Watcher-dyn g (b.vtable, b.value)).patience b.value)
+    in
+    let devices = device_view rack told in
     let o = c.in-OneStripe in
     let of = one_stripe o.n o.m o.r o.e in
     let old = outside c.args.input.now c.args.output.now c.args.steps.now in
-    subst (λ (job : Job). MeansOver rack view (job_plan job) (Over (Limit c.in-Err.fault.limit)) old old c.args.rack.now c.args.rack.now) (sym o.is)
+    subst (λ (job : Job). MeansWhole devices view (job_plan job) (Over (Limit c.in-Err.fault.limit)) old old c.args.rack.now c.args.rack.now c.args.watchers.now.items c.args.watchers.now.items) (sym o.is)
+    (with_once devices view (tested_plan o.command of) (Over (Limit c.in-Err.fault.limit)) old old c.args.rack.now c.args.rack.now
+    c.args.watchers.now.items (calls_once (tested_plan o.command of) (stripe_calls_none o.command of))
     (over_still rack view (tested_plan o.command of) (Over (Limit c.in-Err.fault.limit)) old old c.args.rack.now (stripe_calls_none o.command of)
-    (finds view (Limits of) (within_limits (stripe_plan o.command of)) (Some _) _ _ _ _ c.in-Err.ensures.broken refl))
+    (finds view (Limits of) (within_limits (stripe_plan o.command of)) (Some _) _ _ _ _ c.in-Err.ensures.broken refl)))
 
-pub returns-in-Create : goal.returns-in-Create
-returns-in-Create g c =
+pub returns-in-Create-clause-means : goal.returns-in-Create-clause-means
+returns-in-Create-clause-means g c =
     let view = views g.S.Source.left g.S.Source.ended g.S.Source.faults g.K.Sink.held g.K.Sink.faults in
     let rack = rack_view g.R.Rack.is_honest g.R.Rack.history g.R.Rack.bads g.R.Rack.gones in
+    let told = watcher_view
+    (λ b. (goal.Watcher-dyn g (b.vtable, b.value)).told b.value)
+    (λ b. (goal.Watcher-dyn g (b.vtable, b.value)).count b.value)
+    (λ b. (goal.Watcher-dyn g (b.vtable, b.value)).left b.value)
+    (λ b. (goal.Watcher-dyn g (b.vtable, b.value)).patience b.value)
+    in
+    let devices = device_view rack told in
     let status = c.unwrap_or_else-in-Create.result in
     let is : status ≡ status_of c.create.result = status_is _ c.create.result c.unwrap_or_else-in-Create.ensures in
     let old = outside c.args.input.now c.args.output.now c.args.steps.now in
     let new = outside c.create.new.input c.create.new.output c.args.steps.now in
-    subst (λ (job : Job). MeansOver rack view (job_plan job) (Over status) old new c.args.rack.now c.create.new.rack) (sym c.in-Create.is)
+    subst (λ (job : Job). MeansWhole devices view (job_plan job) (Over status) old new c.args.rack.now c.create.new.rack c.args.watchers.now.items c.args.watchers.now.items) (sym c.in-Create.is)
+    (with_once devices view create_plan (Over status) old new c.args.rack.now c.create.new.rack c.args.watchers.now.items (job_once Create (λ no. no))
     (subst (λ (s : Status). MeansOver rack view create_plan (Over s) old new c.args.rack.now c.create.new.rack) (sym is)
-    (c.create.ensures c.args.steps.now))
+    (c.create.ensures c.args.steps.now)))
 
-pub returns : goal.returns
-returns g c =
+pub returns-in-Show-clause-means : goal.returns-in-Show-clause-means
+returns-in-Show-clause-means g c =
     let view = views g.S.Source.left g.S.Source.ended g.S.Source.faults g.K.Sink.held g.K.Sink.faults in
     let rack = rack_view g.R.Rack.is_honest g.R.Rack.history g.R.Rack.bads g.R.Rack.gones in
+    let told = watcher_view
+    (λ b. (goal.Watcher-dyn g (b.vtable, b.value)).told b.value)
+    (λ b. (goal.Watcher-dyn g (b.vtable, b.value)).count b.value)
+    (λ b. (goal.Watcher-dyn g (b.vtable, b.value)).left b.value)
+    (λ b. (goal.Watcher-dyn g (b.vtable, b.value)).patience b.value)
+    in
+    let devices = device_view rack told in
     let status = c.unwrap_or_else-in-Show.result in
     let is : status ≡ status_of c.show.result = status_is _ c.show.result c.unwrap_or_else-in-Show.ensures in
     let old = outside c.args.input.now c.args.output.now c.args.steps.now in
     let new = outside c.args.input.now c.show.new.output c.args.steps.now in
-    subst (λ (job : Job). MeansOver rack view (job_plan job) (Over status) old new c.args.rack.now c.show.new.rack) (sym c.in-Show.is)
+    subst (λ (job : Job). MeansWhole devices view (job_plan job) (Over status) old new c.args.rack.now c.show.new.rack c.args.watchers.now.items c.args.watchers.now.items) (sym c.in-Show.is)
+    (with_once devices view show_plan (Over status) old new c.args.rack.now c.show.new.rack c.args.watchers.now.items (job_once Show (λ no. no))
     (subst (λ (s : Status). MeansOver rack view show_plan (Over s) old new c.args.rack.now c.show.new.rack) (sym is)
-    (shows rack view c.show.result _ _ _ _ _ _ c.show.ensures))
+    (shows rack view c.show.result _ _ _ _ _ _ c.show.ensures)))
+
+pub returns-in-Read-clause-means : goal.returns-in-Read-clause-means
+returns-in-Read-clause-means g c =
+    let view = views g.S.Source.left g.S.Source.ended g.S.Source.faults g.K.Sink.held g.K.Sink.faults in
+    let rack = rack_view g.R.Rack.is_honest g.R.Rack.history g.R.Rack.bads g.R.Rack.gones in
+    let told = watcher_view
+    (λ b. (goal.Watcher-dyn g (b.vtable, b.value)).told b.value)
+    (λ b. (goal.Watcher-dyn g (b.vtable, b.value)).count b.value)
+    (λ b. (goal.Watcher-dyn g (b.vtable, b.value)).left b.value)
+    (λ b. (goal.Watcher-dyn g (b.vtable, b.value)).patience b.value)
+    in
+    let devices = device_view rack told in
+    let job = c.in-Read in
+    let status = c.unwrap_or_else-in-Read.result in
+    let is : status ≡ status_of c.read-done.result = status_is _ c.read-done.result c.unwrap_or_else-in-Read.ensures in
+    let old = outside c.args.input.now c.args.output.now c.args.steps.now in
+    let new = outside c.args.input.now c.read-done.new.output c.args.steps.now in
+    subst (λ (of : Job). MeansWhole devices view (job_plan of) (Over status) old new c.args.rack.now c.read-done.new.rack c.args.watchers.now.items c.read-done.new.watchers.items)
+    (sym job.is)
+    (any_source devices view.source view.sink (read_plan job.block job.count) (Over status) c.args.output.now c.read-done.new.output c.args.steps.now c.args.steps.now
+    c.args.rack.now c.read-done.new.rack c.args.watchers.now.items c.read-done.new.watchers.items (read_takes_none job.block job.count)
+    (subst (λ (s : Status). MeansWhole devices (sink_alone g.K.Sink.held g.K.Sink.faults) (read_plan job.block job.count) (Over s)
+    (outside tt c.args.output.now c.args.steps.now) (outside tt c.read-done.new.output c.args.steps.now) c.args.rack.now c.read-done.new.rack
+    c.args.watchers.now.items c.read-done.new.watchers.items) (sym is) (c.read-done.ensures.means c.args.steps.now))
+    c.args.input.now)
+
+pub returns-clause-means : goal.returns-clause-means
+returns-clause-means g c =
+    let view = views g.S.Source.left g.S.Source.ended g.S.Source.faults g.K.Sink.held g.K.Sink.faults in
+    let rack = rack_view g.R.Rack.is_honest g.R.Rack.history g.R.Rack.bads g.R.Rack.gones in
+    let told = watcher_view
+    (λ b. (goal.Watcher-dyn g (b.vtable, b.value)).told b.value)
+    (λ b. (goal.Watcher-dyn g (b.vtable, b.value)).count b.value)
+    (λ b. (goal.Watcher-dyn g (b.vtable, b.value)).left b.value)
+    (λ b. (goal.Watcher-dyn g (b.vtable, b.value)).patience b.value)
+    in
+    let devices = device_view rack told in
+    let job = c.in-Write in
+    let status = c.unwrap_or_else-in-Write.result in
+    let is : status ≡ status_of c.write-done.result = status_is _ c.write-done.result c.unwrap_or_else-in-Write.ensures in
+    let old = outside c.args.input.now c.args.output.now c.args.steps.now in
+    let new = outside c.write-done.new.input c.write-done.new.output c.args.steps.now in
+    subst (λ (of : Job). MeansWhole devices view (job_plan of) (Over status) old new c.args.rack.now c.write-done.new.rack c.args.watchers.now.items c.write-done.new.watchers.items)
+    (sym job.is)
+    (subst (λ (s : Status). MeansWhole devices view (write_plan job.block job.count) (Over s) old new c.args.rack.now c.write-done.new.rack
+    c.args.watchers.now.items c.write-done.new.watchers.items) (sym is) (c.write-done.ensures.means c.args.steps.now))

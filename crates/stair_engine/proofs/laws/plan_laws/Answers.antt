@@ -1,24 +1,26 @@
+-- Each law, by the plans of the jobs.
 use Rattle.stair_story.specs.Outside.{views}
-use Rattle.stair_story.specs.Rack.{rack_view}
 use Rattle.stair_engine.proofs.MeaningLaws.{bytes_are_answered, words_are_done}
-use Rattle.stair_engine.proofs.CallLaws.{all_is_kept, array_is_left, array_is_made, arrays_are_spared, memory_comes_first, rack_is_left, show_only_looks, usage_is_exact}
+use Rattle.stair_engine.proofs.CallLaws.{all_is_kept, array_is_left, array_is_made, arrays_are_spared, memory_comes_first, rack_is_left, read_takes_nothing, show_only_looks, usage_is_exact}
+use Rattle.stair_engine.proofs.CameLaws.{whole_blocks_stand}
 use Rattle.stair_engine.proofs.CompleteLaws.{all_is_complete}
 use Rattle.stair_engine.proofs.laws.plan_laws.Goals as goal
 
 pub returns : goal.returns
 returns g c =
     let view = views g.S.Source.left g.S.Source.ended g.S.Source.faults g.K.Sink.held g.K.Sink.faults in
-    let rack = rack_view g.R.Rack.is_honest g.R.Rack.history g.R.Rack.bads g.R.Rack.gones in
     record {
-      usage = usage_is_exact rack view;
+      usage = usage_is_exact _ _;
       done = words_are_done view;
       answers = bytes_are_answered view;
-      kept = all_is_kept rack view;
-      left = rack_is_left rack view;
-      looks = show_only_looks rack view;
-      stands = array_is_left rack view;
-      memory = memory_comes_first rack view;
-      created = array_is_made rack view;
-      spared = arrays_are_spared rack view;
-      complete = all_is_complete rack view;
+      kept = all_is_kept _ _;
+      left = rack_is_left _ _ _ _;
+      looks = show_only_looks _ _ _ _;
+      untaken = read_takes_nothing _ _;
+      written = whole_blocks_stand _ _;
+      stands = array_is_left _ _ _ _;
+      memory = memory_comes_first _ _ _ _;
+      created = array_is_made _ _ _ _;
+      spared = arrays_are_spared _ _ _ _;
+      complete = all_is_complete _ _ _ _;
     }

@@ -2,14 +2,15 @@
 use Rattle.std.proofs.Common.{◌≢◌}
 use Rattle.stair_story.proofs.DeviceLaws.{are_told, over_rack}
 use Rattle.stair_story.proofs.LookLaws.{only_looked, short_unwritten}
-use Rattle.stair_story.proofs.EndingLaws.{ends_otherwise, leaves, none_taken, short_first}
+use Rattle.stair_story.proofs.EndingLaws.{ends_otherwise, none_taken, nothing_put, short_first, tells_faults}
 use Rattle.stair_story.proofs.RackLaws.{left_along}
 use Rattle.stair_story.specs.Ending.{IsNoFault}
 use Rattle.stair_story.proofs.laws.story_laws.Goals as goal
 
 pub returns : goal.returns
 returns g c = record {
-  faults = λ view plan status old new ends last means. leaves view IsNoFault (λ end is. is) plan status old new ends last means;
+  faults = λ view plan status old new ends means. tells_faults view IsNoFault (λ end is. is) plan status old new ends means;
+  unput = λ view plan status old new last means. nothing_put view plan status old new last means;
   others = λ view plan status other old new fault memory ends means.
       ends_otherwise view (λ end. end ≢ other) other (λ end is. is) fault.0 fault.1 memory plan status old new ends means;
   untaken = λ view plan status old new none means.

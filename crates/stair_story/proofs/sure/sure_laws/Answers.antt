@@ -1,4 +1,5 @@
 -- Each law, by the one induction on stories.
+use Rattle.stair_story.proofs.PlannedSureLaws.{planned_sure}
 use Rattle.stair_story.proofs.SureKeptLaws.{staying_kept}
 use Rattle.stair_story.proofs.SureLaws.{stepless_done}
 use Rattle.stair_story.proofs.SureStepLaws.{sure_done}
@@ -10,6 +11,8 @@ returns g c = record {
       sure_done view streams plan status s assured old new first last with honest begun history represents tolerated returned none lead draws fit keeps away sure;
   kept = λ view s kept story first last works honest begun history represents tolerated returned lead stays.
       staying_kept view s kept story first last works honest begun history represents tolerated returned lead stays;
+  planned = λ view streams plan status s old new first last watchers left whole used serves none sure.
+      planned_sure view streams plan status s old new first last watchers left whole used serves none sure;
   stepless = λ rack streams plan status s assured before old new first last over honest since represents tolerated returned none sure.
       stepless_done rack honest assured before streams plan status s old new first last over since represents tolerated returned none sure;
 }

@@ -1,0 +1,2 @@
+-- What the helpers of the tests need.
+pub mod Geometry

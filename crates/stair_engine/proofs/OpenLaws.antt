@@ -1,0 +1,167 @@
+-- What the plans of commands that open an array do by themselves.
+use Rattle.std.proofs.Common.{◌≢◌, ◌+◌, ℕ, zero, suc, Bool, true, false, List, [], ◌++◌, nat_lt, Result, Ok, Err, refl}
+use Rattle.stair_model.specs.Geometry.{Geometry, block_count}
+use Rattle.stair_array.specs.Machine.{Recover, Refusal}
+use Rattle.stair_array.specs.Machine as array
+use Rattle.stair_story.specs.declared.status.Status.{Status}
+use Rattle.stair_story.specs.declared.status.Status.TheVariants.{Usage, OutOfMemory}
+use Rattle.stair_story.specs.Ending.{AsksForNone, EachStep, EndsIn, IsInUse, IsNoFault, PutsLast, TakesNothing}
+use Rattle.stair_story.specs.Plan.{Plan, Over, unless_refused}
+use Rattle.stair_story.specs.Refused.{status_of_refusal}
+use Rattle.stair_story.specs.declared.status.Status.TheVariants.{OutOfRange}
+use Rattle.stair_engine.specs.Blocks.{if_in_range, if_left, is_in_range, part_of, reads, within_range, writes, wrote}
+use Rattle.std.specs.Prelude.{max}
+
+-- a fault, Usage and want of memory are none of a job's own
+abbrev pub IsOfJob : Status → Type 0
+IsOfJob status = IsNoFault status × (status ≢ Usage)
+
+-- nor is any of them the status of a step that was refused
+pub refusal_own : (slots : ℕ) (refusal : Refusal) → IsOfJob (status_of_refusal slots refusal) × (status_of_refusal slots refusal ≢ OutOfMemory)
+refusal_own slots (array.OutOfRange asked limit) = (((λ is. cc, λ is. cc), λ is. cc), λ is. cc)
+refusal_own slots array.Frozen = (((λ is. cc, λ is. cc), λ is. cc), λ is. cc)
+refusal_own slots (array.Lost stripe counts) = (((λ is. cc, λ is. cc), λ is. cc), λ is. cc)
+refusal_own slots (array.TooFew whys) = (((λ is. cc, λ is. cc), λ is. cc), λ is. cc)
+refusal_own slots array.EpochsSpent = (((λ is. cc, λ is. cc), λ is. cc), λ is. cc)
+refusal_own slots (array.JournalLost sector) = (((λ is. cc, λ is. cc), λ is. cc), λ is. cc)
+refusal_own slots (array.SlotBusy slot was) = (((λ is. cc, λ is. cc), λ is. cc), λ is. cc)
+refusal_own slots (array.Gone slot) = (((λ is. cc, λ is. cc), λ is. cc), λ is. cc)
+refusal_own slots (array.SmallDevice slot has needs) = (((λ is. cc, λ is. cc), λ is. cc), λ is. cc)
+refusal_own slots (array.AlreadyArray slot) = (((λ is. cc, λ is. cc), λ is. cc), λ is. cc)
+
+-- ---- what is so of each way that a plan may go
+
+module _ (IsSo : Plan → Type 0) where
+  unless_so : {X : Type 0} (slots : ℕ) (k : X → Bool → Plan) → ((given : X) (left : Bool) → IsSo (k given left))
+      → ((refusal : Refusal) → IsSo (Over (status_of_refusal slots refusal))) → (answer : Result X Refusal) (left : Bool)
+      → IsSo (unless_refused slots k answer left)
+  unless_so slots k done refused (Ok given) left = done given left
+  unless_so slots k done refused (Err refusal) left = refused refusal
+
+  range_so : (g : Geometry) (first count : ℕ) (plan : Plan) → IsSo plan → IsSo (Over (OutOfRange (max first (block_count g)) (block_count g)))
+      → IsSo (within_range g first count plan)
+  range_so g first count plan inside past = by (is_in_range g first count)
+    where
+      by : (within : Bool) → IsSo (if_in_range g first within plan)
+      by true = inside
+      by false = past
+
+  left_so : (more end : Plan) → IsSo more → IsSo end → (left : Bool) → IsSo (if_left left more end)
+  left_so more end of_more of_end true = of_more
+  left_so more end of_more of_end false = of_end
+
+-- ---- the statuses by which they end
+
+pub reads_own : (g : Geometry) (first count : ℕ) → EndsIn IsOfJob (reads g first count)
+reads_own g first zero = ((λ is. cc, λ is. cc), λ is. cc)
+reads_own g first (suc count) = unless_so (EndsIn IsOfJob) g.n _ (λ bytes left. reads_own g (first + 1) count) (λ refusal. (refusal_own g.n refusal).0)
+
+wrote_own : (all : ℕ) → EndsIn IsOfJob (wrote all)
+wrote_own all = (λ more. ((λ is. cc, λ is. cc), λ is. cc), λ none. ((λ is. cc, λ is. cc), λ is. cc))
+
+pub writes_own : (g : Geometry) (first all turns done : ℕ) (held : List ℕ) → EndsIn IsOfJob (writes g first all turns done held)
+writes_own g first all zero done held = wrote_own all
+writes_own g first all (suc turns) done held =
+    left_so (EndsIn IsOfJob) _ (wrote all) (
+      λ bytes. unless_so (EndsIn IsOfJob) g.n _ (λ ok left. writes_own g first all turns _ (part_of (held ++ bytes))) (λ refusal. (refusal_own g.n refusal).0),
+      λ bytes. ((λ is. cc, λ is. cc), λ is. cc),
+    ) (wrote_own all) (nat_lt done all)
+
+range_own : (g : Geometry) (first count : ℕ) (plan : Plan) → EndsIn IsOfJob plan → EndsIn IsOfJob (within_range g first count plan)
+range_own g first count plan own = range_so (EndsIn IsOfJob) g first count plan own ((λ is. cc, λ is. cc), λ is. cc)
+
+-- behind the survey
+pub read_own : (n first count : ℕ) (answer : Result Geometry Refusal) (left : Bool)
+    → EndsIn IsOfJob (unless_refused n (λ g left. within_range g first count (reads g first count)) answer left)
+read_own n first count =
+    unless_so (EndsIn IsOfJob) n (λ g left. within_range g first count (reads g first count))
+    (λ g left. range_own g first count (reads g first count) (reads_own g first count)) (λ refusal. (refusal_own n refusal).0)
+
+pub write_own : (n first count : ℕ) (answer : Result Geometry Refusal) (left : Bool)
+    → EndsIn IsOfJob (unless_refused n (λ g left. within_range g first count (writes g first count count 0 [])) answer left)
+write_own n first count =
+    unless_so (EndsIn IsOfJob) n (λ g left. within_range g first count (writes g first count count 0 []))
+    (λ g left. range_own g first count (writes g first count count 0 []) (writes_own g first count count 0 [])) (λ refusal. (refusal_own n refusal).0)
+
+-- ---- what is put out is put out last by `write`
+
+writes_last : (g : Geometry) (first all turns done : ℕ) (held : List ℕ) → PutsLast (writes g first all turns done held)
+writes_last g first all zero done held = (λ more. tt, λ none. refl)
+writes_last g first all (suc turns) done held =
+    left_so PutsLast _ (wrote all) (
+      λ bytes. unless_so PutsLast g.n _ (λ ok left. writes_last g first all turns _ (part_of (held ++ bytes))) (λ refusal. tt),
+      λ bytes. tt,
+    ) (λ more. tt, λ none. refl) (nat_lt done all)
+
+pub write_last : (n first count : ℕ) (answer : Result Geometry Refusal) (left : Bool)
+    → PutsLast (unless_refused n (λ g left. within_range g first count (writes g first count count 0 [])) answer left)
+write_last n first count =
+    unless_so PutsLast n (λ g left. within_range g first count (writes g first count count 0 []))
+    (λ g left. range_so PutsLast g first count (writes g first count count 0 []) (writes_last g first count count 0 []) tt) (λ refusal. tt)
+
+-- ---- no memory is asked for once the array is opened
+
+reads_none : (g : Geometry) (first count : ℕ) → AsksForNone (reads g first count)
+reads_none g first zero = λ is. cc
+reads_none g first (suc count) = unless_so AsksForNone g.n _ (λ bytes left. reads_none g (first + 1) count) (λ refusal. (refusal_own g.n refusal).1)
+
+writes_none : (g : Geometry) (first all turns done : ℕ) (held : List ℕ) → AsksForNone (writes g first all turns done held)
+writes_none g first all zero done held = (λ more is. cc, λ none is. cc)
+writes_none g first all (suc turns) done held =
+    left_so AsksForNone _ (wrote all) (
+      λ bytes. unless_so AsksForNone g.n _ (λ ok left. writes_none g first all turns _ (part_of (held ++ bytes))) (λ refusal. (refusal_own g.n refusal).1),
+      λ bytes is. cc,
+    ) (λ more is. cc, λ none is. cc) (nat_lt done all)
+
+pub read_none : (n first count : ℕ) (answer : Result Geometry Refusal) (left : Bool)
+    → AsksForNone (unless_refused n (λ g left. within_range g first count (reads g first count)) answer left)
+read_none n first count =
+    unless_so AsksForNone n (λ g left. within_range g first count (reads g first count))
+    (λ g left. range_so AsksForNone g first count (reads g first count) (reads_none g first count) (λ is. cc)) (λ refusal. (refusal_own n refusal).1)
+
+pub write_none : (n first count : ℕ) (answer : Result Geometry Refusal) (left : Bool)
+    → AsksForNone (unless_refused n (λ g left. within_range g first count (writes g first count count 0 [])) answer left)
+write_none n first count =
+    unless_so AsksForNone n (λ g left. within_range g first count (writes g first count count 0 []))
+    (λ g left. range_so AsksForNone g first count (writes g first count count 0 []) (writes_none g first count count 0 []) (λ is. cc))
+    (λ refusal. (refusal_own n refusal).1)
+
+-- ---- steps
+
+reads_used : (g : Geometry) (first count : ℕ) → EachStep IsInUse (reads g first count)
+reads_used g first zero = tt
+reads_used g first (suc count) = (tt, unless_so (EachStep IsInUse) g.n _ (λ bytes left. reads_used g (first + 1) count) (λ refusal. tt))
+
+writes_used : (g : Geometry) (first all turns done : ℕ) (held : List ℕ) → EachStep IsInUse (writes g first all turns done held)
+writes_used g first all zero done held = (λ more. tt, λ none. tt)
+writes_used g first all (suc turns) done held =
+    left_so (EachStep IsInUse) _ (wrote all) (
+      λ bytes. (tt, unless_so (EachStep IsInUse) g.n _ (λ ok left. writes_used g first all turns _ (part_of (held ++ bytes))) (λ refusal. tt)),
+      λ bytes. tt,
+    ) (λ more. tt, λ none. tt) (nat_lt done all)
+
+pub read_used : (n first count : ℕ) (answer : Result Geometry Refusal) (left : Bool)
+    → EachStep IsInUse (unless_refused n (λ g left. within_range g first count (reads g first count)) answer left)
+read_used n first count =
+    unless_so (EachStep IsInUse) n (λ g left. within_range g first count (reads g first count))
+    (λ g left. range_so (EachStep IsInUse) g first count (reads g first count) (reads_used g first count) tt) (λ refusal. tt)
+
+pub write_used : (n first count : ℕ) (answer : Result Geometry Refusal) (left : Bool)
+    → EachStep IsInUse (unless_refused n (λ g left. within_range g first count (writes g first count count 0 [])) answer left)
+write_used n first count =
+    unless_so (EachStep IsInUse) n (λ g left. within_range g first count (writes g first count count 0 []))
+    (λ g left. range_so (EachStep IsInUse) g first count (writes g first count count 0 []) (writes_used g first count count 0 []) tt) (λ refusal. tt)
+
+-- ---- nothing is taken by `read`
+
+reads_untaken : (g : Geometry) (first count : ℕ) → TakesNothing (reads g first count)
+reads_untaken g first zero = λ is. cc
+reads_untaken g first (suc count) =
+    unless_so TakesNothing g.n _ (λ bytes left. reads_untaken g (first + 1) count) (λ refusal. (refusal_own g.n refusal).0.0.0)
+
+pub read_untaken : (n first count : ℕ) (answer : Result Geometry Refusal) (left : Bool)
+    → TakesNothing (unless_refused n (λ g left. within_range g first count (reads g first count)) answer left)
+read_untaken n first count =
+    unless_so TakesNothing n (λ g left. within_range g first count (reads g first count))
+    (λ g left. range_so TakesNothing g first count (reads g first count) (reads_untaken g first count) (λ is. cc))
+    (λ refusal. (refusal_own n refusal).0.0.0)

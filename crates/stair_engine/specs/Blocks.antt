@@ -1,0 +1,113 @@
+-- What `read` and `write` do: an array is opened, and blocks of it are put out, or taken and written.
+use Rattle.std.specs.Prelude.{◌≡◌, ◌+◌, ◌-◌, ◌*◌, ◌/◌, ◌%◌, ◌<◌, ◌≤◌, ℕ, zero, suc, Bool, true, false, nat_le, nat_lt, List, [], ◌∷◌, ◌++◌, codes, length, take, drop, min, max, Some, Err}
+use Rattle.std.specs.Fmt.{decimal}
+use Rattle.stair_model.specs.Geometry.{Geometry, block_count, data_cells}
+use Rattle.stair_model.specs.Stripe.{SECTOR}
+use Rattle.stair_member.specs.Membership.{Membership}
+use Rattle.stair_array.specs.Arrays.{blocks_of}
+use Rattle.stair_array.specs.Faults.{opening_refusal}
+use Rattle.stair_array.specs.Machine.{ReadBlock, Recover, Refusal, WriteBlocks}
+use Rattle.stair_array.specs.Promise.{Closed, Found}
+use Rattle.stair_array.specs.declared.fault.RecoverFault.TheVariants as recover
+use Rattle.stair_story.specs.declared.fault.Fault.{Fault}
+use Rattle.stair_story.specs.declared.fault.Fault.TheVariants as fault
+use Rattle.stair_story.specs.declared.status.Status.TheVariants.{Done, Input, OutOfRange}
+use Rattle.stair_story.specs.Action.{Survey}
+use Rattle.stair_story.specs.Devices.{DeviceView, devices}
+use Rattle.stair_story.specs.Plan.{Plan, Over, Put, Allocate, Do, Take, take_exactly, take_step}
+use Rattle.stair_story.specs.Steps.{Takes}
+
+-- A session: an array is looked for, memory is taken, and it is opened.
+abbrev pub opens_array : (Geometry → Plan) → Plan
+opens_array k =
+    Do Survey (λ member. Allocate (take_step member.array.geometry.n Recover k))
+
+-- Why an array that was found isn't opened: memory was short before any call was made, or its opening was refused.
+abbrev pub IsUnopened : {R W : Type 0} → DeviceView R W → Membership → Fault → R → R → List W → List W
+    → Type 0
+IsUnopened view member fault.Memory old new watchers left = (new ≡ old) × (left ≡ watchers)
+IsUnopened view member (fault.Opening recover.Memory) old new watchers left =
+    (new ≡ old) × (left ≡ watchers)
+IsUnopened view member (fault.Opening refused) old new watchers left =
+    (refusal : Refusal) × (opening_refusal refused ≡ Some refusal)
+    × Takes view Recover (Err refusal) (devices old (Found member) watchers)
+    (devices new Closed left)
+IsUnopened view member _ old new watchers left = ⊥
+
+-- RANGES
+
+-- an array of this geometry has so many blocks from this one on; of none nothing is asked
+abbrev pub IsInRange : Geometry → ℕ → ℕ → Type 0
+IsInRange g first count = 0 < count → first + count ≤ block_count g
+
+abbrev pub is_in_range : Geometry → ℕ → ℕ → Bool
+is_in_range g first zero = true
+is_in_range g first (suc count) = nat_le (first + suc count) (block_count g)
+
+abbrev pub if_in_range : Geometry → ℕ → Bool → Plan → Plan
+if_in_range g first true plan = plan
+if_in_range g first false plan = Over (OutOfRange (max first (block_count g)) (block_count g))
+
+-- what is asked for is in range, or the call ends
+abbrev pub within_range : Geometry → (first count : ℕ) → Plan → Plan
+within_range g first count plan = if_in_range g first (is_in_range g first count) plan
+
+-- and the call ends so where it isn't
+abbrev pub IsPast : Geometry → ℕ → ℕ → Fault → Type 0
+IsPast g first count refused = (is_in_range g first count ≡ false)
+    × (refused ≡ fault.OutOfRange (max first (block_count g)) (block_count g))
+
+-- READING
+
+-- so many blocks from this one on, each put out before the next is read
+abbrev pub reads : Geometry → (first count : ℕ) → Plan
+reads g first zero = Over Done
+reads g first (suc count) =
+    take_step g.n (ReadBlock first) (λ bytes. Put bytes (reads g (first + 1) count))
+
+abbrev pub read_plan : (first count : ℕ) → Plan
+read_plan first count = opens_array (λ g. within_range g first count (reads g first count))
+
+-- WRITING
+
+-- The whole blocks of bytes that were taken, and what is left over of them.
+abbrev pub whole_of : List ℕ → List ℕ
+whole_of bytes = take (length bytes / SECTOR * SECTOR) bytes
+
+abbrev pub part_of : List ℕ → List ℕ
+part_of bytes = drop (length bytes / SECTOR * SECTOR) bytes
+
+-- how many blocks a piece has at most, from this block on, of which so many are left: none is past its stripe
+abbrev pub piece_blocks : Geometry → (block left : ℕ) → ℕ
+piece_blocks g block left = min left (data_cells g - block % data_cells g)
+
+-- the line for so many blocks that were written
+abbrev pub wrote_line : ℕ → List ℕ
+wrote_line count = codes "wrote " ++ (decimal count ++ (codes " blocks" ++ 10 ∷ []))
+
+-- behind the last of so many blocks one more byte is looked for
+abbrev pub wrote : ℕ → Plan
+wrote all = take_exactly 1 (λ more. Over (Input (SECTOR * all) (SECTOR * all + 1)))
+    (λ none. Put (wrote_line all) (Over Done))
+
+abbrev pub if_left : Bool → Plan → Plan → Plan
+if_left true more end = more
+if_left false more end = end
+
+-- What is left of a write of `all` blocks from `first` on, of which so many are done, behind bytes that were taken and are less
+-- than a block. A piece has one whole block at least, and is within a stripe; its whole blocks are written as one step. So there
+-- are no more turns than blocks.
+abbrev pub writes : Geometry → (first all turns done : ℕ) → List ℕ → Plan
+writes g first all zero done held = wrote all
+writes g first all (suc turns) done held = if_left (nat_lt done all)
+    (Take (SECTOR - length held)
+    (SECTOR * piece_blocks g (first + done) (all - done) - length held)
+    (λ bytes. take_step g.n (WriteBlocks (first + done) (blocks_of (whole_of (held ++ bytes))))
+    (λ ok. writes g first all turns (done + length (held ++ bytes) / SECTOR)
+    (part_of (held ++ bytes))))
+    (λ bytes. Over (Input (SECTOR * all) (SECTOR * done + length (held ++ bytes)))))
+    (wrote all)
+
+abbrev pub write_plan : (first count : ℕ) → Plan
+write_plan first count =
+    opens_array (λ g. within_range g first count (writes g first count count 0 []))

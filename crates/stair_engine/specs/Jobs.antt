@@ -1,0 +1,30 @@
+-- Kinds of jobs.
+use Rattle.std.specs.Prelude.{ℕ, List, ⊤}
+use Rattle.stair_conf.specs.Words.{Spells}
+use Rattle.stair_conf.specs.declared.job.Job.{Job}
+use Rattle.stair_conf.specs.declared.job.Job.TheVariants.{Create, Read, Show, Write}
+
+-- blocks of an array are put out
+abbrev pub IsReading : Job → Type 0
+IsReading (Read block count) = ⊤
+IsReading _ = ⊥
+
+-- an array that is there is opened
+abbrev pub OpensArray : Job → Type 0
+OpensArray (Read block count) = ⊤
+OpensArray (Write block count) = ⊤
+OpensArray _ = ⊥
+
+-- devices may be written: an array is made, or opened
+abbrev pub MayWrite : Job → Type 0
+MayWrite Create = ⊤
+MayWrite job = OpensArray job
+
+-- calls are made on devices
+abbrev pub MakesCalls : Job → Type 0
+MakesCalls Show = ⊤
+MakesCalls job = MayWrite job
+
+-- the words spell no such job
+abbrev pub NotSpelled : (Job → Type 0) → List (List ℕ) → Type 0
+NotSpelled IsSo words = (job : Job) → Spells words job → ¬ IsSo job

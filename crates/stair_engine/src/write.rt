@@ -1,0 +1,121 @@
+ghost use Rattle.std.specs.Prelude.{◌≡◌, ◌+◌, ◌*◌, ◌^◌, ◌<◌, ◌≤◌, ℕ, []};
+ghost use Rattle.stair_rack.specs.Watching.{watcher_view};
+ghost use Rattle.stair_array.specs.Promise.{Opened as IsOpen};
+ghost use Rattle.stair_engine.specs.Blocks.{IsInRange, piece_blocks as blocks_of_piece, wrote_line as line_of_wrote, write_plan, writes};
+ghost use Rattle.stair_model.specs.Geometry.{data_cells};
+ghost use Rattle.stair_model.specs.Stripe.{SECTOR as BYTES};
+ghost use Rattle.stair_story.specs.Devices.{MeansWhole, MeansWith, device_view, devices};
+ghost use Rattle.stair_story.specs.Fault.{status_of};
+ghost use Rattle.stair_story.specs.Outside.{outside, views};
+ghost use Rattle.stair_story.specs.Plan.{Over};
+ghost use Rattle.stair_story.specs.Rack.{rack_view};
+ghost use Rattle.stair_watch.specs.WatcherList.{AllStay};
+
+use crate::open::{in_range, open};
+use crate::piece::Piece;
+use stair_base::{Geometry, SECTOR, StripeCode};
+use stair_member::survey;
+use stair_rack::{Rack, Sink, Source, Watcher};
+use stair_story::{Fault, Intake, Opened, Status, put_all};
+use stair_watch::Line;
+use std::alloc::Global;
+
+/// Opens the array of the rack, and writes so many blocks from this one on, which are all of the input.
+pub(crate) fn write<R: Rack, S: Source, K: Sink>(
+    alloc: Global,
+    first: u64,
+    blocks: u64,
+    rack: &mut R,
+    input: &mut S,
+    output: &mut K,
+    watchers: &mut Vec<Box<dyn Watcher>>,
+) -> Result<Status, Fault>
+    requires stay { AllStay (watcher_view told count (λ w. (Watcher-box w).left w.value) patience) watchers.old.items }
+    ensures means { (counter : ℕ) → MeansWhole
+        (device_view (rack_view R.is_honest R.history R.bads R.gones) (watcher_view told count (λ w. (Watcher-box w).left w.value) patience))
+        (views S.left S.ended S.faults K.held K.faults)
+        (write_plan first blocks) (Over (status_of result))
+        (outside input.old output.old counter) (outside input.new output.new counter)
+        rack.old rack.new watchers.old.items watchers.new.items }
+    ensures stay { AllStay (watcher_view told count (λ w. (Watcher-box w).left w.value) patience) watchers.new.items }
+{
+    let member = survey(rack)?;
+    let geometry = member.geometry();
+    let mut piece = Piece::new(alloc, &geometry)?;
+    let mut array = open(alloc, rack, member, watchers)?;
+    in_range(&geometry, first, blocks)?;
+    write_input(
+        &mut array, &mut piece, first, blocks, rack, input, output, watchers,
+    )
+}
+
+// Writes the whole blocks of each piece that came, as one step, before more is taken.
+fn write_input<C: StripeCode, R: Rack, S: Source, K: Sink>(
+    array: &mut Opened<C>,
+    piece: &mut Piece,
+    first: u64,
+    blocks: u64,
+    rack: &mut R,
+    input: &mut S,
+    output: &mut K,
+    watchers: &mut Vec<Box<dyn Watcher>>,
+) -> Result<Status, Fault>
+    requires within { IsInRange array.old.member.array.geometry first blocks }
+    requires fits { first + blocks < 2 ^ 64 }
+    requires needed { BYTES * blocks < 2 ^ 63 }
+    requires room { data_cells array.old.member.array.geometry * BYTES ≤ piece.old.room }
+    requires empty { piece.old.bytes ≡ [] }
+    requires stay { AllStay (watcher_view told count (λ w. (Watcher-box w).left w.value) patience) watchers.old.items }
+    ensures means { (counter : ℕ) → MeansWith
+        (device_view (rack_view R.is_honest R.history R.bads R.gones)
+        (watcher_view told count (λ w. (Watcher-box w).left w.value) patience))
+        (views S.left S.ended S.faults K.held K.faults)
+        (writes array.old.member.array.geometry first blocks blocks 0 []) (Over (status_of result))
+        (outside input.old output.old counter) (outside input.new output.new counter)
+        (devices rack.old (IsOpen array.old) watchers.old.items)
+        (devices rack.new (IsOpen array.new) watchers.new.items) }
+    ensures stay { AllStay (watcher_view told count (λ w. (Watcher-box w).left w.value) patience) watchers.new.items }
+{
+    let geometry = array.geometry();
+    let mut intake = Intake::new(SECTOR as u64 * blocks);
+    let mut done = 0;
+    while done < blocks {
+        let block = first + done;
+        piece.take(
+            input,
+            &mut intake,
+            piece_blocks(&geometry, block, blocks - done),
+        )?;
+        let whole = piece.whole();
+        done += (whole.len() / SECTOR) as u64;
+        if let Err(fault) = array.write_blocks(rack, block, whole, watchers) {
+            return Err(Fault::Step {
+                fault,
+                slots: geometry.n(),
+            });
+        }
+        piece.drop_whole();
+    }
+    intake.end(input)?;
+    put_all(output, wrote_line(blocks).bytes())?;
+    Ok(Status::Done)
+}
+
+// How many blocks a piece has at most, from this block on, of which so many are left: none is past its stripe.
+fn piece_blocks(geometry: &Geometry, block: u64, left: u64) -> u16
+    ensures value { result ≡ blocks_of_piece geometry.now block left }
+    ensures within { result ≤ data_cells geometry.now }
+{
+    let per_stripe = u64::from(geometry.u());
+    left.min(per_stripe - block % per_stripe) as u16
+}
+
+// The line for so many blocks that were written.
+fn wrote_line(count: u64) -> Line
+    ensures { result ≡ line_of_wrote count }
+{
+    let mut line = Line::new();
+    line.push_named(b"wrote ", count);
+    line.push(b" blocks\n");
+    line
+}

@@ -1,0 +1,278 @@
+// Whole calls over racks in memory, what came of them, and what a rack holds then.
+ghost use Rattle.std.specs.Prelude.{◌≡◌, ◌<◌};
+
+use stair_engine::{Status, stair};
+use stair_gf::Steps;
+use stair_memrack::{Act, MemRack, What};
+use stair_rack::{Event, Got, MemSink, MemSource, Rack, Watcher};
+use stair_watch::{Kept, add};
+use std::alloc::{AllocError, Global};
+use std::marker::Brand;
+use std::sync::ledger::{Blank, Ledger};
+
+// CALLS
+
+// How a source gives its bytes, and how many a sink takes.
+#[derive(Clone, Copy)]
+pub(crate) struct Ends {
+    // so many bytes at most in one answer
+    pub(crate) piece: usize,
+    // the byte at which the source fails
+    pub(crate) fails_at: Option<u64>,
+    // the room of the sink
+    pub(crate) room: usize,
+}
+
+// No fault, and all at once.
+pub(crate) const WHOLE: Ends = Ends {
+    piece: 10_000,
+    fails_at: None,
+    room: 10_000,
+};
+
+// The first two events that a watcher kept; None where there is no watcher any more.
+pub(crate) type Told = Option<[Option<Event>; 2]>;
+
+pub(crate) const NOTHING_TOLD: Told = Some([None, None]);
+
+pub(crate) fn fenced(slot: u8) -> Told {
+    Some([Some(Event::Fenced { slot }), None])
+}
+
+// What came of a call.
+#[derive(Drop)]
+pub(crate) struct Came {
+    pub(crate) status: Status,
+    pub(crate) put: Vec<u8>,
+    pub(crate) told: Told,
+    // how many bytes of the input weren't taken
+    pub(crate) left: usize,
+}
+
+// Calls with the words of a line.
+pub(crate) fn call(
+    alloc: Global,
+    rack: &mut MemRack,
+    line: &str,
+    input: &[u8],
+    ends: Ends,
+) -> Result<Came, AllocError> {
+    let words = words_of(alloc, line)?;
+    call_on::<Brand>(Blank::new(1), alloc, rack, &words, input, ends)
+}
+
+fn words_of(alloc: Global, line: &str) -> Result<Vec<String>, AllocError> {
+    let mut words = Vec::new(alloc);
+    for word in line.split(' ') {
+        words.push(String::from_str(alloc, word)?)?;
+    }
+    Ok(words)
+}
+
+// The same, with the counter on a ledger of its own.
+fn call_on<L: Ledger>(
+    blank: Blank,
+    alloc: Global,
+    rack: &mut MemRack,
+    words: &[String],
+    input: &[u8],
+    ends: Ends,
+) -> Result<Came, AllocError>
+    requires name { blank.name ≡ L.name }
+    requires parts { blank.parts ≡ L.parts }
+    requires some { 0 < L.parts }
+{
+    let mut source = MemSource::new(alloc, input, ends.piece.max(1), ends.fails_at)?;
+    let mut sink = MemSink::new(alloc, ends.room)?;
+    let mut steps = Steps::<L>::new(blank);
+    let mut watchers = Vec::new(alloc);
+    add(&mut watchers, Box::new(alloc, Kept::new(alloc, 100)?)?)?;
+    let status = stair(
+        alloc,
+        words,
+        rack,
+        &mut source,
+        &mut sink,
+        &mut watchers,
+        &mut steps,
+    );
+    let told = match watchers.pop() {
+        Some(kept) => Some([kept.kept(0), kept.kept(1)]),
+        None => None,
+    };
+    Ok(Came {
+        status,
+        put: sink.bytes().to_vec(alloc)?,
+        told,
+        left: source.left().len(),
+    })
+}
+
+// Blocks one behind the other, each filled with one of these bytes.
+pub(crate) fn blocks_of(alloc: Global, fillings: &[u8]) -> Result<Vec<u8>, AllocError> {
+    let mut bytes = Vec::new(alloc);
+    for filling in fillings {
+        bytes.extend_from_slice(&[*filling; 512])?;
+    }
+    Ok(bytes)
+}
+
+// Whether a call is done that takes no input, puts these blocks out, and tells this.
+pub(crate) fn gives(
+    alloc: Global,
+    rack: &mut MemRack,
+    line: &str,
+    fillings: &[u8],
+    told: Told,
+) -> Result<bool, AllocError> {
+    let came = call(alloc, rack, line, b"left", WHOLE)?;
+    let blocks = blocks_of(alloc, fillings)?;
+    Ok(came.status == Status::Done && came.put == blocks && came.told == told && came.left == 4)
+}
+
+// Whether a call is done that takes these blocks, says this, and tells this.
+pub(crate) fn writes(
+    alloc: Global,
+    rack: &mut MemRack,
+    line: &str,
+    fillings: &[u8],
+    said: &str,
+    told: Told,
+) -> Result<bool, AllocError> {
+    let blocks = blocks_of(alloc, fillings)?;
+    let came = call(alloc, rack, line, &blocks, WHOLE)?;
+    let is_said = came.put.as_slice() == said.as_bytes();
+    Ok(came.status == Status::Done && is_said && came.told == told && came.left == 0)
+}
+
+// Whether a call ends with this status, takes all of this input or nothing of it, puts nothing out, and tells nothing.
+pub(crate) fn is_refused(
+    alloc: Global,
+    rack: &mut MemRack,
+    line: &str,
+    input: &[u8],
+    is_taken: bool,
+    status: Status,
+) -> Result<bool, AllocError> {
+    let came = call(alloc, rack, line, input, WHOLE)?;
+    let left = if is_taken { 0 } else { input.len() };
+    let is_quiet = came.put.is_empty() && came.told == NOTHING_TOLD;
+    Ok(came.status == status && is_quiet && came.left == left)
+}
+
+// Whether `show` puts out this text.
+pub(crate) fn is_shown(alloc: Global, rack: &mut MemRack, text: &str) -> Result<bool, AllocError> {
+    let came = call(alloc, rack, "show", &[], WHOLE)?;
+    Ok(came.status == Status::Done && came.put.as_slice() == text.as_bytes())
+}
+
+// RACKS
+
+// How many calls a rack keeps.
+const CALLS: u32 = 8000;
+
+// An array: the text that it is made of, how many devices it has, and how many sectors each.
+#[derive(Clone, Copy)]
+pub(crate) struct Shape {
+    text: &'static str,
+    devices: u8,
+    sectors: u32,
+}
+
+// 15 blocks, five in each of three stripes. A device has the body in sectors 3 to 10, and the stripes behind it.
+pub(crate) const FOUR: Shape = Shape {
+    text: "n = 4\nm = 1\nr = 2\ne = [1]\nstripes = 3\nid = '00000000000000000000000000000004'\n",
+    devices: 4,
+    sectors: 17,
+};
+
+// The array of four devices and its one class of coverage, with one device more and another coverage.
+pub(crate) const FIVE: Shape = Shape {
+    text: "n = 5\nm = 1\nr = 2\ne = [2]\nstripes = 2\nid = '00000000000000000000000000000005'\n",
+    devices: 5,
+    sectors: 17,
+};
+
+// 1,280 blocks, 20 in each of 64 stripes. A device has the body in sectors 3 to 34, and the stripes behind it.
+pub(crate) const EIGHT: Shape = Shape {
+    text: "n = 8\nm = 2\nr = 4\ne = [1, 1, 2]\nstripes = 64\nid = '00000000000000000000000000000008'\n",
+    devices: 8,
+    sectors: 291,
+};
+
+pub(crate) fn act(at: u32, what: What) -> Act {
+    Act { at, what }
+}
+
+// A rack over media of which `create` made this array.
+pub(crate) fn created(alloc: Global, shape: &Shape) -> Result<MemRack, AllocError> {
+    let mut rack = MemRack::new(alloc, shape.devices.min(32), shape.sectors, &[], CALLS)?;
+    let _ = call(alloc, &mut rack, "create", shape.text.as_bytes(), WHOLE)?;
+    Ok(rack)
+}
+
+// What a crash leaves of a rack in which each pending sector is torn, and then this happens.
+pub(crate) fn restarted(alloc: Global, rack: MemRack, acts: &[Act]) -> Result<MemRack, AllocError> {
+    rack.after_crash(alloc, &[9; 100], acts, CALLS)
+}
+
+// What a crash leaves of a rack by these picks.
+pub(crate) fn crashed(alloc: Global, rack: MemRack, picks: &[u32]) -> Result<MemRack, AllocError> {
+    rack.after_crash(alloc, picks, &[], CALLS)
+}
+
+// A rack with a new array, on which no call was made yet, and to which this happens.
+pub(crate) fn with_array(
+    alloc: Global,
+    shape: &Shape,
+    acts: &[Act],
+) -> Result<MemRack, AllocError> {
+    restarted(alloc, created(alloc, shape)?, acts)
+}
+
+// What fills the blocks of the array of four devices.
+pub(crate) const FILLINGS: [u8; 15] = [1, 2, 3, 4, 5, 6, 7, 8, 9, 10, 11, 12, 13, 14, 15];
+
+// A rack with the array of four devices, all of whose blocks were written, to which this happens.
+pub(crate) fn with_blocks(alloc: Global, acts: &[Act]) -> Result<MemRack, AllocError> {
+    let mut rack = created(alloc, &FOUR)?;
+    let blocks = blocks_of(alloc, &FILLINGS)?;
+    let _ = call(alloc, &mut rack, "write 0 15", &blocks, WHOLE)?;
+    restarted(alloc, rack, acts)
+}
+
+// What a sector reads as, where it does.
+pub(crate) fn sector(rack: &mut MemRack, slot: u8, number: u32) -> Option<[u8; 512]> {
+    let slot = slot.min(31);
+    let mut into = [0; 512];
+    match rack.read(slot, number, &mut into) {
+        Got::Good => Some(into),
+        Got::Bad | Got::Gone => None,
+    }
+}
+
+// The sectors of four devices from this one on, as they read.
+pub(crate) fn sectors_of(
+    alloc: Global,
+    rack: &mut MemRack,
+    first: u32,
+) -> Result<Vec<Option<[u8; 512]>>, AllocError> {
+    let mut sectors = Vec::new(alloc);
+    for slot in 0..4 {
+        rack.attach(slot);
+        for number in first..17 {
+            sectors.push(sector(rack, slot, number))?;
+        }
+    }
+    Ok(sectors)
+}
+
+// How many calls of the rack an opening of a new array takes, and how many with this line, which writes a block, in its place.
+pub(crate) fn calls_of(alloc: Global, shape: &Shape, line: &str) -> Result<(u32, u32), AllocError> {
+    let mut rack = with_array(alloc, shape, &[])?;
+    let _ = call(alloc, &mut rack, "read 0 0", &[], WHOLE)?;
+    let opened = rack.made();
+    let mut rack = with_array(alloc, shape, &[])?;
+    let _ = call(alloc, &mut rack, line, &[1; 512], WHOLE)?;
+    Ok((opened, rack.made()))
+}

@@ -1,0 +1,15 @@
+//! Tests of whole calls of `stair`, over racks in memory.
+#![tactic(auto)]
+
+#[cfg(test)]
+mod calls;
+#[cfg(test)]
+mod crashes;
+#[cfg(test)]
+mod range;
+#[cfg(test)]
+mod reading;
+#[cfg(test)]
+mod refusals;
+#[cfg(test)]
+mod writing;

@@ -1,0 +1,147 @@
+// The open array of a session, whose steps are told to watchers.
+
+ghost use Rattle.std.specs.Prelude.{◌≡◌, ◌%◌, ◌/◌, length, IfErr, IfOk, Some, Ok, Err};
+ghost use Rattle.stair_rack.specs.Watching.{watcher_view};
+ghost use Rattle.stair_array.specs.Arrays.{answer_as, blocks_of, outcome};
+ghost use Rattle.stair_array.specs.Faults.{opening_refusal};
+ghost use Rattle.stair_array.specs.Machine.{ReadBlock, Recover, Refusal, WriteBlocks};
+ghost use Rattle.stair_array.specs.News.{events_in};
+ghost use Rattle.stair_array.specs.Promise.{Closed, Found, Opened as IsOpen};
+ghost use Rattle.stair_state.specs.Blocks.{AreOfOneStripe};
+ghost use Rattle.stair_story.specs.Devices.{device_view, devices};
+ghost use Rattle.stair_story.specs.Rack.{rack_view};
+ghost use Rattle.stair_story.specs.Steps.{Takes};
+ghost use Rattle.stair_watch.specs.WatcherList.{AllStay, TellsAll};
+
+use stair_array::{Array, ArrayFault, News, RecoverFault};
+use stair_base::{Geometry, SECTOR, StripeCode};
+use stair_member::Member;
+use stair_rack::{Rack, Watcher};
+use stair_watch::tell;
+use std::alloc::Global;
+use std::marker::Model;
+
+// A step has at most so many events: each slot that became Down, a repair, an admission and a promotion.
+const MOST_EVENTS: u8 = 35;
+
+/// The open array of a session. Each step tells the watchers what it did, refused or not.
+#[derive(Drop)]
+pub struct Opened<C: StripeCode> {
+    array: Array<C>,
+}
+
+impl<C: StripeCode> Model for Opened<C> {
+    ghost use Rattle.std.specs.Prelude.{◌≡◌, None};
+    ghost use Rattle.stair_session.specs.Session.{ArrayState, IsArray};
+    ghost use Rattle.stair_array.specs.Arrays.{state_of};
+
+    ghost Value = { ArrayState };
+
+    ghost view = { λ o. state_of o.array };
+
+    ghost invariant = { λ o. o.array.stopped ≡ None → IsArray (state_of o.array) };
+}
+
+impl<C: StripeCode> Opened<C> {
+    /// Opens the array that a survey found on this rack, with no call between, as [`Array::recover`] does, and tells what
+    /// that did. Of an opening that is refused nothing is told.
+    pub fn open<R: Rack>(
+        alloc: Global,
+        rack: &mut R,
+        member: Member,
+        code: C,
+        watchers: &mut Vec<Box<dyn Watcher>>,
+    ) -> Result<Opened<C>, RecoverFault>
+        requires fits { C.shape code ≡ member.array.geometry }
+        requires stay { AllStay (watcher_view told count left patience) watchers.old.items }
+        ensures taken { IfOk result (λ array. Takes
+            (device_view (rack_view R.is_honest R.history R.bads R.gones) (watcher_view told count left patience))
+            Recover (Ok member.array.geometry)
+            (devices rack.old (Found member) watchers.old.items)
+            (devices rack.new (IsOpen array) watchers.new.items)) }
+        ensures refused { IfErr result (λ fault. (refusal : Refusal) →
+            opening_refusal fault ≡ Some refusal → Takes
+            (device_view (rack_view R.is_honest R.history R.bads R.gones) (watcher_view told count left patience))
+            Recover (Err refusal)
+            (devices rack.old (Found member) watchers.old.items)
+            (devices rack.new Closed watchers.new.items)) }
+        ensures memory { IfErr result (λ fault. fault ≡ RecoverFault.Memory →
+            (rack.new ≡ rack.old) × (watchers.new.items ≡ watchers.old.items)) }
+        ensures stay { AllStay (watcher_view told count left patience) watchers.new.items }
+    {
+        // by whose rules what was found is one of its geometry
+        let _ = member.geometry();
+        let array = Array::recover(alloc, rack, member, code)?;
+        tell_all(array.news(), watchers);
+        Ok(Opened { array })
+    }
+
+    /// Reads a block, as [`Array::read`] does, and tells what that did.
+    pub fn read<R: Rack>(
+        &mut self,
+        rack: &mut R,
+        block: u64,
+        into: &mut [u8; SECTOR],
+        watchers: &mut Vec<Box<dyn Watcher>>,
+    ) -> Result<(), ArrayFault>
+        requires stay { AllStay (watcher_view told count left patience) watchers.old.items }
+        ensures taken { Takes
+            (device_view (rack_view R.is_honest R.history R.bads R.gones) (watcher_view told count left patience))
+            (ReadBlock block) (answer_as into.new result)
+            (devices rack.old (IsOpen self.old) watchers.old.items)
+            (devices rack.new (IsOpen self.new) watchers.new.items) }
+        ensures stay { AllStay (watcher_view told count left patience) watchers.new.items }
+    {
+        self.array.clear_news();
+        let read = self.array.read(rack, block, into);
+        tell_all(self.array.news(), watchers);
+        read
+    }
+
+    /// Writes blocks of one stripe, as [`Array::write_blocks`] does, and tells what that did.
+    pub fn write_blocks<R: Rack>(
+        &mut self,
+        rack: &mut R,
+        first: u64,
+        from: &[u8],
+        watchers: &mut Vec<Box<dyn Watcher>>,
+    ) -> Result<(), ArrayFault>
+        requires whole { length from.now % 512 ≡ 0 }
+        requires together { AreOfOneStripe self.old.member.array.geometry first
+            (length from.now / 512) }
+        requires stay { AllStay (watcher_view told count left patience) watchers.old.items }
+        ensures taken { Takes
+            (device_view (rack_view R.is_honest R.history R.bads R.gones) (watcher_view told count left patience))
+            (WriteBlocks first (blocks_of from.now)) (outcome result)
+            (devices rack.old (IsOpen self.old) watchers.old.items)
+            (devices rack.new (IsOpen self.new) watchers.new.items) }
+        ensures stay { AllStay (watcher_view told count left patience) watchers.new.items }
+    {
+        self.array.clear_news();
+        let written = self.array.write_blocks(rack, first, from);
+        tell_all(self.array.news(), watchers);
+        written
+    }
+
+    /// The geometry of the array.
+    pub fn geometry(&self) -> Geometry
+        ensures { result ≡ self.now.member.array.geometry }
+    {
+        self.array.geometry()
+    }
+}
+
+// Tells the watchers all events of the news, in their order.
+fn tell_all(news: News, watchers: &mut Vec<Box<dyn Watcher>>)
+    requires stay { AllStay (watcher_view told count left patience) watchers.old.items }
+    ensures told { TellsAll (watcher_view told count left patience) (events_in news)
+        watchers.old.items watchers.new.items }
+    ensures stay { AllStay (watcher_view told count left patience) watchers.new.items }
+{
+    for at in 0..MOST_EVENTS {
+        match news.event(at) {
+            Some(event) => tell(watchers, event),
+            None => return,
+        }
+    }
+}
