@@ -58,3 +58,4 @@ pub mod WriteOutcomeLemmas
 pub mod WriteStepLemmas
 pub mod WriteDoneLemmas
 pub mod WriteStoppedLemmas
+pub mod MendingLemmas

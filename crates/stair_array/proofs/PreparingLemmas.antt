@@ -73,7 +73,7 @@ module _ (m : Membership) (t : ℕ) (cells : CellSet) (live : Slots) (are : AreL
         → ReadiesFor m t cells kept (outcome result) (point m old) y
     cells_stop fault result y kept as_read is leaves count few =
         subst (λ (s : Stripe). Prepares t count cells s (outcome result) (point m old) y) (sym as_read)
-        (subst (λ (a : Result (Unit {0}) Refusal). Prepares t count cells read a (point m old) y) (sym (epoch_answer tt result fault is))
+        (subst (λ (a : Result (Unit {0}) Refusal). Prepares t count cells read a (point m old) y) (sym (epoch_answer result fault is))
         (Prepares.Stops gathered was fault (point m old) y few (loads (Some fault) y leaves)))
 
     module _ (y : Point) (leaves : LeavesOut gathered.gone None (point m mid) y) (found : ℕ) (counted : found ≡ cell_count gathered.erased) where

@@ -36,15 +36,15 @@ use Rattle.stair_array.specs.Machine.{Lost, Refusal}
 use Rattle.stair_array.specs.declared.fault.ArrayFault.{ArrayFault}
 use Rattle.stair_array.specs.declared.fault.ArrayFault.TheVariants as array
 
-fault_refused : (fault : FenceFault) → refusal_for (array_fault fault) ≡ refused fault
+pub fault_refused : (fault : FenceFault) → refusal_for (array_fault fault) ≡ refused fault
 fault_refused (fence.TooFew whys) = refl
 fault_refused fence.EpochsSpent = refl
 
 -- a refused epoch is handed on
-pub epoch_answer : {T : Type 0} (given : T) (result : Result (Unit {0}) ArrayFault) (fault : FenceFault)
-    → IsErrAnd result (λ e. e ≡ array_fault fault) → answer_as given result ≡ Err (refused fault)
-epoch_answer given (Ok done) fault is = absurd is
-epoch_answer given (Err e) fault same = ap (λ (a : ArrayFault). Err (refusal_for a)) same ∙ ap (λ (r : Refusal). Err r) (fault_refused fault)
+pub epoch_answer : {T : Type 0} (result : Result T ArrayFault) (fault : FenceFault)
+    → IsErrAnd result (λ e. e ≡ array_fault fault) → outcome result ≡ Err (refused fault)
+epoch_answer (Ok given) fault is = absurd is
+epoch_answer (Err e) fault same = ap (λ (a : ArrayFault). Err (refusal_for a)) same ∙ ap (λ (r : Refusal). Err r) (fault_refused fault)
 
 -- A CELL
 
@@ -107,7 +107,7 @@ module _ (m : Membership) (g : Geometry) (same : g ≡ m.array.geometry) (live :
   own : Gathers m.array.geometry live t (IsCellOf m.array.geometry) gathered was read old mid
   own = subst (λ (k : Geometry). Gathers k live t (IsCellOf k) gathered was read old mid) same gathers
 
-  loads : (refusal : Option FenceFault) → LeavesOut gathered.gone refusal (point m mid) y
+  pub loads : (refusal : Option FenceFault) → LeavesOut gathered.gone refusal (point m mid) y
       → Loads t (IsCellOf m.array.geometry) gathered was read refusal (point m old) y
   loads refusal leaves = record { live = live; are_live = are; mid = mid; gathers = own; leaves = leaves }
 
@@ -119,7 +119,7 @@ module _ (m : Membership) (g : Geometry) (same : g ≡ m.array.geometry) (live :
   pub load_stops : (into : Stripe) (fault : FenceFault) (result : Result (Unit {0}) ArrayFault) → IsErrAnd result (λ e. e ≡ array_fault fault)
       → LeavesOut gathered.gone (Some fault) (point m mid) y → LoadsStripe t into (outcome result) (point m old) y
   load_stops into fault result is leaves =
-      subst (λ (a : Result (Unit {0}) Refusal). LoadsStripe t into a (point m old) y) (sym (epoch_answer tt result fault is))
+      subst (λ (a : Result (Unit {0}) Refusal). LoadsStripe t into a (point m old) y) (sym (epoch_answer result fault is))
       (LoadsStripe.Stops was read gathered fault (point m old) y (loads (Some fault) leaves))
 
   module _ (leaves : LeavesOut gathered.gone None (point m mid) y) (k : Geometry) (alike : k ≡ m.array.geometry) where

@@ -98,7 +98,7 @@ module _ (x : Point) (redo : Redo) (first : ℕ) (contents : List (List ℕ)) (p
     pub wrote_stops : (fault : FenceFault) (result : Result (Unit {0}) ArrayFault) → IsErrAnd result (λ e. e ≡ array_fault fault)
         → Redoes y.member.array.geometry redo stripe AtRest (Some fault) y z → WritesBlocks first contents (outcome result) x z
     wrote_stops fault result is run =
-        subst (λ (a : Result (Unit {0}) Refusal). WritesBlocks first contents a x z) (sym (epoch_answer tt result fault is)) (done (Some fault) run)
+        subst (λ (a : Result (Unit {0}) Refusal). WritesBlocks first contents a x z) (sym (epoch_answer result fault is)) (done (Some fault) run)
 
 -- no block has this number
 pub written_past : (first : ℕ) (contents : List (List ℕ)) (x : Point) (fault : ArrayFault) (result : Result (Unit {0}) ArrayFault)

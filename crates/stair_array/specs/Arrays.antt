@@ -43,8 +43,9 @@ abbrev pub answer_as : {T : Type 0} → T → Result (Unit {0}) ArrayFault → R
 answer_as given (Ok done) = Ok given
 answer_as given (Err fault) = Err (refusal_for fault)
 
-abbrev pub outcome : Result (Unit {0}) ArrayFault → Result (Unit {0}) Refusal
-outcome result = answer_as tt result
+abbrev pub outcome : {T : Type 0} → Result T ArrayFault → Result T Refusal
+outcome (Ok given) = Ok given
+outcome (Err fault) = Err (refusal_for fault)
 
 -- the blocks that these bytes are, where they are whole blocks
 abbrev pub blocks_of : List ℕ → List (List ℕ)

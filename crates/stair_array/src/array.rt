@@ -10,8 +10,9 @@ ghost use Rattle.stair_session.specs.Courses.{point};
 ghost use Rattle.stair_array.specs.Arrays.{LacksCell, LacksOne, Opens, answer_as, blocks_of, cells_of, outcome};
 ghost use Rattle.stair_array.specs.Calls.{AreOfBlocks, Reads, WritesBlocks};
 ghost use Rattle.stair_array.specs.Faults.{array_fault};
-ghost use Rattle.stair_array.specs.Machine.{ReadBlock, Recover, WriteBlocks, write_block};
-ghost use Rattle.stair_array.specs.News.{AddsNews, no_news};
+ghost use Rattle.stair_array.specs.Machine.{ReadBlock, Recover, ScrubStripe, SetFrozen, SetLabel, WriteBlocks, write_block};
+ghost use Rattle.stair_array.specs.News.{AddsFallen, AddsNews, no_news};
+ghost use Rattle.stair_array.specs.Mends.{Scrubs, StampsAs};
 ghost use Rattle.stair_array.specs.Promise.{Keeps, rebuild_after};
 
 use crate::fault::{ArrayFault, RecoverFault};
@@ -223,6 +224,111 @@ impl<C: StripeCode> Array<C> {
         let written = self.session.write(rack, &mut self.code, first, blocks);
         self.news.add_fallen(&before, &self.session.member);
         written
+    }
+
+    /// Scrubs a stripe: what can't be read of it on a live slot is restored and written anew. How many cells that is.
+    ///
+    /// The stripe is gathered, and the slots that were gone are left out. Where each cell on a live slot can be read nothing is
+    /// written. Else the stripe is restored, and these cells are journalled and placed, as for a write of blocks. A frozen array
+    /// is scrubbed too.
+    ///
+    /// - `OutOfRange`: the array has no such stripe. No call is made.
+    /// - `Lost`: as for a read. Nothing is changed, and the array goes on.
+    /// - `TooFew`, `EpochsSpent`: an epoch without slots that were gone was refused. The array is stopped.
+    pub fn mend_stripe<R: Rack>(&mut self, rack: &mut R, stripe: u32) -> Result<u16, ArrayFault>
+        ensures told { self.old.stopped ≡ None → Scrubs stripe (outcome result)
+            (point self.old.member (told R.Rack rack.old))
+            (point self.new.member (told R.Rack rack.new)) }
+        ensures kept { self.old.stopped ≡ None → Keeps (outcome result) self.new.stopped }
+        ensures stopped { (fault : Fault) → self.old.stopped ≡ Some fault →
+            (result ≡ Err (array_fault fault)) × (rack.new ≡ rack.old) × (self.new ≡ self.old) }
+        ensures past { self.old.member.array.geometry.stripes ≤ stripe → rack.new ≡ rack.old }
+        ensures rebuild { self.new.rebuild ≡ rebuild_after self.new.member self.old.rebuild }
+        ensures news { AddsNews (ScrubStripe stripe) (outcome result) self.old.member.array
+            self.new.member.array self.old.news self.new.news }
+        ensures reads { RisesAtMost (cells_of self.old.member.array.geometry) (R.reads rack.old)
+            (R.reads rack.new) }
+    {
+        if let Some(fault) = self.session.stopped {
+            return Err(ArrayFault::from(fault));
+        }
+        let limit = self.session.member.geometry().stripes();
+        if stripe >= limit {
+            return Err(ArrayFault::OutOfRange {
+                asked: u64::from(stripe),
+                limit: u64::from(limit),
+            });
+        }
+        let before = self.session.member;
+        let scrubbed = self.session.scrub(rack, &mut self.code, stripe);
+        self.news.add_fallen(&before, &self.session.member);
+        let cells = scrubbed?;
+        self.news.repaired = Some((stripe, cells));
+        Ok(cells)
+    }
+
+    /// Freezes the array, or thaws it, by an epoch: the blocks of a frozen one aren't written.
+    ///
+    /// - `TooFew`, `EpochsSpent`: the epoch was refused. The array is stopped, and its next opening finds the mark as it was, or as it
+    ///   was to be.
+    pub fn set_frozen<R: Rack>(&mut self, rack: &mut R, frozen: bool) -> Result<(), ArrayFault>
+        ensures told { self.old.stopped ≡ None →
+            StampsAs frozen self.old.member.array.label (outcome result)
+            (point self.old.member (told R.Rack rack.old))
+            (point self.new.member (told R.Rack rack.new)) }
+        ensures kept { self.old.stopped ≡ None → Keeps (outcome result) self.new.stopped }
+        ensures stopped { (fault : Fault) → self.old.stopped ≡ Some fault →
+            (result ≡ Err (array_fault fault)) × (rack.new ≡ rack.old) × (self.new ≡ self.old) }
+        ensures rebuild { self.new.rebuild ≡ rebuild_after self.new.member self.old.rebuild }
+        ensures news { AddsNews (SetFrozen frozen) (outcome result) self.old.member.array
+            self.new.member.array self.old.news self.new.news }
+        ensures reads { R.reads rack.new ≡ R.reads rack.old }
+    {
+        let label = self.session.member.label();
+        self.stamp(rack, frozen, label)
+    }
+
+    /// Gives the array this label, by an epoch.
+    ///
+    /// - `TooFew`, `EpochsSpent`: the epoch was refused. The array is stopped, and its next opening finds the label as it was, or as it
+    ///   was to be.
+    pub fn set_label<R: Rack>(&mut self, rack: &mut R, label: Label) -> Result<(), ArrayFault>
+        ensures told { self.old.stopped ≡ None →
+            StampsAs self.old.member.array.frozen label (outcome result)
+            (point self.old.member (told R.Rack rack.old))
+            (point self.new.member (told R.Rack rack.new)) }
+        ensures kept { self.old.stopped ≡ None → Keeps (outcome result) self.new.stopped }
+        ensures stopped { (fault : Fault) → self.old.stopped ≡ Some fault →
+            (result ≡ Err (array_fault fault)) × (rack.new ≡ rack.old) × (self.new ≡ self.old) }
+        ensures rebuild { self.new.rebuild ≡ rebuild_after self.new.member self.old.rebuild }
+        ensures news { AddsNews (SetLabel label) (outcome result) self.old.member.array
+            self.new.member.array self.old.news self.new.news }
+        ensures reads { R.reads rack.new ≡ R.reads rack.old }
+    {
+        let frozen = self.session.member.frozen();
+        self.stamp(rack, frozen, label)
+    }
+
+    // Establishes an epoch with this frozen mark and label.
+    fn stamp<R: Rack>(&mut self, rack: &mut R, frozen: bool, label: Label) -> Result<(), ArrayFault>
+        ensures told { self.old.stopped ≡ None → StampsAs frozen label (outcome result)
+            (point self.old.member (told R.Rack rack.old))
+            (point self.new.member (told R.Rack rack.new)) }
+        ensures kept { self.old.stopped ≡ None → Keeps (outcome result) self.new.stopped }
+        ensures stopped { (fault : Fault) → self.old.stopped ≡ Some fault →
+            (result ≡ Err (array_fault fault)) × (rack.new ≡ rack.old) × (self.new ≡ self.old) }
+        ensures rebuild { self.new.rebuild ≡ rebuild_after self.new.member self.old.rebuild }
+        ensures news { AddsFallen self.old.member.array self.new.member.array self.old.news
+            self.new.news }
+        ensures reads { R.reads rack.new ≡ R.reads rack.old }
+    {
+        if let Some(fault) = self.session.stopped {
+            return Err(ArrayFault::from(fault));
+        }
+        let before = self.session.member;
+        let stamped = self.session.stamp(rack, frozen, label);
+        self.news.add_fallen(&before, &self.session.member);
+        stamped
     }
 
     /// The geometry of the array.

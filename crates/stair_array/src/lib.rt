@@ -6,6 +6,7 @@ mod fault;
 pub mod laws;
 mod look;
 pub mod machine;
+mod mending;
 mod new_array;
 mod new_device;
 mod news;

@@ -8,6 +8,8 @@ mod creating;
 #[cfg(test)]
 mod cuts;
 #[cfg(test)]
+mod mending;
+#[cfg(test)]
 mod opening;
 #[cfg(test)]
 mod racks;
