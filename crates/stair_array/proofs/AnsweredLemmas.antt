@@ -15,8 +15,9 @@ use Rattle.stair_rack.proofs.MomentLemmas.{moment_between, ran_join, ran_none, r
 use Rattle.stair_rack.proofs.StretchLemmas.{answered_allowed}
 use Rattle.stair_member.specs.Editions.{Edition}
 use Rattle.stair_member.specs.Epochs.{ASync, AWrite, IsGoneCall, IsIssuing}
-use Rattle.stair_member.specs.Establishing.{Did, Fences, HasBegun, NotYet}
+use Rattle.stair_member.specs.Establishing.{Did, Establishes, Fences, HasBegun, NotYet, refusal_of}
 use Rattle.stair_member.specs.Membership.{IsMembership, Membership, why_of}
+use Rattle.stair_member.specs.declared.aim.Aim.{Aim}
 use Rattle.stair_member.specs.declared.aim.Aim.TheVariants.{Fence}
 use Rattle.stair_member.specs.declared.fault.FenceFault.{FenceFault}
 use Rattle.stair_member.specs.declared.why.Why.{Why}
@@ -82,13 +83,16 @@ issuing_gone slots editions j c (AWrite e k answer on among formed small is) =
     subst (λ (d : SlotCall). IsAnsweredGone d → IsGoneCall d) (sym is) (λ gone. gone)
 issuing_gone slots editions j c (ASync answer on is) = subst (λ (d : SlotCall). IsAnsweredGone d → IsGoneCall d) (sym is) (λ gone. gone)
 
+pub epoch_left_out : (aim : Aim) (m start last : Membership) (refusal : Option FenceFault) (old new : Telling)
+    → Establishes aim start last refusal old new → IsTrue new.honest → AreAllLeftOut m last old new
+epoch_left_out aim m start last refusal old new e honest j call here was gone =
+    let issued = e.issued honest in
+    let may = answered_allowed {allowed = IsIssuing issued.slots issued.editions} issued.ran was in
+    e.were_gone.dropped j (e.were_gone.told honest j call was (issuing_gone issued.slots issued.editions j call may gone))
+
 pub fence_left_out : (leaving : Slots) (m last : Membership) (answer : Result Slots FenceFault) (old new : Telling)
     → Fences leaving m last answer old new → IsTrue new.honest → AreAllLeftOut m last old new
-fence_left_out leaving m last answer old new e honest j call here was gone =
-    let issued = e.establishes.issued honest in
-    let may = answered_allowed {allowed = IsIssuing issued.slots issued.editions} issued.ran was in
-    e.establishes.were_gone.dropped j
-    (e.establishes.were_gone.told honest j call was (issuing_gone issued.slots issued.editions j call may gone))
+fence_left_out leaving m last answer old new e = epoch_left_out Fence m e.start last (refusal_of answer) old new e.establishes
 
 -- a slot that is left out is gone then
 fence_gone : (leaving : Slots) (m last : Membership) (answer : Result Slots FenceFault) (old new : Telling)
@@ -132,7 +136,7 @@ out_left_out gone refusal x y mid before told leaves honest j call here was answ
 
 -- PHASES
 
-written_gone : (what : Writes) (to : ℕ → Type 0) (j : ℕ) (c : SlotCall) → (IsWriteOf what to j c ⊎ IsSyncOf to j c) → IsAnsweredGone c
+pub written_gone : (what : Writes) (to : ℕ → Type 0) (j : ℕ) (c : SlotCall) → (IsWriteOf what to j c ⊎ IsSyncOf to j c) → IsAnsweredGone c
     → AnswersGone c
 written_gone what to j c (inl is) = subst (λ (d : SlotCall). IsAnsweredGone d → AnswersGone d) (sym is.is) (λ gone. gone)
 written_gone what to j c (inr is) = subst (λ (d : SlotCall). IsAnsweredGone d → AnswersGone d) (sym is.is) (λ gone. gone)

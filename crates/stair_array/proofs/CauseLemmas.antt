@@ -12,8 +12,10 @@ use Rattle.stair_rack.specs.Telling.{IsReading, Telling}
 use Rattle.stair_rack.proofs.TellingLemmas.{later_none, reading_wider}
 use Rattle.stair_member.specs.Counting.{AtMost}
 use Rattle.stair_member.specs.Epochs.{IsRefusedBy}
-use Rattle.stair_member.specs.Establishing.{Fences, refusal_of}
+use Rattle.stair_member.specs.Establishing.{Establishes, Fences, refusal_of}
 use Rattle.stair_member.specs.Membership.{IsMembership, IsMissing, Membership}
+use Rattle.stair_member.specs.declared.aim.Aim.{Aim}
+use Rattle.stair_member.specs.declared.aim.Aim.TheVariants.{Fence}
 use Rattle.stair_member.specs.declared.fault.FenceFault.{FenceFault}
 use Rattle.stair_journal.specs.Bodies.{AllGiven, GivesNot, IsFirstUngiven, UngivenFirst}
 use Rattle.stair_journal.specs.Gate.{open_gate}
@@ -64,16 +66,20 @@ found_refused _ _ _ _ _ (FindsRedo.Stops gates live mid redo opened by x y are r
 -- WHAT STANDS WHERE IT ISN'T
 
 -- an epoch that stands names what the session knows
-pub fence_array : (leaving : Slots) (m last : Membership) (answer : Result Slots FenceFault) (old new : Telling)
-    → Fences leaving m last answer old new → refusal_of answer ≡ None → IsArray (unopened last)
-fence_array leaving m last answer old new e fine =
-    let stands = (e.establishes.done fine).stands in
+pub epoch_array : (aim : Aim) (m last : Membership) (refusal : Option FenceFault) (old new : Telling) → Establishes aim m last refusal old new
+    → refusal ≡ None → IsArray (unopened last)
+epoch_array aim m last refusal old new e fine =
+    let stands = (e.done fine).stands in
     record {
-      member = e.establishes.rules;
-      marks = λ j below. stands.marks j (subst (λ (g : Geometry). j < g.n) e.establishes.geometry below);
-      enough = subst (λ (g : Geometry). AtMost g.m (IsMissing last)) (sym e.establishes.geometry) stands.enough;
+      member = e.rules;
+      marks = λ j below. stands.marks j (subst (λ (g : Geometry). j < g.n) e.geometry below);
+      enough = subst (λ (g : Geometry). AtMost g.m (IsMissing last)) (sym e.geometry) stands.enough;
       rebuilds = λ rebuild is. absurd (cc);
     }
+
+pub fence_array : (leaving : Slots) (m last : Membership) (answer : Result Slots FenceFault) (old new : Telling)
+    → Fences leaving m last answer old new → refusal_of answer ≡ None → IsArray (unopened last)
+fence_array leaving m last answer old new e = epoch_array Fence e.start last (refusal_of answer) old new e.establishes
 
 pub left_array : (gone : Slots) (refusal : Option FenceFault) (x y : Point) → LeavesOut gone refusal x y → refusal ≡ None
     → IsArray (unopened x.member) → IsArray (unopened y.member)

@@ -40,7 +40,7 @@ use Rattle.stair_array.proofs.RecoveryLemmas.{first_redo}
 
 -- PHASES
 
-writes_beside : (what : Writes) (to : ℕ → Type 0) (j : ℕ) (c : SlotCall) → IsWriteOf what to j c → attaches_none j c
+pub writes_beside : (what : Writes) (to : ℕ → Type 0) (j : ℕ) (c : SlotCall) → IsWriteOf what to j c → attaches_none j c
 writes_beside what to j c is = subst IsBesideAttach (sym is.is) tt
 
 syncs_beside : (to : ℕ → Type 0) (j : ℕ) (c : SlotCall) → IsSyncOf to j c → attaches_none j c

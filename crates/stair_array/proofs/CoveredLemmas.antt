@@ -24,7 +24,6 @@ use Rattle.stair_rack.proofs.OfflineLemmas.{and-true_left, offline_now, offline_
 use Rattle.stair_rack.proofs.StepLemmas.{kept}
 use Rattle.stair_rack.proofs.TidyLemmas.{history_on, history_tidy, left_past_end}
 use Rattle.stair_super.specs.Superblock.{Superblock}
-use Rattle.stair_super.specs.declared.mark.Mark.TheVariants as mark
 use Rattle.stair_member.specs.Current.{IsCurrent, IsFailed, IsLive}
 use Rattle.stair_member.specs.Membership.{why_of}
 use Rattle.stair_member.specs.Seats.{Seat, seats_of}
@@ -44,13 +43,12 @@ use Rattle.stair_state.proofs.ToleranceLemmas.{exactly_covered}
 use Rattle.stair_session.specs.Courses.{Fenced, LeavesOut, NoneWas, Point, point}
 use Rattle.stair_session.specs.InSession.{IsOfContent}
 use Rattle.stair_session.specs.Rebuilding.{Rebuild}
-use Rattle.stair_session.specs.SeatSteps.{MayDrop}
 use Rattle.stair_session.specs.Session.{IsLiveIn, seats_in}
 use Rattle.stair_session.proofs.BesideLemmas.{medium_on_it}
-use Rattle.stair_session.proofs.ChangingLemmas.{live_here}
 use Rattle.stair_session.proofs.EachAloneLemmas.{made_left}
 use Rattle.stair_session.proofs.OpenWithLemmas.{issued_apart}
 use Rattle.stair_array.proofs.EnoughLemmas.{never_few}
+use Rattle.stair_array.proofs.LedOnLemmas.{live_still}
 use Rattle.stair_array.proofs.LeftServingLemmas.{StandsIn}
 use Rattle.stair_array.proofs.ReadPartLemmas.{Calm, HasLoaded, Stands, all_ran, calm_going_mid, any_read, array_here, gone_off, honest_mid, live_of, loading_moments, ran_gathering, ran_leaving, ran_reading, serves_first, serves_mid, to_mid}
 use Rattle.stair_array.proofs.ServingLemmas.{IsGoing, IsServing, cell_then, read_bad, tolerated_now}
@@ -144,7 +142,8 @@ module _ (before : List Happening) (rebuild : Option Rebuild) (stopped_by : Opti
   -- a slot that is live in the end was so to the member
   live_was : (current : Superblock) → IsCurrent x.member.array.geometry (image_now z.told.history) current → (j : ℕ)
       → IsLive x.member.array.geometry (image_now z.told.history) current j → why_of x.member j ≡ why.Here
-  live_was current is_current j live = by (stands.dropped j)
+  live_was current is_current j live =
+      live_still x.member is.is_open.array.marks stands.array j live.below (stands.dropped j) (sym (ap (λ (s : Seat). s.mark) seat) ∙ live.marked)
     where
       alone : CrashMayLeave (Made (image_now z.told.history) ∷ []) (image_now z.told.history)
       alone =
@@ -153,14 +152,6 @@ module _ (before : List Happening) (rebuild : Option Rebuild) (stopped_by : Opti
 
       seat : seats_of current j ≡ seats_in stands.array j
       seat = stands.stands.seats (image_now z.told.history) alone current j within.identity is_current
-
-      marked : (seats_in stands.array j).mark ≡ mark.Live
-      marked = sym (ap (λ (s : Seat). s.mark) seat) ∙ live.marked
-
-      by : MayDrop (seats_in x.member.array j) (seats_in stands.array j) → why_of x.member j ≡ why.Here
-      by (inr fell) = absurd (let never : mark.Live ≡ mark.Down = sym marked ∙ ap (λ (s : Seat). s.mark) fell.1 in cc)
-      by (inl same) =
-          live_here (why_of x.member j) (sym (is.is_open.array.marks j live.below) ∙ sym (ap (λ (s : Seat). s.mark) same) ∙ marked)
 
   -- NO EPOCH IS REFUSED FOR WANT OF SLOTS
 

@@ -102,7 +102,7 @@ size_stays before j (e ∷ more) old runs online =
     size_step before (more ++ old) j e (slot_state old j).size runs.1 (throughout_end (λ h. ¬ IsOffline before h j) more old online.1) online.0
     (size_stays before j more old runs.0 online.1)
 
-size_kept : (before : List Happening) (j : ℕ) (old new : List Happening) → Ran any_call old new → AtEveryMoment (λ h. ¬ IsOffline before h j) old new
+pub size_kept : (before : List Happening) (j : ℕ) (old new : List Happening) → Ran any_call old new → AtEveryMoment (λ h. ¬ IsOffline before h j) old new
     → (slot_state new j).size ≡ (slot_state old j).size
 size_kept before j old new ran online =
     let same : ran.more ≡ online.more = append_cancel_right ran.more online.more old (sym ran.is ∙ online.is) in

@@ -1,14 +1,17 @@
 -- Epochs that draw few times before they stop leave a number to draw.
-use Rattle.std.proofs.Common.{◌≡◌, ℕ, ◌+◌, ◌*◌, ◌≤◌, arith}
-use Rattle.std.specs.Prelude.{◌-◌, ◌^◌}
+use Rattle.std.proofs.Common.{◌≡◌, ℕ, ◌+◌, ◌*◌, ◌≤◌, List, refl, sym, ap, ◌∙◌, subst, arith}
+use Rattle.std.specs.Prelude.{◌-◌, ◌^◌, IfErr, IsOk, Ok, Err}
 use Rattle.stair_model.specs.Sum.{sum_below}
 use Rattle.stair_model.proofs.CountLaws.{sum_below_constant, sum_below_le}
 use Rattle.stair_rack.specs.Telling.{Telling}
+use Rattle.stair_rack.specs.declared.watcher.Event.{Event}
 use Rattle.stair_member.specs.Membership.{IsMembership, Membership, why_of}
 use Rattle.stair_member.specs.declared.why.Why.{Why}
 use Rattle.stair_member.specs.declared.why.Why.TheVariants as why
-use Rattle.stair_array.specs.Draws.{Before, DrawsFew, HadSeen, OnMedium, allowance, most_drawn, weight, weights}
-use Rattle.stair_array.specs.Machine.{Recover, ReplaceSlot, SetFrozen, SetLabel, Step}
+use Rattle.stair_array.specs.Causes.{AreSpent, HasCause}
+use Rattle.stair_array.specs.Draws.{Before, DrawsFew, HadSeen, HasDraws, OnMedium, allowance, most_drawn, weight, weights}
+use Rattle.stair_array.specs.Machine.{Answer, EpochsSpent, Recover, Refusal, ReplaceSlot, SetFrozen, SetLabel, Step}
+use Rattle.stair_array.specs.Promise.{Performs, Seen}
 
 weight_most : (reason : Why) → weight reason ≤ 2
 weight_most why.Here = omega arith
@@ -40,3 +43,22 @@ pub draws_on : (step : Step) → ((j : ℕ) → ¬ (step ≡ ReplaceSlot j)) →
     → draw ≡ m.drawn
 draws_on step other m x y draw (Before same) = same
 draws_on step other m x y draw (OnMedium j k super admits place moment geometry is least) = absurd (other j admits)
+
+-- So a step that admits no slot and began so is done, where it is refused at most for want of a number to draw.
+pub done_with_room : (step : Step) → ((j : ℕ) → ¬ (step ≡ ReplaceSlot j)) → (answer : Answer step) (events : List Event) (x y : Seen)
+    → (p : Performs step answer events x y) → IsMembership p.was.member → HasDraws p.was.member
+    → (HasCause step EpochsSpent p.was p.is.member x.told y.told → AreSpent p.is.member)
+    → ((refusal : Refusal) → answer ≡ Err refusal → refusal ≡ EpochsSpent) → IsOk answer
+done_with_room step other answer events x y p rules can caused only = by answer refl
+  where
+    room : p.draws_few.draw ≤ most_drawn
+    room =
+        subst (λ (n : ℕ). n ≤ most_drawn) (sym (draws_on step other p.was.member x.told y.told p.draws_few.draw p.draws_few.had_seen)) can
+
+    by : (given : Answer step) → answer ≡ given → IsOk answer
+    by (Ok done) same = subst (λ (r : Answer step). IsOk r) (sym same) refl
+    by (Err refusal) same =
+        let cause =
+        subst (λ (r : Answer step). IfErr r (λ why. HasCause step why p.was p.is.member x.told y.told))
+        (same ∙ ap (λ (why : Refusal). Err why) (only refusal same)) p.caused in
+        absurd (never_spent step p.was.member p.is.member x.told y.told rules p.draws_few room (caused cause).spent)

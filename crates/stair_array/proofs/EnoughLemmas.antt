@@ -1,5 +1,5 @@
 -- Within tolerance a fence has enough slots left, so that it isn't refused for want of them.
-use Rattle.std.proofs.Common.{◌≡◌, ℕ, ◌<◌, List, inl, inr, refl, sym, ◌∙◌, subst, arith, Option}
+use Rattle.std.proofs.Common.{◌≡◌, ℕ, ◌<◌, List, inl, inr, refl, sym, ap, ◌∙◌, subst, arith, Option, Some}
 use Rattle.std.specs.Prelude.{IsTrue, Err}
 use Rattle.std.proofs.lemmas.Bool.{false≢true}
 use Rattle.stair_model.specs.Geometry.{Geometry}
@@ -17,9 +17,11 @@ use Rattle.stair_super.specs.Superblock.{Superblock}
 use Rattle.stair_member.specs.Asked.{LeavesSectors}
 use Rattle.stair_member.specs.Current.{IsCurrent, IsFailed, IsLive}
 use Rattle.stair_member.specs.Counting.{MoreThan}
+use Rattle.stair_member.specs.Aims.{aimed}
 use Rattle.stair_member.specs.Epochs.{IsIssuing, IsRefusedBy}
-use Rattle.stair_member.specs.Establishing.{Did, Fences, HasBegun, NotYet}
+use Rattle.stair_member.specs.Establishing.{Did, Establishes, Fences, HasBegun, Leaves, NotYet}
 use Rattle.stair_member.specs.Membership.{IsMissing, Membership, why_of}
+use Rattle.stair_member.specs.declared.aim.Aim.{Aim}
 use Rattle.stair_member.specs.declared.aim.Aim.TheVariants.{Fence}
 use Rattle.stair_member.specs.declared.fault.FenceFault.{FenceFault}
 use Rattle.stair_member.specs.declared.fault.FenceFault.TheVariants.{TooFew}
@@ -35,35 +37,40 @@ use Rattle.stair_session.specs.Session.{IsLiveIn}
 use Rattle.stair_session.proofs.EstablishingLemmas.{issuing_attaches}
 use Rattle.stair_session.proofs.LeftOutLemmas.{start_geometry}
 
--- A FENCE by a member that some slots left, where a slot that is live in what the rack holds at its end is live to the member,
+-- AN EPOCH by a member that some slots left, for an aim by which a live slot stays live, where each slot that it misses at last and that
+-- wasn't live to the member has failed in what the rack holds,
 
-module _ (before : List Happening) (m : Membership) (leaving : Slots) (last : Membership) (fault : FenceFault) (old new : Telling)
-    (does : Fences leaving m last (Err fault) old new) (honest : IsTrue new.honest) (g : Geometry) (same : g ≡ m.array.geometry)
+module _ (aim : Aim) (before : List Happening) (m start : Membership) (leaving : Slots) (leaves : Leaves leaving m start) (last : Membership)
+    (fault : FenceFault) (old new : Telling) (e : Establishes aim start last (Some fault) old new) (honest : IsTrue new.honest)
+    (stays_live : (j : ℕ) → IsLiveIn m j → aimed aim j why.Here ≡ why.Here) (g : Geometry) (same : g ≡ m.array.geometry)
     (tolerated : IsTolerated g before new.history)
-    (live_here : (current : Superblock) → IsCurrent g (image_now new.history) current → (j : ℕ) → IsLive g (image_now new.history) current j
-    → why_of m j ≡ why.Here)
+    (unlive : (current : Superblock) → IsCurrent g (image_now new.history) current → (j : ℕ) → j < g.n → ¬ (why_of m j ≡ why.Here)
+    → IsMissing last j → IsFailed (IsOffline before new.history) g (image_now new.history) current j)
     (held : (j : ℕ) → IsLiveIn m j → IsHeld before old.history j)
     (size : (j : ℕ) → IsLiveIn m j → IsAttached old.history j → IsTrue (has_sector (slot_state old.history j).size 1))
     (off : (j : ℕ) → IsLiveIn m j → HasSlot leaving j → IsOfflineUntilAttached before old.history j) where
   within : IsWithinTolerance (IsOffline before new.history) g (image_now new.history)
   within = tolerated (image_now new.history) (CrashMayLeave-now new.history)
 
-  start_g : does.start.array.geometry ≡ m.array.geometry
-  start_g = start_geometry leaving m does.start does.leaves
+  start_g : start.array.geometry ≡ m.array.geometry
+  start_g = start_geometry leaving m start leaves
 
   last_g : last.array.geometry ≡ g
-  last_g = does.establishes.geometry ∙ start_g ∙ sym same
+  last_g = e.geometry ∙ start_g ∙ sym same
 
-  -- a slot that neither left nor was gone has the reason that it had
-  kept : (j : ℕ) → j < m.array.geometry.n → ¬ HasSlot leaving j → ¬ HasSlot does.establishes.gone j → why_of last j ≡ why_of m j
-  kept j below out stays = by does.establishes.began ∙ does.leaves.others j out
+  -- a live slot that neither left nor was gone is live still
+  kept : (j : ℕ) → IsLiveIn m j → ¬ HasSlot leaving j → ¬ HasSlot e.gone j → why_of last j ≡ why.Here
+  kept j live out stays = by e.began
     where
-      inside : j < does.start.array.geometry.n
-      inside = subst (λ (x : Geometry). j < x.n) (sym start_g) below
+      inside : j < start.array.geometry.n
+      inside = subst (λ (x : Geometry). j < x.n) (sym start_g) live.below
 
-      by : HasBegun Fence does.establishes.gone does.start last → why_of last j ≡ why_of does.start j
-      by (NotYet array whys) = whys j inside stays
-      by (Did above aimed whys) = whys j inside stays
+      was : why_of start j ≡ why.Here
+      was = leaves.others j out ∙ live.why
+
+      by : HasBegun aim e.gone start last → why_of last j ≡ why.Here
+      by (NotYet array whys) = whys j inside stays ∙ was
+      by (Did above named whys) = whys j inside stays ∙ ap (aimed aim j) was ∙ stays_live j live
 
   -- each slot that the member misses at last has failed
   failed : (j : ℕ) → IsMissing last j → IsFailed (IsOffline before new.history) g (image_now new.history) within.current j
@@ -75,14 +82,11 @@ module _ (before : List Happening) (m : Membership) (leaving : Slots) (last : Me
       below_m : j < m.array.geometry.n
       below_m = subst (λ (x : Geometry). j < x.n) same below
 
-      ran : Ran (IsIssuing (does.establishes.issued honest).slots (does.establishes.issued honest).editions) old.history new.history
-      ran = (does.establishes.issued honest).ran
+      ran : Ran (IsIssuing (e.issued honest).slots (e.issued honest).editions) old.history new.history
+      ran = (e.issued honest).ran
 
       away : IsOfflineUntilAttached before new.history j → IsFailed (IsOffline before new.history) g (image_now new.history) within.current j
       away is = IsFailed.Offline below (offline_now is)
-
-      unlive : (w : Why) → why_of m j ≡ w → ¬ (w ≡ why.Here) → IsFailed (IsOffline before new.history) g (image_now new.history) within.current j
-      unlive w is other = IsFailed.NotLive below (λ live. other (sym is ∙ live_here within.current within.is_current j live))
 
       by : (w : Why) → why_of m j ≡ w → IsFailed (IsOffline before new.history) g (image_now new.history) within.current j
       by why.Here is =
@@ -90,23 +94,23 @@ module _ (before : List Happening) (m : Membership) (leaving : Slots) (last : Me
           elim (has_or_not leaving j) [
             | inl has ↦
                 away
-                (offline_on {allowed = IsIssuing (does.establishes.issued honest).slots (does.establishes.issued honest).editions} j
+                (offline_on {allowed = IsIssuing (e.issued honest).slots (e.issued honest).editions} j
                 (λ c may.
-                issuing_attaches (does.establishes.issued honest).slots (does.establishes.issued honest).editions (λ i. i ≡ j) j c may refl) ran
+                issuing_attaches (e.issued honest).slots (e.issued honest).editions (λ i. i ≡ j) j c may refl) ran
                 (off j live has))
             | inr out ↦
-                elim (has_or_not does.establishes.gone j) [
-                  | inl has ↦ away (does.establishes.were_gone.shut honest before j has (held j live) (size j live))
-                  | inr stays ↦ absurd (missing.why (kept j below_m out stays ∙ is))
+                elim (has_or_not e.gone j) [
+                  | inl has ↦ away (e.were_gone.shut honest before j has (held j live) (size j live))
+                  | inr stays ↦ absurd (missing.why (kept j live out stays))
                 ]
           ]
-      by w is = unlive w is (λ same. cc)
+      by w is = unlive within.current within.is_current j below (λ same. let never : w ≡ why.Here = sym is ∙ same in absurd (cc)) missing
 
   -- isn't refused for want of slots.
-  pub never_few : (whys : List Why) → ¬ (fault ≡ TooFew whys)
-  never_few whys is =
+  pub epoch_never_few : (whys : List Why) → ¬ (fault ≡ TooFew whys)
+  epoch_never_few whys is =
       let refused : IsRefusedBy last (TooFew whys) =
-      subst (IsRefusedBy last) is (does.establishes.refused fault refl).0 in
+      subst (IsRefusedBy last) is (e.refused fault refl).0 in
       let many : MoreThan g.m (IsMissing last) = subst (λ (x : Geometry). MoreThan x.m (IsMissing last)) last_g refused.1 in
       apart many
       (record {
@@ -115,6 +119,16 @@ module _ (before : List Happening) (m : Membership) (leaving : Slots) (last : Me
         few = within.few.few;
         within = λ j missing. within.few.within j (failed j missing);
       })
+
+pub never_few : (before : List Happening) (m : Membership) (leaving : Slots) (last : Membership) (fault : FenceFault) (old new : Telling)
+    → Fences leaving m last (Err fault) old new → IsTrue new.honest → (g : Geometry) → g ≡ m.array.geometry → IsTolerated g before new.history
+    → ((current : Superblock) → IsCurrent g (image_now new.history) current → (j : ℕ) → IsLive g (image_now new.history) current j
+    → why_of m j ≡ why.Here) → ((j : ℕ) → IsLiveIn m j → IsHeld before old.history j)
+    → ((j : ℕ) → IsLiveIn m j → IsAttached old.history j → IsTrue (has_sector (slot_state old.history j).size 1))
+    → ((j : ℕ) → IsLiveIn m j → HasSlot leaving j → IsOfflineUntilAttached before old.history j) → (whys : List Why) → ¬ (fault ≡ TooFew whys)
+never_few before m leaving last fault old new does honest g same tolerated live_here =
+    epoch_never_few Fence before m does.start leaving does.leaves last fault old new does.establishes honest (λ j live. refl) g same tolerated
+    (λ current is_current j below other missing. IsFailed.NotLive below (λ live. other (live_here current is_current j live)))
 
 -- THE FIRST FENCE
 

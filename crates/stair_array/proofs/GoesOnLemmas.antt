@@ -33,7 +33,7 @@ away_mark why.Rebuilding live rebuilt = absurd (rebuilt refl)
 away_mark w live rebuilt = refl
 
 -- a mark says what is known of its slot, so that of one that wasn't here is Down already
-mark_goes_on : (step : Step) (x y : Point) (j : ℕ) → mark_in x.member.array j ≡ mark_for (why_of x.member j) → MarkStays x y j
+pub mark_goes_on : (step : Step) (x y : Point) (j : ℕ) → mark_in x.member.array j ≡ mark_for (why_of x.member j) → MarkStays x y j
     → MarkGoesOn step x.told y.told x.member y.member j
 mark_goes_on step x y j marked (MarkStays.Same same) = MarkGoesOn.Stays same
 mark_goes_on step x y j marked (MarkStays.WasAway live rebuilt down) =
@@ -59,29 +59,21 @@ module _ (last : Membership) (rebuild : Rebuild) where
   keeps_where m stopped w is below =
       KeepsProgress.Ended rebuild refl (λ rebuilt. let never : w ≡ why.Rebuilding = sym is ∙ rebuilt.why in absurd (cc)) refl
 
--- In a call that an array took slots may have been gone and dropped.
-module _ (m last : Membership) (rebuild : Option Rebuild) (stopped : Option FenceFault) (old new : Telling) (array : IsArray (running m rebuild))
-    (part : IsPart 0 (point m old) (point last new)) where
-  pub member_goes_on : (step : Step) → MemberGoesOn step old new m last
-  member_goes_on step = record {
-    geometry = part.geometry;
-    whys = λ j below. why_goes_on step (point m old) (point last new) j (part.whys j below);
-    marks = λ j below. mark_goes_on step (point m old) (point last new) j (array.marks j below) (part.marks j below);
-    drawn = part.drawn;
-  }
-
+-- of an array that has the same geometry in the end
+module _ (m last : Membership) (rebuild : Option Rebuild) (stopped : Option FenceFault) (array : IsArray (running m rebuild))
+    (geometry : last.array.geometry ≡ m.array.geometry) where
   slot_below : (r : Rebuild) → rebuild ≡ Some r → r.slot < last.array.geometry.n
-  slot_below r is = subst (λ (g : Geometry). r.slot < g.n) (sym part.geometry) (array.rebuilds r is).0.below
+  slot_below r is = subst (λ (g : Geometry). r.slot < g.n) (sym geometry) (array.rebuilds r is).0.below
 
   keeps : (found : Option Rebuild) → rebuild ≡ found → KeepsProgress (running m found) (left_of last found stopped)
   keeps None is = KeepsProgress.Stays refl (λ r same. absurd (cc))
   keeps (Some r) is = keeps_where last r m stopped (why_of last r.slot) refl (slot_below r is)
 
-  pub keeps_progress : KeepsProgress (running m rebuild) (left_of last rebuild stopped)
-  keeps_progress = keeps rebuild refl
+  pub progress_kept : KeepsProgress (running m rebuild) (left_of last rebuild stopped)
+  progress_kept = keeps rebuild refl
 
-  pub bare : IsArray (unopened m)
-  bare = record { member = array.member; marks = array.marks; enough = array.enough; rebuilds = λ r is. absurd (cc) }
+  pub without_rebuild : IsArray (unopened m)
+  without_rebuild = record { member = array.member; marks = array.marks; enough = array.enough; rebuilds = λ r is. absurd (cc) }
 
   rebuilds_on : (found : Option Rebuild) → rebuild ≡ found → (kept : Rebuild) → rebuild_after last found ≡ Some kept
       → IsRebuiltIn last kept.slot × (kept.stripe ≤ last.array.geometry.stripes)
@@ -90,9 +82,29 @@ module _ (m last : Membership) (rebuild : Option Rebuild) (stopped : Option Fenc
       let on = goes_where last r (why_of last r.slot) refl kept same in
       subst (λ (k : Rebuild). IsRebuiltIn last k.slot × (k.stripe ≤ last.array.geometry.stripes)) (sym on.0) (
         record { below = slot_below r is; why = on.1 },
-        subst (λ (g : Geometry). r.stripe ≤ g.stripes) (sym part.geometry) (array.rebuilds r is).1,
+        subst (λ (g : Geometry). r.stripe ≤ g.stripes) (sym geometry) (array.rebuilds r is).1,
       )
 
   -- what stands of its slots stands with the rebuild
+  pub stands_rebuilt : IsArray (unopened last) → IsArray (left_of last rebuild stopped)
+  stands_rebuilt is = record { member = is.member; marks = is.marks; enough = is.enough; rebuilds = rebuilds_on rebuild refl }
+
+-- In a call that an array took slots may have been gone and dropped.
+module _ {more : ℕ} (m last : Membership) (rebuild : Option Rebuild) (stopped : Option FenceFault) (old new : Telling)
+    (array : IsArray (running m rebuild)) (part : IsPart more (point m old) (point last new)) where
+  pub member_goes_on : (step : Step) → MemberGoesOn step old new m last
+  member_goes_on step = record {
+    geometry = part.geometry;
+    whys = λ j below. why_goes_on step (point m old) (point last new) j (part.whys j below);
+    marks = λ j below. mark_goes_on step (point m old) (point last new) j (array.marks j below) (part.marks j below);
+    drawn = part.drawn;
+  }
+
+  pub keeps_progress : KeepsProgress (running m rebuild) (left_of last rebuild stopped)
+  keeps_progress = progress_kept m last rebuild stopped array part.geometry
+
+  pub bare : IsArray (unopened m)
+  bare = without_rebuild m last rebuild stopped array part.geometry
+
   pub stands : IsArray (unopened last) → IsArray (left_of last rebuild stopped)
-  stands is = record { member = is.member; marks = is.marks; enough = is.enough; rebuilds = rebuilds_on rebuild refl }
+  stands = stands_rebuilt m last rebuild stopped array part.geometry

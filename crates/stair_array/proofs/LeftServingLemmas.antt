@@ -1,57 +1,53 @@
 -- An open array while slots that were gone are left out, where no medium comes back: what a crash leaves meanwhile, and how it ends.
-use Rattle.std.proofs.Common.{◌≡◌, ℕ, ◌<◌, List, inl, inr, refl, sym, ap, ◌∙◌, subst, arith, None, Some, Option, true}
-use Rattle.std.specs.Prelude.{◌⊎◌, IsTrue, Result}
+use Rattle.std.proofs.Common.{◌≡◌, ℕ, List, inl, inr, refl, sym, ◌∙◌, subst, None, Some, Option, false, true≢false}
+use Rattle.std.specs.Prelude.{IsTrue, Result}
 use Rattle.stair_model.specs.Geometry.{IsWithinLimits}
 use Rattle.stair_model.specs.Slots.{HasSlot, Slots}
 use Rattle.stair_rack.specs.Answers.{IsHistory, Ran, any_call}
 use Rattle.stair_rack.specs.Crash.{CrashMayLeave, image_now}
-use Rattle.stair_rack.specs.History.{Happening, stopped}
+use Rattle.stair_rack.specs.History.{Happening, slot_state, stopped}
 use Rattle.stair_rack.specs.Media.{Image}
 use Rattle.stair_rack.specs.Moments.{AtEveryMoment, IsMoment}
-use Rattle.stair_rack.specs.Offline.{IsOfflineUntilAttached}
+use Rattle.stair_rack.specs.Offline.{IsAttached, IsOfflineUntilAttached}
 use Rattle.stair_rack.specs.Reading.{IsReadOf}
+use Rattle.stair_rack.specs.Sector.{damaged}
 use Rattle.stair_rack.specs.Telling.{Telling}
 use Rattle.stair_rack.proofs.CrashLemmas.{CrashMayLeave-now}
 use Rattle.stair_rack.proofs.MomentLemmas.{at_every_from, at_every_none, moment_between, moment_last, ran_any, ran_before, ran_join}
 use Rattle.stair_rack.proofs.StretchLemmas.{each_after}
 use Rattle.stair_rack.proofs.TidyLemmas.{history_on}
 use Rattle.stair_super.specs.declared.configuration.Configuration.{Configuration}
-use Rattle.stair_member.specs.Epochs.{IsIssuing, IsTaken}
+use Rattle.stair_member.specs.Epochs.{IsIssuing}
 use Rattle.stair_member.specs.Establishing.{Fences}
-use Rattle.stair_member.specs.Fencing.{IsFencing}
-use Rattle.stair_member.specs.Membership.{IsHere, Membership}
-use Rattle.stair_member.specs.declared.aim.Aim.TheVariants.{Fence, Promote}
+use Rattle.stair_member.specs.Membership.{IsHere, Membership, why_of}
 use Rattle.stair_member.specs.declared.fault.FenceFault.{FenceFault}
-use Rattle.stair_member.proofs.CountingLemmas.{slots_by, slots_by-at}
+use Rattle.stair_member.specs.declared.why.Why.TheVariants as why
+use Rattle.stair_member.proofs.SuperLemmas.{super_formed}
 use Rattle.stair_state.specs.Blocks.{Codewords}
-use Rattle.stair_state.specs.Represents.{AreSteady, Represents, RepresentsAlone}
+use Rattle.stair_state.specs.Redoing.{AtRest, Redoing}
+use Rattle.stair_state.specs.Represents.{AreSteady, Encodings, Represents, RepresentsAlone}
 use Rattle.stair_state.specs.State.{Content, State}
 use Rattle.stair_state.specs.Tolerance.{IsTolerated, IsToleratedAlone}
 use Rattle.stair_state.proofs.AloneLemmas.{left_stands}
 use Rattle.stair_state.proofs.OutsideLemmas.{tolerated_alone}
 use Rattle.stair_session.specs.Courses.{Fenced, LeavesOut, NoneWas, Point, point}
-use Rattle.stair_session.specs.InSession.{HasEpoch, IsOfContent, IsReadyFor, state_with}
+use Rattle.stair_session.specs.InSession.{IsInSession, IsOfContent, state_with}
 use Rattle.stair_session.specs.Leading.{led_to}
+use Rattle.stair_session.specs.Opening.{Across}
 use Rattle.stair_session.specs.SeatSteps.{EachMayDrop}
-use Rattle.stair_session.specs.Session.{ArrayState, seats_in}
+use Rattle.stair_session.specs.Session.{ArrayState, IsLiveIn, seats_in}
+use Rattle.stair_session.specs.UnderWay.{IsOfRedo}
+use Rattle.stair_session.proofs.DoubtLemmas.{IsOfDoubt, doubt_stands}
 use Rattle.stair_session.proofs.FencesLemmas.{leaves_open}
-use Rattle.stair_session.proofs.LeavingOutLemmas.{fencing, here_before}
-use Rattle.stair_session.proofs.LeftOutLemmas.{left_fencing}
+use Rattle.stair_session.proofs.LeavingOutImages as images
 use Rattle.stair_session.proofs.OpenLaws.{in_session}
-use Rattle.stair_session.proofs.OpenWithLemmas.{amid_of, epoch_amid, meanwhile_open, represents_open}
-use Rattle.stair_session.proofs.ReadyLemmas.{ready_plain}
-use Rattle.stair_session.proofs.RedoingLemmas.{out_ran}
-use Rattle.stair_session.proofs.SeatLemmas.{seats_meanwhile}
+use Rattle.stair_session.proofs.OpenWithLemmas.{represents_open}
+use Rattle.stair_session.proofs.RedoingLemmas.{no_redo, out_ran, resting, way_begins}
+use Rattle.stair_session.proofs.SeatLemmas.{listed_member, listed_super}
 use Rattle.stair_session.proofs.SteadyEndLemmas.{fence_steady}
+use Rattle.stair_array.proofs.LedOnLemmas.{kept_drops}
 use Rattle.stair_array.proofs.SeatedLemmas.{seated}
 use Rattle.stair_array.proofs.ServingLemmas.{IsCalmTo, IsGoing, IsServing, calm_going, calm_sooner, goes_on, reads_serve, tolerated_now}
-
--- all slots, of which a set may have some
-abbrev all_slots : Slots
-all_slots = slots_by (λ j. true)
-
-in_all : (j : ℕ) → j < 32 → HasSlot all_slots j
-in_all j below = slots_by-at (λ i. true) j below
 
 module _ (before : List Happening) (a : ArrayState) (words : Codewords) (kept : Content) (of : IsOfContent a.member words kept) where
   abbrev m : Membership
@@ -99,16 +95,42 @@ module _ (before : List Happening) (a : ArrayState) (words : Codewords) (kept : 
       reads_serve before a words slots sectors old c is so_far
       (calm_going a.member.array.geometry before c (ran_join {allowed = any_call} is.is_open.ran (ran_any {allowed = IsReadOf slots sectors} so_far)) calm)))
 
-  -- A FENCE, by the member that some slots left, each of which takes part and is offline
+  -- A FENCE, by the member that some slots left, each of which takes part; a live one is offline
 
   module _ (leaving : Slots) (last : Membership) (answer : Result Slots FenceFault) (old new : Telling) (does : Fences leaving a.member last answer old new)
       (honest : IsTrue new.honest) (is : IsServing before a words old.history) (here : (j : ℕ) → HasSlot leaving j → IsHere a.member j)
-      (off : (j : ℕ) → HasSlot leaving j → IsOfflineUntilAttached before old.history j) where
+      (off : (j : ℕ) → HasSlot leaving j → IsLiveIn a.member j → IsOfflineUntilAttached before old.history j) where
     issuing : Ran (IsIssuing (does.establishes.issued honest).slots (does.establishes.issued honest).editions) old.history new.history
     issuing = (does.establishes.issued honest).ran
 
     ran : Ran any_call old.history new.history
     ran = ran_any {allowed = IsIssuing (does.establishes.issued honest).slots (does.establishes.issued honest).editions} issuing
+
+    -- a redo of no cells, at rest
+    abbrev rest : Redoing
+    rest = resting a.member.array.geometry words no_redo words
+
+    abbrev settled : State
+    settled = record { geometry = a.member.array.geometry; content = kept; in_doubt = None; seats = None }
+
+    abbrev both : Encodings settled
+    both = record { old = words; new = words; old_are = of.encodings; new_are = of.encodings }
+
+    of_rest : IsOfRedo rest a.member kept None
+    of_rest = record {
+      old_are = of.encodings;
+      new_are = of.encodings;
+      frozen = of.frozen;
+      label = of.label;
+      frozen_new = refl;
+      label_new = refl;
+    }
+
+    of_doubt : IsOfDoubt settled both rest a.member kept None
+    of_doubt = record { geometry = refl; of = of_rest; between = Across refl refl; frozen = inl refl; label = inl refl }
+
+    limits : IsWithinLimits a.member.array.geometry
+    limits = is.begun.member.array.limits
 
     module _ (c : List Happening) (at : IsMoment old.history c new.history) (calm : CalmTo c) where
       upto : Ran any_call before c
@@ -123,45 +145,36 @@ module _ (before : List Happening) (a : ArrayState) (words : Codewords) (kept : 
       going_old : ¬ IsTrue (stopped old.history)
       going_old = goes_on before a words old.history is.is_open.ran calm_old
 
-      epoch : HasEpoch a.member old.history
-      epoch = epoch_amid before a old.history (amid_of before a words old.history is.is_open) calm_old.1 going_old is.begun
+      session : IsInSession a.member words old.history
+      session = in_session before a words old.history is.is_open calm_old.1 going_old is.begun
 
-      fits : (j : ℕ) → j < a.member.array.geometry.n → j < 32
-      fits j below = let devices = is.begun.member.array.limits.devices in omega (arith, below, devices)
+      off_or_on : (j : ℕ) → IsOfflineUntilAttached before old.history j → ¬ IsAttached old.history j
+      off_or_on j (IsOfflineUntilAttached.RackStopped stops) on = going_old stops
+      off_or_on j (IsOfflineUntilAttached.Unattached apart pulled) on = absurd (true≢false (sym on ∙ apart))
 
-      within : (j : ℕ) → HasSlot does.establishes.gone j ⊎ HasSlot leaving j → HasSlot all_slots j
-      within j (inr has) = in_all j (fits j (here j has).below)
-      within j (inl has) = in_all j (fits j (by (does.establishes.took j has)))
-        where
-          by : IsTaken None does.start j → j < a.member.array.geometry.n
-          by (inl taken) = (here_before leaving a.member last answer old new epoch here does j taken).below
-          by (inr joins) = absurd (let never : None ≡ Some j = joins.0 in cc)
-
-      is_fencing : IsFencing Fence all_slots a.member last old.history c new.history
-      is_fencing =
-          left_fencing leaving does.establishes.gone all_slots before a.member does.start last old.history c new.history does.leaves within is.begun
-          (λ j has taken. off j has) (fencing leaving a.member last answer old new epoch here does honest c at (each_after calm.1 to_old))
-
-      no_promotion : (j : ℕ) → ¬ (Fence ≡ Promote j)
-      no_promotion j same = absurd (cc)
-
-      ready : IsReadyFor Fence a.member words old.history
-      ready =
-          ready_plain Fence a.member words old.history refl no_promotion
-          (in_session before a words old.history is.is_open calm_old.1 going_old is.begun)
+      bare : (j : ℕ) → HasSlot leaving j → why_of a.member j ≡ why.Here
+          → ((slot_state old.history j).attached ≡ false) × ((k : ℕ) → (slot_state old.history j).sector k ≡ damaged)
+      bare j has up =
+          elim (session.own j (here j has)) [
+            | inl on ↦ absurd (off_or_on j (off j has (record { below = (here j has).below; why = up })) on.0)
+            | inr nothing ↦ nothing
+          ]
 
       -- At each moment of it an image is as it was, with the seats that its own current superblock has.
       pub fencing_stands : (image : Image) → CrashMayLeave c image → (alone : IsToleratedAlone a.member.array.geometry image)
           → RepresentsAlone (with_seats alone.current.array) image × EachMayDrop (seats_in a.member.array) (seats_in alone.current.array)
       fencing_stands image left alone =
-          let going = goes_on before a words c upto calm in (
-            meanwhile_open before a words old.history is.is_open calm_old.1 Fence all_slots last c new.history refl no_promotion is_fencing going image left
-                kept None of (record { encodings = of.encodings; frozen = inl of.frozen; label = inl of.label }) alone,
-            elim (seats_meanwhile Fence all_slots a.member words old.history ready (λ slot same. absurd (no_promotion slot same)) last c new.history image
-                alone.current is_fencing going left alone alone.is_current) [
-                  | inl same ↦ λ j. inl (ap (λ (x : Configuration). seats_in x j) same)
-                  | inr is ↦ is.moves
-                ],
+          let way = way_begins rest a.member old.history session refl in
+          let none = each_after calm.1 to_old in
+          let going = goes_on before a words c upto calm in
+          let stands =
+          images.leaving_stands rest AtRest (inl refl) limits old.history leaving a.member last answer old new way here bare does honest c at none going image
+          left kept None of_rest alone in (
+            doubt_stands settled both rest a.member kept None of_doubt (Some (seats_in alone.current.array)) limits stands.0 image stands.1,
+            kept_drops a.member.array alone.current.array (listed_member a.member is.begun.member)
+                (listed_super alone.current (super_formed _ alone.current alone.is_current.counts.super)) alone.is_current.counts.identity
+                (images.leaving_keeps rest AtRest (inl refl) limits old.history leaving a.member last answer old new way here bare does honest c at none going
+                image left alone),
           )
 
       pub fence_stands : (image : Image) → CrashMayLeave c image → StandsIn image
@@ -181,9 +194,6 @@ module _ (before : List Happening) (a : ArrayState) (words : Codewords) (kept : 
 
         all : Ran any_call before new.history
         all = ran_join {allowed = any_call} is.is_open.ran ran
-
-        limits : IsWithinLimits a.member.array.geometry
-        limits = is.begun.member.array.limits
 
         history : IsHistory new.history
         history = history_on {allowed = any_call} is.begun.history ran
@@ -207,7 +217,7 @@ module _ (before : List Happening) (a : ArrayState) (words : Codewords) (kept : 
 
   module _ (gone : Slots) (refusal : Option FenceFault) (mid : Telling) (y : Point) (leaves : LeavesOut gone refusal (point a.member mid) y)
       (honest : IsTrue y.told.honest) (is : IsServing before a words mid.history) (here : (j : ℕ) → HasSlot gone j → IsHere a.member j)
-      (off : (j : ℕ) → HasSlot gone j → IsOfflineUntilAttached before mid.history j) where
+      (off : (j : ℕ) → HasSlot gone j → IsLiveIn a.member j → IsOfflineUntilAttached before mid.history j) where
     pub leaving_stands : AtEveryMoment StandsAt mid.history y.told.history
     leaving_stands = by leaves
       where

@@ -65,7 +65,7 @@ pub refused_stands : (before : List Happening) (words : Codewords) (kept : Conte
 refused_stands before words kept m fault z of at honest calm =
     let ends =
     refused_represents before at.array words kept (still_of m at.array.member words kept at.stays of) at.gone (Some fault) at.mid z at.leaves honest
-    at.serves at.here at.off fault refl
+    at.serves at.here (λ j has live. at.off j has) fault refl
     (calm_over at.array.member.array.geometry m.array.geometry before z.told.history at.stays.geometry calm) in (
       ends.0,
       subst

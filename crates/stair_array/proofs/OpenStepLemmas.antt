@@ -84,20 +84,20 @@ module _ (step : Step) (other : ¬ (step ≡ Recover)) (answer : Answer step) (e
 
   -- IN THE END it serves these stripes, or it was stopped
 
-  pub serves_as : (words : Codewords) (content : Content) → StaysArray p.was.member p.is.member → IsOfContent p.is.member words content
-      → IsServing before (led_to p.was p.is.member) words y.told.history → KeepsProgress p.was p.is
+  pub serves_now : (words : Codewords) (content : Content) → p.is.member.array.geometry ≡ p.was.member.array.geometry
+      → IsOfContent p.is.member words content → IsServing before p.is words y.told.history
       → IsCalmTo p.was.member.array.geometry before y.told.history
       → IsInState NoneReturns before (state_with p.is.member content None p.is.member.array) y
-  serves_as words content stays of serves progress calm = record {
+  serves_now words content same of serves calm = record {
     stands =
-        represents_serving before (led_to p.was p.is.member) words content of y.told.history serves
-        (calm_over p.is.member.array.geometry p.was.member.array.geometry before y.told.history stays.geometry calm);
+        represents_serving before p.is words content of y.told.history serves
+        (calm_over p.is.member.array.geometry p.was.member.array.geometry before y.told.history same calm);
     serves =
         subst (λ (e : Session). ServesState NoneReturns before (state_with p.is.member content None p.is.member.array) e y.told) (sym goes_on_as.0)
         (inl (record {
           words = words;
           encodings = of.encodings;
-          is_open = led_open before p.was p.is words y.told.history serves.is_open progress;
+          is_open = serves.is_open;
           geometry = refl;
           frozen = of.frozen;
           label = of.label;
@@ -106,6 +106,20 @@ module _ (step : Step) (other : ¬ (step ≡ Recover)) (answer : Answer step) (e
           knows = serves.begun;
         }));
   }
+
+  pub serves_over : (words : Codewords) (content : Content) → p.is.member.array.geometry ≡ p.was.member.array.geometry
+      → IsOfContent p.is.member words content → IsServing before (led_to p.was p.is.member) words y.told.history → KeepsProgress p.was p.is
+      → IsCalmTo p.was.member.array.geometry before y.told.history
+      → IsInState NoneReturns before (state_with p.is.member content None p.is.member.array) y
+  serves_over words content same of serves progress =
+      serves_now words content same of
+      (record { is_open = led_open before p.was p.is words y.told.history serves.is_open progress; begun = serves.begun })
+
+  pub serves_as : (words : Codewords) (content : Content) → StaysArray p.was.member p.is.member → IsOfContent p.is.member words content
+      → IsServing before (led_to p.was p.is.member) words y.told.history → KeepsProgress p.was p.is
+      → IsCalmTo p.was.member.array.geometry before y.told.history
+      → IsInState NoneReturns before (state_with p.is.member content None p.is.member.array) y
+  serves_as words content stays = serves_over words content stays.geometry
 
   pub stops_as : (now : State) → Represents now y.told.history → IsSome p.is.stopped → IsInState NoneReturns before now y
   stops_as now stands stopped = record {

@@ -1,5 +1,5 @@
 -- What each part of a call does to what a session knows of its slots, on any rack: an epoch, a phase, slots that are left out.
-use Rattle.std.proofs.Common.{◌≡◌, ◌≢◌, ℕ, ◌+◌, ◌<◌, ◌≤◌, List, cond, inl, inr, refl, sym, ap, ◌∙◌, subst, None, Option, Some, arith}
+use Rattle.std.proofs.Common.{◌≡◌, ◌≢◌, ℕ, ◌+◌, ◌<◌, ◌≤◌, Bool, List, cond, inl, inr, refl, sym, ap, ◌∙◌, subst, None, Option, Some, arith}
 use Rattle.std.specs.Prelude.{◌⊎◌, Result}
 use Rattle.std.proofs.lemmas.Bool.{true≢false}
 use Rattle.stair_model.specs.Geometry.{Geometry, sectors_needed}
@@ -15,12 +15,13 @@ use Rattle.stair_rack.proofs.TellingLemmas.{later_none}
 use Rattle.stair_super.specs.Superblock.{mark_in}
 use Rattle.stair_super.specs.declared.configuration.Configuration.{Configuration}
 use Rattle.stair_super.specs.declared.mark.Mark.TheVariants.{Down}
-use Rattle.stair_member.specs.Aims.{mark_for}
+use Rattle.stair_member.specs.Aims.{admitted, aimed, mark_for}
 use Rattle.stair_member.specs.Editions.{Edition}
 use Rattle.stair_member.specs.Epochs.{IsIssuing}
-use Rattle.stair_member.specs.Establishing.{Did, Fences, HasBegun, NotYet, refusal_of}
+use Rattle.stair_member.specs.Establishing.{Did, Establishes, Fences, HasBegun, Leaves, NotYet, Stamps, refusal_of}
 use Rattle.stair_member.specs.Membership.{IsHere, IsMarkedFor, IsMembership, Membership, why_of}
-use Rattle.stair_member.specs.declared.aim.Aim.TheVariants.{Fence}
+use Rattle.stair_member.specs.declared.aim.Aim.{Aim}
+use Rattle.stair_member.specs.declared.aim.Aim.TheVariants.{Fence, Stamp}
 use Rattle.stair_member.specs.declared.fault.FenceFault.{FenceFault}
 use Rattle.stair_member.specs.declared.why.Why.{Why}
 use Rattle.stair_member.specs.declared.why.Why.TheVariants as why
@@ -153,35 +154,39 @@ module _ (a b : ℕ) (x y z : Point) (first : IsPart a x y) (second : IsPart b y
 issuing_beside : (slots : Slots) (editions : List Edition) (j : ℕ) (c : SlotCall) → IsIssuing slots editions j c → attaches_none j c
 issuing_beside slots editions j c may = issuing_attaches slots editions (IsSlot j) j c may refl
 
-pub fence_after : (leaving : Slots) (m last : Membership) (answer : Result Slots FenceFault) (old new : Telling)
-    → Fences leaving m last answer old new → IsAfter old new
-fence_after leaving m last answer old new e = record {
+pub epoch_after : (aim : Aim) (m last : Membership) (refusal : Option FenceFault) (old new : Telling) → Establishes aim m last refusal old new
+    → IsAfter old new
+epoch_after aim m last refusal old new e = record {
   later = record {
-    counts = e.establishes.counts;
-    honest = e.establishes.honest;
+    counts = e.counts;
+    honest = e.honest;
     ran = λ honest.
-        let issued = e.establishes.issued honest in ran_any {allowed = IsIssuing issued.slots issued.editions} issued.ran;
+        let issued = e.issued honest in ran_any {allowed = IsIssuing issued.slots issued.editions} issued.ran;
   };
   beside = λ honest.
-      let issued = e.establishes.issued honest in
+      let issued = e.issued honest in
       ran_weakened {allowed = IsIssuing issued.slots issued.editions} {more = attaches_none} (issuing_beside issued.slots issued.editions) issued.ran;
 }
 
+pub fence_after : (leaving : Slots) (m last : Membership) (answer : Result Slots FenceFault) (old new : Telling)
+    → Fences leaving m last answer old new → IsAfter old new
+fence_after leaving m last answer old new e = epoch_after Fence e.start last (refusal_of answer) old new e.establishes
+
 -- the slots of a set that are below n, where it has no others
-counted_below : (set : Slots) (n : ℕ) → n ≤ 32 → ((j : ℕ) → HasSlot set j → j < n)
+pub counted_below : (set : Slots) (n : ℕ) → n ≤ 32 → ((j : ℕ) → HasSlot set j → j < n)
     → slot_count set ≡ sum_below n (λ j. cond (has_slot set j) 1 0)
 counted_below set n limit below =
     sum_below_tail n 32 (λ j. cond (has_slot set j) 1 0) limit
     (λ j past small. unmarked (has_slot set j) (λ has. let under : j < n = below j has in absurd (omega (arith, under, past))))
 
-here_not_gone : (m : Membership) (j : ℕ) → IsHere m j → ¬ (why_of m j ≡ why.Gone)
+pub here_not_gone : (m : Membership) (j : ℕ) → IsHere m j → ¬ (why_of m j ≡ why.Gone)
 here_not_gone m j here is =
     elim here.why [
       | inl live ↦ let never : why.Here ≡ why.Gone = sym live ∙ is in cc
       | inr rebuilt ↦ let never : why.Rebuilding ≡ why.Gone = sym rebuilt ∙ is in cc
     ]
 
-here_weighs : (m : Membership) (j : ℕ) → IsHere m j → 1 ≤ weight (why_of m j)
+pub here_weighs : (m : Membership) (j : ℕ) → IsHere m j → 1 ≤ weight (why_of m j)
 here_weighs m j here =
     elim here.why [
       | inl live ↦ subst (λ (w : Why). 1 ≤ weight w) (sym live) (omega arith)
@@ -191,54 +196,64 @@ here_weighs m j here =
 no_slot : (j : ℕ) → ¬ HasSlot no_slots j
 no_slot j has = true≢false (sym has ∙ has_slot-none j)
 
--- An epoch without slots that took part and were gone since `old`.
-module _ (leaving : Slots) (m last : Membership) (answer : Result Slots FenceFault) (old mid new : Telling) (e : Fences leaving m last answer mid new)
+-- an epoch draws once for each slot that was gone to it, and once more at most
+pub epoch_drawn : (aim : Aim) (m last : Membership) (refusal : Option FenceFault) (old new : Telling) → (e : Establishes aim m last refusal old new)
+    → (m.drawn + slot_count e.gone ≤ last.drawn) × (last.drawn ≤ m.drawn + slot_count e.gone + 1)
+epoch_drawn aim m last refusal old new e = by refusal refl
+  where
+    by : (found : Option FenceFault) → refusal ≡ found → (m.drawn + slot_count e.gone ≤ last.drawn) × (last.drawn ≤ m.drawn + slot_count e.gone + 1)
+    by None is = let at = (e.done is).drawn in (omega (arith, at), omega (arith, at))
+    by (Some fault) is = let at = (e.refused fault is).1 in (omega (arith, at), omega (arith, at))
+
+-- An epoch without slots that took part and were gone since `old`, which admits none and promotes none.
+module _ (aim : Aim) (as_was : (j : ℕ) (w : Why) → aimed aim j w ≡ w) (none : admitted aim ≡ None) (leaving : Slots) (m start last : Membership)
+    (leaves : Leaves leaving m start) (refusal : Option FenceFault) (old mid new : Telling) (e : Establishes aim start last refusal mid new)
     (rules : IsMembership m) (before : IsAfter old mid) (here : (j : ℕ) → HasSlot leaving j → IsHere m j)
     (gone : (j : ℕ) → HasSlot leaving j → WasGoneTo m j old mid) where
   after : IsAfter mid new
-  after = fence_after leaving m last answer mid new e
+  after = epoch_after aim start last refusal mid new e
 
-  start_n : (j : ℕ) → j < m.array.geometry.n → j < e.start.array.geometry.n
-  start_n j below = subst (λ (g : Geometry). j < g.n) (sym (start_geometry leaving m e.start e.leaves)) below
+  start_n : (j : ℕ) → j < m.array.geometry.n → j < start.array.geometry.n
+  start_n j below = subst (λ (g : Geometry). j < g.n) (sym (start_geometry leaving m start leaves)) below
 
   geometry : last.array.geometry ≡ m.array.geometry
-  geometry = e.establishes.geometry ∙ start_geometry leaving m e.start e.leaves
+  geometry = e.geometry ∙ start_geometry leaving m start leaves
 
   left_before : (j : ℕ) → HasSlot leaving j → WasGoneTo m j old new
   left_before j has = gone_to_wider m j old old mid new (later_none old) before.later after (gone j has)
 
   -- one that was gone to the epoch took part
-  gone_start : (j : ℕ) → HasSlot e.establishes.gone j → IsHere e.start j
+  gone_start : (j : ℕ) → HasSlot e.gone j → IsHere start j
   gone_start j has =
-      elim (e.establishes.took j has) [ inl is ↦ is | inr joins ↦ absurd (let never : None ≡ Some j = joins.0 in cc) ]
+      elim (e.took j has) [ inl is ↦ is | inr joins ↦ absurd (let never : None ≡ Some j = sym none ∙ joins.0 in cc) ]
 
-  gone_within : (j : ℕ) → HasSlot e.establishes.gone j → WasGoneTo m j old new
+  gone_within : (j : ℕ) → HasSlot e.gone j → WasGoneTo m j old new
   gone_within j has =
       gone_to_wider m j old mid new new before.later after.later (after_none new)
-      (gone_to_earlier m e.start j mid new (start_geometry leaving m e.start e.leaves) (here_before leaving m e.start e.leaves j)
-      (gone_to_by e.start j mid new after (gone_start j has) (e.establishes.were_gone.rose j has)
+      (gone_to_earlier m start j mid new (start_geometry leaving m start leaves) (here_before leaving m start leaves j)
+      (gone_to_by start j mid new after (gone_start j has) (e.were_gone.rose j has)
       (λ honest session held reach.
-      e.establishes.were_gone.shut honest session j has held
+      e.were_gone.shut honest session j has held
       (λ attached.
       reach attached 1
-      (let needed : sectors_needed e.start.array.geometry ≡ sectors_needed e.start.array.geometry = refl in omega arith)))))
+      (let needed : sectors_needed start.array.geometry ≡ sectors_needed start.array.geometry = refl in omega arith)))))
 
   -- reasons
-  why_kept : (j : ℕ) → j < m.array.geometry.n → ¬ HasSlot e.establishes.gone j → why_of last j ≡ why_of e.start j
-  why_kept j below out = by e.establishes.began
+  why_kept : (j : ℕ) → j < m.array.geometry.n → ¬ HasSlot e.gone j → why_of last j ≡ why_of start j
+  why_kept j below out = by e.began
     where
-      by : HasBegun Fence e.establishes.gone e.start last → why_of last j ≡ why_of e.start j
+      by : HasBegun aim e.gone start last → why_of last j ≡ why_of start j
       by (NotYet same whys) = whys j (start_n j below) out
-      by (Did above named whys) = whys j (start_n j below) out
+      by (Did above named whys) = whys j (start_n j below) out ∙ as_was j (why_of start j)
 
-  fence_whys : (j : ℕ) → j < m.array.geometry.n → WhyStays (point m old) (point last new) j
-  fence_whys j below =
-      elim (has_or_not e.establishes.gone j) [
-        | inl dropped ↦ WhyStays.Went (e.establishes.were_gone.dropped j dropped) (gone_within j dropped)
+  epoch_whys : (j : ℕ) → j < m.array.geometry.n → WhyStays (point m old) (point last new) j
+  epoch_whys j below =
+      elim (has_or_not e.gone j) [
+        | inl dropped ↦ WhyStays.Went (e.were_gone.dropped j dropped) (gone_within j dropped)
         | inr kept ↦
             elim (has_or_not leaving j) [
-              | inl left ↦ WhyStays.Went (why_kept j below kept ∙ e.leaves.left j left) (left_before j left)
-              | inr out ↦ WhyStays.Same (why_kept j below kept ∙ e.leaves.others j out)
+              | inl left ↦ WhyStays.Went (why_kept j below kept ∙ leaves.left j left) (left_before j left)
+              | inr out ↦ WhyStays.Same (why_kept j below kept ∙ leaves.others j out)
             ]
       ]
 
@@ -249,93 +264,97 @@ module _ (leaving : Slots) (m last : Membership) (answer : Result Slots FenceFau
   mark_by j why.Rebuilding is marked named = MarkStays.Same (named ∙ sym marked)
   mark_by j w is marked named = MarkStays.WasAway (λ live. cc) (λ rebuilt. cc) named
 
-  fence_marks : (j : ℕ) → j < m.array.geometry.n → MarkStays (point m old) (point last new) j
-  fence_marks j below = by e.establishes.began
+  epoch_marks : (j : ℕ) → j < m.array.geometry.n → MarkStays (point m old) (point last new) j
+  epoch_marks j below = by e.began
     where
-      by : HasBegun Fence e.establishes.gone e.start last → MarkStays (point m old) (point last new) j
-      by (NotYet same whys) = MarkStays.Same (ap (λ (c : Configuration). mark_in c j) (same ∙ e.leaves.array))
+      by : HasBegun aim e.gone start last → MarkStays (point m old) (point last new) j
+      by (NotYet same whys) = MarkStays.Same (ap (λ (c : Configuration). mark_in c j) (same ∙ leaves.array))
       by (Did above named whys) =
           elim (named.marks j (start_n j below)) [
             | inr dropped ↦ MarkStays.Went (gone_within j dropped.0) dropped.1
-            | inl marked ↦
+            | inl as_aimed ↦
+                let marked : mark_in last.array j ≡ mark_for (why_of start j) = as_aimed ∙ ap mark_for (as_was j (why_of start j)) in
                 elim (has_or_not leaving j) [
-                  | inl left ↦ MarkStays.Went (left_before j left) (marked ∙ ap mark_for (e.leaves.left j left))
-                  | inr out ↦ mark_by j (why_of m j) refl (rules.marked j below) (marked ∙ ap mark_for (e.leaves.others j out))
+                  | inl left ↦ MarkStays.Went (left_before j left) (marked ∙ ap mark_for (leaves.left j left))
+                  | inr out ↦ mark_by j (why_of m j) refl (rules.marked j below) (marked ∙ ap mark_for (leaves.others j out))
                 ]
           ]
 
   -- draws
-  drawn_by : (refusal : Option FenceFault) → refusal_of answer ≡ refusal
-      → (e.start.drawn + slot_count e.establishes.gone ≤ last.drawn) × (last.drawn ≤ e.start.drawn + slot_count e.establishes.gone + 1)
-  drawn_by None is = let at = (e.establishes.done is).drawn in (omega (arith, at), omega (arith, at))
-  drawn_by (Some fault) is = let at = (e.establishes.refused fault is).1 in (omega (arith, at), omega (arith, at))
 
   -- a slot that was gone weighs nothing any more
   abbrev weighs_less : ℕ → Type 0
   weighs_less j =
-      weight (why_of last j) + cond (has_slot e.establishes.gone j) 1 0 + cond (has_slot leaving j) 1 0 ≤ weight (why_of m j)
+      weight (why_of last j) + cond (has_slot e.gone j) 1 0 + cond (has_slot leaving j) 1 0 ≤ weight (why_of m j)
 
-  lighter_gone : (j : ℕ) → HasSlot e.establishes.gone j → weighs_less j
+  lighter_gone : (j : ℕ) → HasSlot e.gone j → weighs_less j
   lighter_gone j has =
-      let is_here : IsHere e.start j = gone_start j has in
-      let weighs : weight (why_of last j) ≡ 0 = ap weight (e.establishes.were_gone.dropped j has) in
-      let one : ◌≡◌ {A = ℕ} (cond (has_slot e.establishes.gone j) 1 0) 1 = ap (λ b. cond b 1 0) has in
+      let is_here : IsHere start j = gone_start j has in
+      let weighs : weight (why_of last j) ≡ 0 = ap weight (e.were_gone.dropped j has) in
+      let one : ◌≡◌ {A = ℕ} (cond (has_slot e.gone j) 1 0) 1 = ap (λ b. cond b 1 0) has in
       let none : ◌≡◌ {A = ℕ} (cond (has_slot leaving j) 1 0) 0 =
-      unmarked (has_slot leaving j) (λ left. here_not_gone e.start j is_here (e.leaves.left j left)) in
-      let was : 1 ≤ weight (why_of m j) = here_weighs m j (here_before leaving m e.start e.leaves j is_here) in
+      unmarked (has_slot leaving j) (λ left. here_not_gone start j is_here (leaves.left j left)) in
+      let was : 1 ≤ weight (why_of m j) = here_weighs m j (here_before leaving m start leaves j is_here) in
       omega (arith, weighs, one, none, was)
 
-  lighter_kept : (j : ℕ) → j < m.array.geometry.n → ¬ HasSlot e.establishes.gone j → weighs_less j
+  lighter_kept : (j : ℕ) → j < m.array.geometry.n → ¬ HasSlot e.gone j → weighs_less j
   lighter_kept j below kept =
-      let zero : ◌≡◌ {A = ℕ} (cond (has_slot e.establishes.gone j) 1 0) 0 = unmarked (has_slot e.establishes.gone j) kept in
+      let zero : ◌≡◌ {A = ℕ} (cond (has_slot e.gone j) 1 0) 0 = unmarked (has_slot e.gone j) kept in
       elim (has_or_not leaving j) [
         | inl left ↦
-            let weighs : weight (why_of last j) ≡ 0 = ap weight (why_kept j below kept ∙ e.leaves.left j left) in
+            let weighs : weight (why_of last j) ≡ 0 = ap weight (why_kept j below kept ∙ leaves.left j left) in
             let one : ◌≡◌ {A = ℕ} (cond (has_slot leaving j) 1 0) 1 = ap (λ b. cond b 1 0) left in
             let was : 1 ≤ weight (why_of m j) = here_weighs m j (here j left) in
             omega (arith, zero, weighs, one, was)
         | inr out ↦
-            let weighs : weight (why_of last j) ≡ weight (why_of m j) = ap weight (why_kept j below kept ∙ e.leaves.others j out) in
+            let weighs : weight (why_of last j) ≡ weight (why_of m j) = ap weight (why_kept j below kept ∙ leaves.others j out) in
             let none : ◌≡◌ {A = ℕ} (cond (has_slot leaving j) 1 0) 0 = unmarked (has_slot leaving j) out in
             omega (arith, zero, weighs, none)
       ]
 
   lighter : (j : ℕ) → j < m.array.geometry.n → weighs_less j
-  lighter j below = elim (has_or_not e.establishes.gone j) [ inl dropped ↦ lighter_gone j dropped | inr kept ↦ lighter_kept j below kept ]
+  lighter j below = elim (has_or_not e.gone j) [ inl dropped ↦ lighter_gone j dropped | inr kept ↦ lighter_kept j below kept ]
 
   -- so each slot that was gone made room for its draw
-  fence_weights : weights last + slot_count e.establishes.gone + slot_count leaving ≤ weights m
-  fence_weights =
+  epoch_weights : weights last + slot_count e.gone + slot_count leaving ≤ weights m
+  epoch_weights =
       let n = m.array.geometry.n in
       let limit : n ≤ 32 = rules.array.limits.devices.1 in
       let own : weights last ≡ sum_below n (λ j. weight (why_of last j)) =
       ap (λ (g : Geometry). sum_below g.n (λ j. weight (why_of last j))) geometry in
-      let of_gone : slot_count e.establishes.gone ≡ sum_below n (λ j. cond (has_slot e.establishes.gone j) 1 0) =
-      counted_below e.establishes.gone n limit (λ j has. (here_before leaving m e.start e.leaves j (gone_start j has)).below) in
+      let of_gone : slot_count e.gone ≡ sum_below n (λ j. cond (has_slot e.gone j) 1 0) =
+      counted_below e.gone n limit (λ j has. (here_before leaving m start leaves j (gone_start j has)).below) in
       let of_leaving : slot_count leaving ≡ sum_below n (λ j. cond (has_slot leaving j) 1 0) =
       counted_below leaving n limit (λ j has. (here j has).below) in
-      let two = sum_below_add n (λ j. weight (why_of last j)) (λ j. cond (has_slot e.establishes.gone j) 1 0) in
+      let two = sum_below_add n (λ j. weight (why_of last j)) (λ j. cond (has_slot e.gone j) 1 0) in
       let three =
-      sum_below_add n (λ j. weight (why_of last j) + cond (has_slot e.establishes.gone j) 1 0) (λ j. cond (has_slot leaving j) 1 0) in
-      let all : sum_below n (λ j. weight (why_of last j) + cond (has_slot e.establishes.gone j) 1 0 + cond (has_slot leaving j) 1 0) ≤ weights m =
-      sum_below_le n (λ j. weight (why_of last j) + cond (has_slot e.establishes.gone j) 1 0 + cond (has_slot leaving j) 1 0)
+      sum_below_add n (λ j. weight (why_of last j) + cond (has_slot e.gone j) 1 0) (λ j. cond (has_slot leaving j) 1 0) in
+      let all : sum_below n (λ j. weight (why_of last j) + cond (has_slot e.gone j) 1 0 + cond (has_slot leaving j) 1 0) ≤ weights m =
+      sum_below_le n (λ j. weight (why_of last j) + cond (has_slot e.gone j) 1 0 + cond (has_slot leaving j) 1 0)
       (λ j. weight (why_of m j)) lighter in
       omega (arith, own, of_gone, of_leaving, two, three, all)
 
-  pub fence_part : (more : ℕ) → 1 ≤ more + slot_count leaving → IsPart more (point m old) (point last new)
-  fence_part more room = record {
+  pub epoch_part : (more : ℕ) → 1 ≤ more + slot_count leaving → IsPart more (point m old) (point last new)
+  epoch_part more room = record {
     after = after_join before after;
-    rules = e.establishes.rules;
+    rules = e.rules;
     geometry = geometry;
-    whys = fence_whys;
-    marks = fence_marks;
-    drawn = let at = (drawn_by (refusal_of answer) refl).0 in let same = e.leaves.drawn in omega (arith, at, same);
+    whys = epoch_whys;
+    marks = epoch_marks;
+    drawn = let at = (epoch_drawn aim start last refusal mid new e).0 in let same = leaves.drawn in omega (arith, at, same);
     draws =
-        let at = (drawn_by (refusal_of answer) refl).1 in
-        let same = e.leaves.drawn in
-        let lighter_by = fence_weights in
+        let at = (epoch_drawn aim start last refusal mid new e).1 in
+        let same = leaves.drawn in
+        let lighter_by = epoch_weights in
         omega (arith, at, same, lighter_by, room);
   }
+
+pub fence_part : (leaving : Slots) (m last : Membership) (answer : Result Slots FenceFault) (old mid new : Telling)
+    → Fences leaving m last answer mid new → IsMembership m → IsAfter old mid → ((j : ℕ) → HasSlot leaving j → IsHere m j)
+    → ((j : ℕ) → HasSlot leaving j → WasGoneTo m j old mid) → (more : ℕ) → 1 ≤ more + slot_count leaving
+    → IsPart more (point m old) (point last new)
+fence_part leaving m last answer old mid new e rules before here gone more room =
+    epoch_part Fence (λ j w. refl) refl leaving m e.start last e.leaves (refusal_of answer) old mid new e.establishes rules before here gone more room
 
 -- The first epoch of an opening draws once more than it has slots that it drops.
 pub first_part : (m last : Membership) (answer : Result Slots FenceFault) (old new : Telling) → Fences no_slots m last answer old new
@@ -343,6 +362,24 @@ pub first_part : (m last : Membership) (answer : Result Slots FenceFault) (old n
 first_part m last answer old new e rules =
     fence_part no_slots m last answer old old new e rules (after_none old) (λ j has. absurd (no_slot j has)) (λ j has. absurd (no_slot j has)) 1
     (omega arith)
+
+-- none leaves
+pub leaves_none : (m : Membership) → Leaves no_slots m m
+leaves_none m = record {
+  array = refl;
+  drawn = refl;
+  size = refl;
+  places = refl;
+  left = λ j has. absurd (no_slot j has);
+  others = λ j out. refl;
+}
+
+-- A frozen mark and a label are an epoch's own.
+pub stamp_part : (frozen : Bool) (label : List ℕ) (m last : Membership) (answer : Result Slots FenceFault) (old new : Telling)
+    → Stamps frozen label m last answer old new → IsMembership m → IsPart 1 (point m old) (point last new)
+stamp_part frozen label m last answer old new e rules =
+    epoch_part (Stamp frozen label) (λ j w. refl) refl no_slots m m last (leaves_none m) (refusal_of answer) old old new e.establishes rules
+    (after_none old) (λ j has. absurd (no_slot j has)) (λ j has. absurd (no_slot j has)) 1 (omega arith)
 
 -- SLOTS THAT ARE LEFT OUT
 

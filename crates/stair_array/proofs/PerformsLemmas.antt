@@ -105,7 +105,7 @@ recovered_left_out _ _ _ (Recovers.Goes fallen opened redo answer x y z w e foun
 
 -- WHY IT IS REFUSED
 
-answered_err : {T : Type 0} (given : T) (refusal : Option FenceFault) (why : Refusal) → answer_of given refusal ≡ Err why
+pub answered_err : {T : Type 0} (given : T) (refusal : Option FenceFault) (why : Refusal) → answer_of given refusal ≡ Err why
     → (fault : FenceFault) × (refusal ≡ Some fault) × (why ≡ refused fault)
 answered_err given None why is = absurd (cc)
 answered_err given (Some fault) why is = (fault, refl, (let same : why ≡ refused fault = cc in same))

@@ -59,7 +59,7 @@ cannot_member t i j x y (NotLive out same) = ap (λ (p : Point). p.member) same
 cannot_member t i j x y (WasBad asks bad) = asks.member
 cannot_member t i j x y (WasGone asks gone) = asks.member
 
-told_part : (x y : Point) → y.member ≡ x.member → IsAfter x.told y.told → IsMembership x.member → IsPart 0 x y
+pub told_part : (x y : Point) → y.member ≡ x.member → IsAfter x.told y.told → IsMembership x.member → IsPart 0 x y
 told_part x y same after rules =
     subst (λ (m : Membership). IsPart 0 x (point m y.told)) (sym same) (part_told x.member x.told y.told rules after)
 

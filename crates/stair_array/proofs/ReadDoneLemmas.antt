@@ -1,6 +1,6 @@
 -- A read of a block keeps what is promised of a step, where no medium comes back: it is done where it can be.
 use Rattle.std.proofs.Common.{◌≡◌, ℕ, ◌<◌, ◌≤◌, List, refl, sym, ap, ◌∙◌, subst, arith, None, Some, Option}
-use Rattle.std.specs.Prelude.{IfErr, IsOk, IsTrue, Result, Ok, Err}
+use Rattle.std.specs.Prelude.{IsOk, IsTrue, Result, Err}
 use Rattle.stair_model.specs.Coverage.{IsCovered}
 use Rattle.stair_model.specs.Geometry.{Geometry, block_count}
 use Rattle.stair_model.specs.Stripe.{Stripe}
@@ -17,12 +17,10 @@ use Rattle.stair_session.specs.InSession.{IsOfContent}
 use Rattle.stair_session.specs.Rebuilding.{Rebuild}
 use Rattle.stair_session.specs.Returning.{IsCalm, NoneReturns}
 use Rattle.stair_array.specs.Calls.{IsInPlace, IsLoaded, LoadsStripe, Reads, refused}
-use Rattle.stair_array.specs.Causes.{HasCause}
-use Rattle.stair_array.specs.Draws.{most_drawn}
 use Rattle.stair_array.specs.Machine.{Answer, ReadBlock, Refusal}
 use Rattle.stair_array.specs.Promise.{CanBeDone, IsInState, LeadsStep, Performs, Seen, is_open}
 use Rattle.stair_array.proofs.CoveredLemmas.{covered, never_too_few}
-use Rattle.stair_array.proofs.DrawsLemmas.{draws_on, never_spent}
+use Rattle.stair_array.proofs.DrawsLemmas.{done_with_room}
 use Rattle.stair_array.proofs.ReadPartLemmas.{Calm, HasAsked, HasLoaded, array_here, has_asked, placed_in, whole_loaded}
 use Rattle.stair_array.proofs.ReadStepLemmas.{begins, calm_to, cuts, leads, of_kept, serves}
 use Rattle.stair_array.proofs.ServingLemmas.{IsServing}
@@ -87,25 +85,9 @@ module _ (b : ℕ) (answer : Answer (ReadBlock b)) (events : List Event) (x y : 
 
   -- so it is done
   complete : CanBeDone (ReadBlock b) s p.was.member x.told.history y.told.history → IsOk answer
-  complete can = by answer refl
-    where
-      below : b < block_count s.geometry
-      below = can.passes _ (begins b answer events x y p honest before s state).seats
-
-      room : p.draws_few.draw ≤ most_drawn
-      room =
-          subst (λ (n : ℕ). n ≤ most_drawn)
-          (sym (draws_on (ReadBlock b) (λ j same. cc) p.was.member x.told y.told p.draws_few.draw p.draws_few.had_seen)) can.draws
-
-      by : (given : Answer (ReadBlock b)) → answer ≡ given → IsOk answer
-      by (Ok bytes) same = subst (λ (r : Answer (ReadBlock b)). IsOk r) (sym same) refl
-      by (Err refusal) same =
-          let cause =
-          subst (λ (r : Answer (ReadBlock b)). IfErr r (λ why. HasCause (ReadBlock b) why p.was p.is.member x.told y.told))
-          (same ∙ ap (λ (why : Refusal). Err why) (none_refused below refusal same)) p.caused in
-          absurd
-          (never_spent (ReadBlock b) p.was.member p.is.member x.told y.told
-          (serves b answer events x y p honest before s state).is_open.array.member p.draws_few room cause.1.spent)
+  complete can =
+      done_with_room (ReadBlock b) (λ j same. cc) answer events x y p (serves b answer events x y p honest before s state).is_open.array.member can.draws
+      (λ cause. cause.1) (none_refused (can.passes _ (begins b answer events x y p honest before s state).seats))
 
 -- So it is what is promised of a step.
 pub promise : (b : ℕ) (answer : Answer (ReadBlock b)) (events : List Event) (x y : Seen) → (p : Performs (ReadBlock b) answer events x y)

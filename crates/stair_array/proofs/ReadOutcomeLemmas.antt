@@ -7,38 +7,35 @@ use Rattle.stair_rack.specs.Answers.{any_call}
 use Rattle.stair_rack.specs.History.{Happening}
 use Rattle.stair_rack.specs.Moments.{AtEveryMoment}
 use Rattle.stair_rack.proofs.MomentLemmas.{at_every_none, ran_any, ran_join}
-use Rattle.stair_super.specs.declared.configuration.Configuration.{Configuration}
 use Rattle.stair_member.specs.declared.fault.FenceFault.{FenceFault}
 use Rattle.stair_state.specs.Blocks.{Codewords}
-use Rattle.stair_state.specs.Represents.{Represents}
 use Rattle.stair_state.specs.State.{Content}
 use Rattle.stair_state.proofs.BlockLemmas as blocks
 use Rattle.stair_session.specs.Courses.{Point}
 use Rattle.stair_session.specs.InSession.{IsOfContent}
-use Rattle.stair_session.specs.Opening.{StaysArray}
 use Rattle.stair_session.specs.Rebuilding.{Rebuild}
-use Rattle.stair_session.specs.SeatSteps.{EachMayDrop}
-use Rattle.stair_session.specs.Session.{seats_in}
 use Rattle.stair_array.specs.Calls.{Reads, refused}
 use Rattle.stair_array.specs.Machine.{IsFinal, Refusal}
-use Rattle.stair_array.proofs.LeftServingLemmas.{reading_stands, serving_stands, with_seats}
-use Rattle.stair_array.proofs.LoadingLemmas.{CalmIn, Comes, Serves, ServesOn, refused_stands, same_serves, same_stays, stripe_comes, stripe_moments}
+use Rattle.stair_array.proofs.KeptStepLemmas.{Gives, Lacks, Outcome, Stops}
+use Rattle.stair_array.proofs.LeftServingLemmas.{reading_stands, serving_stands}
+use Rattle.stair_array.proofs.LoadingLemmas.{CalmIn, Comes, Serves, refused_stands, same_serves, same_stays, stripe_comes, stripe_moments}
 use Rattle.stair_array.proofs.PartsLemmas.{part_join}
 use Rattle.stair_array.proofs.ReadCourseLemmas.{cannot_part, loaded_part}
 use Rattle.stair_array.proofs.ReadPartLemmas.{Stands, any_read, array_here, asked_of, has_asked, placed_in}
 use Rattle.stair_array.proofs.ServingLemmas.{calm_going, read_good, reads_serve}
 
-module _ (before : List Happening) (rebuild : Option Rebuild) (stopped : Option FenceFault) (words : Codewords) (kept : Content) where
-  -- The array serves on, and the bytes are those of the block; or an epoch was refused, and the rack represents the array.
-  pub data Outcome (x : Point) (of : IsOfContent x.member words kept) (b : ℕ) : Result (List ℕ) Refusal → Point → Type 0 where
-    Goes : (answer : Result (List ℕ) Refusal) (y : Point) → ServesOn before rebuild stopped words kept x of y → StaysArray x.member y.member
-        → ((bytes : List ℕ) → answer ≡ Ok bytes → (b < block_count x.member.array.geometry) × (bytes ≡ kept.blocks b))
-        → ((refusal : Refusal) → answer ≡ Err refusal → ¬ IsFinal refusal) → Outcome x of b answer y
-    Stops : (fault : FenceFault) (y : Point) (array : Configuration) → b < block_count x.member.array.geometry
-        → Represents (with_seats before (array_here before rebuild stopped words kept x of) words kept of array) y.told.history
-        → EachMayDrop (seats_in x.member.array) (seats_in array) → Outcome x of b (Err (refused fault)) y
+-- what is asked of a block before it is read, and what is read of it
+abbrev pub IsInside : ℕ → Point → Type 0
+IsInside b x = b < block_count x.member.array.geometry
 
+abbrev pub IsBlock : ℕ → Content → List ℕ → Type 0
+IsBlock b kept bytes = bytes ≡ kept.blocks b
+
+module _ (before : List Happening) (rebuild : Option Rebuild) (stopped : Option FenceFault) (words : Codewords) (kept : Content) where
   module _ (b : ℕ) where
+    abbrev pub ReadOutcome : (x : Point) → IsOfContent x.member words kept → Result (List ℕ) Refusal → Point → Type 0
+    ReadOutcome x of answer y = Outcome before rebuild stopped words kept x of (List ℕ) (IsInside b x) (IsBlock b kept) answer y
+
     abbrev ServesAt : (x : Point) → IsOfContent x.member words kept → List Happening → Type 0
     ServesAt x of h = Serves before rebuild stopped words kept x of h
 
@@ -52,23 +49,21 @@ module _ (before : List Happening) (rebuild : Option Rebuild) (stopped : Option 
       Loading = Comes before rebuild stopped words kept (into ≡ words t) x of
 
       was_had : (bytes : List ℕ) → (into ≡ words t → bytes ≡ kept.blocks b) → (answer : Result (Unit {0}) Refusal) (z : Point) → Loading answer z
-          → answer ≡ Ok tt → Outcome x of b (Ok bytes) z
-      was_had bytes right _ _ (Comes.Has z serves stays live same) fine =
-          Goes (Ok bytes) z serves stays (λ given gives. (inside, let one : bytes ≡ given = cc in sym one ∙ right same)) (λ refusal gives. absurd (cc))
+          → answer ≡ Ok tt → ReadOutcome x of (Ok bytes) z
+      was_had bytes right _ _ (Comes.Has z serves stays live same) fine = Gives bytes z serves stays inside (right same)
       was_had bytes right _ _ (Comes.Lacks refusal z serves stays not_final) fine = absurd (cc)
       was_had bytes right _ _ (Comes.Stops fault z at) fine = absurd (cc)
 
       was_refused : (refusal : Refusal) (answer : Result (Unit {0}) Refusal) (z : Point) → Loading answer z → z ≡ u → answer ≡ Err refusal
-          → Outcome x of b (Err refusal) z
+          → ReadOutcome x of (Err refusal) z
       was_refused refusal _ _ (Comes.Has z serves stays live same) ends fine = absurd (cc)
       was_refused refusal _ _ (Comes.Lacks other z serves stays not_final) ends fine =
-          Goes (Err refusal) z serves stays (λ bytes gives. absurd (cc))
-          (λ given gives final. not_final (subst IsFinal (let one : given ≡ other = cc in one) final))
+          Lacks refusal z serves stays (λ final. not_final (subst IsFinal (let one : refusal ≡ other = cc in one) final))
       was_refused refusal _ _ (Comes.Stops fault z at) ends fine =
           let stands =
           refused_stands before words kept x.member fault z of at (subst (λ (p : Point). IsTrue p.told.honest) (sym ends) honest)
           (subst (λ (p : Point). CalmAt x of p.told.history) (sym ends) calm) in
-          subst (λ (r : Refusal). Outcome x of b (Err r) z) (let one : refused fault ≡ refusal = cc in one)
+          subst (λ (r : Refusal). ReadOutcome x of (Err r) z) (let one : refused fault ≡ refusal = cc in one)
           (Stops fault z stands.0 inside stands.1 stands.2)
 
     -- ALL OF IT
@@ -88,16 +83,12 @@ module _ (before : List Happening) (rebuild : Option Rebuild) (stopped : Option 
         stripe_moments before rebuild stopped words kept x of is t into y (has_asked t i j x y cannot) (Err refusal) y z loads refl honest
 
     pub outcome : (answer : Result (List ℕ) Refusal) (x z : Point) → Reads b answer x z → (of : IsOfContent x.member words kept)
-        → ServesAt x of x.told.history → IsTrue z.told.honest → CalmAt x of z.told.history → Outcome x of b answer z
+        → ServesAt x of x.told.history → IsTrue z.told.honest → CalmAt x of z.told.history → ReadOutcome x of answer z
     outcome _ _ _ (Reads.OutOf x past) of is honest calm =
-        let on = calm_going x.member.array.geometry before x.told.history is.is_open.ran calm in
-        Goes (Err _) x (same_serves before rebuild stopped words kept x x of refl honest is on)
-        (same_stays before rebuild stopped words kept x x of refl is) (λ bytes gives. absurd (cc))
-        (λ refusal gives final. absurd (subst (λ (r : Result (List ℕ) Refusal). IfFinal r) (sym gives) final))
-      where
-        IfFinal : Result (List ℕ) Refusal → Type 0
-        IfFinal (Ok bytes) = ⊤
-        IfFinal (Err refusal) = IsFinal refusal
+        Lacks _ x
+        (same_serves before rebuild stopped words kept x x of refl honest is
+        (calm_going x.member.array.geometry before x.told.history is.is_open.ran calm))
+        (same_stays before rebuild stopped words kept x x of refl is) (λ final. absurd final)
     outcome _ _ _ (Reads.Own t i j bytes x y place asks reading) of is honest calm =
         let asked = asked_of t i j x y asks in
         let limits = is.is_open.array.member.array.limits in
@@ -105,19 +96,13 @@ module _ (before : List Happening) (rebuild : Option Rebuild) (stopped : Option 
         let on =
         calm_going x.member.array.geometry before y.told.history
         (ran_join {allowed = any_call} is.is_open.ran (ran_any {allowed = any_read} (asked.ran honest))) calm in
-        Goes (Ok bytes) y
+        Gives bytes y
         (same_serves before rebuild stopped words kept x y of asked.member honest
         (reads_serve before (array_here before rebuild stopped words kept x of) words (λ j. ⊤) (λ k. ⊤) x.told.history y.told.history is (asked.ran honest) on)
-        on) (same_stays before rebuild stopped words kept x y of asked.member is)
-        (λ given gives.
-        let own : bytes ≡ cell (words t) i j =
-        read_good before (array_here before rebuild stopped words kept x of) words (λ j. ⊤) (λ k. ⊤) x.told.history y.told.history is (asked.ran honest) on
-        t i j asks.live stripe place.place.row_in bytes (reading honest) in
-        let same : bytes ≡ given = cc in (
-          place.below,
-          sym same ∙ own ∙ blocks.at x.member.array.geometry kept.blocks words b t i j limits of.encodings place.below place.place,
-        ))
-        (λ refusal gives. absurd (cc))
+        on) (same_stays before rebuild stopped words kept x y of asked.member is) place.below
+        (read_good before (array_here before rebuild stopped words kept x of) words (λ j. ⊤) (λ k. ⊤) x.told.history y.told.history is (asked.ran honest) on
+        t i j asks.live stripe place.place.row_in bytes (reading honest)
+        ∙ blocks.at x.member.array.geometry kept.blocks words b t i j limits of.encodings place.below place.place)
     outcome _ _ _ (Reads.Restored t i j into x y z place cannot loads) of is honest calm =
         let limits = is.is_open.array.member.array.limits in
         let stripe = placed_in x.member.array.geometry b t i j limits place.below place.place in

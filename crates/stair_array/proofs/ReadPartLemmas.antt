@@ -219,7 +219,7 @@ module _ (before : List Happening) (rebuild : Option Rebuild) (stopped : Option 
           (λ c at calm.
           at_moment {P = Stands}
           (leaving_stands before array_here words kept of gathered.gone refusal l.mid z l.leaves honest
-          (serves_mid (calm_going_mid (to_mid c (ran_before {allowed = any_call} ran_leaving at) calm))) gone_here gone_off) at calm))
+          (serves_mid (calm_going_mid (to_mid c (ran_before {allowed = any_call} ran_leaving at) calm))) gone_here (λ j has live. gone_off j has)) at calm))
 
       -- each wanted cell that isn't erased was read as that of the stripe
       pub read_same : IsGoing before l.mid.history → t < x.member.array.geometry.stripes → (i j : ℕ) → wanted i j → ¬ HasCell gathered.erased i j

@@ -1,7 +1,7 @@
 -- An opening is a step of the array's machine, what a crash leaves in the midst of it is what one within the step leaves, and it is
 -- done where it can be, where no medium comes back.
-use Rattle.std.proofs.Common.{◌≡◌, ℕ, ◌≤◌, List, [], ◌∷◌, inl, inr, refl, sym, ap, ◌∙◌, subst, None, Some}
-use Rattle.std.specs.Prelude.{IfErr, IsErr, IsOk, IsTrue, Result, Ok, Err}
+use Rattle.std.proofs.Common.{◌≡◌, ℕ, List, [], ◌∷◌, inl, inr, refl, sym, ap, ◌∙◌, subst, None, Some}
+use Rattle.std.specs.Prelude.{IsErr, IsOk, IsTrue, Result, Ok, Err}
 use Rattle.std.proofs.lemmas.Bool.{false≢true}
 use Rattle.stair_model.specs.Geometry.{Geometry}
 use Rattle.stair_rack.specs.Answers.{Ran, any_call}
@@ -32,12 +32,11 @@ use Rattle.stair_session.specs.Opening.{opened_with}
 use Rattle.stair_session.specs.Returning.{IsCalm, NoneReturns}
 use Rattle.stair_session.specs.Session.{ArrayState, seats_in}
 use Rattle.stair_array.specs.Calls.{refused}
-use Rattle.stair_array.specs.Causes.{HasCause}
-use Rattle.stair_array.specs.Draws.{HasDraws, most_drawn}
+use Rattle.stair_array.specs.Draws.{HasDraws}
 use Rattle.stair_array.specs.Machine.{IsDecided, Recover, Refusal}
 use Rattle.stair_array.specs.Promise.{AreFound, Begun, Closed, EndsIn, Found, IsInState, IsLed, IsLeftBy, Keeps, KeepsRebuild, LeadsStep, Opened, Performs, Seen, ServesState, Session, StartsFrom, is_open}
 use Rattle.stair_array.proofs.CompleteLemmas.{recovers_never}
-use Rattle.stair_array.proofs.DrawsLemmas.{draws_on, never_spent}
+use Rattle.stair_array.proofs.DrawsLemmas.{done_with_room}
 use Rattle.stair_array.proofs.RecoveredLemmas.{Calm, IsSurveyed, Opens, Outcome, Refuses, calm_now, calm_then, outcome, surveyed}
 use Rattle.stair_array.proofs.RecoveredMoments.{StandsHere, recover_moments}
 
@@ -256,20 +255,8 @@ module _ (answer : Result Geometry Refusal) (events : List Event) (x y : Seen) (
 
   -- so it is done
   pub complete : Calm s before y.told.history → HasDraws p.was.member → IsOk answer
-  complete calm draws = by answer refl
-    where
-      room : p.draws_few.draw ≤ most_drawn
-      room =
-          subst (λ (n : ℕ). n ≤ most_drawn) (sym (draws_on Recover (λ j same. cc) p.was.member x.told y.told p.draws_few.draw p.draws_few.had_seen))
-          draws
-
-      by : (given : Result Geometry Refusal) → answer ≡ given → IsOk answer
-      by (Ok g) same = subst (λ (r : Result Geometry Refusal). IsOk r) (sym same) refl
-      by (Err refusal) same =
-          let cause =
-          subst (λ (r : Result Geometry Refusal). IfErr r (λ why. HasCause Recover why p.was p.is.member x.told y.told))
-          (same ∙ ap (λ (why : Refusal). Err why) (only_spent calm refusal same)) p.caused in
-          absurd (never_spent Recover p.was.member p.is.member x.told y.told rules p.draws_few room cause.1.spent)
+  complete calm draws =
+      done_with_room Recover (λ j same. cc) answer events x y p rules draws (λ cause. cause.1) (only_spent calm)
 
   -- at each moment of it a crash leaves the state as it was
   pub stays : (c : List Happening) → IsMoment x.told.history c y.told.history → Calm s before c → (image : Image) → CrashMayLeave c image

@@ -61,7 +61,7 @@ stage_stops g redo stripe stage to fault x y over does rules same formed = recor
           (redo_range g redo stripe stage x same rules formed) j has);
     }
 
-redo_stops : (g : Geometry) (redo : Redo) (stripe : Stripe) (stage : Stage) (refusal : Option FenceFault) (x z : Point)
+pub redo_stops : (g : Geometry) (redo : Redo) (stripe : Stripe) (stage : Stage) (refusal : Option FenceFault) (x z : Point)
     → Redoes g redo stripe stage refusal x z → IsMembership x.member → g ≡ x.member.array.geometry → IsRedo g redo → (fault : FenceFault)
     → refusal ≡ Some fault → StopsBy fault x z
 redo_stops g redo stripe _ _ _ _ (Redoes.Ends x) rules same formed fault is = absurd (let never : None ≡ Some fault = is in cc)

@@ -1,6 +1,6 @@
 -- A write of blocks keeps what is promised of a step, where no medium comes back: it is done where it can be.
-use Rattle.std.proofs.Common.{◌≡◌, ℕ, ◌<◌, ◌≤◌, List, refl, sym, ap, ◌∙◌, subst, arith, None, Some, Option, false, length}
-use Rattle.std.specs.Prelude.{IfErr, IsOk, IsTrue, Result, Ok, Err}
+use Rattle.std.proofs.Common.{◌≡◌, ℕ, ◌<◌, List, refl, sym, ◌∙◌, subst, arith, None, Some, Option, false, length}
+use Rattle.std.specs.Prelude.{IsOk, IsTrue, Result, Err}
 use Rattle.std.proofs.lemmas.Bool.{true≢false}
 use Rattle.stair_model.specs.Geometry.{Geometry, block_count}
 use Rattle.stair_rack.specs.History.{Happening}
@@ -15,11 +15,9 @@ use Rattle.stair_session.specs.InSession.{IsOfContent}
 use Rattle.stair_session.specs.Rebuilding.{Rebuild}
 use Rattle.stair_session.specs.Returning.{IsCalm, NoneReturns}
 use Rattle.stair_array.specs.Calls.{WritesBlocks, answer_of, refused}
-use Rattle.stair_array.specs.Causes.{HasCause}
-use Rattle.stair_array.specs.Draws.{most_drawn}
 use Rattle.stair_array.specs.Machine.{Answer, Refusal, WriteBlocks}
 use Rattle.stair_array.specs.Promise.{CanBeDone, IsInState, LeadsStep, Performs, Seen, is_open}
-use Rattle.stair_array.proofs.DrawsLemmas.{draws_on, never_spent}
+use Rattle.stair_array.proofs.DrawsLemmas.{done_with_room}
 use Rattle.stair_array.proofs.LoadingLemmas.{CalmIn, Serves}
 use Rattle.stair_array.proofs.ServingLemmas.{calm_going}
 use Rattle.stair_array.proofs.WriteDoubtLemmas.{IsReady, enough, inside, stripe_in}
@@ -78,25 +76,10 @@ module _ (first : ℕ) (contents : List (List ℕ)) (answer : Answer (WriteBlock
 
   -- so it is done
   complete : CanBeDone (WriteBlocks first contents) s p.was.member x.told.history y.told.history → IsOk answer
-  complete can = by answer refl
-    where
-      tests : (first < block_count s.geometry) × (s.content.frozen ≡ false)
-      tests = let all = can.passes _ (begins first contents answer events x y p honest before s state).seats in (all.0, all.2)
-
-      room : p.draws_few.draw ≤ most_drawn
-      room =
-          subst (λ (n : ℕ). n ≤ most_drawn)
-          (sym (draws_on (WriteBlocks first contents) (λ j same. cc) p.was.member x.told y.told p.draws_few.draw p.draws_few.had_seen)) can.draws
-
-      by : (given : Answer (WriteBlocks first contents)) → answer ≡ given → IsOk answer
-      by (Ok done) same = subst (λ (r : Answer (WriteBlocks first contents)). IsOk r) (sym same) refl
-      by (Err refusal) same =
-          let cause =
-          subst (λ (r : Answer (WriteBlocks first contents)). IfErr r (λ why. HasCause (WriteBlocks first contents) why p.was p.is.member x.told y.told))
-          (same ∙ ap (λ (why : Refusal). Err why) (none_refused tests.0 tests.1 refusal same)) p.caused in
-          absurd
-          (never_spent (WriteBlocks first contents) p.was.member p.is.member x.told y.told
-          (serves first contents answer events x y p honest before s state).is_open.array.member p.draws_few room cause.1.spent)
+  complete can =
+      let tests = can.passes _ (begins first contents answer events x y p honest before s state).seats in
+      done_with_room (WriteBlocks first contents) (λ j same. cc) answer events x y p
+      (serves first contents answer events x y p honest before s state).is_open.array.member can.draws (λ cause. cause.1) (none_refused tests.0 tests.2)
 
 -- So it is what is promised of a step.
 pub promise : (first : ℕ) (contents : List (List ℕ)) (answer : Answer (WriteBlocks first contents)) (events : List Event) (x y : Seen)

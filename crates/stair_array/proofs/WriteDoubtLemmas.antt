@@ -1,22 +1,17 @@
 -- The redo of a write of blocks, where no medium comes back: the stripes that it leads between, what a crash leaves in the midst of it, and
 -- how it ends.
-use Rattle.std.proofs.Common.{◌≡◌, ℕ, ◌+◌, ◌*◌, ◌%◌, ◌<◌, ◌≤◌, List, inl, refl, sym, ap, ◌∙◌, subst, arith, None, Some, Option, false, length, div-add-mod', inr}
+use Rattle.std.proofs.Common.{◌≡◌, ℕ, ◌+◌, ◌*◌, ◌%◌, ◌<◌, ◌≤◌, List, refl, sym, ap, ◌∙◌, subst, arith, None, Some, Option, false, length, div-add-mod', inr}
 use Rattle.std.specs.Prelude.{◌-◌, IsTrue}
 use Rattle.std.proofs.lemmas.Nat.{div_below, mul-add-lt}
 use Rattle.stair_model.specs.CellSet.{CellSet, HasCell}
 use Rattle.stair_model.specs.Geometry.{Geometry, IsWithinLimits, block_count, data_cells}
 use Rattle.stair_model.specs.Stripe.{Stripe, cell}
-use Rattle.stair_rack.specs.Answers.{IsHistory, Ran, any_call}
-use Rattle.stair_rack.specs.Crash.{CrashMayLeave, image_now}
-use Rattle.stair_rack.specs.History.{Happening, stopped}
+use Rattle.stair_rack.specs.Crash.{CrashMayLeave}
+use Rattle.stair_rack.specs.History.{Happening}
 use Rattle.stair_rack.specs.Media.{Image}
 use Rattle.stair_rack.specs.Moments.{IsMoment}
 use Rattle.stair_rack.specs.Offline.{IsAttached}
-use Rattle.stair_rack.proofs.CrashLemmas.{CrashMayLeave-now}
-use Rattle.stair_rack.proofs.MomentLemmas.{moment_between, moment_last, ran_before, ran_join, ran_weakened}
-use Rattle.stair_rack.proofs.OfflineLemmas.{stopped_on}
-use Rattle.stair_rack.proofs.StretchLemmas.{each_after}
-use Rattle.stair_rack.proofs.TidyLemmas.{history_on}
+use Rattle.stair_rack.proofs.MomentLemmas.{ran_weakened}
 use Rattle.stair_super.specs.declared.configuration.Configuration.{Configuration}
 use Rattle.stair_journal.specs.Redo.{IsRedo}
 use Rattle.stair_journal.specs.declared.redo.Redo.{Redo}
@@ -24,42 +19,32 @@ use Rattle.stair_member.specs.Membership.{Membership}
 use Rattle.stair_member.specs.declared.fault.FenceFault.{FenceFault}
 use Rattle.stair_member.specs.declared.fault.FenceFault.TheVariants as fence
 use Rattle.stair_member.specs.declared.why.Why.{Why}
-use Rattle.stair_member.proofs.SuperLemmas.{super_formed}
 use Rattle.stair_stripes.specs.Gathering.{IsCellOf}
 use Rattle.stair_state.specs.Blocks.{AreEncodingsOf, AreOfOneStripe, Codewords, IsSetFrom, with_blocks, with_word}
 use Rattle.stair_state.specs.Redoing.{AtRest, AttachesNone, IsRedoing, Redoing, next}
-use Rattle.stair_state.specs.Represents.{AreSteady, Encodings, Represents, RepresentsAlone}
-use Rattle.stair_state.specs.State.{BlocksAre, Change, Content, State}
-use Rattle.stair_state.specs.Tolerance.{IsTolerated, IsToleratedAlone}
+use Rattle.stair_state.specs.Represents.{Represents, RepresentsAlone}
+use Rattle.stair_state.specs.State.{BlocksAre, Change, Content}
 use Rattle.stair_state.proofs.BlockLemmas.{set_all}
-use Rattle.stair_state.proofs.OutsideLemmas.{tolerated_alone}
 use Rattle.stair_session.specs.Courses.{Point, Redoes}
 use Rattle.stair_session.specs.InSession.{IsOfContent, state_with}
 use Rattle.stair_session.specs.Leading.{led_to, rebuild_in}
-use Rattle.stair_session.specs.Opening.{Across, StaysArray}
+use Rattle.stair_session.specs.Opening.{StaysArray}
 use Rattle.stair_session.specs.Rebuilding.{Rebuild}
 use Rattle.stair_session.specs.SeatSteps.{EachMayDrop}
 use Rattle.stair_session.specs.Session.{seats_in}
-use Rattle.stair_session.specs.UnderWay.{AreKept, IsOfRedo}
-use Rattle.stair_session.proofs.AmidRedoLemmas.{redo_begins}
 use Rattle.stair_session.proofs.BesideLemmas.{attached_on}
-use Rattle.stair_session.proofs.DoubtLemmas.{IsOfDoubt, doubt_stands}
-use Rattle.stair_session.proofs.RedoingLemmas.{over_here, redo_ran}
-use Rattle.stair_session.proofs.RedoMoments as redo_moments
-use Rattle.stair_session.proofs.SeatLemmas.{listed_member, listed_super}
-use Rattle.stair_session.proofs.StaysArrayLemmas.{drops_twice, redo_stays, stays_again}
+use Rattle.stair_session.proofs.RedoingLemmas.{over_here}
+use Rattle.stair_session.proofs.StaysArrayLemmas.{stays_again}
 use Rattle.stair_array.specs.Calls.{AreInPlace, AreSet}
-use Rattle.stair_array.proofs.CompleteLemmas.{redo_never}
 use Rattle.stair_array.proofs.CourseLemmas.{redo_part}
 use Rattle.stair_array.proofs.GoneToLemmas.{attaches_none}
-use Rattle.stair_array.proofs.LedOnLemmas.{amid_opening, kept_drops, led_again}
 use Rattle.stair_array.proofs.LoadingLemmas.{CalmIn, LiveStill, Serves, ServesOn}
 use Rattle.stair_array.proofs.ReadPartLemmas.{array_here}
-use Rattle.stair_array.proofs.SeatedLemmas.{now_alone, seated}
-use Rattle.stair_array.proofs.ServingLemmas.{IsGoing, IsServing, calm_sooner, goes_on, tolerated_now}
+use Rattle.stair_array.proofs.RedoDoubtLemmas as redo_doubt
+use Rattle.stair_array.proofs.ServingLemmas.{IsGoing, IsServing}
 use Rattle.stair_array.proofs.WriteCutOffLemmas.{IsRefusedIn}
 use Rattle.stair_array.proofs.WritePartLemmas.{IsKnown}
-use Rattle.stair_array.proofs.WriteRedoLemmas.{IsAmid, IsRefusedAfter, array_with, mid_amid, mid_off, mid_way, redo_serves, refused_after, refused_steady, way}
+use Rattle.stair_array.proofs.WriteRedoLemmas.{IsAmid, IsRefusedAfter, array_with, mid_amid, mid_off, mid_way, refused_after}
 use Rattle.stair_array.proofs.WriteStripeLemmas.{IsWord, cells_of, redoing_of, set_exists}
 
 -- WHAT IS WRITTEN
@@ -162,176 +147,66 @@ module _ (before : List Happening) (rebuild : Option Rebuild) (stopped_by : Opti
     cells_so : (i c : ℕ) → HasCell redo.cells i c → cell stripe i c ≡ cell (new_words redo.stripe) i c
     cells_so = cells_of x.member.array.geometry limits redo words after.0 first contents loaded stripe word set ready.known after.1
 
-    begins : IsAmid before r redoing stripe cells_so y.told.history AtRest (rebuild_in y.member rebuild) None y
-    begins = record {
-      amid =
-          redo_begins r before (led_to (array_here before rebuild stopped_by words kept x of) y.member) y.told.history ready.serves.is_open
-          (sym ready.stays.geometry);
-      begun = ready.serves.begun;
+    abbrev written : Option Change
+    written = Some (BlocksAre first contents)
+
+    abbrev doing : redo_doubt.Begins before rebuild stopped_by words new_words kept written redo stripe x of y
+    doing = record {
+      array = is.is_open.array;
+      serves = ready.serves;
+      stays = ready.stays;
+      redoing = redoing;
+      cells = cells_so;
+      becomes = record {
+        old_are = of.encodings;
+        new_are = new_are;
+        frozen = of.frozen;
+        label = of.label;
+        frozen_new = refl;
+        label_new = refl;
+      };
     }
 
     -- done
     pub done : (z : Point) → Redoes x.member.array.geometry redo stripe AtRest None y z → IsTrue z.told.honest
         → IsGoing before z.told.history → IsWritten x of z
     done z run honest on =
-        let then : StaysArray y.member z.member = redo_stays x.member.array.geometry redo stripe AtRest None y z run ready.stays.rules in
-        let serves =
-        redo_serves before r redoing stripe cells_so y.told.history AtRest None y z run refl honest on.none on.going (rebuild_in y.member rebuild) None
-        begins in
-        record {
-          new = new_words;
-          serves = record {
-            is_open =
-                led_again before (array_here before rebuild stopped_by words kept x of) y.member z.member new_words z.told.history is.is_open.array
-                ready.stays ready.serves.is_open.array then serves.is_open;
-            begun = serves.begun;
-          };
-          stays = stays_again x.member y.member z.member ready.stays then;
-          are = new_are;
-        }
-
-    -- THE DOUBT
-
-    abbrev doubted : State
-    doubted = record {
-      geometry = x.member.array.geometry;
-      content = kept;
-      in_doubt = Some (BlocksAre first contents);
-      seats = None;
-    }
-
-    abbrev both : Encodings doubted
-    both = record { old = words; new = new_words; old_are = of.encodings; new_are = new_are }
-
-    of_redo : IsOfRedo r y.member kept (Some (BlocksAre first contents))
-    of_redo = record {
-      old_are = of.encodings;
-      new_are = new_are;
-      frozen = ready.stays.frozen ∙ of.frozen;
-      label = ready.stays.label ∙ of.label;
-      frozen_new = refl;
-      label_new = refl;
-    }
-
-    of_doubt : IsOfDoubt doubted both r y.member kept (Some (BlocksAre first contents))
-    of_doubt = record { geometry = refl; of = of_redo; between = Across refl refl; frozen = inl refl; label = inl refl }
+        let ends = redo_doubt.done before rebuild stopped_by words new_words kept written redo stripe x y of doing z run honest on in
+        record { new = new_words; serves = ends.0; stays = ends.1; are = new_are }
 
     -- what a crash leaves at a moment of it
-    module _ (refusal : Option FenceFault) (z : Point) (run : Redoes x.member.array.geometry redo stripe AtRest refusal y z)
-        (honest : IsTrue z.told.honest) (c : List Happening) (at : IsMoment y.told.history c z.told.history)
-        (calm : CalmIn before rebuild stopped_by words kept x of c) where
-      so_far : Ran any_call y.told.history c
-      so_far =
-          ran_before {allowed = any_call} (redo_ran r redoing stripe cells_so y.told.history AtRest refusal y z run honest) at
-
-      upto : Ran any_call before c
-      upto = ran_join {allowed = any_call} ready.serves.is_open.ran so_far
-
-      to_y : IsMoment before y.told.history c
-      to_y = moment_between {a = any_call} {b = any_call} ready.serves.is_open.ran so_far
-
-      pub going_so : ¬ IsTrue (stopped c)
-      going_so = goes_on before (array_here before rebuild stopped_by words kept x of) words c upto calm
-
-      image_stands : (image : Image) → CrashMayLeave c image → (alone : IsToleratedAlone x.member.array.geometry image)
-          → RepresentsAlone (state_with x.member kept (Some (BlocksAre first contents)) alone.current.array) image
-          × EachMayDrop (seats_in x.member.array) (seats_in alone.current.array)
-      image_stands image left alone =
-          let good =
-          redo_moments.moments r stripe AtRest refusal y.told.history y z kept (Some (BlocksAre first contents)) c image redoing cells_so
-          (way before r redoing stripe cells_so y.told.history AtRest (rebuild_in y.member rebuild) None y
-          (calm_sooner x.member.array.geometry before y.told.history c to_y calm).1
-          (λ stops. going_so (stopped_on {allowed = any_call} so_far stops)) begins)
-          run honest of_redo at (each_after calm.1 to_y) going_so left alone in (
-            doubt_stands doubted both r y.member kept (Some (BlocksAre first contents)) of_doubt (Some (seats_in alone.current.array)) limits good.0.0
-                image good.0.1,
-            drops_twice (seats_in x.member.array) (seats_in y.member.array) (seats_in alone.current.array) ready.stays.seats
-                (kept_drops y.member.array alone.current.array (listed_member y.member ready.stays.rules)
-                (listed_super alone.current (super_formed _ alone.current alone.is_current.counts.super))
-                (alone.is_current.counts.identity ∙ sym ready.stays.geometry)
-                (subst (λ (f : Geometry). AreKept f y.member.array alone.current.array) (sym ready.stays.geometry) good.1)),
-          )
-
-      pub redo_stands : (image : Image) → CrashMayLeave c image → StandsSo kept first contents x.member image
-      redo_stands image left =
-          let alone =
-          tolerated_alone x.member.array.geometry before c image (tolerated_now x.member.array.geometry before c upto calm) left in
-          let stands = image_stands image left alone in
-          record {
-            array = alone.current.array;
-            doubt = Some (BlocksAre first contents);
-            may = Doubtful (may_write first contents x.member redo.stripe redo.cells place);
-            stands = stands.0;
-            dropped = stands.1;
-          }
+    pub redo_stands : (refusal : Option FenceFault) (z : Point) → Redoes x.member.array.geometry redo stripe AtRest refusal y z
+        → IsTrue z.told.honest → (c : List Happening) → IsMoment y.told.history c z.told.history
+        → CalmIn before rebuild stopped_by words kept x of c → (image : Image) → CrashMayLeave c image → StandsSo kept first contents x.member image
+    redo_stands refusal z run honest c at calm image left =
+        let is_left =
+        redo_doubt.redo_stands before rebuild stopped_by words new_words kept written redo stripe x y of doing refusal z run honest c at calm image left in
+        record {
+          array = is_left.0;
+          doubt = Some (BlocksAre first contents);
+          may = Doubtful (may_write first contents x.member redo.stripe redo.cells place);
+          stands = is_left.1;
+          dropped = is_left.2;
+        }
 
     -- refused
     pub stops : (fault : FenceFault) (z : Point) → Redoes x.member.array.geometry redo stripe AtRest (Some fault) y z → IsTrue z.told.honest
         → CalmIn before rebuild stopped_by words kept x of z.told.history → (array : Configuration)
         × Represents (state_with x.member kept (Some (BlocksAre first contents)) array) z.told.history
         × EachMayDrop (seats_in x.member.array) (seats_in array)
-    stops fault z run honest calm = (
-      now.current.array,
-      seated x.member kept (Some (BlocksAre first contents)) before z.told.history limits history tolerated steady each,
-      (image_stands (Some fault) z run honest z.told.history end calm (image_now z.told.history) (CrashMayLeave-now z.told.history) now).1,
-    )
-      where
-        ran : Ran any_call y.told.history z.told.history
-        ran = redo_ran r redoing stripe cells_so y.told.history AtRest (Some fault) y z run honest
-
-        end : IsMoment y.told.history z.told.history z.told.history
-        end = moment_last ran.more ran.is
-
-        all : Ran any_call before z.told.history
-        all = ran_join {allowed = any_call} ready.serves.is_open.ran ran
-
-        history : IsHistory z.told.history
-        history = history_on {allowed = any_call} ready.serves.begun.history ran
-
-        tolerated : IsTolerated x.member.array.geometry before z.told.history
-        tolerated = tolerated_now x.member.array.geometry before z.told.history all calm
-
-        going : ¬ IsTrue (stopped z.told.history)
-        going = going_so (Some fault) z run honest z.told.history end calm
-
-        steady : AreSteady x.member.array.geometry z.told.history
-        steady =
-            refused_steady before r redoing stripe cells_so y.told.history y fault z
-            (refused_after before r redoing stripe cells_so y.told.history AtRest (Some fault) y z run fault refl honest calm.1 going
-            (rebuild_in y.member rebuild) None begins) honest calm.1 going
-
-        each : (image : Image) → CrashMayLeave z.told.history image → (alone : IsToleratedAlone x.member.array.geometry image)
-            → RepresentsAlone (state_with x.member kept (Some (BlocksAre first contents)) alone.current.array) image
-        each image left alone = (image_stands (Some fault) z run honest z.told.history end calm image left alone).0
-
-        now : IsToleratedAlone x.member.array.geometry (image_now z.told.history)
-        now =
-            now_alone x.member kept (Some (BlocksAre first contents)) before z.told.history limits history tolerated steady each
+    stops fault z run honest calm =
+        redo_doubt.stops before rebuild stopped_by words new_words kept written redo stripe x y of doing fault z run honest calm
 
     -- not for want of slots
     pub enough : (whys : List Why) (refusal : Option FenceFault) (z : Point) → Redoes x.member.array.geometry redo stripe AtRest refusal y z
         → refusal ≡ Some (fence.TooFew whys) → IsTrue z.told.honest → CalmIn before rebuild stopped_by words kept x of z.told.history → ⊥
     enough whys refusal z run few honest calm =
-        redo_never doubted before x.member both refl (record { frozen = inl of.frozen; label = inl of.label }) r y.told.history redoing stripe cells_so
-        (Across refl refl) AtRest refusal y z run whys few
-        (way before r redoing stripe cells_so y.told.history AtRest (rebuild_in y.member rebuild) None y
-        (calm_sooner x.member.array.geometry before y.told.history z.told.history to_y calm).1 (λ stops. going (stopped_on {allowed = any_call} ran stops))
-        begins) (amid_opening before (rebuild_in y.member rebuild) None y begins.amid.amid ready.serves.begun) ready.stays honest
-        (record { none = calm.1; tolerated = tolerated_now x.member.array.geometry before z.told.history all calm })
-      where
-        ran : Ran any_call y.told.history z.told.history
-        ran = redo_ran r redoing stripe cells_so y.told.history AtRest refusal y z run honest
-
-        all : Ran any_call before z.told.history
-        all = ran_join {allowed = any_call} ready.serves.is_open.ran ran
-
-        to_y : IsMoment before y.told.history z.told.history
-        to_y = moment_between {a = any_call} {b = any_call} ready.serves.is_open.ran ran
-
-        going : ¬ IsTrue (stopped z.told.history)
-        going = goes_on before (array_here before rebuild stopped_by words kept x of) words z.told.history all calm
+        redo_doubt.enough before rebuild stopped_by words new_words kept written redo stripe x y of doing whys refusal z run few honest calm
 
     -- WHERE IT WAS REFUSED, whatever has failed
+
+    begins : IsAmid before r redoing stripe cells_so y.told.history AtRest (rebuild_in y.member rebuild) None y
+    begins = redo_doubt.begins before rebuild stopped_by words new_words kept written redo stripe x y of doing
 
     pub refused_in : (fault : FenceFault) (z : Point) → Redoes x.member.array.geometry redo stripe AtRest (Some fault) y z → IsTrue z.told.honest
         → IsGoing before z.told.history → IsRefusedIn before kept first contents x.member fault z
@@ -352,14 +227,9 @@ module _ (before : List Happening) (rebuild : Option Rebuild) (stopped_by : Opti
           honest on.none on.going at.is;
       change = Some (BlocksAre first contents);
       is_write = inr refl;
-      of = record {
-        old_are = of.encodings;
-        new_are = new_are;
-        frozen = at.stays.frozen ∙ ready.stays.frozen ∙ of.frozen;
-        label = at.stays.label ∙ ready.stays.label ∙ of.label;
-        frozen_new = refl;
-        label_new = refl;
-      };
+      of =
+          redo_doubt.of_redo before rebuild stopped_by words new_words kept written redo stripe x y of doing at.point.member
+          (stays_again x.member y.member at.point.member ready.stays at.stays);
       stays = stays_again x.member y.member at.point.member ready.stays at.stays;
       here = λ j has. over_here at.stage at.point.member at.to at.over j (at.does.phase.among j has);
       off =

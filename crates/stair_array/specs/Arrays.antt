@@ -1,5 +1,5 @@
 -- What the calls of an array answered.
-use Rattle.std.specs.Prelude.{◌≡◌, ◌*◌, ◌/◌, ℕ, List, length, Option, Some, Result, Ok, Err}
+use Rattle.std.specs.Prelude.{◌≡◌, ◌*◌, ◌/◌, ◌≤◌, ℕ, List, length, Option, Some, Result, Ok, Err}
 use Rattle.std.specs.Simd.{first_chunks}
 use Rattle.stair_model.specs.CellSet.{CellSet, HasCell}
 use Rattle.stair_model.specs.Device.{cell_sector}
@@ -11,13 +11,17 @@ use Rattle.stair_member.specs.Membership.{Membership}
 use Rattle.stair_member.specs.declared.fault.FenceFault.{FenceFault}
 use Rattle.stair_session.specs.Courses.{Point, point}
 use Rattle.stair_session.specs.Rebuilding.{Rebuild}
-use Rattle.stair_session.specs.Session.{ArrayState, IsLiveIn}
+use Rattle.stair_session.specs.Session.{ArrayState, IsLiveIn, IsRebuiltIn}
 use Rattle.stair_array.specs.Calls.{CannotHave, IsInPlace}
-use Rattle.stair_array.specs.Faults.{opening_refusal, refusal_for}
-use Rattle.stair_array.specs.Machine.{Refusal}
+use Rattle.stair_array.specs.Faults.{opening_refusal, rebuild_refusal, refusal_for, replace_refusal}
+use Rattle.stair_array.specs.Machine.{Chunk, Dropped, Nothing, Promoted, Refusal, Progress as Came}
 use Rattle.stair_array.specs.Openings.{Recovers}
 use Rattle.stair_array.specs.declared.fault.ArrayFault.{ArrayFault}
+use Rattle.stair_array.specs.declared.fault.Progress.{Progress}
+use Rattle.stair_array.specs.declared.fault.Progress.TheVariants as progress
+use Rattle.stair_array.specs.declared.fault.RebuildFault.{RebuildFault}
 use Rattle.stair_array.specs.declared.fault.RecoverFault.{RecoverFault}
+use Rattle.stair_array.specs.declared.fault.ReplaceFault.{ReplaceFault}
 use Rattle.stair_array.specs.declared.news.News.{News}
 
 -- What contracts see of an open array: what it knows of its slots, how far a rebuild has come, by which refusal of an epoch it
@@ -46,6 +50,27 @@ answer_as given (Err fault) = Err (refusal_for fault)
 abbrev pub outcome : {T : Type 0} → Result T ArrayFault → Result T Refusal
 outcome (Ok given) = Ok given
 outcome (Err fault) = Err (refusal_for fault)
+
+-- what a replacement answered, and a step of a rebuild
+abbrev pub replaced_as : Result (Unit {0}) ReplaceFault → Result (Unit {0}) Refusal
+replaced_as (Ok done) = Ok tt
+replaced_as (Err fault) = Err (replace_refusal fault)
+
+abbrev pub progress_for : Progress → Came
+progress_for progress.Nothing = Nothing
+progress_for (progress.Chunk slot stripe) = Chunk slot stripe
+progress_for (progress.Promoted slot) = Promoted slot
+progress_for (progress.Dropped slot) = Dropped slot
+
+abbrev pub rebuilt_as : Result Progress RebuildFault → Result Came Refusal
+rebuilt_as (Ok came) = Ok (progress_for came)
+rebuilt_as (Err fault) = Err (rebuild_refusal fault)
+
+-- a rebuild that is under way is of a slot that takes part as one that is rebuilt, and its next stripe is at most the one past
+-- the last
+abbrev pub IsUnderWay : Membership → Option Rebuild → Type 0
+IsUnderWay m rebuild = (one : Rebuild) → rebuild ≡ Some one
+    → IsRebuiltIn m one.slot × (one.stripe ≤ m.array.geometry.stripes)
 
 -- the blocks that these bytes are, where they are whole blocks
 abbrev pub blocks_of : List ℕ → List (List ℕ)

@@ -17,5 +17,6 @@ pub mod Mends
 pub mod Promise
 pub mod Arrays
 pub mod WritingSteps
+pub mod MendingSteps
 pub mod Examples
 pub mod Writes

@@ -18,7 +18,7 @@ use Rattle.stair_rack.specs.declared.rack.Reply.TheVariants as reply
 use Rattle.stair_super.specs.Superblock.{Superblock, mark_in}
 use Rattle.stair_super.specs.declared.mark.Mark.TheVariants.{Down}
 use Rattle.stair_member.specs.Establishing.{Joins, Stamps, refusal_of}
-use Rattle.stair_member.specs.Membership.{Membership}
+use Rattle.stair_member.specs.Membership.{IsMembership, Membership}
 use Rattle.stair_member.specs.Seeing.{Sees}
 use Rattle.stair_member.specs.Superblocks.{HoldsSuper, HoldsThis}
 use Rattle.stair_member.specs.declared.aim.Aim.TheVariants.{Admit, Promote}
@@ -133,7 +133,7 @@ pub data PreparesSlot (slot : ℕ) : Result (Unit {0}) Refusal → Point → Poi
       → IsFit x.member.array.geometry slot first second mid y.told → IsLater y.told z.told
       → (IsTrue z.told.honest → Placed (new_journal x.member.array.geometry) (IsSlot slot) (λ j. ⊥)
       y.told.history z.told.history) → Sees slot first second y.member z.member
-      → PreparesSlot slot (Ok tt) x z
+      → IsMembership z.member → PreparesSlot slot (Ok tt) x z
 
 -- what is answered of an admission
 abbrev pub joined_as : Result Slots AdmitFault → Result (Unit {0}) Refusal

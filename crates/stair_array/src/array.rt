@@ -1,4 +1,4 @@
-ghost use Rattle.std.specs.Prelude.{◌≡◌, ◌+◌, ◌*◌, ◌/◌, ◌%◌, ◌≤◌, ◌⊎◌, ◌∷◌, [], length, IfErr, IfOk, IsTrue, OnErr, Err, None, Some};
+ghost use Rattle.std.specs.Prelude.{◌≡◌, ◌+◌, ◌*◌, ◌/◌, ◌%◌, ◌≤◌, ◌⊎◌, ◌∷◌, [], ℕ, length, IfErr, IfOk, IfSome, IsTrue, OnErr, Err, None, Some};
 ghost use Rattle.stair_model.specs.CellSet.{CellSet as Cells, cell_count};
 ghost use Rattle.stair_model.specs.Geometry.{block_count, data_cells};
 ghost use Rattle.stair_rack.specs.RackCounts.{RisesAtMost};
@@ -7,16 +7,19 @@ ghost use Rattle.stair_member.specs.Membership.{IsMembership};
 ghost use Rattle.stair_member.specs.declared.fault.FenceFault.{FenceFault as Fault};
 ghost use Rattle.stair_state.specs.Blocks.{AreOfOneStripe};
 ghost use Rattle.stair_session.specs.Courses.{point};
-ghost use Rattle.stair_array.specs.Arrays.{LacksCell, LacksOne, Opens, answer_as, blocks_of, cells_of, outcome};
+ghost use Rattle.stair_session.specs.Session.{IsRebuiltIn};
+ghost use Rattle.stair_array.specs.Arrays.{LacksCell, LacksOne, Opens, answer_as, blocks_of, cells_of, outcome, rebuilt_as, replaced_as, state_of};
 ghost use Rattle.stair_array.specs.Calls.{AreOfBlocks, Reads, WritesBlocks};
-ghost use Rattle.stair_array.specs.Faults.{array_fault};
-ghost use Rattle.stair_array.specs.Machine.{ReadBlock, Recover, ScrubStripe, SetFrozen, SetLabel, WriteBlocks, write_block};
+ghost use Rattle.stair_array.specs.Causes.{IsNextChunk};
+ghost use Rattle.stair_array.specs.Faults.{array_fault, rebuild_fault, replace_fault};
+ghost use Rattle.stair_array.specs.Machine.{ReadBlock, RebuildNext, Recover, ReplaceSlot, ScrubStripe, SetFrozen, SetLabel, WriteBlocks, write_block};
 ghost use Rattle.stair_array.specs.News.{AddsFallen, AddsNews, no_news};
-ghost use Rattle.stair_array.specs.Mends.{Scrubs, StampsAs};
-ghost use Rattle.stair_array.specs.Promise.{Keeps, rebuild_after};
+ghost use Rattle.stair_array.specs.Mends.{Rebuilds, Replaces, Scrubs, StampsAs};
+ghost use Rattle.stair_array.specs.Promise.{Keeps, KeepsRebuild, rebuild_after, rebuild_then};
 
-use crate::fault::{ArrayFault, RecoverFault};
+use crate::fault::{ArrayFault, Progress, RebuildFault, RecoverFault, ReplaceFault};
 use crate::news::News;
+use crate::rebuilding::{Rebuild, left_behind, left_of, promoted_by};
 use crate::session::Session;
 use stair_base::{Geometry, SECTOR, StripeCode};
 use stair_member::{FenceFault, Member};
@@ -33,23 +36,25 @@ use std::marker::Model;
 pub struct Array<C: StripeCode> {
     session: Session,
     code: C,
+    rebuild: Option<Rebuild>,
     news: News,
 }
 
 impl<C: StripeCode> Model for Array<C> {
-    ghost use Rattle.std.specs.Prelude.{◌≡◌, None};
-    ghost use Rattle.stair_array.specs.Arrays.{OpenArray};
+    ghost use Rattle.std.specs.Prelude.{◌≡◌};
+    ghost use Rattle.stair_array.specs.Arrays.{IsUnderWay, OpenArray};
 
     ghost Value = { OpenArray };
 
     ghost view = { λ a. record {
       member = a.session.member;
-      rebuild = None;
+      rebuild = a.rebuild;
       stopped = a.session.stopped;
       news = a.news;
     } };
 
-    ghost invariant = { λ a. C.shape a.code ≡ a.session.member.array.geometry };
+    ghost invariant = { λ a. (C.shape a.code ≡ a.session.member.array.geometry)
+        × IsUnderWay a.session.member a.rebuild };
 }
 
 impl<C: StripeCode> Array<C> {
@@ -90,6 +95,7 @@ impl<C: StripeCode> Array<C> {
         Ok(Array {
             session,
             code,
+            rebuild: None,
             news,
         })
     }
@@ -133,6 +139,7 @@ impl<C: StripeCode> Array<C> {
         }
         let before = self.session.member;
         let loaded = self.session.load(rack, &mut self.code, place.stripe);
+        self.rebuild = left_of(self.rebuild, &self.session.member);
         self.news.add_fallen(&before, &self.session.member);
         loaded?;
         *into = *self.session.stripe.cell(place.row, place.slot);
@@ -222,6 +229,7 @@ impl<C: StripeCode> Array<C> {
         let (blocks, _) = from.as_chunks::<SECTOR>();
         let before = self.session.member;
         let written = self.session.write(rack, &mut self.code, first, blocks);
+        self.rebuild = left_of(self.rebuild, &self.session.member);
         self.news.add_fallen(&before, &self.session.member);
         written
     }
@@ -261,10 +269,108 @@ impl<C: StripeCode> Array<C> {
         }
         let before = self.session.member;
         let scrubbed = self.session.scrub(rack, &mut self.code, stripe);
+        self.rebuild = left_of(self.rebuild, &self.session.member);
         self.news.add_fallen(&before, &self.session.member);
         let cells = scrubbed?;
         self.news.repaired = Some((stripe, cells));
         Ok(cells)
+    }
+
+    /// Replaces a slot that is Down: admits the device in it, which is rebuilt from then on.
+    ///
+    /// The slot is attached, its device must have the sectors that the array needs, and both of its superblock places are read. An
+    /// earlier medium of this array may be admitted again. It gets a closed gate and zeros for the body of a redo, and is synced; its
+    /// chunks are left as they are. Then an epoch is established in which the slot is Rebuilding. What the device held is told to the
+    /// epoch, so that no superblock of an earlier life hides those of this one.
+    ///
+    /// They are refused in this order:
+    ///
+    /// - `OutOfRange`: the array has no such slot. No call is made.
+    /// - `SlotBusy`: the slot isn't Down. No call is made.
+    /// - `Gone`: the slot was gone. Its journal may have been written, and nothing else; or, where it was gone while the epoch was
+    ///   established, one stands in which it is Down.
+    /// - `SmallDevice`, `AlreadyArray`: its device has too few sectors, or holds a superblock of another array. Nothing was written.
+    /// - `TooFew`, `EpochsSpent`: the epoch was refused. The array is stopped.
+    pub fn replace<R: Rack>(&mut self, rack: &mut R, slot: u8) -> Result<(), ReplaceFault>
+        ensures told { self.old.stopped ≡ None → Replaces slot (replaced_as result)
+            (point self.old.member (told R.Rack rack.old))
+            (point self.new.member (told R.Rack rack.new)) }
+        ensures kept { self.old.stopped ≡ None → Keeps (replaced_as result) self.new.stopped }
+        ensures stopped { (fault : Fault) → self.old.stopped ≡ Some fault →
+            (result ≡ Err (replace_fault fault)) × (rack.new ≡ rack.old) × (self.new ≡ self.old) }
+        ensures past { self.old.member.array.geometry.n ≤ slot → rack.new ≡ rack.old }
+        ensures rebuild { self.new.rebuild ≡ rebuild_after self.new.member self.old.rebuild }
+        ensures goes_on { self.old.stopped ≡ None → KeepsRebuild (ReplaceSlot slot) (replaced_as result)
+            (state_of self.old) (state_of self.new) }
+        ensures news { AddsNews (ReplaceSlot slot) (replaced_as result) self.old.member.array
+            self.new.member.array self.old.news self.new.news }
+        ensures reads { RisesAtMost 2 (R.reads rack.old) (R.reads rack.new) }
+    {
+        if let Some(fault) = self.session.stopped {
+            return Err(ReplaceFault::from(fault));
+        }
+        self.session.is_free(slot)?;
+        let before = self.session.member;
+        let replaced = self.session.replace(rack, slot);
+        self.rebuild = left_of(self.rebuild, &self.session.member);
+        self.news.add_fallen(&before, &self.session.member);
+        replaced?;
+        self.news.admitted = Some(slot);
+        Ok(())
+    }
+
+    /// The slot that is rebuilt, and the stripe whose chunk comes next, which is the number of stripes where the promotion alone is
+    /// left. Where no rebuild is under way it is the lowest slot that is Rebuilding, with stripe 0. None where no slot is.
+    pub fn next_chunk(&self) -> Option<(u8, u32)>
+        ensures none { result ≡ None → (j : ℕ) → ¬ IsRebuiltIn self.now.member j }
+        ensures some { IfSome result (λ next. IsNextChunk (state_of self.now) next.0 next.1) }
+    {
+        match self.session.next_of(self.rebuild) {
+            Some(next) => Some((next.slot(), next.stripe())),
+            None => None,
+        }
+    }
+
+    /// Makes one step of a rebuild: of the slot that is under way, or else of the lowest one that is Rebuilding, from its first
+    /// stripe on.
+    ///
+    /// The stripe is gathered, the slots that were gone are left out, and it is restored; then the slot's chunk of it is written,
+    /// without a sync and without the journal. The step that writes the last chunk also syncs the slot, and establishes an epoch in
+    /// which it is Live. Each session begins a rebuild anew.
+    ///
+    /// - `Lost`: as for a read. Nothing is written, the array goes on, and the same chunk comes next.
+    /// - `TooFew`, `EpochsSpent`: an epoch was refused. The array is stopped.
+    pub fn rebuild_step<R: Rack>(&mut self, rack: &mut R) -> Result<Progress, RebuildFault>
+        ensures told { self.old.stopped ≡ None → Rebuilds (state_of self.old) (rebuilt_as result)
+            (point self.old.member (told R.Rack rack.old))
+            (point self.new.member (told R.Rack rack.new)) }
+        ensures kept { self.old.stopped ≡ None → Keeps (rebuilt_as result) self.new.stopped }
+        ensures stopped { (fault : Fault) → self.old.stopped ≡ Some fault →
+            (result ≡ Err (rebuild_fault fault)) × (rack.new ≡ rack.old) × (self.new ≡ self.old) }
+        ensures rebuild { self.new.rebuild ≡
+            rebuild_then (rebuilt_as result) self.new.member self.old.rebuild }
+        ensures goes_on { self.old.stopped ≡ None → KeepsRebuild RebuildNext (rebuilt_as result)
+            (state_of self.old) (state_of self.new) }
+        ensures news { AddsNews RebuildNext (rebuilt_as result) self.old.member.array
+            self.new.member.array self.old.news self.new.news }
+        ensures reads { RisesAtMost (cells_of self.old.member.array.geometry) (R.reads rack.old)
+            (R.reads rack.new) }
+    {
+        if let Some(fault) = self.session.stopped {
+            return Err(RebuildFault::from(fault));
+        }
+        // by whose rules stripes can be counted one further
+        let _ = self.session.member.geometry();
+        let Some(next) = self.session.next_of(self.rebuild) else {
+            return Ok(Progress::Nothing);
+        };
+        let before = self.session.member;
+        let came = self.session.rebuild(rack, &mut self.code, next);
+        self.rebuild = left_behind(self.rebuild, next, &came, &self.session.member);
+        self.news.add_fallen(&before, &self.session.member);
+        let progress = came?;
+        self.news.promoted = promoted_by(progress, self.news.promoted);
+        Ok(progress)
     }
 
     /// Freezes the array, or thaws it, by an epoch: the blocks of a frozen one aren't written.
@@ -327,6 +433,7 @@ impl<C: StripeCode> Array<C> {
         }
         let before = self.session.member;
         let stamped = self.session.stamp(rack, frozen, label);
+        self.rebuild = left_of(self.rebuild, &self.session.member);
         self.news.add_fallen(&before, &self.session.member);
         stamped
     }

@@ -1,7 +1,17 @@
 ghost use Rattle.std.specs.Prelude.{◌≡◌};
-ghost use Rattle.stair_array.specs.Faults.{array_fault, recover_fault};
+ghost use Rattle.stair_array.specs.Faults.{
+  IsOfLoading,
+  admission_fault,
+  array_fault,
+  rebuild_fault,
+  rebuild_refusal,
+  recover_fault,
+  refusal_for,
+  replace_fault,
+};
 
-use stair_member::{FenceFault, Why};
+use stair_member::{AdmitFault, FenceFault, Why};
+use stair_super::Mark;
 
 /// Why [`create`](crate::create) made no array.
 #[derive(Clone, Copy, Debug, PartialEq, Eq)]
@@ -42,6 +52,49 @@ pub enum ArrayFault {
     EpochsSpent,
 }
 
+/// Why the device in a slot isn't admitted.
+#[derive(Clone, Copy, Debug, PartialEq, Eq)]
+pub enum ReplaceFault {
+    /// The slot `asked` is at or past the `limit`, the number of slots of the array.
+    OutOfRange { asked: u64, limit: u64 },
+    /// The slot isn't Down: this is its mark.
+    SlotBusy { slot: u8, mark: Mark },
+    /// The slot was gone. It is Down, as it was.
+    Gone(u8),
+    /// Its device has too few sectors.
+    SmallDevice { slot: u8, has: u32, needs: u32 },
+    /// Its medium has a superblock of another array.
+    AlreadyArray(u8),
+    /// As in [`FenceFault`]. The array is stopped.
+    TooFew([Why; 32]),
+    /// As in [`FenceFault`]. The array is stopped.
+    EpochsSpent,
+}
+
+/// Why a step of a rebuild isn't made.
+#[derive(Clone, Copy, Debug, PartialEq, Eq)]
+pub enum RebuildFault {
+    /// So many cells of each slot's chunk of this stripe couldn't be had, and they aren't covered. The array goes on.
+    Lost { stripe: u32, counts: [u8; 32] },
+    /// As in [`FenceFault`]. The array is stopped.
+    TooFew([Why; 32]),
+    /// As in [`FenceFault`]. The array is stopped.
+    EpochsSpent,
+}
+
+/// What a step of a rebuild came to.
+#[derive(Clone, Copy, Debug, PartialEq, Eq)]
+pub enum Progress {
+    /// No slot is rebuilt.
+    Nothing,
+    /// The slot's chunk of this stripe was written, and another one comes next.
+    Chunk { slot: u8, stripe: u32 },
+    /// All chunks of the slot are written, and it is Live.
+    Promoted { slot: u8 },
+    /// The slot was gone, and is Down.
+    Dropped { slot: u8 },
+}
+
 impl From<FenceFault> for RecoverFault {
     ghost from_gives = { λ fault refusal. refusal ≡ recover_fault fault };
 
@@ -60,6 +113,55 @@ impl From<FenceFault> for ArrayFault {
         match fault {
             FenceFault::TooFew(whys) => ArrayFault::TooFew(whys),
             FenceFault::EpochsSpent => ArrayFault::EpochsSpent,
+        }
+    }
+}
+
+impl From<FenceFault> for ReplaceFault {
+    ghost from_gives = { λ fault refusal. refusal ≡ replace_fault fault };
+
+    fn from(fault: FenceFault) -> ReplaceFault {
+        match fault {
+            FenceFault::TooFew(whys) => ReplaceFault::TooFew(whys),
+            FenceFault::EpochsSpent => ReplaceFault::EpochsSpent,
+        }
+    }
+}
+
+impl From<AdmitFault> for ReplaceFault {
+    ghost from_gives = { λ fault refusal. refusal ≡ admission_fault fault };
+
+    fn from(fault: AdmitFault) -> ReplaceFault {
+        match fault {
+            AdmitFault::TooFew(whys) => ReplaceFault::TooFew(whys),
+            AdmitFault::EpochsSpent => ReplaceFault::EpochsSpent,
+            AdmitFault::Gone(slot) => ReplaceFault::Gone(slot),
+        }
+    }
+}
+
+impl From<FenceFault> for RebuildFault {
+    ghost from_gives = { λ fault refusal. refusal ≡ rebuild_fault fault };
+
+    fn from(fault: FenceFault) -> RebuildFault {
+        match fault {
+            FenceFault::TooFew(whys) => RebuildFault::TooFew(whys),
+            FenceFault::EpochsSpent => RebuildFault::EpochsSpent,
+        }
+    }
+}
+
+impl RebuildFault {
+    // Why a stripe wasn't loaded.
+    pub(crate) fn of_loading(fault: ArrayFault) -> RebuildFault
+        requires { IsOfLoading fault }
+        ensures { rebuild_refusal result ≡ refusal_for fault }
+    {
+        match fault {
+            ArrayFault::Lost { stripe, counts } => RebuildFault::Lost { stripe, counts },
+            ArrayFault::TooFew(whys) => RebuildFault::TooFew(whys),
+            ArrayFault::EpochsSpent => RebuildFault::EpochsSpent,
+            ArrayFault::OutOfRange { .. } | ArrayFault::Frozen => unreachable!(),
         }
     }
 }

@@ -34,6 +34,7 @@ impl Session {
             (point self.old.member (told R.Rack rack.old))
             (point self.new.member (told R.Rack rack.new)) }
         ensures fits { C.shape code.new ≡ self.new.member.array.geometry }
+        ensures geometry { self.new.member.array.geometry ≡ self.old.member.array.geometry }
         ensures kept { self.old.stopped ≡ None → Keeps (outcome result) self.new.stopped }
         ensures reads { RisesAtMost (cells_of self.old.member.array.geometry) (R.reads rack.old)
             (R.reads rack.new) }

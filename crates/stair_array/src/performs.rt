@@ -1,15 +1,28 @@
 //! What is promised of a step is so of what the array did, on any rack.
 
-ghost use Rattle.std.specs.Prelude.{◌≡◌, ℕ, List, [], Err, Option, Some};
+ghost use Rattle.std.specs.Prelude.{◌≡◌, ℕ, Bool, List, [], Err, Ok, Option, Some};
 ghost use Rattle.stair_rack.specs.Telling.{Telling};
 ghost use Rattle.stair_member.specs.Membership.{IsMembership, Membership};
 ghost use Rattle.stair_member.specs.declared.fault.FenceFault.{FenceFault};
 ghost use Rattle.stair_session.specs.Courses.{point};
 ghost use Rattle.stair_session.specs.Rebuilding.{Rebuild};
-ghost use Rattle.stair_session.specs.Session.{ArrayState, IsArray};
+ghost use Rattle.stair_session.specs.Session.{ArrayState, IsArray, seats_in};
 ghost use Rattle.stair_array.specs.Calls.{Reads, WritesBlocks, refused};
 ghost use Rattle.stair_array.specs.Events.{events_of};
-ghost use Rattle.stair_array.specs.Machine.{Answer, ReadBlock, Recover, Step, WriteBlocks};
+ghost use Rattle.stair_array.specs.Machine.{
+  Answer,
+  LookAtSeats,
+  ReadBlock,
+  RebuildNext,
+  Recover,
+  ReplaceSlot,
+  ScrubStripe,
+  SetFrozen,
+  SetLabel,
+  Step,
+  WriteBlocks,
+};
+ghost use Rattle.stair_array.specs.Mends.{Rebuilds, Replaces, Scrubs, StampsAs};
 ghost use Rattle.stair_array.specs.Openings.{Recovers};
 ghost use Rattle.stair_array.specs.Promise.{
   AnswersStopped,
@@ -19,6 +32,7 @@ ghost use Rattle.stair_array.specs.Promise.{
   Performs,
   Seen,
   left_of,
+  rebuild_then,
   running,
   session_after,
 };
@@ -49,6 +63,61 @@ pub fn performs_laws()
         (events_of (WriteBlocks first contents) answer m.array last.array)
         (record { told = x; session = Opened (running m rebuild) })
         (record { told = y; session = Opened (left_of last rebuild stopped) }) }
+    // a scrub of a stripe
+    ensures scrub { (t : ℕ) (m last : Membership) (rebuild : Option Rebuild)
+        (stopped : Option FenceFault) (answer : Answer (ScrubStripe t)) (x y : Telling) →
+        IsArray (running m rebuild) → Scrubs t answer (point m x) (point last y) →
+        Keeps answer stopped →
+        Performs (ScrubStripe t) answer (events_of (ScrubStripe t) answer m.array last.array)
+        (record { told = x; session = Opened (running m rebuild) })
+        (record { told = y; session = Opened (left_of last rebuild stopped) }) }
+    // a slot that is replaced
+    ensures replace { (slot : ℕ) (m last : Membership) (rebuild : Option Rebuild)
+        (stopped : Option FenceFault) (answer : Answer (ReplaceSlot slot)) (x y : Telling) →
+        IsArray (running m rebuild) → Replaces slot answer (point m x) (point last y) →
+        Keeps answer stopped →
+        Performs (ReplaceSlot slot) answer (events_of (ReplaceSlot slot) answer m.array last.array)
+        (record { told = x; session = Opened (running m rebuild) })
+        (record { told = y; session = Opened (left_of last rebuild stopped) }) }
+    // a step of a rebuild
+    ensures rebuild { (m last : Membership) (rebuild : Option Rebuild) (stopped : Option FenceFault)
+        (answer : Answer RebuildNext) (x y : Telling) →
+        IsArray (running m rebuild) → Rebuilds (running m rebuild) answer (point m x) (point last y) →
+        Keeps answer stopped →
+        Performs RebuildNext answer (events_of RebuildNext answer m.array last.array)
+        (record { told = x; session = Opened (running m rebuild) })
+        (record {
+          told = y;
+          session = Opened (record {
+            member = last;
+            rebuild = rebuild_then answer last rebuild;
+            stopped = stopped;
+          });
+        }) }
+    // a frozen mark
+    ensures freeze { (frozen : Bool) (m last : Membership) (rebuild : Option Rebuild)
+        (stopped : Option FenceFault) (answer : Answer (SetFrozen frozen)) (x y : Telling) →
+        IsArray (running m rebuild) →
+        StampsAs frozen m.array.label answer (point m x) (point last y) → Keeps answer stopped →
+        Performs (SetFrozen frozen) answer
+        (events_of (SetFrozen frozen) answer m.array last.array)
+        (record { told = x; session = Opened (running m rebuild) })
+        (record { told = y; session = Opened (left_of last rebuild stopped) }) }
+    // a label
+    ensures label { (label : List ℕ) (m last : Membership) (rebuild : Option Rebuild)
+        (stopped : Option FenceFault) (answer : Answer (SetLabel label)) (x y : Telling) →
+        IsArray (running m rebuild) →
+        StampsAs m.array.frozen label answer (point m x) (point last y) → Keeps answer stopped →
+        Performs (SetLabel label) answer (events_of (SetLabel label) answer m.array last.array)
+        (record { told = x; session = Opened (running m rebuild) })
+        (record { told = y; session = Opened (left_of last rebuild stopped) }) }
+    // a look at the seats of an array that wasn't stopped, which calls nothing
+    ensures look { (m : Membership) (rebuild : Option Rebuild) (x : Telling) →
+        IsArray (running m rebuild) →
+        Performs LookAtSeats (Ok (seats_in m.array))
+        (events_of LookAtSeats (Ok (seats_in m.array)) m.array m.array)
+        (record { told = x; session = Opened (running m rebuild) })
+        (record { told = x; session = Opened (running m rebuild) }) }
     // and an array that was stopped, which is called nothing
     ensures stopped { (step : Step) (array : ArrayState) (fault : FenceFault) (x : Seen) →
         x.session ≡ Opened array → array.stopped ≡ Some fault →

@@ -11,7 +11,6 @@ mod cuts;
 mod mending;
 #[cfg(test)]
 mod opening;
-#[cfg(test)]
-mod racks;
+pub mod racks;
 #[cfg(test)]
 mod writing;

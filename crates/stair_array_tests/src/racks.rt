@@ -32,39 +32,41 @@ const FIRST: [u8; 132] = [
     1, 0, 0, 0, 0, 0, 0, 0, 1, // slot 3
 ];
 
-// The array's identity there.
-pub(crate) const ID: [u8; 16] = [0, 0, 0, 0, 0, 0, 0, 0, 0, 0, 0, 0, 0, 0, 0, 4];
+/// The array's identity there.
+pub const ID: [u8; 16] = [0, 0, 0, 0, 0, 0, 0, 0, 0, 0, 0, 0, 0, 0, 0, 4];
 
-pub(crate) fn first_super(slot: u8) -> [u8; 512] {
+/// The superblock sector of a slot there, as the table has it.
+pub fn first_super(slot: u8) -> [u8; 512] {
     let mut bytes = [0; 512];
     bytes[..132].copy_from_slice(&FIRST);
     bytes[64] = slot;
     bytes
 }
 
-// How many calls a rack keeps.
-pub(crate) const CALLS: u32 = 6000;
+/// How many calls a rack keeps.
+pub const CALLS: u32 = 6000;
 
-// How an opening went.
+/// How an opening went.
 #[derive(Drop)]
-pub(crate) enum Opened {
+pub enum Opened {
+    /// It is open.
     Open(Array<Codec>),
+    /// No array was found.
     Unfound,
+    /// The opening was refused.
     Refused(RecoverFault),
 }
 
-pub(crate) fn open(alloc: Global, rack: &mut MemRack) -> Result<Opened, AllocError> {
+/// Looks for the array of a rack, and opens it.
+pub fn open(alloc: Global, rack: &mut MemRack) -> Result<Opened, AllocError> {
     match survey(rack) {
         Ok(member) => recover(alloc, rack, member),
         Err(_) => Ok(Opened::Unfound),
     }
 }
 
-pub(crate) fn recover(
-    alloc: Global,
-    rack: &mut MemRack,
-    member: Member,
-) -> Result<Opened, AllocError> {
+/// Opens the array that was found so.
+pub fn recover(alloc: Global, rack: &mut MemRack, member: Member) -> Result<Opened, AllocError> {
     let code = Codec::new(alloc, &member.geometry(), By::Fewest)?;
     Ok(match Array::recover(alloc, rack, member, code) {
         Ok(array) => Opened::Open(array),
@@ -72,29 +74,26 @@ pub(crate) fn recover(
     })
 }
 
-// Whether an array is opened there.
-pub(crate) fn is_open(alloc: Global, rack: &mut MemRack) -> Result<bool, AllocError> {
+/// Whether an array is opened there.
+pub fn is_open(alloc: Global, rack: &mut MemRack) -> Result<bool, AllocError> {
     Ok(matches!(open(alloc, rack)?, Opened::Open(_)))
 }
 
-// Whether a block is read, and filled with this byte.
-pub(crate) fn reads_as(array: &mut Array<Codec>, rack: &mut MemRack, block: u64, byte: u8) -> bool {
+/// Whether a block is read, and filled with this byte.
+pub fn reads_as(array: &mut Array<Codec>, rack: &mut MemRack, block: u64, byte: u8) -> bool {
     let mut into = [!byte; 512];
     array.read(rack, block, &mut into).is_ok() && into == [byte; 512]
 }
 
-// A rack over this many media, on which there is a new array.
-pub(crate) fn with_array(
-    alloc: Global,
-    geometry: &Geometry,
-    acts: &[Act],
-) -> Result<MemRack, AllocError> {
+/// A rack over this many media, on which there is a new array.
+pub fn with_array(alloc: Global, geometry: &Geometry, acts: &[Act]) -> Result<MemRack, AllocError> {
     let mut rack = MemRack::new(alloc, geometry.n(), geometry.need(), acts, CALLS)?;
     let _ = create(&mut rack, geometry);
     Ok(rack)
 }
 
-pub(crate) fn first_slots(count: u8) -> Slots {
+/// The first slots, so many, 32 at most.
+pub fn first_slots(count: u8) -> Slots {
     let mut slots = Slots::empty();
     for slot in 0..count.min(32) {
         slots.add(slot);
@@ -115,8 +114,8 @@ fn redo_of() -> Redo
     Redo { stripe: 1, cells }
 }
 
-// Begins that redo: its body is of fives, and the gates of these first slots are opened.
-pub(crate) fn begin_redo(
+/// Begins that redo: its body is of fives, and the gates of these first slots are opened.
+pub fn begin_redo(
     alloc: Global,
     rack: &mut MemRack,
     geometry: &Geometry,
@@ -132,8 +131,8 @@ pub(crate) fn begin_redo(
     Ok(())
 }
 
-// What the two cells hold, 0 for one that can't be read.
-pub(crate) fn cells_found(rack: &mut MemRack) -> (u8, u8) {
+/// What the two cells hold, 0 for one that can't be read.
+pub fn cells_found(rack: &mut MemRack) -> (u8, u8) {
     let mut first = [0; 512];
     let mut second = [0; 512];
     rack.attach(0);
@@ -143,29 +142,30 @@ pub(crate) fn cells_found(rack: &mut MemRack) -> (u8, u8) {
     (first[511], second[0])
 }
 
-pub(crate) fn act(at: u32, what: What) -> Act {
+/// What the outside does before this call.
+pub fn act(at: u32, what: What) -> Act {
     Act { at, what }
 }
 
-// The acts by which two slots are pulled before this call.
-pub(crate) fn pulls(at: u32) -> [Act; 2] {
+/// The acts by which two slots are pulled before this call.
+pub fn pulls(at: u32) -> [Act; 2] {
     [
         act(at, What::Pull { slot: 1 }),
         act(at, What::Pull { slot: 2 }),
     ]
 }
 
-// What is known of the slots then.
-pub(crate) fn pulled() -> [Why; 32] {
+/// What is known of the slots then.
+pub fn pulled() -> [Why; 32] {
     let mut whys = [Why::Here; 32];
     whys[1] = Why::Gone;
     whys[2] = Why::Gone;
     whys
 }
 
-// The acts before this call by which of eight devices, with chunks of four sectors, the slots 0 to 2 have no good cell in
-// stripe 0.
-pub(crate) fn bad_chunks(at: u32) -> [Act; 12] {
+/// The acts before this call by which of eight devices, with chunks of four sectors, the slots 0 to 2 have no good cell in
+/// stripe 0.
+pub fn bad_chunks(at: u32) -> [Act; 12] {
     let mut acts = [act(at, What::Stop); 12];
     for number in 0..12u8 {
         let slot = number / 4;
@@ -175,8 +175,8 @@ pub(crate) fn bad_chunks(at: u32) -> [Act; 12] {
     acts
 }
 
-// By which fault the blocks there are lost.
-pub(crate) fn lost_chunks() -> ArrayFault {
+/// By which fault the blocks there are lost.
+pub fn lost_chunks() -> ArrayFault {
     let mut counts = [0; 32];
     counts[0] = 4;
     counts[1] = 4;
@@ -184,8 +184,8 @@ pub(crate) fn lost_chunks() -> ArrayFault {
     ArrayFault::Lost { stripe: 0, counts }
 }
 
-// Event number 0 to 4 of these news.
-pub(crate) fn told(news: &News) -> [Option<Event>; 5] {
+/// Event number 0 to 4 of these news.
+pub fn told(news: &News) -> [Option<Event>; 5] {
     [
         news.event(0),
         news.event(1),
@@ -195,13 +195,13 @@ pub(crate) fn told(news: &News) -> [Option<Event>; 5] {
     ]
 }
 
-// What a crash leaves of a rack in which each sector that is pending is torn.
-pub(crate) fn torn(alloc: Global, rack: MemRack) -> Result<MemRack, AllocError> {
+/// What a crash leaves of a rack in which each sector that is pending is torn.
+pub fn torn(alloc: Global, rack: MemRack) -> Result<MemRack, AllocError> {
     rack.after_crash(alloc, &[9; 80], &[], CALLS)
 }
 
-// The byte that fills a block.
-pub(crate) fn filling(block: u64) -> u8 {
+/// The byte that fills a block.
+pub fn filling(block: u64) -> u8 {
     (block % 100) as u8 + 1
 }
 
@@ -239,8 +239,8 @@ fn stripe_of(alloc: Global, geometry: &Geometry, first: u64) -> Result<Stripe, A
     Ok(stripe)
 }
 
-// A rack with an array all of whose blocks are filled.
-pub(crate) fn with_blocks(alloc: Global, geometry: &Geometry) -> Result<MemRack, AllocError> {
+/// A rack with an array all of whose blocks are filled.
+pub fn with_blocks(alloc: Global, geometry: &Geometry) -> Result<MemRack, AllocError> {
     let mut rack = with_array(alloc, geometry, &[])?;
     for number in 0..geometry.stripes() {
         let first = u64::from(number).wrapping_mul(u64::from(geometry.u()));

@@ -1,17 +1,40 @@
 // What the program does about devices beside the call: whether they can be had, and why they were gone.
-use stair_conf::{Job, read_words};
+use crate::progress::Measure;
+use stair_conf::Job;
 use stair_filerack::{Access, FileRack, Lock, Locking, Refused};
-use std::alloc::Global;
 use std::fmt::Display;
 use std::fs;
 use std::fs::File;
 
-/// What a command opens the image files for. One that can't be read opens none.
-pub(crate) fn access_of(alloc: Global, command: &[String]) -> Access {
-    match read_words(alloc, command) {
+/// What a command opens the image files for.
+pub(crate) fn access_of(job: &Job) -> Access {
+    match job {
         // An opening may write, that of a read too.
-        Ok(Job::Create | Job::Read { .. } | Job::Write { .. }) => Access::Writing,
-        Ok(Job::Show | Job::OneStripe { .. }) | Err(_) => Access::Reading,
+        Job::Create
+        | Job::Read { .. }
+        | Job::Write { .. }
+        | Job::Scrub
+        | Job::Replace { .. }
+        | Job::Rebuild
+        | Job::Freeze
+        | Job::Thaw
+        | Job::Label { .. } => Access::Writing,
+        Job::Show | Job::OneStripe { .. } => Access::Reading,
+    }
+}
+
+/// By what it is told how far a command is.
+pub(crate) fn measure_of(job: &Job) -> Measure {
+    match job {
+        Job::Create => Measure::StripesWritten,
+        Job::Scrub | Job::Replace { .. } | Job::Rebuild => Measure::StripesRead,
+        Job::OneStripe { .. }
+        | Job::Show
+        | Job::Read { .. }
+        | Job::Write { .. }
+        | Job::Freeze
+        | Job::Thaw
+        | Job::Label { .. } => Measure::Sectors,
     }
 }
 

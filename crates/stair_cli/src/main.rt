@@ -4,17 +4,24 @@
 ghost use Rattle.std.specs.Prelude.{◌≡◌, ◌<◌};
 
 mod devices;
+mod hearing;
+mod progress;
 
-use crate::devices::{InUse, access_of, lock_folder, tell_reason, tell_reasons};
+use crate::devices::{InUse, access_of, lock_folder, measure_of, tell_reason, tell_reasons};
+use crate::hearing::Hearing;
+use crate::progress::{Cleared, Measure, Screen, Showing};
 use stair_engine::{Status, stair};
 use stair_filerack::{Access, FileRack};
 use stair_gf::Steps;
 use stair_rack::{FromRead, FromWrite};
 use stair_watch::{Printer, Tally, add};
 use std::alloc::AllocError;
+use std::cell::Cell;
 use std::fs::File;
+use std::io::IsTerminal;
 use std::marker::Brand;
 use std::process::ExitCode;
+use std::rc::Rc;
 use std::sync::ledger::{Blank, Ledger};
 use std::{env, fs, io};
 
@@ -80,7 +87,10 @@ fn run<L: Ledger>(rt: &HostRuntime, blank: Blank) -> Result<Status, Refusal>
     requires some { 0 < L.parts }
 {
     let Words { folder, command } = read_words(rt)?;
-    let access = access_of(rt.alloc(), &command);
+    let job = stair_conf::read_words(rt.alloc(), &command);
+    let access = job.as_ref().map_or(Access::Reading, access_of);
+    let measure = job.as_ref().map_or(Measure::Sectors, measure_of);
+    let measure = rt.stderr().is_terminal().then_some(measure);
     let _lock = match access {
         Access::Writing => lock_folder(rt, folder.as_str())?,
         Access::Reading => None,
@@ -94,15 +104,16 @@ fn run<L: Ledger>(rt: &HostRuntime, blank: Blank) -> Result<Status, Refusal>
         tell_reason(rt, &refused);
         return Ok(Status::Gone(refused.slot));
     }
-    let called = call::<L>(rt, &mut rack, &command, blank);
+    let called = call::<L>(rt, rack, measure, &command, blank);
     Ok(called.unwrap_or(Status::OutOfMemory))
 }
 
 /// Makes the call, and tells of the devices that were gone why. What happens to an array is printed on standard error as it
-/// comes, and counted. The only error is want of memory before the call.
+/// comes, and counted, and while the call works how far it is. The only error is want of memory before the call.
 fn call<L: Ledger>(
     rt: &HostRuntime,
-    rack: &mut FileRack<&HostRuntime>,
+    rack: FileRack<&HostRuntime>,
+    measure: Option<Measure>,
     command: &[String],
     blank: Blank,
 ) -> Result<Status, AllocError>
@@ -110,10 +121,23 @@ fn call<L: Ledger>(
     requires parts { blank.parts ≡ L.parts }
     requires some { 0 < L.parts }
 {
-    let mut input = FromRead::new(rt.stdin());
-    let mut output = FromWrite::new(rt.stdout());
+    let screen = Rc::new(rt.alloc(), Screen::new(rt.stderr()))?;
+    let geometry = Cell::new(None);
+    let mut rack = Showing::new(rack, rt, screen.clone()?, &geometry, measure);
+    let input = FromRead::new(rt.stdin());
+    let mut input = match measure {
+        Some(Measure::StripesWritten) => Hearing::new(input, rt.alloc(), &geometry),
+        Some(Measure::Sectors | Measure::StripesRead) | None => Hearing::deaf(input),
+    };
+    let over = if rt.stdout().is_terminal() {
+        Some(screen.clone()?)
+    } else {
+        None
+    };
+    let mut output = FromWrite::new(Cleared::new(rt.stdout(), over));
     let mut watchers = Vec::new(rt.alloc());
-    let printer = Printer::new(FromWrite::new(rt.stderr()));
+    let errors = Cleared::new(rt.stderr(), Some(screen.clone()?));
+    let printer = Printer::new(FromWrite::new(errors));
     add(&mut watchers, Box::new(rt.alloc(), printer)?)?;
     let tally = Tally::new(u64::MAX);
     add(&mut watchers, Box::new(rt.alloc(), tally)?)?;
@@ -121,13 +145,14 @@ fn call<L: Ledger>(
     let status = stair(
         rt.alloc(),
         command,
-        rack,
+        &mut rack,
         &mut input,
         &mut output,
         &mut watchers,
         &mut steps,
     );
-    tell_reasons(rt, rack);
+    screen.clear();
+    tell_reasons(rt, &rack.into_inner());
     Ok(status)
 }
 

@@ -5,6 +5,7 @@ use Rattle.std.specs.Prelude.{codes, is_some}
 use Rattle.std.specs.List.{list_all}
 use Rattle.std.specs.Fmt.{decimal}
 use Rattle.std.proofs.lemmas.Bool.{le-leb}
+use Rattle.std.proofs.lemmas.List.Elements.{All-head}
 use Rattle.clap.specs.Lexer.{usize_max}
 use Rattle.clap.specs.Values.{reading_of}
 use Rattle.clap.specs.ValueTests.{accepts}
@@ -17,9 +18,9 @@ use Rattle.clap.specs.declared.builder.value_parser.ValueParser.TheVariants as v
 use Rattle.clap.specs.declared.parser.matches.ValueSource.TheVariants.{CommandLine}
 use Rattle.clap.specs.declared.parser.matches.ArgMatches.{ArgMatches}
 use Rattle.stair_conf.specs.declared.job.Method.{Method}
-use Rattle.stair_conf.specs.Commands.{HasNoOption, blocks_app, geometry_app, stripe_app}
-use Rattle.stair_conf.specs.Rows.{HasBlocks, HasGeometry, HasMethodWord}
-use Rattle.stair_conf.specs.Words.{SpellsBlocks, SpellsGeometry, method_word}
+use Rattle.stair_conf.specs.Commands.{HasNoOption, IsPlainWord, blocks_app, geometry_app, slot_app, stripe_app, text_app}
+use Rattle.stair_conf.specs.Rows.{HasBlocks, HasGeometry, HasMethodWord, HasNumberWord, HasTextWord}
+use Rattle.stair_conf.specs.Words.{SpellsBlocks, SpellsGeometry, SpellsSlot, SpellsText, method_word}
 use Rattle.stair_conf.proofs.RowLemmas.{HoldsBlocks, HoldsGeometry, blocks_held, blocks_spelled, geometry_held, geometry_spelled}
 use Rattle.stair_conf.proofs.WordsLemmas.{behind, in_front}
 use Rattle.stair_conf.proofs.WalkLaws.{IsPlainWalk, all_placed, all_placed-last, at_last, has_no_tail, neither_fails, places_pass, places_pass-last, walk-placed, walk_fault-places, walk_passes-placed}
@@ -118,6 +119,18 @@ blocks_holds : (a b : Text) → HasNoOption (a ∷ b ∷ []) → HoldsBlocks (ro
 blocks_holds a b none =
     let rows = rows_after-placed blocks_rules refl (a ∷ b ∷ []) none in
     record { block_row = ap (first_of (codes "BLOCK")) rows; count_row = ap (first_of (codes "COUNT")) rows }
+
+abbrev slot_rules : List Rule
+slot_rules = (built slot_app).top.rules
+
+slot_holds : (a : Text) → HasNoOption (a ∷ []) → first_of (codes "SLOT") (rows_after slot_rules [] (a ∷ [])) ≡ Some a
+slot_holds a none = ap (first_of (codes "SLOT")) (rows_after-placed slot_rules refl (a ∷ []) none)
+
+abbrev text_rules : List Rule
+text_rules = (built text_app).top.rules
+
+text_holds : (a : Text) → HasNoOption (a ∷ []) → first_of (codes "TEXT") (rows_after text_rules [] (a ∷ [])) ≡ Some a
+text_holds a none = ap (first_of (codes "TEXT")) (rows_after-placed text_rules refl (a ∷ []) none)
 
 -- ---- the words are taken
 
@@ -240,6 +253,67 @@ pub blocks_taken : (words : List Text) → HasNoOption words → (block count : 
     → SpellsBlocks [] words block count → built_takes (built blocks_app) nothing_held words ≡ true
 blocks_taken (a ∷ b ∷ []) none block count spells = built_takes-placed (built blocks_app).top refl (a ∷ b ∷ []) none
 blocks_taken words none block count spells = absurd (omega (arith, two_words words block count spells))
+
+-- an id without a row has no first word
+no_first : (id : Text) (rows placed : List Row) (word : Text) → rows ≡ placed → first_of id placed ≡ None → first_of id rows ≡ Some word → ⊥
+no_first id rows placed word same none first = let rows_none = ap (first_of id) same in cc
+
+-- clap refuses more than one word
+slot_refused : (a b : Text) (rest : List Text) → HasNoOption (a ∷ b ∷ rest)
+    → built_fault (built slot_app) nothing_held (a ∷ b ∷ rest) ≡ [] → ⊥
+slot_refused a b rest none free =
+    let no_stray = walk_fault-places (built slot_app).top refl (a ∷ b ∷ rest) none start start_plain (neither_fails _ _ free).0 in
+    cc
+
+pub slot_told : (words : List Text) → HasNoOption words → built_fault (built slot_app) nothing_held words ≡ [] → (slot : ℕ)
+    → HasNumberWord (rows_after slot_rules [] words) (codes "SLOT") slot → SpellsSlot [] words slot
+slot_told [] none free slot has = absurd (no_first (codes "SLOT") _ _ (decimal slot) (rows_after-placed slot_rules refl [] none) refl has.first)
+slot_told (a ∷ []) none free slot has =
+    let first : Some a ≡ Some (decimal slot) = sym (slot_holds a none) ∙ has.first in
+    record { spelled = cc; fits = has.fits }
+slot_told (a ∷ b ∷ rest) none free slot has = absurd (slot_refused a b rest none free)
+
+pub slot_tells : (words : List Text) → HasNoOption words → (slot : ℕ)
+    → SpellsSlot [] words slot → HasNumberWord (rows_after slot_rules [] words) (codes "SLOT") slot
+slot_tells (a ∷ []) none slot spells =
+    let words_are = spells.spelled in
+    let a_is : a ≡ decimal slot = cc in
+    record { first = slot_holds a none ∙ ap Some a_is; fits = spells.fits }
+slot_tells words none slot spells = absurd (omega (arith, ap length spells.spelled))
+
+pub slot_taken : (words : List Text) → HasNoOption words → (slot : ℕ)
+    → SpellsSlot [] words slot → built_takes (built slot_app) nothing_held words ≡ true
+slot_taken (a ∷ []) none slot spells = built_takes-placed (built slot_app).top refl (a ∷ []) none
+slot_taken words none slot spells = absurd (omega (arith, ap length spells.spelled))
+
+-- clap refuses more than one word
+text_refused : (a b : Text) (rest : List Text) → HasNoOption (a ∷ b ∷ rest)
+    → built_fault (built text_app) nothing_held (a ∷ b ∷ rest) ≡ [] → ⊥
+text_refused a b rest none free =
+    let no_stray = walk_fault-places (built text_app).top refl (a ∷ b ∷ rest) none start start_plain (neither_fails _ _ free).0 in
+    cc
+
+pub text_told : (words : List Text) → HasNoOption words → built_fault (built text_app) nothing_held words ≡ [] → (text : Text)
+    → HasTextWord (rows_after text_rules [] words) (codes "TEXT") text → SpellsText [] words text
+text_told [] none free text has = absurd (no_first (codes "TEXT") _ _ text (rows_after-placed text_rules refl [] none) refl has.first)
+text_told (a ∷ []) none free text has =
+    let first : Some a ≡ Some text = sym (text_holds a none) ∙ has.first in
+    let same : a ≡ text = cc in
+    record { spelled = cc; is_text = has.is_text; plain = subst IsPlainWord same (All-head IsPlainWord a [] none) }
+text_told (a ∷ b ∷ rest) none free text has = absurd (text_refused a b rest none free)
+
+pub text_tells : (words : List Text) → HasNoOption words → (text : Text)
+    → SpellsText [] words text → HasTextWord (rows_after text_rules [] words) (codes "TEXT") text
+text_tells (a ∷ []) none text spells =
+    let words_are = spells.spelled in
+    let a_is : a ≡ text = cc in
+    record { first = text_holds a none ∙ ap Some a_is; is_text = spells.is_text }
+text_tells words none text spells = absurd (omega (arith, ap length spells.spelled))
+
+pub text_taken : (words : List Text) → HasNoOption words → (text : Text)
+    → SpellsText [] words text → built_takes (built text_app) nothing_held words ≡ true
+text_taken (a ∷ []) none text spells = built_takes-placed (built text_app).top refl (a ∷ []) none
+text_taken words none text spells = absurd (omega (arith, ap length spells.spelled))
 
 -- ---- a command that clap was given
 

@@ -1,14 +1,15 @@
 -- What the rows of clap's matches say of a job.
-use Rattle.std.proofs.Common.{◌≡◌, ◌∙◌, ◌<◌, ◌↔◌, ℕ, List, [], ◌∷◌, Option, Some, None, length, map, sym, ap, arith}
-use Rattle.std.specs.Prelude.{codes, option_map}
+use Rattle.std.proofs.Common.{◌≡◌, ◌∙◌, ◌<◌, ◌↔◌, ℕ, List, [], ◌∷◌, Option, Some, None, Result, Ok, Err, length, map, sym, ap, arith}
+use Rattle.std.specs.Prelude.{IfOk, codes, option_map}
 use Rattle.std.specs.Fmt.{decimal}
+use Rattle.std.specs.Result.{result_ok}
 use Rattle.std.proofs.lemmas.List.{length-map}
 use Rattle.clap.specs.Words.{Text, Row, all_of, first_of, first_value, matched_of, raw_values, rows_of}
 use Rattle.clap.specs.declared.parser.matches.Found.{Found}
 use Rattle.clap.proofs.WalkLemmas.{first_value-rows, raw_values-rows}
 use Rattle.stair_conf.specs.declared.job.Method.{Method}
-use Rattle.stair_conf.specs.Rows.{HasBlocks, HasGeometry, HasMethodWord, HasNumberWord}
-use Rattle.stair_conf.specs.Words.{IsNumber, SpellsBlocks, SpellsGeometry, method_word}
+use Rattle.stair_conf.specs.Rows.{HasBlocks, HasGeometry, HasMethodWord, HasNumberWord, HasTextWord}
+use Rattle.stair_conf.specs.Words.{IsNumber, IsText, SpellsBlocks, SpellsGeometry, method_word}
 
 -- ---- what the getters tell
 
@@ -38,7 +39,19 @@ method_at f id word read at exact method =
           (exact method).1 same),
     )
 
--- an id with no word has no number, and no method
+-- the same for a text
+pub text_at : (f : Found) (id word : Text) (read : Option Text) → Some word ≡ first_value f id
+    → ((text : Text) → (read ≡ Some text) ↔ ((word ≡ text) × IsText text))
+    → (text : Text) → (read ≡ Some text) ↔ HasTextWord (rows_of f) id text
+text_at f id word read at exact text =
+    let first = first_at f id word at in (
+      (λ is. let said = (exact text).0 is in record { first = first ∙ ap Some said.0; is_text = said.1 }),
+      (λ has.
+          let same : word ≡ text = let h = has.first in cc in
+          (exact text).1 (same, has.is_text)),
+    )
+
+-- an id with no word has no number, no method and no text
 pub none_at : {X : Type 0} (f : Found) (id : Text) (text : X → Text) (x : X) → None ≡ first_value f id → first_of id (rows_of f) ≡ Some (text x) → ⊥
 none_at f id text x none first = let rows = first_value-rows f id in cc
 
@@ -47,6 +60,16 @@ all_at f id words at = sym (raw_values-rows f id) ∙ sym at
 
 pub no_words_at : (f : Found) (id : Text) (words : List Text) → None ≡ option_map raw_values (matched_of f id) → all_of id (rows_of f) ≡ Some words → ⊥
 no_words_at f id words none all = let rows = raw_values-rows f id in cc
+
+-- what is read, where it is told by a result
+pub read_ok : {X E : Type 0} (read : Option X) (told : Result X E) (P : X → Type 0) → read ≡ result_ok told → ((x : X) → read ≡ Some x → P x)
+    → IfOk told P
+read_ok read (Ok x) P same each = each x same
+read_ok read (Err fault) P same each = tt
+
+-- nothing is read, where a fault is told
+pub read_none : {X E : Type 0} (read : Option X) (told : Result X E) (fault : E) (x : X) → read ≡ result_ok told → told ≡ Err fault → read ≡ Some x → ⊥
+read_none read told fault x same faulty some = let none : read ≡ None = same ∙ ap result_ok faulty in cc
 
 -- ---- the words of a geometry
 

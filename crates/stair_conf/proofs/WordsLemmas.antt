@@ -1,18 +1,21 @@
 -- What the words of a job are.
-use Rattle.std.proofs.Common.{◌≡◌, ◌∙◌, ◌<◌, ◌^◌, ℕ, List, [], ◌∷◌, map, drop, get_or, refl, sym, ap, inl, inr, arith}
+use Rattle.std.proofs.Common.{◌≡◌, ◌∙◌, ◌<◌, ◌^◌, ℕ, List, [], ◌∷◌, false, map, drop, get_or, refl, sym, ap, inl, inr, arith}
 use Rattle.std.specs.Prelude.{codes}
+use Rattle.std.specs.Str.{bytes_eq}
 use Rattle.std.specs.Fmt.{decimal}
 use Rattle.std.proofs.lemmas.Fmt.{decimal_injective}
 use Rattle.std.proofs.lemmas.List.{append_cancel_left}
 use Rattle.std.proofs.lemmas.List.Elements.{All-append, All-cons, All-map, All-nil, All-weaker}
+use Rattle.std.proofs.lemmas.Bool.Decides.{not_from_Decides}
+use Rattle.std.proofs.lemmas.Slice.Eq.{bytes_eq-Decides}
 use Rattle.stair_conf.specs.declared.job.Method.{Method}
 use Rattle.stair_conf.specs.declared.job.Method.TheVariants.{Standard, Up, Down, Fewest}
 use Rattle.stair_conf.specs.declared.job.Job.{Job}
-use Rattle.stair_conf.specs.declared.job.Job.TheVariants.{OneStripe, Create, Show, Read, Write}
+use Rattle.stair_conf.specs.declared.job.Job.TheVariants.{OneStripe, Create, Show, Read, Write, Scrub, Replace, Rebuild, Freeze, Thaw, Label}
 use Rattle.stair_conf.specs.declared.job.StripeCommand.{StripeCommand}
 use Rattle.stair_conf.specs.declared.job.StripeCommand.TheVariants.{Check, Encode, Restore}
 use Rattle.stair_conf.specs.Commands.{HasNoOption, IsPlainWord}
-use Rattle.stair_conf.specs.Words.{IsCommandLine, IsCommandWord, Spells, SpellsBlocks, SpellsGeometry, command_words, method_word}
+use Rattle.stair_conf.specs.Words.{IsCommandLine, IsCommandWord, Spells, SpellsBlocks, SpellsGeometry, SpellsSlot, SpellsText, command_words, method_word}
 use Rattle.stair_conf.proofs.NumberLemmas.{begins-decimal, map_decimal_injective}
 
 -- ---- the first words
@@ -50,6 +53,12 @@ word_of Create = codes "create"
 word_of Show = codes "show"
 word_of (Read block count) = codes "read"
 word_of (Write block count) = codes "write"
+word_of Scrub = codes "scrub"
+word_of (Replace slot) = codes "replace"
+word_of Rebuild = codes "rebuild"
+word_of Freeze = codes "freeze"
+word_of Thaw = codes "thaw"
+word_of (Label text) = codes "label"
 
 -- the words of a job begin with the command's
 pub first_word : (words : List (List ℕ)) (job : Job) → Spells words job → get_or words 0 [] ≡ word_of job
@@ -60,6 +69,12 @@ first_word words Create spells = ap (λ ws. get_or ws 0 []) spells
 first_word words Show spells = ap (λ ws. get_or ws 0 []) spells
 first_word words (Read block count) spells = ap (λ ws. get_or ws 0 []) spells.spelled
 first_word words (Write block count) spells = ap (λ ws. get_or ws 0 []) spells.spelled
+first_word words Scrub spells = ap (λ ws. get_or ws 0 []) spells
+first_word words (Replace slot) spells = ap (λ ws. get_or ws 0 []) spells.spelled
+first_word words Rebuild spells = ap (λ ws. get_or ws 0 []) spells
+first_word words Freeze spells = ap (λ ws. get_or ws 0 []) spells
+first_word words Thaw spells = ap (λ ws. get_or ws 0 []) spells
+first_word words (Label text) spells = ap (λ ws. get_or ws 0 []) spells.spelled
 
 -- ---- no word of a job begins with a hyphen
 
@@ -92,6 +107,14 @@ method_plain Fewest = omega arith
 one_plain : (word : List ℕ) → IsPlainWord word → HasNoOption (word ∷ [])
 one_plain word plain = All-cons IsPlainWord word [] plain (All-nil IsPlainWord)
 
+slot_plain : (before words : List (List ℕ)) (slot : ℕ) → HasNoOption before → SpellsSlot before words slot → HasNoOption words
+slot_plain before words slot plain spells =
+    rw spells.spelled (All-append IsPlainWord before (decimal slot ∷ []) plain (one_plain (decimal slot) (decimal_plain slot spells.fits)))
+
+text_plain : (before words : List (List ℕ)) (text : List ℕ) → HasNoOption before → SpellsText before words text → HasNoOption words
+text_plain before words text plain spells =
+    rw spells.spelled (All-append IsPlainWord before (text ∷ []) plain (one_plain text spells.plain))
+
 pub job_plain : (words : List (List ℕ)) (job : Job) → Spells words job → HasNoOption words
 job_plain words (OneStripe Check n m r e) spells = geometry_plain _ words n m r e (one_plain (codes "check") (omega arith)) spells
 job_plain words (OneStripe (Encode method) n m r e) spells =
@@ -102,6 +125,12 @@ job_plain words Create spells = rw spells (one_plain (codes "create") (omega ari
 job_plain words Show spells = rw spells (one_plain (codes "show") (omega arith))
 job_plain words (Read block count) spells = blocks_plain _ words block count (one_plain (codes "read") (omega arith)) spells
 job_plain words (Write block count) spells = blocks_plain _ words block count (one_plain (codes "write") (omega arith)) spells
+job_plain words Scrub spells = rw spells (one_plain (codes "scrub") (omega arith))
+job_plain words (Replace slot) spells = slot_plain _ words slot (one_plain (codes "replace") (omega arith)) spells
+job_plain words Rebuild spells = rw spells (one_plain (codes "rebuild") (omega arith))
+job_plain words Freeze spells = rw spells (one_plain (codes "freeze") (omega arith))
+job_plain words Thaw spells = rw spells (one_plain (codes "thaw") (omega arith))
+job_plain words (Label text) spells = text_plain _ words text (one_plain (codes "label") (omega arith)) spells
 
 command_word : (words : List (List ℕ)) (job : Job) → Spells words job → IsCommandWord (get_or words 0 [])
 command_word words (OneStripe Check n m r e) spells = inl (ap (λ ws. get_or ws 0 []) spells.spelled)
@@ -110,7 +139,13 @@ command_word words (OneStripe Restore n m r e) spells = inr (inr (inl (ap (λ ws
 command_word words Create spells = inr (inr (inr (inl (ap (λ ws. get_or ws 0 []) spells))))
 command_word words Show spells = inr (inr (inr (inr (inl (ap (λ ws. get_or ws 0 []) spells)))))
 command_word words (Read block count) spells = inr (inr (inr (inr (inr (inl (ap (λ ws. get_or ws 0 []) spells.spelled))))))
-command_word words (Write block count) spells = inr (inr (inr (inr (inr (inr (ap (λ ws. get_or ws 0 []) spells.spelled))))))
+command_word words (Write block count) spells = inr (inr (inr (inr (inr (inr (inl (ap (λ ws. get_or ws 0 []) spells.spelled)))))))
+command_word words Scrub spells = inr (inr (inr (inr (inr (inr (inr (inl (ap (λ ws. get_or ws 0 []) spells))))))))
+command_word words (Replace slot) spells = inr (inr (inr (inr (inr (inr (inr (inr (inl (ap (λ ws. get_or ws 0 []) spells.spelled)))))))))
+command_word words Rebuild spells = inr (inr (inr (inr (inr (inr (inr (inr (inr (inl (ap (λ ws. get_or ws 0 []) spells))))))))))
+command_word words Freeze spells = inr (inr (inr (inr (inr (inr (inr (inr (inr (inr (inl (ap (λ ws. get_or ws 0 []) spells)))))))))))
+command_word words Thaw spells = inr (inr (inr (inr (inr (inr (inr (inr (inr (inr (inr (inl (ap (λ ws. get_or ws 0 []) spells))))))))))))
+command_word words (Label text) spells = inr (inr (inr (inr (inr (inr (inr (inr (inr (inr (inr (inr (ap (λ ws. get_or ws 0 []) spells.spelled))))))))))))
 
 -- the words of a job are a command line
 pub job_line : (words : List (List ℕ)) (job : Job) → Spells words job → IsCommandLine words
@@ -173,9 +208,24 @@ blocks_once before words block count block' count' one two =
       decimal_injective count count' one.count_fits two.count_fits count_texts,
     )
 
--- jobs of the same words have one command's word
-same_word : (words : List (List ℕ)) (a b : Job) → Spells words a → Spells words b → word_of a ≡ word_of b
-same_word words a b one two = sym (first_word words a one) ∙ first_word words b two
+-- words with the same words before spell one slot
+slot_once : (before words : List (List ℕ)) (slot slot' : ℕ) → SpellsSlot before words slot → SpellsSlot before words slot' → slot ≡ slot'
+slot_once before words slot slot' one two =
+    let same = append_cancel_left before _ _ (sym one.spelled ∙ two.spelled) in
+    let texts : decimal slot ≡ decimal slot' = cc in
+    decimal_injective slot slot' one.fits two.fits texts
+
+-- words with the same words before spell one text
+text_once : (before words : List (List ℕ)) (text text' : List ℕ) → SpellsText before words text → SpellsText before words text' → text ≡ text'
+text_once before words text text' one two =
+    let same = append_cancel_left before _ _ (sym one.spelled ∙ two.spelled) in
+    cc
+
+-- no words spell two jobs whose commands' words differ
+no_other_job : (words : List (List ℕ)) (a b : Job) → Spells words a → Spells words b → bytes_eq (word_of a) (word_of b) ≡ false → ⊥
+no_other_job words a b one two apart =
+    not_from_Decides (bytes_eq (word_of a) (word_of b)) (bytes_eq-Decides (word_of a) (word_of b)) apart
+    (sym (first_word words a one) ∙ first_word words b two)
 
 pub spells_once : (words : List (List ℕ)) (a b : Job) → Spells words a → Spells words b → a ≡ b
 spells_once words (OneStripe a n m r e) (OneStripe b n' m' r' e') one two = one_stripe_once words a b n m r e n' m' r' e' one two
@@ -187,10 +237,16 @@ spells_once words (Read block count) (Read block' count') one two =
 spells_once words (Write block count) (Write block' count') one two =
     let same = blocks_once (codes "write" ∷ []) words block count block' count' one two in
     λ i. Write (same.0 i) (same.1 i)
-spells_once words (OneStripe Check n m r e) b one two = let same = same_word words (OneStripe Check n m r e) b one two in cc
-spells_once words (OneStripe (Encode method) n m r e) b one two = let same = same_word words (OneStripe (Encode method) n m r e) b one two in cc
-spells_once words (OneStripe Restore n m r e) b one two = let same = same_word words (OneStripe Restore n m r e) b one two in cc
-spells_once words a (OneStripe Check n m r e) one two = let same = same_word words a (OneStripe Check n m r e) one two in cc
-spells_once words a (OneStripe (Encode method) n m r e) one two = let same = same_word words a (OneStripe (Encode method) n m r e) one two in cc
-spells_once words a (OneStripe Restore n m r e) one two = let same = same_word words a (OneStripe Restore n m r e) one two in cc
-spells_once words a b one two = let same = same_word words a b one two in cc
+spells_once words Scrub Scrub one two = refl
+spells_once words (Replace slot) (Replace slot') one two = ap Replace (slot_once (codes "replace" ∷ []) words slot slot' one two)
+spells_once words Rebuild Rebuild one two = refl
+spells_once words Freeze Freeze one two = refl
+spells_once words Thaw Thaw one two = refl
+spells_once words (Label text) (Label text') one two = ap Label (text_once (codes "label" ∷ []) words text text' one two)
+spells_once words (OneStripe Check n m r e) b one two = absurd (no_other_job words (OneStripe Check n m r e) b one two refl)
+spells_once words (OneStripe (Encode method) n m r e) b one two = absurd (no_other_job words (OneStripe (Encode method) n m r e) b one two refl)
+spells_once words (OneStripe Restore n m r e) b one two = absurd (no_other_job words (OneStripe Restore n m r e) b one two refl)
+spells_once words a (OneStripe Check n m r e) one two = absurd (no_other_job words a (OneStripe Check n m r e) one two refl)
+spells_once words a (OneStripe (Encode method) n m r e) one two = absurd (no_other_job words a (OneStripe (Encode method) n m r e) one two refl)
+spells_once words a (OneStripe Restore n m r e) one two = absurd (no_other_job words a (OneStripe Restore n m r e) one two refl)
+spells_once words a b one two = absurd (no_other_job words a b one two refl)

@@ -52,3 +52,11 @@ abbrev pub blocks_app : App
 blocks_app =
     with_rule (with_rule (bare_app (codes "stair")) (one_word (codes "BLOCK")))
     (one_word (codes "COUNT"))
+
+-- `SLOT`
+abbrev pub slot_app : App
+slot_app = with_rule (bare_app (codes "stair")) (one_word (codes "SLOT"))
+
+-- `TEXT`
+abbrev pub text_app : App
+text_app = with_rule (bare_app (codes "stair")) (one_word (codes "TEXT"))

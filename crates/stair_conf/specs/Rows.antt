@@ -3,7 +3,7 @@ use Rattle.std.specs.Prelude.{◌≡◌, ℕ, ◌^◌, ◌<◌, List, Some, All,
 use Rattle.std.specs.Fmt.{decimal}
 use Rattle.clap.specs.Words.{Row, Text, all_of, first_of}
 use Rattle.stair_conf.specs.declared.job.Method.{Method}
-use Rattle.stair_conf.specs.Words.{method_word}
+use Rattle.stair_conf.specs.Words.{IsText, method_word}
 
 -- the first word of this id is the number's
 pub record HasNumberWord (rows : List Row) (id : Text) (n : ℕ) : Type 0 where
@@ -18,6 +18,11 @@ pub record HasNumberWords (rows : List Row) (id : Text) (numbers : List ℕ) : T
 -- the first word of this id is the method's
 pub record HasMethodWord (rows : List Row) (id : Text) (method : Method) : Type 0 where
   pub first : first_of id rows ≡ Some (method_word method)
+
+-- the first word of this id is this text
+pub record HasTextWord (rows : List Row) (id text : Text) : Type 0 where
+  pub first : first_of id rows ≡ Some text
+  pub is_text : IsText text
 
 -- the rows N, M, R and E have the numbers of a geometry
 pub record HasGeometry (rows : List Row) (n m r : ℕ) (e : List ℕ) : Type 0 where

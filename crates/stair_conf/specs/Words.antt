@@ -2,13 +2,14 @@
 use Rattle.std.specs.Prelude.{◌≡◌, ◌⊎◌, ℕ, ◌^◌, ◌<◌, List, [], ◌∷◌, ◌++◌, All, codes, length, map, slice_index, slice_index_or}
 use Rattle.std.specs.Fmt.{decimal}
 use Rattle.std.specs.Int.{IsInRange}
-use Rattle.stair_conf.specs.Commands.{HasNoOption}
+use Rattle.stair_conf.specs.Commands.{HasNoOption, IsPlainWord}
 use Rattle.stair_conf.specs.declared.job.Method.{Method}
 use Rattle.stair_conf.specs.declared.job.Method.TheVariants.{Standard, Up, Down, Fewest}
 use Rattle.stair_conf.specs.declared.job.Job.{Job}
-use Rattle.stair_conf.specs.declared.job.Job.TheVariants.{OneStripe, Create, Show, Read, Write}
+use Rattle.stair_conf.specs.declared.job.Job.TheVariants.{OneStripe, Create, Show, Read, Write, Scrub, Replace, Rebuild, Freeze, Thaw, Label}
 use Rattle.stair_conf.specs.declared.job.StripeCommand.{StripeCommand}
 use Rattle.stair_conf.specs.declared.job.StripeCommand.TheVariants.{Check, Encode, Restore}
+use Rattle.stair_super.specs.Label.{IsLabel}
 
 -- the word is this number's decimal text
 pub record IsNumber (word : List ℕ) (n : ℕ) : Type 0 where
@@ -24,6 +25,11 @@ pub record AreNumbers (words : List (List ℕ)) (numbers : List ℕ) : Type 0 wh
 pub record BeginsNumber (word : List ℕ) : Type 0 where
   pub digit : IsInRange 48 57 (slice_index word 0)
   pub zero_alone : slice_index word 0 ≡ 48 → length word ≡ 1
+
+-- the word TEXT: the text of a label that isn't empty
+pub record IsText (word : List ℕ) : Type 0 where
+  pub label : IsLabel word
+  pub some : 0 < length word
 
 -- the word METHOD
 abbrev pub method_word : Method → List ℕ
@@ -47,6 +53,17 @@ pub record SpellsBlocks (before words : List (List ℕ)) (block count : ℕ) : T
   pub block_fits : block < 2 ^ 64
   pub count_fits : count < 2 ^ 64
 
+-- the words are those before, and then the decimal text of the number of a slot
+pub record SpellsSlot (before words : List (List ℕ)) (slot : ℕ) : Type 0 where
+  pub spelled : words ≡ before ++ decimal slot ∷ []
+  pub fits : slot < 2 ^ 64
+
+-- the words are those before, and then a text, which doesn't begin with a hyphen
+pub record SpellsText (before words : List (List ℕ)) (text : List ℕ) : Type 0 where
+  pub spelled : words ≡ before ++ text ∷ []
+  pub is_text : IsText text
+  pub plain : IsPlainWord text
+
 -- the words before the numbers
 abbrev pub command_words : StripeCommand → List (List ℕ)
 command_words Check = codes "check" ∷ []
@@ -60,6 +77,12 @@ Spells words Create = words ≡ codes "create" ∷ []
 Spells words Show = words ≡ codes "show" ∷ []
 Spells words (Read block count) = SpellsBlocks (codes "read" ∷ []) words block count
 Spells words (Write block count) = SpellsBlocks (codes "write" ∷ []) words block count
+Spells words Scrub = words ≡ codes "scrub" ∷ []
+Spells words (Replace slot) = SpellsSlot (codes "replace" ∷ []) words slot
+Spells words Rebuild = words ≡ codes "rebuild" ∷ []
+Spells words Freeze = words ≡ codes "freeze" ∷ []
+Spells words Thaw = words ≡ codes "thaw" ∷ []
+Spells words (Label text) = SpellsText (codes "label" ∷ []) words text
 
 -- the words spell a job
 abbrev pub IsSpelled : List (List ℕ) → Type 0
@@ -69,7 +92,9 @@ IsSpelled words = (job : Job) × Spells words job
 abbrev pub IsCommandWord : List ℕ → Type 0
 IsCommandWord word = (word ≡ codes "check") ⊎ (word ≡ codes "stripe")
     ⊎ (word ≡ codes "restore") ⊎ (word ≡ codes "create") ⊎ (word ≡ codes "show")
-    ⊎ (word ≡ codes "read") ⊎ (word ≡ codes "write")
+    ⊎ (word ≡ codes "read") ⊎ (word ≡ codes "write") ⊎ (word ≡ codes "scrub")
+    ⊎ (word ≡ codes "replace") ⊎ (word ≡ codes "rebuild") ⊎ (word ≡ codes "freeze")
+    ⊎ (word ≡ codes "thaw") ⊎ (word ≡ codes "label")
 
 -- a command's word comes first, and no word begins with a hyphen: memory is taken for such words alone
 pub record IsCommandLine (words : List (List ℕ)) : Type 0 where

@@ -4,13 +4,16 @@
 
 ghost use Rattle.std.specs.Prelude.{◌≡◌, ℕ, ◌∷◌, [], List, codes, drop, false, true, map, string_bytes, IfOk};
 ghost use Rattle.clap.specs.Words.{HasMatchesOf, app_of, fault_of, is_simple_and_free, rule_of, takes};
-ghost use Rattle.stair_conf.specs.Commands.{HasNoOption, bare_app, blocks_app, geometry_app, one_word, stripe_app, with_geometry};
-ghost use Rattle.stair_conf.specs.Words.{SpellsBlocks, SpellsGeometry, method_word};
+ghost use Rattle.stair_conf.specs.Commands.{HasNoOption, bare_app, blocks_app, geometry_app, one_word, slot_app, stripe_app, text_app, with_geometry};
+ghost use Rattle.stair_conf.specs.Words.{SpellsBlocks, SpellsGeometry, SpellsSlot, SpellsText, method_word};
 ghost use Rattle.stair_conf.specs.declared.job.Method.{Method};
 
-use crate::matches::{BlockNumbers, GeometryNumbers, blocks_of, geometry_of, method_of};
+use crate::matches::{
+    BlockNumbers, GeometryNumbers, blocks_of, geometry_of, method_of, number_of, text_of,
+};
 use crate::{Method, WordsFault};
 use clap::{Arg, ArgMatches, Command};
+use stair_super::Label;
 use std::alloc::{AllocError, Global};
 
 // Reads `N M R E..` behind the first word.
@@ -55,6 +58,28 @@ pub(crate) fn read_blocks(alloc: Global, words: &[String]) -> Result<BlockNumber
     blocks_of(&matches)
 }
 
+// Reads `SLOT` behind the first word.
+pub(crate) fn read_slot(alloc: Global, words: &[String]) -> Result<u64, WordsFault>
+    requires { HasNoOption (map string_bytes words.now) }
+    ensures ok { IfOk result (SpellsSlot [] (drop 1 (map string_bytes words.now))) }
+    ensures usage { result ≡ Err WordsFault.Usage → (slot : ℕ)
+        → SpellsSlot [] (drop 1 (map string_bytes words.now)) slot → ⊥ }
+{
+    let matches = parse(slot_command(alloc)?, words)?;
+    number_of(&matches, "SLOT").ok_or(WordsFault::Usage)
+}
+
+// Reads `TEXT` behind the first word.
+pub(crate) fn read_label(alloc: Global, words: &[String]) -> Result<Label, WordsFault>
+    requires { HasNoOption (map string_bytes words.now) }
+    ensures ok { IfOk result (SpellsText [] (drop 1 (map string_bytes words.now))) }
+    ensures usage { result ≡ Err WordsFault.Usage → (text : List ℕ)
+        → SpellsText [] (drop 1 (map string_bytes words.now)) text → ⊥ }
+{
+    let matches = parse(text_command(alloc)?, words)?;
+    text_of(&matches, "TEXT").ok_or(WordsFault::Usage)
+}
+
 // Matches the words to the values of the command.
 fn parse<'a>(command: Command<'a>, words: &'a [String]) -> Result<ArgMatches<'a>, WordsFault>
     ensures ok { IfOk result (HasMatchesOf (app_of command.entry)
@@ -88,6 +113,20 @@ fn blocks_command<'a>(alloc: Global) -> Result<Command<'a>, AllocError>
     bare(alloc)
         .arg(one_word(alloc, "BLOCK"))?
         .arg(one_word(alloc, "COUNT"))
+}
+
+// `SLOT`
+fn slot_command<'a>(alloc: Global) -> Result<Command<'a>, AllocError>
+    ensures { IfOk result (λ command. app_of command ≡ slot_app) }
+{
+    bare(alloc).arg(one_word(alloc, "SLOT"))
+}
+
+// `TEXT`
+fn text_command<'a>(alloc: Global) -> Result<Command<'a>, AllocError>
+    ensures { IfOk result (λ command. app_of command ≡ text_app) }
+{
+    bare(alloc).arg(one_word(alloc, "TEXT"))
 }
 
 // The command with the words of a geometry behind those that it has.

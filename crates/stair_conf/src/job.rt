@@ -1,4 +1,5 @@
 use crate::Numbers;
+use stair_super::Label;
 
 /// How a stripe is encoded: the word METHOD of `stripe`.
 #[derive(Clone, Copy, Debug, PartialEq, Eq)]
@@ -26,9 +27,9 @@ pub enum StripeCommand {
 
 /// What the words ask for.
 ///
-/// The numbers are as written: whether they are the shape of an array, or blocks that it has, is not tested here. The letters
-/// are those of Li and Lee, STAIR Codes (FAST 2014): N devices, M of which may fail, R sectors in a chunk, and the coverage E..
-/// of the others.
+/// The numbers are as written: whether they are the shape of an array, or blocks or a slot that it has, is not tested here. The
+/// letters are those of Li and Lee, STAIR Codes (FAST 2014): N devices, M of which may fail, R sectors in a chunk, and the
+/// coverage E.. of the others.
 #[derive(Debug, Drop)]
 pub enum Job {
     /// `check N M R E..`, `stripe METHOD N M R E..` or `restore N M R E..`: one stripe.
@@ -61,5 +62,23 @@ pub enum Job {
         block: u64,
         /// How many blocks.
         count: u64,
+    },
+    /// `scrub`: the stripes of an array are repaired.
+    Scrub,
+    /// `replace SLOT`: a slot of an array gets a new device, which is rebuilt.
+    Replace {
+        /// The number of the slot.
+        slot: u64,
+    },
+    /// `rebuild`: the devices that are being rebuilt, to their end.
+    Rebuild,
+    /// `freeze`: an array takes no more writes.
+    Freeze,
+    /// `thaw`: it takes them again.
+    Thaw,
+    /// `label TEXT`: an array gets a label.
+    Label {
+        /// The label, which isn't empty and doesn't begin with a hyphen.
+        text: Label,
     },
 }

@@ -1,6 +1,6 @@
 //! What the words of a command line say, and what a geometry text says.
 //!
-//! [`read_words`] reads a command and its numbers, or refuses the words. [`read_number`] reads one number, and [`read_config`]
+//! [`read_words`] reads a command and its values, or refuses the words. [`read_number`] reads one number, and [`read_config`]
 //! the geometry of an array.
 #![tactic(auto)]
 

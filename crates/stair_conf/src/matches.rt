@@ -2,12 +2,13 @@
 
 ghost use Rattle.std.specs.Prelude.{◌≡◌, ◌≢◌, ℕ, ◌↔◌, List, [], map, slice_index_or, IfOk, IsTrue, Some};
 ghost use Rattle.clap.specs.Words.{found_of, rows_of};
-ghost use Rattle.stair_conf.specs.Rows.{HasBlocks, HasGeometry, HasThreeNumbers, HasMethodWord, HasNumberWord, HasNumberWords};
-ghost use Rattle.stair_conf.specs.Words.{AreNumbers, BeginsNumber, IsNumber, method_word};
+ghost use Rattle.stair_conf.specs.Rows.{HasBlocks, HasGeometry, HasThreeNumbers, HasMethodWord, HasNumberWord, HasNumberWords, HasTextWord};
+ghost use Rattle.stair_conf.specs.Words.{AreNumbers, BeginsNumber, IsNumber, IsText, method_word};
 ghost use Rattle.stair_conf.specs.declared.job.Method.{Method};
 
 use crate::{Method, Numbers, WordsFault};
 use clap::ArgMatches;
+use stair_super::Label;
 use std::alloc::Global;
 
 // The numbers of a geometry's words.
@@ -66,8 +67,16 @@ pub(crate) fn method_of(matches: &ArgMatches<'_>, id: &str) -> Option<Method>
     read_method(matches.get_str(id)?)
 }
 
+// Reads the text, exactly where the first word of this id is one.
+pub(crate) fn text_of(matches: &ArgMatches<'_>, id: &str) -> Option<Label>
+    ensures { (text : List ℕ) → (result ≡ Some text)
+        ↔ HasTextWord (rows_of (found_of matches.now)) id.now text }
+{
+    read_text(matches.get_str(id)?)
+}
+
 // Reads the number, exactly where the first word of this id is its own.
-fn number_of(matches: &ArgMatches<'_>, id: &str) -> Option<u64>
+pub(crate) fn number_of(matches: &ArgMatches<'_>, id: &str) -> Option<u64>
     ensures { (n : ℕ) → (result ≡ Some n) ↔ HasNumberWord
         (rows_of (found_of matches.now)) id.now n }
 {
@@ -93,6 +102,18 @@ fn read_method(word: &str) -> Option<Method>
         "down" => Some(Method::Down),
         "fewest" => Some(Method::Fewest),
         _ => None,
+    }
+}
+
+// Reads the word TEXT.
+fn read_text(word: &str) -> Option<Label>
+    ensures { (text : List ℕ) → (result ≡ Some text) ↔ ((word.now ≡ text) × IsText text) }
+{
+    let label = Label::new(word.as_bytes())?;
+    if label.bytes().is_empty() {
+        None
+    } else {
+        Some(label)
     }
 }
 

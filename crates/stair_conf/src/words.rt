@@ -4,17 +4,18 @@ ghost use Rattle.stair_conf.specs.Words.{Spells, IsCommandLine};
 ghost use Rattle.stair_conf.specs.declared.job.Job.{Job};
 ghost use Rattle.stair_conf.specs.declared.job.Job.TheVariants.{OneStripe};
 
-use crate::commands::{read_blocks, read_geometry, read_stripe};
+use crate::commands::{read_blocks, read_geometry, read_label, read_slot, read_stripe};
 use crate::matches::{BlockNumbers, GeometryNumbers};
 use crate::{Job, StripeCommand, WordsFault};
 use std::alloc::Global;
 
 /// Reads the words of a command: `check N M R E..`, `stripe METHOD N M R E..` or `restore N M R E..`, with at least one E,
-/// `read BLOCK COUNT` or `write BLOCK COUNT`, or `create` or `show` alone.
+/// `read BLOCK COUNT`, `write BLOCK COUNT`, `replace SLOT` or `label TEXT`, or `create`, `show`, `scrub`, `rebuild`, `freeze`
+/// or `thaw` alone.
 ///
 /// METHOD is `standard`, `up`, `down` or `fewest`. A number is decimal digits with no sign and no leading zero, below 2^64.
-/// All other words are `Usage`, unless memory runs out before that is known. Memory is taken only where a command's word
-/// comes first and no word begins with a hyphen.
+/// TEXT is 1 to 64 bytes of printable ASCII, the first of which isn't a hyphen. All other words are `Usage`, unless memory runs
+/// out before that is known. Memory is taken only where a command's word comes first and no word begins with a hyphen.
 pub fn read_words(alloc: Global, words: &[String]) -> Result<Job, WordsFault>
     ensures ok { IfOk result (λ job. Spells (map string_bytes words.now) job) }
     ensures usage { result ≡ Err WordsFault.Usage
@@ -44,6 +45,16 @@ pub fn read_words(alloc: Global, words: &[String]) -> Result<Job, WordsFault>
             let BlockNumbers { block, count } = read_blocks(alloc, words)?;
             Ok(Job::Write { block, count })
         }
+        "scrub" => alone(words, Job::Scrub),
+        "replace" => Ok(Job::Replace {
+            slot: read_slot(alloc, words)?,
+        }),
+        "rebuild" => alone(words, Job::Rebuild),
+        "freeze" => alone(words, Job::Freeze),
+        "thaw" => alone(words, Job::Thaw),
+        "label" => Ok(Job::Label {
+            text: read_label(alloc, words)?,
+        }),
         _ => Err(WordsFault::Usage),
     }
 }

@@ -16,13 +16,13 @@ use Rattle.stair_conf.specs.Words.{IsSpelled, Spells}
 use Rattle.stair_conf.specs.declared.fault.ConfigFault.{ConfigFault}
 use Rattle.stair_conf.proofs.WordsLemmas.{spells_once}
 use Rattle.stair_conf.specs.declared.job.Job.{Job}
-use Rattle.stair_conf.specs.declared.job.Job.TheVariants.{OneStripe, Create, Read, Show, Write}
+use Rattle.stair_conf.specs.declared.job.Job.TheVariants.{OneStripe, Create, Show}
 use Rattle.stair_story.specs.Action.{status_of_create}
 use Rattle.stair_story.specs.Action as action
 use Rattle.stair_story.specs.Story.{Did}
 use Rattle.stair_engine.specs.Cause.{IfRefusedAtOnce}
 use Rattle.stair_story.specs.Fault.{status_of_config}
-use Rattle.stair_engine.specs.Laws.{AllIsKept, ArrayIsLeft, ArrayIsMade, ArraysAreSpared, MemoryComesFirst, RackIsLeft, ShowOnlyLooks, UsageIsExact, ReadTakesNothing}
+use Rattle.stair_engine.specs.Laws.{AllIsKept, ArrayIsLeft, ArrayIsMade, ArraysAreSpared, MemoryComesFirst, RackIsLeft, ShowOnlyLooks, SourceIsLeft, UsageIsExact}
 use Rattle.stair_engine.specs.Create.{IsOnceMade, MakesArray, SparesArrays}
 use Rattle.stair_story.specs.Outside.{Outside, Views, outside}
 use Rattle.stair_engine.specs.Plans.{create_plan, job_plan, making_plan, plan_of, show_plan}
@@ -31,11 +31,10 @@ use Rattle.stair_story.specs.Rack.{MeansOver, RackView, Works, told_of}
 use Rattle.stair_engine.specs.Task.{one_stripe}
 use Rattle.stair_story.specs.declared.status.Status.{Status}
 use Rattle.stair_story.specs.declared.status.Status.TheVariants.{Done, Usage, InputFault, OutputFault, OutOfMemory}
-use Rattle.stair_engine.proofs.JobLaws.{config_own, create_own, job_looks, job_own, read_takes_none, survey_own, words_first, words_no_step, words_put, words_tell, words_unwritten}
+use Rattle.stair_engine.proofs.JobLaws.{config_own, create_own, job_looks, job_own, survey_own, words_first, words_no_step, words_put, words_tell, words_untaken, words_unwritten}
 use Rattle.stair_engine.proofs.OpenLaws.{IsOfJob}
 use Rattle.stair_engine.specs.Jobs.{MakesCalls, MayWrite, NotSpelled, OpensArray}
 use Rattle.stair_story.specs.Devices.{DeviceView, MeansWhole}
-use Rattle.stair_story.specs.Ending.{TakesNothing}
 use Rattle.stair_story.proofs.DeviceLaws.{over_rack}
 use Rattle.stair_engine.proofs.MeaningLaws.{tested_all}
 use Rattle.stair_engine.proofs.StandLaws.{looked_stands, still_stands}
@@ -92,10 +91,7 @@ module _ {R S K : Type 0} (rack : RackView R) (view : Views S K) (a : Outside S 
   left_all : (job : Job) → ¬ MakesCalls job → AllEnd (Works rack) view Left (job_plan job) a x
   left_all (OneStripe command n m r e) other =
       tested_all (Works rack) view (one_stripe n m r e) a x Left command (λ end o does refused. (refl, refused))
-  left_all Create other = absurd (other tt)
-  left_all Show other = absurd (other tt)
-  left_all (Read first count) other = absurd (other tt)
-  left_all (Write first count) other = absurd (other tt)
+  left_all _ other = absurd (other tt)
 
   -- the source and the counter are left, and the source can't fail the call
   abbrev Untaken : Status → Outside S K → R → Type 0
@@ -213,14 +209,13 @@ pub none_opened : (words : List (List ℕ)) (of : Job) → Spells words of → �
 none_opened words of spells not = only OpensArray words of spells not
 
 opens_calls : (job : Job) → OpensArray job → MakesCalls job
-opens_calls (Read first count) opens = tt
-opens_calls (Write first count) opens = tt
-opens_calls _ opens = absurd opens
+opens_calls (OneStripe command n m r e) opens = absurd opens
+opens_calls _ opens = tt
 
 opens_writes : (job : Job) → OpensArray job → MayWrite job
-opens_writes (Read first count) opens = tt
-opens_writes (Write first count) opens = tt
-opens_writes _ opens = absurd opens
+opens_writes (OneStripe command n m r e) opens = absurd opens
+opens_writes Show opens = absurd opens
+opens_writes _ opens = tt
 
 pub rack_is_left : (R W S K : Type 0) → RackIsLeft R W S K
 rack_is_left R W S K devices view words status a b x y watchers left whole other =
@@ -232,13 +227,9 @@ show_only_looks R W S K devices view words status a b x y watchers left whole sp
     looked_over devices.rack view words status a b x y
     (stepless devices view words status a b x y watchers left whole (none_opened words Show spells (λ no. no))) spells
 
-pub read_takes_nothing : (S K : Type 0) → ReadTakesNothing S K
-read_takes_nothing S K view words block count status a b spells means =
-    none_taken view.source means.story (plan_of words) status a.source b.source none means.follows means.bears.gives
-  where
-    none : TakesNothing (plan_of words)
-    none None is = absurd (is (Read block count, spells))
-    none (Some job) also = subst (λ (j : Job). TakesNothing (job_plan j)) (spells_once words (Read block count) job spells also) (read_takes_none block count)
+pub source_is_left : (S K : Type 0) → SourceIsLeft S K
+source_is_left S K view words status a b other means =
+    none_taken view.source means.story (plan_of words) status a.source b.source (words_untaken words other) means.follows means.bears.gives
 
 pub array_is_left : (R W S K : Type 0) → ArrayIsLeft R W S K
 array_is_left R W S K devices view words status a b x y watchers left whole other honest =

@@ -1,7 +1,7 @@
 -- Where a job can be done it is done, if there was memory.
 use Rattle.std.proofs.Common.{◌≡◌, ◌∙◌, inl, inr, ℕ, zero, suc, ◌+◌, ◌-◌, ◌*◌, ◌/◌, ◌<◌, ◌≤◌, length-append, List, [], ◌∷◌, ◌++◌, All, Option, None, Some, IfSome, Result, Ok, Err, length, take, drop, true, false, refl, sym, ap, subst, arith}
 use Rattle.std.specs.List.{concat}
-use Rattle.std.specs.Prelude.{Bool, nat_lt}
+use Rattle.std.specs.Prelude.{Bool, codes, nat_lt}
 use Rattle.std.proofs.lemmas.Bool.{ltb-false, ltb-true}
 use Rattle.std.proofs.lemmas.List.{nil_from_length}
 use lib.Seq.{drop-append_seam, take-append_seam}
@@ -18,11 +18,12 @@ use Rattle.stair_array.specs.Creates.{CanBeMade, Creates}
 use Rattle.stair_state.specs.Blocks.{AreOfOneStripe}
 use Rattle.stair_state.specs.State.{Content, State, without_seats}
 use Rattle.stair_array.specs.Arrays.{blocks_of}
-use Rattle.stair_array.specs.Machine.{IsDecided, WriteBlocks}
+use Rattle.stair_member.specs.Seats.{Seats}
+use Rattle.stair_array.specs.Machine.{IsDecided, PassesTests, SetFrozen, SetLabel, Step, WriteBlocks}
 use Rattle.stair_conf.specs.Config.{TextReadsAs}
 use Rattle.stair_conf.specs.declared.fault.ConfigFault.{ConfigFault}
 use Rattle.stair_conf.specs.declared.job.Job.{Job}
-use Rattle.stair_conf.specs.declared.job.Job.TheVariants.{OneStripe, Create, Read, Show, Write}
+use Rattle.stair_conf.specs.declared.job.Job.TheVariants.{OneStripe, Create, Freeze, Label, Read, Rebuild, Replace, Scrub, Show, Thaw, Write}
 use Rattle.stair_conf.specs.declared.job.StripeCommand.{StripeCommand}
 use Rattle.stair_conf.specs.declared.job.StripeCommand.TheVariants.{Check, Encode, Restore}
 use Rattle.stair_conf.specs.Words.{Spells}
@@ -42,13 +43,16 @@ use Rattle.stair_story.specs.declared.status.Status.{Status}
 use Rattle.stair_story.specs.declared.status.Status.TheVariants.{Done, NotCodeword, NoCodeword, Limit, Input, InputFault, OutputFault, Lost, OutOfMemory}
 use Rattle.stair_engine.proofs.MeaningLaws.{told_more, words_are_done}
 use Rattle.stair_engine.specs.Blocks.{IsInRange, if_in_range, if_left, opens_array, part_of, piece_blocks, read_plan, reads, whole_of, within_range, write_plan, writes, wrote}
-use Rattle.stair_story.specs.Plan.{Plan, Over, Take, take_step}
+use Rattle.stair_engine.specs.Mending.{rebuild_plan, rebuilt_line, scrub_plan, scrubs, stamps}
+use Rattle.stair_story.specs.Devices.{DeviceView, MeansWhole}
+use Rattle.stair_story.specs.Ending.{AdmitsNone, AllowsAtMost, EachStep}
+use Rattle.stair_story.specs.Plan.{Plan, Over, Put, RebuildAll, Take, take_step}
 use Rattle.stair_engine.proofs.CallLaws.{none_opened, stepless}
-use Rattle.stair_engine.proofs.JobLaws.{words_tell, words_used}
+use Rattle.stair_engine.proofs.JobLaws.{job_admits_none, job_allowed, words_tell}
 use Rattle.stair_engine.proofs.RangeLaws.{in_range_is}
 use Rattle.stair_engine.proofs.TurnLaws.{blocks_count, few_whole, part_long, part_short, piece_left, piece_some, piece_together, some_whole}
 use Rattle.stair_engine.proofs.WordLaws.{over_spelled}
-use Rattle.stair_story.specs.Sure.{IsDone, IsSure, no_assurance}
+use Rattle.stair_story.specs.Sure.{HasNoFault, IsDone, IsSure, ServesThroughout, most_allowed, no_assurance}
 use Rattle.stair_story.proofs.PlannedSureLaws.{planned_sure}
 use Rattle.stair_story.proofs.AllEnds.{AllEnd}
 use Rattle.stair_story.proofs.SureLaws.{look_sure, stepless_done}
@@ -215,6 +219,33 @@ read_sure first count s left within =
     none_or first (suc count) g later left same within =
         reads_sure g first (suc count) later left (omega (arith, within (omega arith), ap (λ (k : Geometry). block_count k) same))
 
+-- all stripes are scrubbed
+scrubs_sure : (g : Geometry) (stripe count cells : ℕ) (s : State) (left : Option (List ℕ)) → stripe + count ≤ s.geometry.stripes
+    → IsSure no_assurance (scrubs g stripe count cells) s left
+scrubs_sure g stripe zero cells s left within = refl
+scrubs_sure g stripe (suc count) cells s left within = (
+  λ seats is. omega (arith, within),
+  λ repaired gone later done.
+      scrubs_sure g (stripe + 1) count (cells + repaired) later left (omega (arith, within, ap (λ (k : Geometry). k.stripes) done.row.geometry)),
+)
+
+scrub_sure : (s : State) (left : Option (List ℕ)) → IsSure no_assurance scrub_plan s left
+scrub_sure s left =
+    opens_sure (λ g. scrubs g 0 g.stripes 0) s left
+    (λ later decided same. scrubs_sure s.geometry 0 s.geometry.stripes 0 later left (omega (arith, ap (λ (k : Geometry). k.stripes) same)))
+
+-- what is rebuilt is rebuilt to its end
+rebuild_sure : (s : State) (left : Option (List ℕ)) → IsSure no_assurance rebuild_plan s left
+rebuild_sure s left =
+    opens_sure (λ g. RebuildAll g.n 0 (λ steps. Put (rebuilt_line steps) (Over Done))) s left (λ later decided same steps last rebuilt. refl)
+
+-- a step that passes its tests in any state
+stamps_sure : (step : Step) (line : List ℕ) → ((s : State) (seats : Seats) → s.seats ≡ Some seats → PassesTests step s seats) → (s : State)
+    (left : Option (List ℕ)) → IsSure no_assurance (stamps step line) s left
+stamps_sure step line passes s left =
+    opens_sure (λ g. take_step g.n step (λ done. Put line (Over Done))) s left
+    (λ later decided same. (λ seats is. passes later seats is, λ given gone last done. refl))
+
 -- the end comes behind the last block
 wrote_sure : (all : ℕ) (s : State) → IsSure no_assurance (wrote all) s (Some [])
 wrote_sure all s = (
@@ -304,6 +335,17 @@ words_sure words of s left spells sure None not = absurd (not (of, spells))
 words_sure words of s left spells sure (Some job) read =
     subst (λ (j : Job). IsSure no_assurance (job_plan j) s left) (spells_once words of job spells read) sure
 
+-- so are no other steps than those of its plan
+words_admit_none : (words : List (List ℕ)) (of : Job) → Spells words of → ((slot : ℕ) → of ≡ Replace slot → ⊥) → EachStep AdmitsNone (plan_of words)
+words_admit_none words of spells other None is = tt
+words_admit_none words of spells other (Some job) read =
+    subst (λ (j : Job). EachStep AdmitsNone (job_plan j)) (spells_once words of job spells read) (job_admits_none of other)
+
+words_allowed : (words : List (List ℕ)) (of : Job) → Spells words of → ((slot : ℕ) → of ≡ Replace slot → ⊥) → AllowsAtMost most_allowed (plan_of words)
+words_allowed words of spells other None is = tt
+words_allowed words of spells other (Some job) read =
+    subst (λ (j : Job). AllowsAtMost most_allowed (job_plan j)) (spells_once words of job spells read) (job_allowed of other)
+
 module _ {R S K : Type 0} (rack : RackView R) (view : Views S K) where
   show_done : (words : List (List ℕ)) (status : Status) (a b : Outside S K) (x y : R) → Spells words Show
       → MeansOver rack view (plan_of words) (Over status) a b x y → IsComplete rack view Show status a b x y
@@ -313,6 +355,16 @@ module _ {R S K : Type 0} (rack : RackView R) (view : Views S K) where
       since.tolerated since.returned none
       (words_sure words Show (without_seats since.state) (view.source.left a.source) spells
       (look_sure no_assurance show_text (without_seats since.state) (view.source.left a.source)))
+
+-- a call of the words of a sure command that admits no medium, on an array that serves
+module _ {R W S K : Type 0} (devices : DeviceView R W) (view : Views S K) (words : List (List ℕ)) (of : Job) (spells : Spells words of)
+    (other : (slot : ℕ) → of ≡ Replace slot → ⊥) where
+  served : (status : Status) (a b : Outside S K) (x y : R) (watchers left : List W)
+      → MeansWhole devices view (plan_of words) (Over status) a b x y watchers left → HasNoFault view a b → (s : State)
+      → ServesThroughout devices.rack s x y → IsSure no_assurance (job_plan of) (without_seats s) (view.source.left a.source) → IsDone status
+  served status a b x y watchers left whole none s serves sure =
+      planned_sure devices view (plan_of words) status s a b x y watchers left whole (words_admit_none words of spells other)
+      (words_allowed words of spells other) serves none (words_sure words of (without_seats s) (view.source.left a.source) spells sure)
 
 pub all_is_complete : (R W S K : Type 0) → AllIsComplete R W S K
 all_is_complete R W S K devices view words (OneStripe command n m r e) status a b x y watchers left spells whole none can =
@@ -330,12 +382,26 @@ all_is_complete R W S K devices view words Show status a b x y watchers left spe
     show_done devices.rack view words status a b x y spells
     (stepless devices view words status a b x y watchers left whole (none_opened words Show spells (λ no. no))) none can
 all_is_complete R W S K devices view words (Read first count) status a b x y watchers left spells whole none can =
-    planned_sure devices view (plan_of words) status can.0 a b x y watchers left whole (words_used words) can.1 none
-    (words_sure words (Read first count) (without_seats can.0) (view.source.left a.source) spells
-    (read_sure first count (without_seats can.0) (view.source.left a.source) can.2))
+    served devices view words (Read first count) spells (λ slot is. cc) status a b x y watchers left whole none can.0 can.1
+    (read_sure first count (without_seats can.0) (view.source.left a.source) can.2)
 all_is_complete R W S K devices view words (Write first count) status a b x y watchers left spells whole none can =
     let is = can.2 in
-    planned_sure devices view (plan_of words) status is.0 a b x y watchers left whole (words_used words) is.1 none
-    (words_sure words (Write first count) (without_seats is.0) (view.source.left a.source) spells
+    served devices view words (Write first count) spells (λ slot other. cc) status a b x y watchers left whole none is.0 is.1
     (subst (λ (told : Option (List ℕ)). IsSure no_assurance (write_plan first count) (without_seats is.0) told) (sym can.1)
-    (write_sure first count (without_seats is.0) can.0 is.2 is.3 is.4)))
+    (write_sure first count (without_seats is.0) can.0 is.2 is.3 is.4))
+all_is_complete R W S K devices view words Scrub status a b x y watchers left spells whole none can =
+    served devices view words Scrub spells (λ slot is. cc) status a b x y watchers left whole none can.0 can.1
+    (scrub_sure (without_seats can.0) (view.source.left a.source))
+all_is_complete R W S K devices view words (Replace slot) status a b x y watchers left spells whole none can = absurd can
+all_is_complete R W S K devices view words Rebuild status a b x y watchers left spells whole none can =
+    served devices view words Rebuild spells (λ slot is. cc) status a b x y watchers left whole none can.0 can.1
+    (rebuild_sure (without_seats can.0) (view.source.left a.source))
+all_is_complete R W S K devices view words Freeze status a b x y watchers left spells whole none can =
+    served devices view words Freeze spells (λ slot is. cc) status a b x y watchers left whole none can.0 can.1
+    (stamps_sure (SetFrozen true) (codes "frozen" ++ 10 ∷ []) (λ s seats is. tt) (without_seats can.0) (view.source.left a.source))
+all_is_complete R W S K devices view words Thaw status a b x y watchers left spells whole none can =
+    served devices view words Thaw spells (λ slot is. cc) status a b x y watchers left whole none can.0 can.1
+    (stamps_sure (SetFrozen false) (codes "thawed" ++ 10 ∷ []) (λ s seats is. tt) (without_seats can.0) (view.source.left a.source))
+all_is_complete R W S K devices view words (Label text) status a b x y watchers left spells whole none can =
+    served devices view words (Label text) spells (λ slot is. cc) status a b x y watchers left whole none can.0 can.1
+    (stamps_sure (SetLabel text) (codes "labelled" ++ 10 ∷ []) (λ s seats is. tt) (without_seats can.0) (view.source.left a.source))

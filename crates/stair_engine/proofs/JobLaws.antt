@@ -1,6 +1,8 @@
 -- What each command's plan does by itself: a row for each command, and what follows of every call.
-use Rattle.std.proofs.Common.{◌≡◌, ◌≢◌, ℕ, List, Option, None, Some, Result, Ok, Err, refl}
+use Rattle.std.proofs.Common.{◌≡◌, ◌≢◌, ◌≤◌, ℕ, List, Option, None, Some, Result, Ok, Err, arith, false, refl, true}
 use Rattle.stair_model.specs.Geometry.{Geometry}
+use Rattle.stair_array.specs.Draws.{allowance}
+use Rattle.stair_array.specs.Machine.{SetFrozen, SetLabel, Step}
 use Rattle.stair_array.specs.declared.fault.CreateFault.{CreateFault}
 use Rattle.stair_array.specs.declared.fault.CreateFault.TheVariants as create
 use Rattle.stair_conf.specs.declared.fault.ConfigFault.{ConfigFault}
@@ -15,18 +17,21 @@ use Rattle.stair_story.specs.declared.status.Status.{Status}
 use Rattle.stair_story.specs.declared.status.Status.TheVariants.{Done, NotCodeword, NoCodeword, Lost, OutOfMemory}
 use Rattle.stair_story.specs.Action.{status_of_create, status_of_survey}
 use Rattle.stair_story.specs.Answer.{Judges}
-use Rattle.stair_story.specs.Ending.{AsksFirst, AsksUnwritten, EachStep, EndsIn, IfNothingIsPutOut, IsInUse, IsNoFault, OnlyLooks, PutsLast, TakesNoStep, TakesNothing, TellsFaults}
+use Rattle.stair_story.specs.Ending.{AdmitsNone, AllowsAtMost, AsksFirst, AsksForNone, AsksUnwritten, EachStep, EndsIn, IfNothingIsPutOut, IsNoFault, OnlyLooks, PutsLast, TakesNoStep, TakesNothing, TellsFaults}
 use Rattle.stair_story.specs.Fault.{status_of_config}
 use Rattle.stair_story.specs.Means.{Means}
 use Rattle.stair_story.specs.Outside.{Outside, Views}
-use Rattle.stair_story.specs.Plan.{Over, answer}
+use Rattle.stair_story.specs.Plan.{Plan, Over, answer}
+use Rattle.stair_story.specs.Sure.{most_allowed}
 use Rattle.stair_story.proofs.DeviceLaws.{ActsOnce, calls_once, once_no_step}
 use Rattle.stair_story.proofs.EndingLaws.{nothing_put, tells_faults, weaker}
 use Rattle.stair_story.proofs.LookLaws.{calls_look, first_unwritten}
-use Rattle.stair_story.proofs.PlannedLaws.{none_each}
-use Rattle.stair_engine.proofs.OpenLaws.{IsOfJob, read_none, read_own, read_untaken, read_used, write_last, write_none, write_own, write_used}
-use Rattle.stair_engine.specs.Blocks.{read_plan}
-use Rattle.stair_engine.specs.Jobs.{IsReading, MayWrite, NotSpelled, OpensArray}
+use Rattle.stair_story.proofs.PlannedLaws.{none_allows, none_each}
+use Rattle.stair_engine.proofs.MendLaws.{done_own, replaces_last, replaces_none, replaces_own, replaces_untaken, scrubs_admit_none, scrubs_allowed, scrubs_last, scrubs_none, scrubs_own, scrubs_untaken}
+use Rattle.stair_engine.proofs.OpenLaws.{IsOfJob, opening_admits_none, opening_allowed, read_admits_none, read_allowed, read_none, read_own, read_untaken, refusal_own, unless_so, write_admits_none, write_allowed, write_last, write_none, write_own}
+use Rattle.stair_engine.specs.Blocks.{opens_array}
+use Rattle.stair_engine.specs.Mending.{scrubs, stamps}
+use Rattle.stair_engine.specs.Jobs.{IsReading, MayWrite, NotSpelled, OpensArray, TakesInput}
 use Rattle.stair_engine.proofs.StripeLaws.{stripe_calls_none}
 use Rattle.stair_engine.specs.Plans.{create_plan, job_plan, making_plan, plan_of, show_plan, stripe_plan, tested_plan, within_limits}
 use Rattle.stair_engine.specs.Task.{one_stripe}
@@ -72,12 +77,27 @@ making_own : (reply : Result Geometry ConfigFault) → EndsIn IsOfJob (making_pl
 making_own (Ok g) = (λ done. ((λ is. cc, λ is. cc), λ is. cc), λ fault. (create_own fault).0)
 making_own (Err fault) = (config_own fault).0
 
+opens_own : (k : Geometry → Plan) → ((g : Geometry) → EndsIn IsOfJob (k g)) → EndsIn IsOfJob (opens_array k)
+opens_own k own = (
+  λ member. unless_so (EndsIn IsOfJob) member.array.geometry.n (λ g left. k g) (λ g left. own g) (λ refusal. (refusal_own member.array.geometry.n refusal).0),
+  λ fault. (survey_own fault).0,
+)
+
+stamps_own : (step : Step) (line : List ℕ) → EndsIn IsOfJob (stamps step line)
+stamps_own step line = opens_own _ (λ g. unless_so (EndsIn IsOfJob) g.n _ (λ given left. done_own) (λ refusal. (refusal_own g.n refusal).0))
+
 pub job_own : (job : Job) → EndsIn IsOfJob (job_plan job)
 job_own (job.OneStripe command n m r e) = λ reply is. stripe_own command _ reply
 job_own job.Create = (λ more. ((λ is. cc, λ is. cc), λ is. cc), λ text reply reads. making_own reply)
 job_own job.Show = (λ member. ((λ is. cc, λ is. cc), λ is. cc), λ fault. (survey_own fault).0)
 job_own (job.Read first count) = (λ member. read_own member.array.geometry.n first count, λ fault. (survey_own fault).0)
 job_own (job.Write first count) = (λ member. write_own member.array.geometry.n first count, λ fault. (survey_own fault).0)
+job_own job.Scrub = opens_own (λ g. scrubs g 0 g.stripes 0) (λ g. scrubs_own g 0 g.stripes 0)
+job_own (job.Replace slot) = opens_own _ (λ g. replaces_own g slot)
+job_own job.Rebuild = opens_own _ (λ g. (λ steps. done_own, λ refusal. (refusal_own g.n refusal).0))
+job_own job.Freeze = stamps_own (SetFrozen true) _
+job_own job.Thaw = stamps_own (SetFrozen false) _
+job_own (job.Label text) = stamps_own (SetLabel text) _
 
 -- ---- what is put out is put out last
 
@@ -93,12 +113,24 @@ making_last : (reply : Result Geometry ConfigFault) → PutsLast (making_plan re
 making_last (Ok g) = λ done. refl
 making_last (Err fault) = tt
 
+opens_last : (k : Geometry → Plan) → ((g : Geometry) → PutsLast (k g)) → PutsLast (opens_array k)
+opens_last k last = λ member. unless_so PutsLast member.array.geometry.n (λ g left. k g) (λ g left. last g) (λ refusal. tt)
+
+stamps_last : (step : Step) (line : List ℕ) → PutsLast (stamps step line)
+stamps_last step line = opens_last _ (λ g. unless_so PutsLast g.n _ (λ given left. refl) (λ refusal. tt))
+
 job_last : (of : Job) → ¬ IsReading of → PutsLast (job_plan of)
 job_last (job.OneStripe command n m r e) other = λ reply is. stripe_last command _ reply
 job_last job.Create other = (λ more. tt, λ text reply is. making_last reply)
 job_last job.Show other = λ member. refl
 job_last (job.Read first count) other = absurd (other tt)
 job_last (job.Write first count) other = λ member. write_last member.array.geometry.n first count
+job_last job.Scrub other = opens_last (λ g. scrubs g 0 g.stripes 0) (λ g. scrubs_last g 0 g.stripes 0)
+job_last (job.Replace slot) other = opens_last _ (λ g. replaces_last g slot)
+job_last job.Rebuild other = opens_last _ (λ g steps. refl)
+job_last job.Freeze other = stamps_last (SetFrozen true) _
+job_last job.Thaw other = stamps_last (SetFrozen false) _
+job_last (job.Label text) other = stamps_last (SetLabel text) _
 
 -- ---- memory is asked for before anything is done to an array, or before it is written
 
@@ -118,16 +150,28 @@ job_first : (of : Job) → ¬ OpensArray of → AsksFirst (job_plan of)
 job_first (job.OneStripe command n m r e) other = λ reply is. stripe_first command _ reply
 job_first job.Create other = (λ more. tt, λ text reply is. making_first reply)
 job_first job.Show other = (λ member is. cc, λ fault. (survey_own fault).1)
-job_first (job.Read first count) other = absurd (other tt)
-job_first (job.Write first count) other = absurd (other tt)
+job_first _ other = absurd (other tt)
 
 pub words_first : (words : List (List ℕ)) → NotSpelled OpensArray words → AsksFirst (plan_of words)
 words_first words other None is = tt
 words_first words other (Some of) spells = job_first of (other of spells)
 
+opens_none : (k : Geometry → Plan) → ((g : Geometry) → AsksForNone (k g)) → AsksUnwritten (opens_array k)
+opens_none k none = λ member.
+    unless_so AsksForNone member.array.geometry.n (λ g left. k g) (λ g left. none g) (λ refusal. (refusal_own member.array.geometry.n refusal).1)
+
+stamps_none : (step : Step) (line : List ℕ) → AsksUnwritten (stamps step line)
+stamps_none step line = opens_none _ (λ g. unless_so AsksForNone g.n _ (λ given left is. cc) (λ refusal. (refusal_own g.n refusal).1))
+
 job_unwritten : (of : Job) → AsksUnwritten (job_plan of)
 job_unwritten (job.Read first count) = λ member. read_none member.array.geometry.n first count
 job_unwritten (job.Write first count) = λ member. write_none member.array.geometry.n first count
+job_unwritten job.Scrub = opens_none (λ g. scrubs g 0 g.stripes 0) (λ g. scrubs_none g 0 g.stripes 0)
+job_unwritten (job.Replace slot) = opens_none _ (λ g. replaces_none g slot)
+job_unwritten job.Rebuild = opens_none _ (λ g steps is. cc)
+job_unwritten job.Freeze = stamps_none (SetFrozen true) _
+job_unwritten job.Thaw = stamps_none (SetFrozen false) _
+job_unwritten (job.Label text) = stamps_none (SetLabel text) _
 job_unwritten (job.OneStripe command n m r e) = first_unwritten (job_plan (job.OneStripe command n m r e)) (job_first (job.OneStripe command n m r e) (λ no. no))
 job_unwritten job.Create = first_unwritten create_plan (job_first job.Create (λ no. no))
 job_unwritten job.Show = first_unwritten show_plan (job_first job.Show (λ no. no))
@@ -148,8 +192,7 @@ job_once (job.OneStripe command n m r e) other =
     calls_once (tested_plan command of) (stripe_calls_none command of)
 job_once job.Create other = (λ more. tt, λ text reply is. making_once reply)
 job_once job.Show other = λ member. tt
-job_once (job.Read first count) other = absurd (other tt)
-job_once (job.Write first count) other = absurd (other tt)
+job_once _ other = absurd (other tt)
 
 -- where no array is opened no step is taken
 job_no_step : (of : Job) → ¬ OpensArray of → TakesNoStep (job_plan of)
@@ -159,23 +202,68 @@ pub words_no_step : (words : List (List ℕ)) → NotSpelled OpensArray words �
 words_no_step words other None is = tt
 words_no_step words other (Some of) spells = job_no_step of (other of spells)
 
--- and where one is, it is opened, read and written
-job_used : (of : Job) → EachStep IsInUse (job_plan of)
-job_used (job.Read first count) = λ member. (tt, read_used member.array.geometry.n first count)
-job_used (job.Write first count) = λ member. (tt, write_used member.array.geometry.n first count)
-job_used (job.OneStripe command n m r e) =
-    none_each IsInUse (job_plan (job.OneStripe command n m r e)) (job_no_step (job.OneStripe command n m r e) (λ no. no))
-job_used job.Create = none_each IsInUse create_plan (job_no_step job.Create (λ no. no))
-job_used job.Show = none_each IsInUse show_plan (job_no_step job.Show (λ no. no))
+-- ---- no medium is admitted but by `replace`, and few numbers are drawn
 
-pub words_used : (words : List (List ℕ)) → EachStep IsInUse (plan_of words)
-words_used words None is = tt
-words_used words (Some of) spells = job_used of
+pub job_admits_none : (of : Job) → ((slot : ℕ) → of ≡ job.Replace slot → ⊥) → EachStep AdmitsNone (job_plan of)
+job_admits_none (job.OneStripe command n m r e) other =
+    none_each AdmitsNone (job_plan (job.OneStripe command n m r e)) (job_no_step (job.OneStripe command n m r e) (λ no. no))
+job_admits_none job.Create other = none_each AdmitsNone create_plan (job_no_step job.Create (λ no. no))
+job_admits_none job.Show other = none_each AdmitsNone show_plan (job_no_step job.Show (λ no. no))
+job_admits_none (job.Read first count) other = λ member. opening_admits_none member.array.geometry.n _ (read_admits_none first count)
+job_admits_none (job.Write first count) other = λ member. opening_admits_none member.array.geometry.n _ (write_admits_none first count)
+job_admits_none job.Scrub other = λ member. opening_admits_none member.array.geometry.n _ (λ g. scrubs_admit_none g 0 g.stripes 0)
+job_admits_none (job.Replace slot) other = absurd (other slot refl)
+job_admits_none job.Rebuild other = λ member. opening_admits_none member.array.geometry.n _ (λ g. (tt, λ steps. tt))
+job_admits_none job.Freeze other =
+    λ member. opening_admits_none member.array.geometry.n _ (λ g. (tt, unless_so (EachStep AdmitsNone) g.n _ (λ given left. tt) (λ refusal. tt)))
+job_admits_none job.Thaw other =
+    λ member. opening_admits_none member.array.geometry.n _ (λ g. (tt, unless_so (EachStep AdmitsNone) g.n _ (λ given left. tt) (λ refusal. tt)))
+job_admits_none (job.Label text) other =
+    λ member. opening_admits_none member.array.geometry.n _ (λ g. (tt, unless_so (EachStep AdmitsNone) g.n _ (λ given left. tt) (λ refusal. tt)))
 
--- ---- `read` takes nothing
+stamps_allowed : (step : Step) (line : List ℕ) → allowance step ≤ 3 → AllowsAtMost most_allowed (stamps step line)
+stamps_allowed step line few = λ member.
+    opening_allowed member.array.geometry.n _ (λ g. (0, omega (arith, few), unless_so (AllowsAtMost 0) g.n _ (λ given left. tt) (λ refusal. tt)))
 
-pub read_takes_none : (first count : ℕ) → TakesNothing (read_plan first count)
-read_takes_none first count = (λ member. read_untaken member.array.geometry.n first count, λ fault. (survey_own fault).0.0.0)
+pub job_allowed : (of : Job) → ((slot : ℕ) → of ≡ job.Replace slot → ⊥) → AllowsAtMost most_allowed (job_plan of)
+job_allowed (job.OneStripe command n m r e) other =
+    none_allows most_allowed (job_plan (job.OneStripe command n m r e)) (job_no_step (job.OneStripe command n m r e) (λ no. no))
+job_allowed job.Create other = none_allows most_allowed create_plan (job_no_step job.Create (λ no. no))
+job_allowed job.Show other = none_allows most_allowed show_plan (job_no_step job.Show (λ no. no))
+job_allowed (job.Read first count) other = λ member. opening_allowed member.array.geometry.n _ (read_allowed 3 first count)
+job_allowed (job.Write first count) other = λ member. opening_allowed member.array.geometry.n _ (write_allowed 3 first count)
+job_allowed job.Scrub other = λ member. opening_allowed member.array.geometry.n _ (λ g. scrubs_allowed 3 g 0 g.stripes 0)
+job_allowed (job.Replace slot) other = absurd (other slot refl)
+job_allowed job.Rebuild other = λ member. opening_allowed member.array.geometry.n _ (λ g steps. tt)
+job_allowed job.Freeze other = stamps_allowed (SetFrozen true) _ (omega arith)
+job_allowed job.Thaw other = stamps_allowed (SetFrozen false) _ (omega arith)
+job_allowed (job.Label text) other = stamps_allowed (SetLabel text) _ (omega arith)
+
+-- ---- what takes no input takes nothing
+
+opens_untaken : (k : Geometry → Plan) → ((g : Geometry) → TakesNothing (k g)) → TakesNothing (opens_array k)
+opens_untaken k none = (
+  λ member. unless_so TakesNothing member.array.geometry.n (λ g left. k g) (λ g left. none g) (λ refusal. (refusal_own member.array.geometry.n refusal).0.0.0),
+  λ fault. (survey_own fault).0.0.0,
+)
+
+stamps_untaken : (step : Step) (line : List ℕ) → TakesNothing (stamps step line)
+stamps_untaken step line = opens_untaken _ (λ g. unless_so TakesNothing g.n _ (λ given left is. cc) (λ refusal. (refusal_own g.n refusal).0.0.0))
+
+pub job_untaken : (of : Job) → ¬ TakesInput of → TakesNothing (job_plan of)
+job_untaken job.Show other = (λ member is. cc, λ fault. (survey_own fault).0.0.0)
+job_untaken (job.Read first count) other = (λ member. read_untaken member.array.geometry.n first count, λ fault. (survey_own fault).0.0.0)
+job_untaken job.Scrub other = opens_untaken (λ g. scrubs g 0 g.stripes 0) (λ g. scrubs_untaken g 0 g.stripes 0)
+job_untaken (job.Replace slot) other = opens_untaken _ (λ g. replaces_untaken g slot)
+job_untaken job.Rebuild other = opens_untaken _ (λ g steps is. cc)
+job_untaken job.Freeze other = stamps_untaken (SetFrozen true) _
+job_untaken job.Thaw other = stamps_untaken (SetFrozen false) _
+job_untaken (job.Label text) other = stamps_untaken (SetLabel text) _
+job_untaken _ other = absurd (other tt)
+
+pub words_untaken : (words : List (List ℕ)) → NotSpelled TakesInput words → TakesNothing (plan_of words)
+words_untaken words other None is = λ also. cc
+words_untaken words other (Some of) spells = job_untaken of (other of spells)
 
 -- ---- every command but `create` only looks at the rack
 
@@ -183,10 +271,8 @@ pub job_looks : (of : Job) → ¬ MayWrite of → OnlyLooks (job_plan of)
 job_looks (job.OneStripe command n m r e) other =
     let of = one_stripe n m r e in
     calls_look (tested_plan command of) (stripe_calls_none command of)
-job_looks job.Create other = absurd (other tt)
 job_looks job.Show other = λ member. tt
-job_looks (job.Read first count) other = absurd (other tt)
-job_looks (job.Write first count) other = absurd (other tt)
+job_looks _ other = absurd (other tt)
 
 -- ---- so of every call
 

@@ -20,3 +20,9 @@ mod StandLaws
 mod CallLaws
 mod CompleteLaws
 mod StepLaws
+mod ArmLaws
+mod MendLaws
+pub mod RebuildLaws
+pub mod ScrubLaws
+mod StampLaws
+mod ReplaceLaws

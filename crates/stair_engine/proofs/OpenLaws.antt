@@ -1,15 +1,16 @@
 -- What the plans of commands that open an array do by themselves.
-use Rattle.std.proofs.Common.{◌≢◌, ◌+◌, ℕ, zero, suc, Bool, true, false, List, [], ◌++◌, nat_lt, Result, Ok, Err, refl}
+use Rattle.std.proofs.Common.{◌≢◌, ◌+◌, ℕ, zero, suc, Bool, true, false, List, [], ◌++◌, nat_lt, Result, Ok, Err, arith, refl}
 use Rattle.stair_model.specs.Geometry.{Geometry, block_count}
 use Rattle.stair_array.specs.Machine.{Recover, Refusal}
 use Rattle.stair_array.specs.Machine as array
 use Rattle.stair_story.specs.declared.status.Status.{Status}
 use Rattle.stair_story.specs.declared.status.Status.TheVariants.{Usage, OutOfMemory}
-use Rattle.stair_story.specs.Ending.{AsksForNone, EachStep, EndsIn, IsInUse, IsNoFault, PutsLast, TakesNothing}
-use Rattle.stair_story.specs.Plan.{Plan, Over, unless_refused}
+use Rattle.stair_story.specs.Ending.{AdmitsNone, AllowsAtMost, AsksForNone, EachStep, EndsIn, IsNoFault, PutsLast, TakesNothing}
+use Rattle.stair_story.specs.Plan.{Plan, Over, take_step, unless_refused}
 use Rattle.stair_story.specs.Refused.{status_of_refusal}
 use Rattle.stair_story.specs.declared.status.Status.TheVariants.{OutOfRange}
 use Rattle.stair_engine.specs.Blocks.{if_in_range, if_left, is_in_range, part_of, reads, within_range, writes, wrote}
+use Rattle.stair_story.specs.Sure.{most_allowed}
 use Rattle.std.specs.Prelude.{max}
 
 -- a fault, Usage and want of memory are none of a job's own
@@ -32,7 +33,7 @@ refusal_own slots (array.AlreadyArray slot) = (((λ is. cc, λ is. cc), λ is. c
 -- ---- what is so of each way that a plan may go
 
 module _ (IsSo : Plan → Type 0) where
-  unless_so : {X : Type 0} (slots : ℕ) (k : X → Bool → Plan) → ((given : X) (left : Bool) → IsSo (k given left))
+  pub unless_so : {X : Type 0} (slots : ℕ) (k : X → Bool → Plan) → ((given : X) (left : Bool) → IsSo (k given left))
       → ((refusal : Refusal) → IsSo (Over (status_of_refusal slots refusal))) → (answer : Result X Refusal) (left : Bool)
       → IsSo (unless_refused slots k answer left)
   unless_so slots k done refused (Ok given) left = done given left
@@ -126,31 +127,55 @@ write_none n first count =
     (λ g left. range_so AsksForNone g first count (writes g first count count 0 []) (writes_none g first count count 0 []) (λ is. cc))
     (λ refusal. (refusal_own n refusal).1)
 
--- ---- steps
+-- ---- steps: no medium is admitted, and the opening alone is allowed a draw
 
-reads_used : (g : Geometry) (first count : ℕ) → EachStep IsInUse (reads g first count)
-reads_used g first zero = tt
-reads_used g first (suc count) = (tt, unless_so (EachStep IsInUse) g.n _ (λ bytes left. reads_used g (first + 1) count) (λ refusal. tt))
+reads_admit_none : (g : Geometry) (first count : ℕ) → EachStep AdmitsNone (reads g first count)
+reads_admit_none g first zero = tt
+reads_admit_none g first (suc count) =
+    (tt, unless_so (EachStep AdmitsNone) g.n _ (λ bytes left. reads_admit_none g (first + 1) count) (λ refusal. tt))
 
-writes_used : (g : Geometry) (first all turns done : ℕ) (held : List ℕ) → EachStep IsInUse (writes g first all turns done held)
-writes_used g first all zero done held = (λ more. tt, λ none. tt)
-writes_used g first all (suc turns) done held =
-    left_so (EachStep IsInUse) _ (wrote all) (
-      λ bytes. (tt, unless_so (EachStep IsInUse) g.n _ (λ ok left. writes_used g first all turns _ (part_of (held ++ bytes))) (λ refusal. tt)),
+reads_allowed : (n : ℕ) (g : Geometry) (first count : ℕ) → AllowsAtMost n (reads g first count)
+reads_allowed n g first zero = tt
+reads_allowed n g first (suc count) =
+    (n, omega arith, unless_so (AllowsAtMost n) g.n _ (λ bytes left. reads_allowed n g (first + 1) count) (λ refusal. tt))
+
+writes_admit_none : (g : Geometry) (first all turns done : ℕ) (held : List ℕ) → EachStep AdmitsNone (writes g first all turns done held)
+writes_admit_none g first all zero done held = (λ more. tt, λ none. tt)
+writes_admit_none g first all (suc turns) done held =
+    left_so (EachStep AdmitsNone) _ (wrote all) (
+      λ bytes. (tt, unless_so (EachStep AdmitsNone) g.n _ (λ ok left. writes_admit_none g first all turns _ (part_of (held ++ bytes))) (λ refusal. tt)),
       λ bytes. tt,
     ) (λ more. tt, λ none. tt) (nat_lt done all)
 
-pub read_used : (n first count : ℕ) (answer : Result Geometry Refusal) (left : Bool)
-    → EachStep IsInUse (unless_refused n (λ g left. within_range g first count (reads g first count)) answer left)
-read_used n first count =
-    unless_so (EachStep IsInUse) n (λ g left. within_range g first count (reads g first count))
-    (λ g left. range_so (EachStep IsInUse) g first count (reads g first count) (reads_used g first count) tt) (λ refusal. tt)
+writes_allowed : (n : ℕ) (g : Geometry) (first all turns done : ℕ) (held : List ℕ) → AllowsAtMost n (writes g first all turns done held)
+writes_allowed n g first all zero done held = (λ more. tt, λ none. tt)
+writes_allowed n g first all (suc turns) done held =
+    left_so (AllowsAtMost n) _ (wrote all) (
+      λ bytes. (n, omega arith, unless_so (AllowsAtMost n) g.n _ (λ ok left. writes_allowed n g first all turns _ (part_of (held ++ bytes))) (λ refusal. tt)),
+      λ bytes. tt,
+    ) (λ more. tt, λ none. tt) (nat_lt done all)
 
-pub write_used : (n first count : ℕ) (answer : Result Geometry Refusal) (left : Bool)
-    → EachStep IsInUse (unless_refused n (λ g left. within_range g first count (writes g first count count 0 [])) answer left)
-write_used n first count =
-    unless_so (EachStep IsInUse) n (λ g left. within_range g first count (writes g first count count 0 []))
-    (λ g left. range_so (EachStep IsInUse) g first count (writes g first count count 0 []) (writes_used g first count count 0 []) tt) (λ refusal. tt)
+-- behind the survey
+pub opening_admits_none : (n : ℕ) (k : Geometry → Plan) → ((g : Geometry) → EachStep AdmitsNone (k g)) → EachStep AdmitsNone (take_step n Recover k)
+opening_admits_none n k none = (tt, unless_so (EachStep AdmitsNone) n (λ g left. k g) (λ g left. none g) (λ refusal. tt))
+
+-- so many draws are more than enough for any command
+pub opening_allowed : (n : ℕ) (k : Geometry → Plan) → ((g : Geometry) → AllowsAtMost 3 (k g)) → AllowsAtMost most_allowed (take_step n Recover k)
+opening_allowed n k allows = (3, omega arith, unless_so (AllowsAtMost 3) n (λ g left. k g) (λ g left. allows g) (λ refusal. tt))
+
+pub read_admits_none : (first count : ℕ) (g : Geometry) → EachStep AdmitsNone (within_range g first count (reads g first count))
+read_admits_none first count g = range_so (EachStep AdmitsNone) g first count (reads g first count) (reads_admit_none g first count) tt
+
+pub read_allowed : (n first count : ℕ) (g : Geometry) → AllowsAtMost n (within_range g first count (reads g first count))
+read_allowed n first count g = range_so (AllowsAtMost n) g first count (reads g first count) (reads_allowed n g first count) tt
+
+pub write_admits_none : (first count : ℕ) (g : Geometry) → EachStep AdmitsNone (within_range g first count (writes g first count count 0 []))
+write_admits_none first count g =
+    range_so (EachStep AdmitsNone) g first count (writes g first count count 0 []) (writes_admit_none g first count count 0 []) tt
+
+pub write_allowed : (n first count : ℕ) (g : Geometry) → AllowsAtMost n (within_range g first count (writes g first count count 0 []))
+write_allowed n first count g =
+    range_so (AllowsAtMost n) g first count (writes g first count count 0 []) (writes_allowed n g first count count 0 []) tt
 
 -- ---- nothing is taken by `read`
 

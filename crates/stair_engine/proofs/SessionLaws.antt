@@ -1,4 +1,4 @@
--- A session of `read` or `write`: an array is looked for, and opened.
+-- A session: an array is looked for, and opened.
 use Rattle.std.proofs.Common.{◌≡◌, ℕ, List, Some, Ok, Err, refl, subst, sym}
 use Rattle.stair_member.specs.Membership.{Membership}
 use Rattle.stair_member.specs.Survey.{Surveys}
@@ -7,24 +7,29 @@ use Rattle.stair_model.specs.Geometry.{Geometry}
 use Rattle.stair_session.specs.Session.{ArrayState}
 use Rattle.stair_array.specs.Faults.{opening_refusal}
 use Rattle.stair_array.specs.Machine.{EpochsSpent, JournalLost, Recover, Refusal, TooFew}
-use Rattle.stair_array.specs.Promise.{Begun, Closed, Found, Opened}
+use Rattle.stair_array.specs.Promise.{Begun, Closed, Found, Opened, Session}
 use Rattle.stair_array.specs.declared.fault.RecoverFault.{RecoverFault}
 use Rattle.stair_array.specs.declared.fault.RecoverFault.TheVariants as recover
 use Rattle.stair_story.specs.Action.{Survey}
+use Rattle.stair_story.specs.Comes.{ComesTo}
 use Rattle.stair_story.specs.Devices.{DeviceView, MeansWhole, MeansWith, devices}
-use Rattle.stair_story.specs.Fault.{status_of_fault}
-use Rattle.stair_story.specs.Outside.{Outside, Views}
-use Rattle.stair_story.specs.Plan.{Plan, Over, Allocate, take_step}
+use Rattle.stair_story.specs.Fault.{status_of, status_of_fault}
+use Rattle.stair_story.specs.Means.{Means}
+use Rattle.stair_story.specs.Outside.{Outside, Views, outside}
+use Rattle.stair_story.specs.Plan.{Plan, Over, Put, Allocate, take_step}
 use Rattle.stair_story.specs.Rack.{told_of}
 use Rattle.stair_story.specs.Refused.{status_of_refusal}
 use Rattle.stair_story.specs.Steps.{Takes}
 use Rattle.stair_story.specs.Story.{Did, Grew, RanOut}
 use Rattle.stair_story.specs.declared.fault.Fault.{Fault}
 use Rattle.stair_story.specs.declared.fault.Fault.TheVariants as fault
-use Rattle.stair_story.specs.declared.status.Status.TheVariants.{OutOfMemory}
-use Rattle.stair_story.proofs.DeviceLaws.{with_one, with_refusal, with_step, with_then}
-use Rattle.stair_engine.specs.Blocks.{IsPast, IsUnopened, if_in_range, is_in_range, opens_array, within_range}
-use Rattle.std.specs.Prelude.{Bool, true}
+use Rattle.stair_story.specs.declared.status.Status.{Status}
+use Rattle.stair_story.specs.declared.status.Status.TheVariants.{Done, OutOfMemory}
+use Rattle.stair_story.proofs.ComesLaws.{comes_by, comes_refusal, comes_step, comes_then, with_comes}
+use Rattle.stair_story.proofs.DeviceLaws.{with_still, with_then}
+use Rattle.stair_story.proofs.TakenLaws.{taken_geometry}
+use Rattle.stair_engine.specs.Blocks.{BeginsSession, EndsSession, IsPast, IsUnopened, if_in_range, is_in_range, opens_array, within_range}
+use Rattle.std.specs.Prelude.{Bool, IfErr, IfOk, Result, true}
 
 -- why an array that was found isn't open
 pub unopened_by : {R W : Type 0} (view : DeviceView R W) (member : Membership) (why : RecoverFault) (old new : R) (watchers left : List W)
@@ -37,80 +42,142 @@ unopened_by view member recover.EpochsSpent old new watchers left refused memory
 unopened_by view member (recover.JournalLost sector) old new watchers left refused memory =
     (JournalLost sector, refl, refused (JournalLost sector) refl)
 
-module _ {R W S K : Type 0} (view : DeviceView R W) (streams : Views S K) (k : Geometry → Plan) (a : Outside S K) (x y : R) (watchers : List W) where
+-- what is so of an answer
+pub if_ok_so : {T E : Type 0} (result : Result T E) (P Q : T → Type 0) → ((given : T) → P given → Q given) → IfOk result P → IfOk result Q
+if_ok_so (Ok given) P Q so is = so given is
+if_ok_so (Err fault) P Q so is = tt
+
+pub if_err_so : {T E : Type 0} (result : Result T E) (P Q : E → Type 0) → ((fault : E) → P fault → Q fault) → IfErr result P → IfErr result Q
+if_err_so (Ok given) P Q so is = tt
+if_err_so (Err fault) P Q so is = so fault is
+
+module _ {R W : Type 0} (view : DeviceView R W) (k : Geometry → Plan) (x y : R) (watchers : List W) where
   -- none was found
-  pub none_found : (refused : SurveyFault) → Surveys (Err refused) (told_of view.rack x) (told_of view.rack y)
-      → MeansWhole view streams (opens_array k) (Over (status_of_fault (fault.Survey refused))) a a x y watchers watchers
-  none_found refused surveys = record {
-    session = Closed;
-    with = with_one view streams (Did Survey (Err refused)) (opens_array k) (Over (status_of_fault (fault.Survey refused))) a a
-        (devices x Begun watchers) (devices y Closed watchers) (Err refused, refl, refl) refl refl refl (surveys, refl, refl, refl);
-  }
+  none_comes : (refused : SurveyFault) → Surveys (Err refused) (told_of view.rack x) (told_of view.rack y)
+      → ComesTo view (opens_array k) (Over (status_of_fault (fault.Survey refused))) (devices x Begun watchers) (devices y Closed watchers)
+  none_comes refused surveys =
+      comes_by view (Did Survey (Err refused)) (opens_array k) (Over (status_of_fault (fault.Survey refused))) (devices x Begun watchers)
+      (devices y Closed watchers) tt (Err refused, refl, refl) (surveys, refl, refl, refl)
 
   -- one was
   module _ (member : Membership) (surveys : Surveys (Ok member) (told_of view.rack x) (told_of view.rack y)) where
     abbrev rest : Plan
     rest = Allocate (take_step member.array.geometry.n Recover k)
 
-    found : MeansWith view streams (opens_array k) rest a a (devices x Begun watchers) (devices y (Found member) watchers)
+    found : ComesTo view (opens_array k) rest (devices x Begun watchers) (devices y (Found member) watchers)
     found =
-        with_one view streams (Did Survey (Ok member)) (opens_array k) rest a a (devices x Begun watchers) (devices y (Found member) watchers)
-        (Ok member, refl, refl) refl refl refl (surveys, refl, refl, refl)
+        comes_by view (Did Survey (Ok member)) (opens_array k) rest (devices x Begun watchers) (devices y (Found member) watchers) tt
+        (Ok member, refl, refl) (surveys, refl, refl, refl)
 
     -- and there was no memory
-    pub no_memory : MeansWhole view streams (opens_array k) (Over OutOfMemory) a a x y watchers watchers
-    no_memory = record {
-      session = Found member;
-      with = with_then view streams found
-          (with_one view streams RanOut rest (Over OutOfMemory) a a (devices y (Found member) watchers) (devices y (Found member) watchers) refl refl refl refl
-          refl);
-    }
+    memory_comes : ComesTo view (opens_array k) (Over OutOfMemory) (devices x Begun watchers) (devices y (Found member) watchers)
+    memory_comes =
+        comes_then view found
+        (comes_by view RanOut rest (Over OutOfMemory) (devices y (Found member) watchers) (devices y (Found member) watchers) tt refl refl)
 
-    grown : MeansWith view streams (opens_array k) (take_step member.array.geometry.n Recover k) a a (devices x Begun watchers) (devices y (Found member) watchers)
+    grown : ComesTo view (opens_array k) (take_step member.array.geometry.n Recover k) (devices x Begun watchers) (devices y (Found member) watchers)
     grown =
-        with_then view streams found
-        (with_one view streams Grew rest (take_step member.array.geometry.n Recover k) a a (devices y (Found member) watchers)
-        (devices y (Found member) watchers) refl refl refl refl refl)
+        comes_then view found
+        (comes_by view Grew rest (take_step member.array.geometry.n Recover k) (devices y (Found member) watchers) (devices y (Found member) watchers)
+        tt refl refl)
 
     module _ (z : R) (left : List W) where
+      abbrev Ends : Status → Type 0
+      Ends status = (session : Session) × ComesTo view (opens_array k) (Over status) (devices x Begun watchers) (devices z session left)
+
       -- or it wasn't opened
       refused_by : (refusal : Refusal) → Takes view Recover (Err refusal) (devices y (Found member) watchers) (devices z Closed left)
-          → MeansWhole view streams (opens_array k) (Over (status_of_refusal member.array.geometry.n refusal)) a a x z watchers left
-      refused_by refusal takes = record {
-        session = Closed;
-        with = with_then view streams grown
-            (with_refusal view streams member.array.geometry.n Recover refusal k a (devices y (Found member) watchers) (devices z Closed left) takes);
-      }
+          → Ends (status_of_refusal member.array.geometry.n refusal)
+      refused_by refusal takes = (
+        Closed,
+        comes_then view grown
+            (comes_refusal view member.array.geometry.n Recover refusal k (devices y (Found member) watchers) (devices z Closed left) takes),
+      )
 
-      same_end : (z ≡ y) × (left ≡ watchers) → MeansWhole view streams (opens_array k) (Over OutOfMemory) a a x z watchers left
-      same_end same =
-          subst (λ (r : R). MeansWhole view streams (opens_array k) (Over OutOfMemory) a a x r watchers left) (sym same.0)
-          (subst (λ (ws : List W). MeansWhole view streams (opens_array k) (Over OutOfMemory) a a x y watchers ws) (sym same.1) no_memory)
+      same_end : (z ≡ y) × (left ≡ watchers) → Ends OutOfMemory
+      same_end same = (
+        Found member,
+        subst (λ (r : R). ComesTo view (opens_array k) (Over OutOfMemory) (devices x Begun watchers) (devices r (Found member) left)) (sym same.0)
+            (subst (λ (ws : List W). ComesTo view (opens_array k) (Over OutOfMemory) (devices x Begun watchers) (devices y (Found member) ws)) (sym same.1)
+            memory_comes),
+      )
 
-      pub not_opened : (why : Fault) → IsUnopened view member why y z watchers left
-          → MeansWhole view streams (opens_array k) (Over (status_of_fault why)) a a x z watchers left
-      not_opened fault.Memory is = same_end is
-      not_opened (fault.Opening recover.Memory) is = same_end is
-      not_opened (fault.Opening (recover.TooFew whys)) is =
+      pub unopened_comes : (why : Fault) → IsUnopened view member why y z watchers left → Ends (status_of_fault why)
+      unopened_comes fault.Memory is = same_end is
+      unopened_comes (fault.Opening recover.Memory) is = same_end is
+      unopened_comes (fault.Opening (recover.TooFew whys)) is =
           let same : is.0 ≡ TooFew whys = let told = is.1 in cc in
           refused_by (TooFew whys) (subst (λ (r : Refusal). Takes view Recover (Err r) (devices y (Found member) watchers) (devices z Closed left)) same is.2)
-      not_opened (fault.Opening recover.EpochsSpent) is =
+      unopened_comes (fault.Opening recover.EpochsSpent) is =
           let same : is.0 ≡ EpochsSpent = let told = is.1 in cc in
           refused_by EpochsSpent (subst (λ (r : Refusal). Takes view Recover (Err r) (devices y (Found member) watchers) (devices z Closed left)) same is.2)
-      not_opened (fault.Opening (recover.JournalLost sector)) is =
+      unopened_comes (fault.Opening (recover.JournalLost sector)) is =
           let same : is.0 ≡ JournalLost sector = let told = is.1 in cc in
           refused_by (JournalLost sector)
           (subst (λ (r : Refusal). Takes view Recover (Err r) (devices y (Found member) watchers) (devices z Closed left)) same is.2)
-      not_opened _ is = absurd is
+      unopened_comes _ is = absurd is
 
       -- it was
-      pub opened : (array : ArrayState)
+      pub opened_comes : (array : ArrayState)
+          → Takes view Recover (Ok member.array.geometry) (devices y (Found member) watchers) (devices z (Opened array) left)
+          → ComesTo view (opens_array k) (k member.array.geometry) (devices x Begun watchers) (devices z (Opened array) left)
+      opened_comes array takes =
+          comes_then view grown
+          (comes_step view member.array.geometry.n Recover member.array.geometry k (devices y (Found member) watchers) (devices z (Opened array) left)
+          takes)
+
+-- a session that was begun, or wasn't
+module _ {R W : Type 0} (view : DeviceView R W) (x y : R) (watchers : List W) where
+  pub not_found : (refused : SurveyFault) → Surveys (Err refused) (told_of view.rack x) (told_of view.rack y)
+      → EndsSession view (fault.Survey refused) x y watchers watchers
+  not_found refused surveys k = (Closed, none_comes view k x y watchers refused surveys)
+
+  module _ (member : Membership) (surveys : Surveys (Ok member) (told_of view.rack x) (told_of view.rack y)) (z : R) (left : List W) where
+    pub not_begun : (why : Fault) → IsUnopened view member why y z watchers left → EndsSession view why x z watchers left
+    not_begun why is k = unopened_comes view k x y watchers member surveys z left why is
+
+    pub begun : (array : ArrayState)
+        → Takes view Recover (Ok member.array.geometry) (devices y (Found member) watchers) (devices z (Opened array) left)
+        → BeginsSession view array x z watchers left
+    begun array takes k =
+        let same : array.member.array.geometry ≡ member.array.geometry =
+        taken_geometry view Recover (Ok member.array.geometry) (devices y (Found member) watchers) (devices z (Opened array) left) member array.member
+        takes refl refl in
+        subst (λ (g : Geometry). ComesTo view (opens_array k) (k g) (devices x Begun watchers) (devices z (Opened array) left)) (sym same)
+        (opened_comes view k x y watchers member surveys z left array takes)
+
+-- ---- whole calls
+
+module _ {R W S K : Type 0} (view : DeviceView R W) (streams : Views S K) (k : Geometry → Plan) (a : Outside S K) where
+  -- a session that isn't begun ends the call
+  pub ended : (x z : R) (watchers left : List W) (why : Fault) → EndsSession view why x z watchers left
+      → MeansWhole view streams (opens_array k) (Over (status_of_fault why)) a a x z watchers left
+  ended x z watchers left why ends =
+      let comes = ends k in
+      record {
+        session = comes.0;
+        with = with_comes view streams (opens_array k) (Over (status_of_fault why)) a (devices x Begun watchers) (devices z comes.0 left) comes.1;
+      }
+
+  module _ (x y : R) (watchers : List W) where
+    pub none_found : (refused : SurveyFault) → Surveys (Err refused) (told_of view.rack x) (told_of view.rack y)
+        → MeansWhole view streams (opens_array k) (Over (status_of_fault (fault.Survey refused))) a a x y watchers watchers
+    none_found refused surveys = ended x y watchers watchers (fault.Survey refused) (not_found view x y watchers refused surveys)
+
+    module _ (member : Membership) (surveys : Surveys (Ok member) (told_of view.rack x) (told_of view.rack y)) where
+      pub no_memory : MeansWhole view streams (opens_array k) (Over OutOfMemory) a a x y watchers watchers
+      no_memory = ended x y watchers watchers fault.Memory (not_begun view x y watchers member surveys y watchers fault.Memory (refl, refl))
+
+      pub not_opened : (z : R) (left : List W) (why : Fault) → IsUnopened view member why y z watchers left
+          → MeansWhole view streams (opens_array k) (Over (status_of_fault why)) a a x z watchers left
+      not_opened z left why is = ended x z watchers left why (not_begun view x y watchers member surveys z left why is)
+
+      pub opened : (z : R) (left : List W) (array : ArrayState)
           → Takes view Recover (Ok member.array.geometry) (devices y (Found member) watchers) (devices z (Opened array) left)
           → MeansWith view streams (opens_array k) (k member.array.geometry) a a (devices x Begun watchers) (devices z (Opened array) left)
-      opened array takes =
-          with_then view streams grown
-          (with_step view streams member.array.geometry.n Recover member.array.geometry k a (devices y (Found member) watchers)
-          (devices z (Opened array) left) takes)
+      opened z left array takes =
+          with_comes view streams (opens_array k) (k member.array.geometry) a (devices x Begun watchers) (devices z (Opened array) left)
+          (opened_comes view k x y watchers member surveys z left array takes)
 
 -- ---- ranges
 
@@ -125,3 +192,33 @@ module _ {R W S K : Type 0} (view : DeviceView R W) (streams : Views S K) (g : G
   past {from} {a} {b} {x} {y} why is means =
       subst (λ (f : Fault). MeansWith view streams from (Over (status_of_fault f)) a b x y) (sym is.1)
       (subst (λ (within : Bool). MeansWith view streams from (if_in_range g first within plan) a b x y) is.0 means)
+
+-- ---- commands that end with a line
+
+module _ {R W K : Type 0} (view : DeviceView R W) (streams : Views (Unit {0}) K) (k : Geometry → Plan) (x y z : R) (watchers mid left : List W)
+    (array last : ArrayState) (begins : BeginsSession view array x y watchers mid) where
+  -- what came behind the opening ended the call
+  pub ends_with : (status : Status) (sink : K) (counter : ℕ)
+      → ComesTo view (k array.member.array.geometry) (Over status) (devices y (Opened array) mid) (devices z (Opened last) left)
+      → MeansWhole view streams (opens_array k) (Over status) (outside tt sink counter) (outside tt sink counter) x z watchers left
+  ends_with status sink counter comes = record {
+    session = Opened last;
+    with = with_comes view streams (opens_array k) (Over status) (outside tt sink counter) (devices x Begun watchers) (devices z (Opened last) left)
+        (comes_then view (begins k) comes);
+  }
+
+  -- or it came to the line, which is put out
+  pub ends_with_line : (line said : List ℕ) → said ≡ line → (result : Result Status Fault) (sink later : K)
+      → ComesTo view (k array.member.array.geometry) (Put line (Over Done)) (devices y (Opened array) mid) (devices z (Opened last) left)
+      → ((counter : ℕ) → Means streams (Put said (Over Done)) (Over (status_of result)) (outside tt sink counter) (outside tt later counter))
+      → (counter : ℕ)
+      → MeansWhole view streams (opens_array k) (Over (status_of result)) (outside tt sink counter) (outside tt later counter) x z watchers left
+  ends_with_line line said same result sink later comes means counter = record {
+    session = Opened last;
+    with = with_then view streams
+        (with_comes view streams (opens_array k) (Put line (Over Done)) (outside tt sink counter) (devices x Begun watchers) (devices z (Opened last) left)
+        (comes_then view (begins k) comes))
+        (with_still view streams (Put line (Over Done)) (Over (status_of result)) (outside tt sink counter) (outside tt later counter) z (Opened last) left tt
+        (subst (λ (l : List ℕ). Means streams (Put l (Over Done)) (Over (status_of result)) (outside tt sink counter) (outside tt later counter)) same
+        (means counter)));
+  }

@@ -11,9 +11,8 @@ use Rattle.stair_story.specs.Story.{Found, Grew, RanOut}
 use Rattle.stair_story.specs.declared.status.Status.{Status}
 use Rattle.stair_story.specs.declared.status.Status.TheVariants.{OutOfMemory}
 use Rattle.stair_story.proofs.DeviceLaws.{whole_behind, with_one, with_then}
-use Rattle.stair_story.proofs.PlannedLaws.{borne_planned}
+use Rattle.stair_story.proofs.PerformedLaws.{borne_whole}
 use Rattle.stair_engine.specs.Plans.{if_spelled, plan_of}
-use Rattle.stair_engine.proofs.JobLaws.{words_used}
 
 module _ {R W S K : Type 0} (view : DeviceView R W) (streams : Views S K) (words : List (List ℕ)) (a : Outside S K) (x : R) (watchers : List W) where
   -- they were read
@@ -32,12 +31,12 @@ module _ {R W S K : Type 0} (view : DeviceView R W) (streams : Views S K) (words
 
   pub short_borne : IsBorneOut view streams (plan_of words) (Over OutOfMemory) a a x x watchers watchers
   short_borne =
-      borne_planned view streams (plan_of words) (Over OutOfMemory) a a x x watchers watchers (words_used words) (record { session = Begun; with = short })
+      borne_whole view streams (plan_of words) (Over OutOfMemory) a a x x watchers watchers (record { session = Begun; with = short })
 
   -- a call that came to this
   pub call_borne : (status : Status) (b : Outside S K) (y : R) (left : List W) → MeansWhole view streams (plan_of words) (Over status) a b x y watchers left
       → IsBorneOut view streams (plan_of words) (Over status) a b x y watchers left
-  call_borne status b y left whole = borne_planned view streams (plan_of words) (Over status) a b x y watchers left (words_used words) whole
+  call_borne status b y left whole = borne_whole view streams (plan_of words) (Over status) a b x y watchers left whole
 
   -- the job that they spell was done
   pub job_done : (reply : Option Job) (status : Status) (b : Outside S K) (y : R) (left : List W) → IsReply (Words words) reply

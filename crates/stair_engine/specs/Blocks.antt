@@ -7,12 +7,15 @@ use Rattle.stair_member.specs.Membership.{Membership}
 use Rattle.stair_array.specs.Arrays.{blocks_of}
 use Rattle.stair_array.specs.Faults.{opening_refusal}
 use Rattle.stair_array.specs.Machine.{ReadBlock, Recover, Refusal, WriteBlocks}
-use Rattle.stair_array.specs.Promise.{Closed, Found}
+use Rattle.stair_session.specs.Session.{ArrayState}
+use Rattle.stair_array.specs.Promise.{Begun, Closed, Found, Opened, Session}
 use Rattle.stair_array.specs.declared.fault.RecoverFault.TheVariants as recover
 use Rattle.stair_story.specs.declared.fault.Fault.{Fault}
 use Rattle.stair_story.specs.declared.fault.Fault.TheVariants as fault
 use Rattle.stair_story.specs.declared.status.Status.TheVariants.{Done, Input, OutOfRange}
 use Rattle.stair_story.specs.Action.{Survey}
+use Rattle.stair_story.specs.Comes.{ComesTo}
+use Rattle.stair_story.specs.Fault.{status_of_fault}
 use Rattle.stair_story.specs.Devices.{DeviceView, devices}
 use Rattle.stair_story.specs.Plan.{Plan, Over, Put, Allocate, Do, Take, take_exactly, take_step}
 use Rattle.stair_story.specs.Steps.{Takes}
@@ -33,6 +36,18 @@ IsUnopened view member (fault.Opening refused) old new watchers left =
     × Takes view Recover (Err refusal) (devices old (Found member) watchers)
     (devices new Closed left)
 IsUnopened view member _ old new watchers left = ⊥
+
+-- The session is begun: its array was looked for and is open, and so goes on every plan that opens one.
+abbrev pub BeginsSession : {R W : Type 0} → DeviceView R W → ArrayState → R → R → List W → List W → Type 0
+BeginsSession view array old new watchers left = (k : Geometry → Plan)
+    → ComesTo view (opens_array k) (k array.member.array.geometry) (devices old Begun watchers)
+    (devices new (Opened array) left)
+
+-- or it isn't, by which every such plan ends
+abbrev pub EndsSession : {R W : Type 0} → DeviceView R W → Fault → R → R → List W → List W → Type 0
+EndsSession view why old new watchers left = (k : Geometry → Plan)
+    → (session : Session) × ComesTo view (opens_array k) (Over (status_of_fault why))
+    (devices old Begun watchers) (devices new session left)
 
 -- RANGES
 

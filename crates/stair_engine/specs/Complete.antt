@@ -49,7 +49,7 @@ abbrev pub IsThawed : State → Type 0
 IsThawed s =
     (s.content.frozen ≡ false) × ((changed_if s.in_doubt s.content).frozen ≡ false)
 
--- what is told and the rack are such that the job can be done
+-- What is told and the rack are such that the job can be done. When a replacement can isn't said yet.
 abbrev pub CanBeDone : {R : Type 0} → RackView R → Job → Option (List ℕ) → R → R → Type 0
 CanBeDone rack (job.OneStripe command n m r e) told first last =
     TellsInput told (IsValidInput command (one_stripe n m r e))
@@ -63,6 +63,8 @@ CanBeDone rack (job.Read block count) told first last = (s : State)
 CanBeDone rack (job.Write block count) told first last = TellsInput told (λ input. (s : State)
     × ServesThroughout rack s first last × IsInRange s.geometry block count
     × (length input ≡ SECTOR * count) × (0 < count → IsThawed s))
+CanBeDone rack (job.Replace slot) told first last = ⊥
+CanBeDone rack job told first last = (s : State) × ServesThroughout rack s first last
 
 -- The job is done, if there was memory, where it can be and neither source nor sink failed.
 abbrev pub IsComplete : {R S K : Type 0} → RackView R → Views S K → Job → Status → Outside S K →

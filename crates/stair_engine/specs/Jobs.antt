@@ -2,7 +2,7 @@
 use Rattle.std.specs.Prelude.{ℕ, List, ⊤}
 use Rattle.stair_conf.specs.Words.{Spells}
 use Rattle.stair_conf.specs.declared.job.Job.{Job}
-use Rattle.stair_conf.specs.declared.job.Job.TheVariants.{Create, Read, Show, Write}
+use Rattle.stair_conf.specs.declared.job.Job.TheVariants.{Create, Freeze, Label, OneStripe, Read, Rebuild, Replace, Scrub, Show, Thaw, Write}
 
 -- blocks of an array are put out
 abbrev pub IsReading : Job → Type 0
@@ -13,7 +13,20 @@ IsReading _ = ⊥
 abbrev pub OpensArray : Job → Type 0
 OpensArray (Read block count) = ⊤
 OpensArray (Write block count) = ⊤
+OpensArray Scrub = ⊤
+OpensArray (Replace slot) = ⊤
+OpensArray Rebuild = ⊤
+OpensArray Freeze = ⊤
+OpensArray Thaw = ⊤
+OpensArray (Label text) = ⊤
 OpensArray _ = ⊥
+
+-- an input is taken
+abbrev pub TakesInput : Job → Type 0
+TakesInput (OneStripe command n m r e) = ⊤
+TakesInput Create = ⊤
+TakesInput (Write block count) = ⊤
+TakesInput _ = ⊥
 
 -- devices may be written: an array is made, or opened
 abbrev pub MayWrite : Job → Type 0

@@ -7,7 +7,7 @@ use Rattle.stair_rack.specs.Count.{Rose}
 use Rattle.stair_member.specs.Asked.{LeavesSectors}
 use Rattle.stair_conf.specs.Words.{IsSpelled, Spells}
 use Rattle.stair_conf.specs.declared.job.Job.{Job}
-use Rattle.stair_conf.specs.declared.job.Job.TheVariants.{OneStripe, Create, Read, Show, Write}
+use Rattle.stair_conf.specs.declared.job.Job.TheVariants.{OneStripe, Create, Show, Write}
 use Rattle.stair_conf.specs.declared.job.StripeCommand.{StripeCommand}
 use Rattle.stair_story.specs.declared.status.Status.{Status}
 use Rattle.stair_story.specs.declared.status.Status.TheVariants.{Usage, InputFault, OutOfMemory}
@@ -19,7 +19,7 @@ use Rattle.stair_engine.specs.Does.{Does}
 use Rattle.stair_array.specs.Arrays.{blocks_of}
 use Rattle.stair_engine.specs.Blocks.{whole_of}
 use Rattle.stair_engine.specs.Came.{AreWritten, IsUnrefused, taken_in}
-use Rattle.stair_engine.specs.Jobs.{IsReading, MakesCalls, MayWrite, NotSpelled, OpensArray}
+use Rattle.stair_engine.specs.Jobs.{IsReading, MakesCalls, MayWrite, NotSpelled, OpensArray, TakesInput}
 use Rattle.stair_story.specs.Devices.{DeviceView, MeansWhole}
 use Rattle.stair_story.specs.Ending.{IfNothingIsPutOut, TellsFaults}
 use Rattle.stair_story.specs.Means.{Means}
@@ -98,10 +98,10 @@ ShowOnlyLooks R W S K = (view : DeviceView R W) (streams : Views S K) (words : L
     × (IsTrue view.rack.honest
     → Ran LeavesSectors (view.rack.history first) (view.rack.history last))
 
--- `read` makes no call on the source, which can't fail it
-abbrev pub ReadTakesNothing : (S K : Type 0) → Type 0
-ReadTakesNothing S K = (view : Views S K) (words : List (List ℕ)) (block count : ℕ)
-    (status : Status) (old new : Outside S K) → Spells words (Read block count)
+-- a command that takes no input makes no call on the source, which can't fail it
+abbrev pub SourceIsLeft : (S K : Type 0) → Type 0
+SourceIsLeft S K = (view : Views S K) (words : List (List ℕ)) (status : Status)
+    (old new : Outside S K) → NotSpelled TakesInput words
     → Means view (plan_of words) (Over status) old new
     → (new.source ≡ old.source) × (status ≢ InputFault)
 

@@ -2,6 +2,7 @@
 pub mod Jobs
 pub mod Task
 pub mod Blocks
+pub mod Mending
 pub mod Piece
 pub mod Came
 pub mod Plans

@@ -15,6 +15,7 @@ use Rattle.stair_story.specs.Fault.{status_of_config}
 use Rattle.stair_story.specs.Plan.{Plan, Over, Ask, Put, Allocate, Do, answer, take_exactly, whole_input}
 use Rattle.stair_story.specs.Question.{Words, Limits, Text, Judgement}
 use Rattle.stair_engine.specs.Blocks.{read_plan, write_plan}
+use Rattle.stair_engine.specs.Mending.{freeze_plan, label_plan, rebuild_plan, replace_plan, scrub_plan, thaw_plan}
 use Rattle.stair_engine.specs.Show.{show_text}
 use Rattle.stair_engine.specs.Task.{one_stripe}
 
@@ -67,6 +68,12 @@ job_plan job.Create = create_plan
 job_plan job.Show = show_plan
 job_plan (job.Read block count) = read_plan block count
 job_plan (job.Write block count) = write_plan block count
+job_plan job.Scrub = scrub_plan
+job_plan (job.Replace slot) = replace_plan slot
+job_plan job.Rebuild = rebuild_plan
+job_plan job.Freeze = freeze_plan
+job_plan job.Thaw = thaw_plan
+job_plan (job.Label text) = label_plan text
 
 abbrev pub if_spelled : Option Job → Plan
 if_spelled None = Over Usage

@@ -12,9 +12,9 @@ ghost use Rattle.stair_engine.specs.Laws.{
   BytesAreAnswered,
   DifferAtErased,
   MemoryComesFirst,
-  ReadTakesNothing,
   RackIsLeft,
   ShowOnlyLooks,
+  SourceIsLeft,
   UsageIsExact,
   WholeBlocksStand,
   WordsAreDone,
@@ -41,8 +41,8 @@ pub fn plan_laws<R, W, S: Source, K: Sink>()
     ensures left { RackIsLeft R W S K }
     // `show` makes no call on the source, and changes no sector of an honest rack
     ensures looks { ShowOnlyLooks R W S K }
-    // `read` makes no call on the source
-    ensures untaken { ReadTakesNothing S K }
+    // what takes no input makes no call on the source
+    ensures untaken { SourceIsLeft S K }
     // where no step of `write` was refused the whole blocks that came are written, and no others
     ensures written { WholeBlocksStand S K }
     // every command but those that make or open an array leaves one as it was

@@ -7,12 +7,17 @@ mod check;
 mod create;
 mod encode;
 pub mod laws;
+mod line;
 mod map;
 mod open;
 mod piece;
 mod read;
+mod rebuild;
+mod replace;
 mod restore;
+mod scrub;
 mod show;
+mod stamp;
 mod task;
 #[cfg(test)]
 mod tests;
@@ -41,7 +46,10 @@ use check::check;
 use create::create;
 use encode::encode;
 use read::read;
+use rebuild::rebuild;
+use replace::replace;
 use restore::restore;
+use scrub::scrub;
 use show::show;
 use stair_base::Geometry;
 use stair_conf::{Job, StripeCommand, WordsFault, read_words};
@@ -49,6 +57,7 @@ use stair_gf::Steps;
 use stair_rack::{Rack, Sink, Source, Watcher};
 use stair_story::Fault;
 pub use stair_story::Status;
+use stamp::{freeze, label, thaw};
 use std::alloc::Global;
 use std::sync::ledger::Ledger;
 use task::one_stripe;
@@ -61,13 +70,16 @@ use write::write;
 /// most 4,096 bytes, and makes an array of it ([`stair_array::create`]); `show` looks for an array ([`stair_member::survey`]),
 /// takes nothing and changes nothing on a device. `read` and `write` look for an array, open it ([`stair_array::Array`]) and put out
 /// blocks of it, or take and write them: `read` puts out each block before it reads the next, and `write` writes the whole
-/// blocks of a stripe that came, as one step, before it takes more.
+/// blocks of a stripe that came, as one step, before it takes more. `scrub`, `replace`, `rebuild`, `freeze`, `thaw` and `label` look
+/// for an array and open it too, and look after it by steps of `stair_mend`: all stripes are scrubbed, a device is admitted and
+/// rebuilt, or what is rebuilt is rebuilt to its end; or an epoch has another frozen mark or label. They take nothing, and put out
+/// a line once all is done.
 ///
 /// The words are tested first, then the limits of the geometry of a stripe, then the input: what is refused before the input
 /// is taken leaves input, output and counter as they were, and nothing is put out before the answer is known. `InputFault`
 /// leaves the output as it was, and after `OutputFault` a part of the output stands; after that of `create` there is an array.
 /// What `read` put out before a refusal stands, and so does each block that `write` wrote before one, or before an input that
-/// ends or fails. Where a step is refused with `TooFew` or `EpochsSpent` its blocks are old, new, or in doubt.
+/// ends or fails, and each step of the others that came before one. Where a step is refused with `TooFew` or `EpochsSpent` its blocks are old, new, or in doubt.
 ///
 /// The counter rises by exactly the steps of the encoder that METHOD of `stripe` chooses. No other command counts.
 ///
@@ -171,6 +183,18 @@ fn work<R: Rack, S: Source, K: Sink, L: Ledger>(
         }
         Job::Write { block, count } => {
             let done = write(alloc, block, count, rack, input, output, watchers);
+            done.unwrap_or_else(Status::from)
+        }
+        Job::Scrub => scrub(alloc, rack, output, watchers).unwrap_or_else(Status::from),
+        Job::Replace { slot } => {
+            let done = replace(alloc, slot, rack, output, watchers);
+            done.unwrap_or_else(Status::from)
+        }
+        Job::Rebuild => rebuild(alloc, rack, output, watchers).unwrap_or_else(Status::from),
+        Job::Freeze => freeze(alloc, rack, output, watchers).unwrap_or_else(Status::from),
+        Job::Thaw => thaw(alloc, rack, output, watchers).unwrap_or_else(Status::from),
+        Job::Label { text } => {
+            let done = label(alloc, text, rack, output, watchers);
             done.unwrap_or_else(Status::from)
         }
     }

@@ -2,7 +2,7 @@ ghost use Rattle.std.specs.Prelude.{◌≡◌, ◌+◌, ◌*◌, ◌^◌, ◌<�
 ghost use Rattle.stair_rack.specs.Watching.{watcher_view};
 ghost use Rattle.stair_array.specs.Machine.{Recover};
 ghost use Rattle.stair_array.specs.Promise.{Found, Opened as IsOpen};
-ghost use Rattle.stair_engine.specs.Blocks.{IsPast, IsUnopened, is_in_range};
+ghost use Rattle.stair_engine.specs.Blocks.{BeginsSession, EndsSession, IsPast, IsUnopened, is_in_range};
 ghost use Rattle.stair_model.specs.Stripe.{SECTOR as BYTES};
 ghost use Rattle.stair_story.specs.Devices.{device_view, devices};
 ghost use Rattle.stair_story.specs.Rack.{rack_view};
@@ -11,10 +11,29 @@ ghost use Rattle.stair_watch.specs.WatcherList.{AllStay};
 
 use stair_base::Geometry;
 use stair_codec::{By, Codec};
-use stair_member::Member;
+use stair_member::{Member, survey};
 use stair_rack::{Rack, Watcher};
 use stair_story::{Fault, Opened};
 use std::alloc::Global;
+
+/// Looks for the array of the rack, and opens it.
+pub(crate) fn session<R: Rack>(
+    alloc: Global,
+    rack: &mut R,
+    watchers: &mut Vec<Box<dyn Watcher>>,
+) -> Result<Opened<Codec>, Fault>
+    requires stay { AllStay (watcher_view told count left patience) watchers.old.items }
+    ensures begins { IfOk result (λ array. BeginsSession
+        (device_view (rack_view R.is_honest R.history R.bads R.gones) (watcher_view told count left patience))
+        array rack.old rack.new watchers.old.items watchers.new.items) }
+    ensures refused { IfErr result (λ fault. EndsSession
+        (device_view (rack_view R.is_honest R.history R.bads R.gones) (watcher_view told count left patience))
+        fault rack.old rack.new watchers.old.items watchers.new.items) }
+    ensures stay { AllStay (watcher_view told count left patience) watchers.new.items }
+{
+    let member = survey(rack)?;
+    open(alloc, rack, member, watchers)
+}
 
 /// Opens the array that a survey found on this rack, with no call between.
 pub(crate) fn open<R: Rack>(

@@ -145,6 +145,19 @@ pub(crate) fn writes(
     Ok(came.status == Status::Done && is_said && came.told == told && came.left == 0)
 }
 
+// Whether a call is done that takes no input, says this, and tells this.
+pub(crate) fn says(
+    alloc: Global,
+    rack: &mut MemRack,
+    line: &str,
+    said: &str,
+    told: Told,
+) -> Result<bool, AllocError> {
+    let came = call(alloc, rack, line, b"left", WHOLE)?;
+    let is_said = came.put.as_slice() == said.as_bytes();
+    Ok(came.status == Status::Done && is_said && came.told == told && came.left == 4)
+}
+
 // Whether a call ends with this status, takes all of this input or nothing of it, puts nothing out, and tells nothing.
 pub(crate) fn is_refused(
     alloc: Global,

@@ -6,6 +6,8 @@ mod calls;
 #[cfg(test)]
 mod crashes;
 #[cfg(test)]
+mod mending;
+#[cfg(test)]
 mod range;
 #[cfg(test)]
 mod reading;

@@ -212,6 +212,7 @@ module _ (aim0 aim : Aim) (m0 m last : Membership) (gone : Slots) (old now new :
         on_disk = stands.on_disk;
         in_both = λ j k is here small. stands.in_both j k (admits_still j is here) here small;
         synced = stands.synced;
+        going = stands.going;
       }
     where
       -- a slot that is here wasn't gone, so the aim still admits it

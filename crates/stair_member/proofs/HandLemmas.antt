@@ -16,7 +16,7 @@ use Rattle.stair_rack.specs.declared.rack.Reply.TheVariants as reply
 use Rattle.stair_rack.proofs.CallLemmas.{sync_done, sync_gone, write_done, write_gone, write_landed}
 use Rattle.stair_rack.proofs.KeptLemmas.{IsKept-mapped, IsKept-onward, IsKept-since, keeps_sector}
 use Rattle.stair_rack.proofs.MomentLemmas.{IsThis, at_every_join, at_every_none, at_last, at_every_from, at_every_mapped, at_some_wider, calls_ran, moment_last, moment_wider, ran_acts, ran_before, ran_join, ran_none, ran_weakened}
-use Rattle.stair_rack.proofs.OfflineLemmas.{and-true_left, and-true_right, held_on, pulls_on, refused, reply_if-Done, stopped_on}
+use Rattle.stair_rack.proofs.OfflineLemmas.{and-true_left, and-true_right, held_on, pulls_on, refused, reply_if-Done, stopped_on, unready_when_stopped}
 use Rattle.stair_rack.proofs.WritingLemmas.{reach_on}
 use Rattle.stair_rack.proofs.StandingLemmas.{has_lower, medium_on, settled_on, standing_throughout}
 use Rattle.stair_rack.proofs.StepLemmas.{kept, slot_after_call}
@@ -82,6 +82,9 @@ sync_ready {old} {new} {j} (Told acts runs answered is) =
 sync_ready {old} {new} {j} (Untold acts runs answered is_stopped nothing is) =
     let gone : reply.Done ≡ reply.Gone = refused (acts ++ old) j (Sync reply.Done) is_stopped answered in
     absurd (cc)
+
+sync_going : {old new : List Happening} {j : ℕ} → Calls old new j (Sync reply.Done) → ¬ IsTrue (stopped new)
+sync_going {old} {new} {j} called is_stopped = false≢true (sym (unready_when_stopped new j is_stopped) ∙ sync_ready called)
 
 -- ---- runs that keep what is settled
 
@@ -195,6 +198,7 @@ module _ (m : Membership) (j : ℕ) (small : place_of m j < 2) where
     got = λ done k is. absurd (cc);
     stands = λ done k is. absurd (cc);
     synced = λ done k some. absurd (cc);
+    going = λ done. absurd (cc);
     steady = unwritten_steady old new called;
     apart = apart_once m j (writing reply.Gone called) (unwritten_steady old new called);
     shut = λ gone before held has. write_gone old new j (place_of m j) (spelled (issue m j)) before called held (reach (slot_state old j) has);
@@ -249,6 +253,7 @@ module _ (m : Membership) (j : ℕ) (small : place_of m j < 2) where
       got = λ done k is. absurd (cc);
       stands = λ done k is. absurd (cc);
       synced = λ done k some. absurd (cc);
+      going = λ done. absurd (cc);
       steady = steady_by reply.Gone called (unsynced_here called);
       apart =
           apart_once m j (ran_join (writing reply.Done wrote) (syncing reply.Gone called)) (steady_by reply.Gone called (unsynced_here called));
@@ -291,6 +296,7 @@ module _ (m : Membership) (j : ℕ) (small : place_of m j < 2) where
           ];
       synced = λ done k some.
           synced_here called (slot_state old j).pulls k (medium_on {allowed = IsHanding m j false} j k (writing reply.Done wrote) some);
+      going = λ done. sync_going called;
       steady = synced_steady called;
       apart = apart_once m j (ran_join (writing reply.Done wrote) (syncing reply.Done called)) (synced_steady called);
       shut = λ gone before held has. absurd (cc);
@@ -393,6 +399,7 @@ handed_back m last next j both answer old new rest place_same handed =
       got = λ done k given. subst (HasGot old new j k) same (handed.got done k (onto k given));
       stands = λ done k given. subst (IsOnDisk old new j k) same (handed.stands done k (onto k given));
       synced = handed.synced;
+      going = handed.going;
       steady = handed.steady;
       apart = handed.apart;
       shut = handed.shut;
@@ -466,6 +473,7 @@ module _ (m mid last : Membership) (j : ℕ) (answer : Reply) (old now new : Lis
     synced = λ done k some.
         IsKept-onward {P = λ s. ⊤} {Q = IsUnchanged} {R = IsUnchanged} (pulls_on {allowed = IsHanding (turned m j) j false} j second.ran)
         (medium_on {allowed = IsHanding m j false} j k first.ran some) (λ there. second.synced done k there) (λ s was is. inr is);
+    going = second.going;
     steady = stays_join {allowed = IsHanding (turned m j) j false} first.steady second.ran second.steady;
     apart = apart_join first.apart second.apart;
     shut = λ gone before held has.
@@ -496,6 +504,7 @@ handed_neither m last j old new handed = record {
   got = λ done k given. absurd (cc);
   stands = λ done k given. absurd (cc);
   synced = λ done k some. absurd (cc);
+  going = λ done. absurd (cc);
   steady = handed.steady;
   apart = handed.apart;
   shut = handed.shut;

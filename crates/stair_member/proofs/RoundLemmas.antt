@@ -476,6 +476,7 @@ module _ (slots : Slots) (m0 m : Membership) (twice : Option ℕ) (gone : ℕ �
           (pulls_on {allowed = IsSpreading begun here (admitted aim)} j spread_here.below.ran)
           (medium_on {allowed = IsIssuing slots (with_edition come.editions (edition_of (with_draw m)))} j k begun_far.ran some)
           (λ there. spread_here.below.synced j k below on there) (λ s was now. inr now);
+      going = λ j is. let on = on_here j is in spread_here.going none j (here_formed j on).0 on;
     }
       where
         on_here : (j : ℕ) → IsHere last j → HasSlot here j

@@ -4,7 +4,7 @@ use Rattle.std.specs.Prelude.{⊤, IsTrue, IsSome}
 use Rattle.std.proofs.lemmas.Bool.{cases_eq, eqb-true, false≢true}
 use Rattle.stair_model.specs.Slots.{Slots, HasSlot}
 use Rattle.stair_rack.specs.Answers.{Ran}
-use Rattle.stair_rack.specs.History.{Happening, slot_state}
+use Rattle.stair_rack.specs.History.{Happening, slot_state, stopped}
 use Rattle.stair_rack.specs.Moments.{AtEveryMoment}
 use Rattle.stair_rack.specs.Offline.{IsHeld, IsOfflineUntilAttached}
 use Rattle.stair_rack.specs.Sector.{Good}
@@ -33,6 +33,8 @@ pub record SpreadSoFar (m last : Membership) (to : Slots) (twice : Option ℕ) (
   pub out : (j : ℕ) → ¬ HasSlot to j → place_of last j ≡ place_of m j
   pub later : (j : ℕ) → i ≤ j → place_of last j ≡ place_of m j
   pub told : IsTrue honest → SpreadBelow m to twice i old now
+  -- where there is one, the rack is running
+  pub going : IsTrue honest → (j : ℕ) → j < i → HasSlot to j → ¬ IsTrue (stopped now)
   -- those from i on weren't touched
   pub untouched : IsTrue honest → (j : ℕ) → i ≤ j → Ran (IsUnsynced m j) old now
   -- and none was gone
@@ -56,6 +58,7 @@ spread_start m to twice honest h rules = record {
     apart = apart_none h;
     between = λ j. at_every_none h (inl (ran_none h));
   };
+  going = λ is j below has. absurd (omega (arith, below));
   untouched = λ is j least. ran_none h;
   none_gone = λ is. ran_none h;
 }
@@ -87,6 +90,8 @@ spread_skipped m last to twice i honest old now before skipped = record {
         apart = told.apart;
         between = told.between;
       };
+  going = λ is.
+      below_and_last (λ j. HasSlot to j → ¬ IsTrue (stopped now)) i (before.going is) (λ has. absurd (skipped has));
   untouched = λ is j least. before.untouched is j (omega arith);
   none_gone = before.none_gone;
 }
@@ -214,6 +219,7 @@ spread_more m last next to twice i honest old now new before on rules places tol
   out = λ j skipped. places.others j (λ same. skipped (subst (HasSlot to) (sym same) on)) ∙ before.out j skipped;
   later = λ j least. places.others j (omega arith) ∙ before.later j (omega arith);
   told = λ is. below_more m next to twice i old now new on (before.told is) (before.untouched is i (omega arith)) (handed is);
+  going = λ is j below has. (handed is).going refl;
   untouched = λ is j least.
       ran_join (before.untouched is j (omega arith))
       (elsewhere m next to twice i old now new on (before.told is) (before.untouched is i (omega arith)) (handed is) j (omega arith));
@@ -244,6 +250,7 @@ spread_gone m last next to twice i honest old now new before on places told is =
             Unsynced (places.others j other ∙ before.later j least)
             (ran_join (before.untouched is j least) (elsewhere m next to twice i old now new on (before.told is) fresh handed j other))
       ];
+  going = λ none. absurd (cc);
   shut = λ j same held_before held has.
       let at : i ≡ j = cc in
       subst (λ x. IsOfflineUntilAttached held_before new x) at
@@ -285,6 +292,7 @@ spread_all m last to twice i honest old now all before is =
       below = subst (λ x. SpreadBelow m to twice x old now) all (before.told is);
       told = gone_wider {P = λ j. ⊥} {Q = λ j. no_slot ≡ Some j} (λ j never. absurd never) (before.none_gone is);
       left = λ j least. Unsynced (before.later j (omega (arith, all, least))) (before.untouched is j (omega (arith, all, least)));
+      going = λ none j small. before.going is j (omega (arith, all, small));
       shut = λ j some. absurd (cc);
     }
 

@@ -211,7 +211,7 @@ pub record Stands (m last : Membership) : Type 0 where
   pub enough : AtMost m.array.geometry.m (IsMissing last)
 
 -- On an honest rack each slot that is here got a superblock of it in the call, has it on its disk, but for the outside, and
--- was synced whole; one that was admitted has it in both places.
+-- was synced whole; one that was admitted has it in both places. So where one is here the rack is running.
 pub record StandsOnDisk (joining : Option ℕ) (last : Membership) (old new : List Happening)
     : Type 0 where
   pub got : (j k : ℕ) → IsHere last j
@@ -223,6 +223,7 @@ pub record StandsOnDisk (joining : Option ℕ) (last : Membership) (old new : Li
       → IsOnDisk old new j k (copy_of (edition_of last) j)
   pub synced : (j k : ℕ) → IsHere last j → IsSome (slot_state old j).size
       → IsPlaceSettled old new j k
+  pub going : (j : ℕ) → IsHere last j → ¬ IsTrue (stopped new)
 
 -- WHY NONE DOES
 

@@ -77,6 +77,8 @@ pub record Handed (m last : Membership) (j : ℕ) (both : Bool) (answer : Reply)
       → IsOnDisk old new j k (issue m j)
   pub synced : answer ≡ reply.Done → (k : ℕ) → IsSome (slot_state old j).size
       → IsPlaceSettled old new j k
+  -- the rack is running
+  pub going : answer ≡ reply.Done → ¬ IsTrue (stopped new)
   pub steady : StaysSettled old new
   pub apart : StaysApart old new
   pub shut : answer ≡ reply.Gone → (before : List Happening) → IsHeld before old j
@@ -112,6 +114,8 @@ pub record Spread (m last : Membership) (to : Slots) (twice gone : Option ℕ)
   pub below : SpreadBelow m to twice (unwrap_or gone 32) old new
   pub told : Ran (IsGoneOf (λ j. gone ≡ Some j)) old new
   pub left : (j : ℕ) → unwrap_or gone 32 ≤ j → IsLeft m last j old new
+  -- where none was gone and there is one of these, the rack is running
+  pub going : gone ≡ None → (j : ℕ) → j < 32 → HasSlot to j → ¬ IsTrue (stopped new)
   pub shut : (j : ℕ) → gone ≡ Some j → (before : List Happening) → IsHeld before old j
       → HasPlaces (slot_state old j) → IsOfflineUntilAttached before new j
 

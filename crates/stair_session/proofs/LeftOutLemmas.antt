@@ -1,6 +1,6 @@
 -- A fence by the member that some slots left, as one by the member that it was, and what the call's contract says of an epoch
 -- that stands.
-use Rattle.std.proofs.Common.{ℕ, ◌+◌, ◌-◌, ◌<◌, ◌∙◌, ◌≡◌, ◌≢◌, ◌⊎◌, List, None, Some, ap, inl, inr, refl, subst, sym, true≢false}
+use Rattle.std.proofs.Common.{ℕ, ◌+◌, ◌-◌, ◌<◌, ◌∙◌, ◌≡◌, ◌≢◌, ◌⊎◌, List, None, Some, ap, inl, inr, refl, subst, sym, true≢false, Option}
 use Rattle.std.specs.Prelude.{◌&&◌, IsSome, IsTrue, false, not, slice_index}
 use Rattle.stair_model.specs.Geometry.{Geometry}
 use Rattle.stair_model.specs.Slots.{HasSlot, Slots, no_slots}
@@ -25,6 +25,7 @@ use Rattle.stair_member.specs.Fencing.{HasStood, IsBegun, IsFencing}
 use Rattle.stair_member.specs.Membership.{IsHere, Membership, place_of, why_of}
 use Rattle.stair_member.specs.declared.aim.Aim.{Aim}
 use Rattle.stair_member.specs.declared.aim.Aim.TheVariants.{Fence, Promote}
+use Rattle.stair_member.specs.declared.fault.FenceFault.{FenceFault}
 use Rattle.stair_member.specs.declared.why.Why.{Why}
 use Rattle.stair_member.specs.declared.why.Why.TheVariants.{Gone, Here, Rebuilding}
 use Rattle.stair_member.proofs.CountingLemmas.{has_or_not}
@@ -200,10 +201,11 @@ module _ (leaving gone all : Slots) (before : List Happening) (m start last : Me
 -- WHAT THE CALL'S CONTRACT SAYS
 
 -- on an honest rack an epoch that was established stands
-pub stood_by : (aim : Aim) (m last : Membership) (old new : Telling) (does : Establishes aim m last None old new) → IsTrue new.honest
-    → IsBegun (admitted aim) m old.history → NothingReturned old.history new.history
-    → ((slot : ℕ) → aim ≡ Promote slot → IsHere m slot) → HasStood aim does.gone m last old.history new.history
-stood_by aim m last old new does honest begun none promoted = record {
+pub stood_where : (aim : Aim) (m last : Membership) (refusal : Option FenceFault) (old new : Telling)
+    (does : Establishes aim m last refusal old new) → refusal ≡ None → IsTrue new.honest → IsBegun (admitted aim) m old.history
+    → NothingReturned old.history new.history → ((slot : ℕ) → aim ≡ Promote slot → IsHere m slot)
+    → HasStood aim does.gone m last old.history new.history
+stood_where aim m last refusal old new does fine honest begun none promoted = record {
   fencing = record {
     begun = begun;
     moment = let ran = (does.issued honest).ran in moment_last ran.more ran.is;
@@ -211,9 +213,14 @@ stood_by aim m last old new does honest begun none promoted = record {
     returned = none;
   };
   member = does.rules;
-  established = does.done refl;
+  established = does.done fine;
   dropped = does.were_gone.dropped;
-  among = does.among honest refl;
-  on_disk = does.on_disk honest refl;
+  among = does.among honest fine;
+  on_disk = does.on_disk honest fine;
   promoted = promoted;
 }
+
+pub stood_by : (aim : Aim) (m last : Membership) (old new : Telling) (does : Establishes aim m last None old new) → IsTrue new.honest
+    → IsBegun (admitted aim) m old.history → NothingReturned old.history new.history
+    → ((slot : ℕ) → aim ≡ Promote slot → IsHere m slot) → HasStood aim does.gone m last old.history new.history
+stood_by aim m last old new does = stood_where aim m last None old new does refl

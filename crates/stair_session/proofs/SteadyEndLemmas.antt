@@ -18,9 +18,10 @@ use Rattle.stair_rack.proofs.OfflineLemmas.{stopped_on}
 use Rattle.stair_rack.proofs.StretchLemmas.{each_after, each_before}
 use Rattle.stair_rack.proofs.TidyLemmas.{history_tidy}
 use Rattle.stair_member.specs.Epochs.{IsPlaceSettled, Issued}
-use Rattle.stair_member.specs.Establishing.{Fences}
+use Rattle.stair_member.specs.Establishing.{Establishes, Fences, refusal_of}
 use Rattle.stair_member.specs.Fencing.{IsBegun}
 use Rattle.stair_member.specs.Membership.{IsHere, Membership}
+use Rattle.stair_member.specs.declared.aim.Aim.{Aim}
 use Rattle.stair_member.specs.declared.aim.Aim.TheVariants.{Fence}
 use Rattle.stair_member.specs.declared.fault.FenceFault.{FenceFault}
 use Rattle.stair_member.proofs.EditionLemmas.{Bare, Same, slot_is}
@@ -48,10 +49,11 @@ use Rattle.stair_session.proofs.StageBesideLemmas.{over_alone, phase_beside}
 
 -- AN EPOCH, that stands or was refused
 
-pub fence_steady : (leaving : Slots) (m last : Membership) (answer : Result Slots FenceFault) (old new : Telling) → Fences leaving m last answer old new
-    → IsBegun None m old.history → ((j : ℕ) → HasSlot leaving j → j < m.array.geometry.n) → IsTrue new.honest
-    → NothingReturned old.history new.history → ¬ IsTrue (stopped new.history) → AreSteady m.array.geometry new.history
-fence_steady leaving m last answer old new e begun below honest none going j k inside place =
+-- by a member of the same array
+pub epoch_steady : (aim : Aim) (joining : Option ℕ) (m start last : Membership) (refusal : Option FenceFault) (old new : Telling)
+    → Establishes aim start last refusal old new → IsBegun joining m old.history → IsTrue new.honest → NothingReturned old.history new.history
+    → ¬ IsTrue (stopped new.history) → AreSteady m.array.geometry new.history
+epoch_steady aim joining m start last refusal old new e begun honest none going j k inside place =
     elim
     (slot_is issued.slots issued.editions old.history new.history j (history_tidy begun.history) (λ i lt. begun.settled j i inside lt) issued.ran none) [
       | Bare off bare ↦ ap (λ (s : Sector). s.since) (bare k)
@@ -62,14 +64,19 @@ fence_steady leaving m last answer old new e begun below honest none going j k i
           ]
     ]
   where
-    issued : Issued Fence e.establishes.gone e.start last old.history new.history
-    issued = e.establishes.issued honest
+    issued : Issued aim e.gone start last old.history new.history
+    issued = e.issued honest
 
     settled : (slot_state new.history j).pulls ≡ (slot_state old.history j).pulls → IsPlaceSettled old.history new.history j k
         → ((slot_state new.history j).sector k).since ≡ []
     settled same (IsKept.Here at has (inl harmed)) = ap (λ (s : Sector). s.since) harmed
     settled same (IsKept.Here at has (inr is)) = is
     settled same (IsKept.Lost less) = absurd (omega (arith, less, same))
+
+pub fence_steady : (leaving : Slots) (m last : Membership) (answer : Result Slots FenceFault) (old new : Telling) → Fences leaving m last answer old new
+    → IsBegun None m old.history → ((j : ℕ) → HasSlot leaving j → j < m.array.geometry.n) → IsTrue new.honest
+    → NothingReturned old.history new.history → ¬ IsTrue (stopped new.history) → AreSteady m.array.geometry new.history
+fence_steady leaving m last answer old new e begun below = epoch_steady Fence None m e.start last (refusal_of answer) old new e.establishes begun
 
 left_steady : (gone : Slots) (refusal : Option FenceFault) (x y : Point) → LeavesOut gone refusal x y → IsBegun None x.member x.told.history
     → ((j : ℕ) → HasSlot gone j → j < x.member.array.geometry.n) → IsTrue y.told.honest → NothingReturned x.told.history y.told.history

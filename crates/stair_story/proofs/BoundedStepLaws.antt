@@ -277,7 +277,7 @@ module _ (g : Geometry) (most : ℕ) where
   goes_fit (mends.WasGone x y only gone) = goes_prepared only
   goes_fit (mends.WasSmall has needs mid x y looks small) = goes_looked looks
   goes_fit (mends.WasOther mid x y looks bears) = goes_looked looks
-  goes_fit (mends.Prepared first second mid x y z looks fit later placed sees) =
+  goes_fit (mends.Prepared first second mid x y z looks fit later placed sees rules) =
       goes_on (goes_looked looks) later.honest (record {
         rises =
             let e = sees.drawn in

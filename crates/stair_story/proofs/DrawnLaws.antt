@@ -49,7 +49,7 @@ abbrev weighs : Membership → ℕ → ℕ
 weighs m j = weight (why_of m j)
 
 -- the weight of a slot that isn't replaced doesn't grow
-why_weighs : (step : Step) (old new : Telling) (m last : Membership) (j : ℕ) → WhyGoesOn step old new m last j → (step ≡ ReplaceSlot j → ⊥)
+pub why_weighs : (step : Step) (old new : Telling) (m last : Membership) (j : ℕ) → WhyGoesOn step old new m last j → (step ≡ ReplaceSlot j → ⊥)
     → weighs last j ≤ weighs m j
 why_weighs step old new m last j goes other =
     elim goes [

@@ -14,14 +14,11 @@ use Rattle.stair_session.specs.Returning.{IsCalm, NoneReturns, Returning, Stands
 use Rattle.stair_array.specs.Machine.{Refusal}
 use Rattle.stair_array.specs.Promise.{Begun, ServesState, Session, is_open}
 use Rattle.stair_story.specs.Devices.{DeviceView, Devices, MeansWith, WorksAll, devices, seen_of}
-use Rattle.stair_story.specs.Ending.{TakesNoStep}
 use Rattle.stair_story.specs.Headline.{AcknowledgedAreTaken, IsBorneOut, IsRunOf, PerformedLeads}
 use Rattle.stair_story.specs.Outside.{Outside, Views}
-use Rattle.stair_story.specs.Plan.{Plan, Over, Ask, Take, Put, Allocate, Do, Try, RebuildAll}
-use Rattle.stair_story.specs.Rack.{MeansOver}
+use Rattle.stair_story.specs.Plan.{Plan}
 use Rattle.stair_story.specs.Run.{DeedLeads, IsCalmUpTo, IsRun, IsSafe, IsUpTo, StoryLeads}
 use Rattle.stair_story.specs.Story.{Deed, Stepped, Leads, Moves}
-use Rattle.stair_story.proofs.DeviceLaws.{ActsOnce, once_no_step, one_deed, with_once}
 use Rattle.stair_story.proofs.RunLaws.{IsAt, IsStoppedBy, forgets, runs_on, works_ran}
 use Rattle.stair_story.proofs.CutLaws.{safe_on}
 
@@ -44,29 +41,6 @@ module _ {R W : Type 0} (returning : Returning) (view : DeviceView R W) where
       one : (deed : Deed) (z : Devices R W) → WorksAll view deed x z → DeedLeads returning view deed x z
       one (Stepped step answer events left) z works = λ performs. lead step answer events (seen_of view x) (seen_of view z) performs works.3
       one _ z works = tt
-
-  no_step_leads : (deed : Deed) (plan rest : Plan) (x y : Devices R W) → TakesNoStep plan → Moves deed plan rest → DeedLeads returning view deed x y
-  no_step_leads (Stepped step answer events left) plan rest x y none moves = absurd (no_step plan none moves)
-    where
-      no_step : (plan : Plan) → TakesNoStep plan → Moves (Stepped step answer events left) plan rest → ⊥
-      no_step (Over status) none moves = moves
-      no_step (Ask question k) none moves = moves
-      no_step (Take least most k short) none moves = moves
-      no_step (Put bytes plan) none moves = moves
-      no_step (Allocate plan) none moves = moves
-      no_step (Do action k) none moves = moves
-      no_step (Try to k) none moves = none
-      no_step (RebuildAll slots done k) none moves = none
-  no_step_leads _ plan rest x y none moves = tt
-
-  -- a story that follows a plan which takes no step has none to lead on
-  pub none_lead : (story : List Deed) (plan rest : Plan) (x y : Devices R W) (works : Leads (WorksAll view) story x y) → TakesNoStep plan
-      → Leads Moves story plan rest → StoryLeads returning view story x y works
-  none_lead [] plan rest x y works none follows = tt
-  none_lead (deed ∷ story) plan rest x y works none follows = (
-    no_step_leads deed plan follows.0 x works.0 none follows.1,
-    none_lead story follows.0 rest works.0 y works.2 (one_deed view deed plan follows.0 x works.0 none follows.1 works.1).1 follows.2,
-  )
 
 -- ---- from a session's beginning
 
@@ -162,17 +136,3 @@ module _ {R W S K : Type 0} (view : DeviceView R W) (streams : Views S K) where
   borne_with plan rest a b x y watchers left session with led =
       let run = run_of view plan rest with.means.story (devices x Begun watchers) (devices y session left) with.works with.means.follows refl led in
       record { session = session; over = with; runs = run.runs; cuts = run.cuts }
-
-  -- so is one whose plan takes no step
-  pub borne_stepless : (plan rest : Plan) (a b : Outside S K) (x y : R) (watchers left : List W) (session : Session) → TakesNoStep plan
-      → MeansWith view streams plan rest a b (devices x Begun watchers) (devices y session left) → IsBorneOut view streams plan rest a b x y watchers left
-  borne_stepless plan rest a b x y watchers left session none with =
-      borne_with plan rest a b x y watchers left session with
-      (none_lead NoneReturns view with.means.story plan rest (devices x Begun watchers) (devices y session left) with.works none with.means.follows)
-
-  -- and one that does one thing to an array at most, over a rack alone
-  pub borne_once : (plan rest : Plan) (a b : Outside S K) (x y : R) (watchers : List W) → ActsOnce plan → MeansOver view.rack streams plan rest a b x y
-      → IsBorneOut view streams plan rest a b x y watchers watchers
-  borne_once plan rest a b x y watchers once over =
-      let whole = with_once view streams plan rest a b x y watchers once over in
-      borne_stepless plan rest a b x y watchers watchers whole.session (once_no_step plan once) whole.with

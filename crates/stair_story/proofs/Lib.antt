@@ -16,12 +16,15 @@ pub mod HeadlineLaws
 pub mod SureLaws
 pub mod SureStepLaws
 pub mod SureKeptLaws
+pub mod ComesLaws
+pub mod PerformedLaws
 pub mod PlannedLaws
 pub mod AllEnds
 pub mod LifeLaws
 pub mod SessionLaws
 pub mod ExampleLaws
 pub mod KeptLaws
+pub mod LookTaken
 pub mod DrawnLaws
 pub mod BoundedLaws
 pub mod BoundedStepLaws
@@ -29,3 +32,4 @@ pub mod BoundedStoryLaws
 pub mod BoundedCallLaws
 pub mod PlannedSureLaws
 pub mod RebuiltLaws
+pub mod SoonerLaws

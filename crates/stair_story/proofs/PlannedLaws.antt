@@ -1,24 +1,13 @@
--- Calls whose plans take no steps but those of which it is proved what they lead to.
-use Rattle.std.proofs.Common.{ℕ, List, [], ◌∷◌, Ok, Err, sym, subst}
+-- What is so of each step of a plan is so of each step of a story that follows it.
+use Rattle.std.proofs.Common.{◌≡◌, ◌+◌, ◌≤◌, ℕ, List, [], ◌∷◌, Ok, Err, sym, subst, arith}
 use Rattle.std.specs.Prelude.{Result, ⊤}
-use Rattle.stair_member.specs.Membership.{IsMembership}
-use Rattle.stair_session.specs.Returning.{NoneReturns}
-use Rattle.stair_session.specs.Session.{ArrayState}
-use Rattle.stair_array.specs.Machine.{Progress, ReadBlock, Recover, Refusal, Step, WriteBlocks}
-use Rattle.stair_array.specs.Promise.{Begun, Found, Session, StartsFrom}
-use Rattle.stair_array.proofs.RecoverLemmas as recover
-use Rattle.stair_array.proofs.ReadDoneLemmas as read
-use Rattle.stair_array.proofs.WriteDoneLemmas as write
+use Rattle.stair_array.specs.Draws.{allowance}
+use Rattle.stair_array.specs.Machine.{Chunk, Dropped, Nothing, Progress, Promoted, Refusal, Step}
 use Rattle.stair_story.specs.Action.{Action, OkOf, Outcome}
-use Rattle.stair_story.specs.Devices.{DeviceView, Devices, KeepsRules, MeansWhole, WorksAll, devices, seen_of}
-use Rattle.stair_story.specs.Ending.{EachStep, IsInUse, TakesNoStep}
-use Rattle.stair_story.specs.Headline.{IsBorneOut}
-use Rattle.stair_story.specs.Outside.{Outside, Views}
+use Rattle.stair_story.specs.Drawn.{at_step, over_steps}
+use Rattle.stair_story.specs.Ending.{AllowsAtMost, EachStep, TakesNoStep}
 use Rattle.stair_story.specs.Plan.{Plan, Over, Ask, Take, Put, Allocate, Do, Try, RebuildAll, after_rebuild}
-use Rattle.stair_story.specs.Run.{DeedLeads, StepLeads, StoryLeads}
 use Rattle.stair_story.specs.Story.{Deed, Found as FoundOut, Took, TookLast, TakeFailed, HasPut, PutFailed, Grew, RanOut, Did, Stepped, Leads, Moves, after}
-use Rattle.stair_array.specs.Machine.{Chunk, Dropped, Nothing, Promoted}
-use Rattle.stair_story.proofs.HeadlineLaws.{borne_with}
 
 -- ---- the steps of a story
 
@@ -71,41 +60,62 @@ module _ (IsSo : Step → Type 0) where
       let one = move_each deed plan follows.0 each follows.1 in
       (one.0, steps_along story follows.0 rest one.1 follows.2)
 
--- ---- what steps in use lead to
+-- ---- what its steps are allowed
 
--- an opening began with what was found
-found_rules : (was : ArrayState) (session : Session) → StartsFrom Recover was session → KeepsRules session → IsMembership was.member
-found_rules was (Found m) starts rules = subst (λ (a : ArrayState). IsMembership a.member) (sym starts) rules
-found_rules was _ starts rules = absurd starts
+after_allowed : (n : ℕ) (action : Action) (k : OkOf action → Plan) (outcome : Outcome action) → ((done : OkOf action) → AllowsAtMost n (k done))
+    → AllowsAtMost n (after action k outcome)
+after_allowed n action k (Ok done) allows = allows done
+after_allowed n action k (Err refusal) allows = tt
 
-pub in_use_lead : (step : Step) → IsInUse step → StepLeads NoneReturns step
-in_use_lead Recover used = λ answer events x y performs rules.
-    recover.promise answer events x y performs (found_rules performs.was x.session performs.starts rules)
-in_use_lead (ReadBlock b) used = λ answer events x y performs rules. read.promise b answer events x y performs
-in_use_lead (WriteBlocks first contents) used = λ answer events x y performs rules. write.promise first contents answer events x y performs
-in_use_lead _ used = absurd used
+rebuilt_allowed : (n slots done : ℕ) (k : ℕ → Plan) (answer : Result Progress Refusal) → AllowsAtMost n (RebuildAll slots done k)
+    → AllowsAtMost n (after_rebuild slots done k answer)
+rebuilt_allowed n slots done k (Ok Nothing) allows = allows done
+rebuilt_allowed n slots done k (Ok (Chunk j t)) allows = allows
+rebuilt_allowed n slots done k (Ok (Promoted j)) allows = allows
+rebuilt_allowed n slots done k (Ok (Dropped j)) allows = allows
+rebuilt_allowed n slots done k (Err refusal) allows = tt
 
-module _ {R W : Type 0} (view : DeviceView R W) where
-  in_use_leads : (story : List Deed) (x y : Devices R W) (works : Leads (WorksAll view) story x y) → AllSteps IsInUse story
-      → StoryLeads NoneReturns view story x y works
-  in_use_leads [] x y works used = tt
-  in_use_leads (deed ∷ story) x y works used = (one deed works.0 works.1 used.0, in_use_leads story works.0 y works.2 used.1)
-    where
-      one : (deed : Deed) (z : Devices R W) → WorksAll view deed x z → OfDeed IsInUse deed → DeedLeads NoneReturns view deed x z
-      one (Stepped step answer events left) z works used =
-          λ performs. in_use_lead step used answer events (seen_of view x) (seen_of view z) performs works.3
-      one _ z works used = tt
+-- what the rest of a plan is allowed, behind a deed
+record Leaves (n : ℕ) (deed : Deed) (rest : Plan) : Type 0 where
+  left : ℕ
+  within : at_step allowance deed + left ≤ n
+  allows : AllowsAtMost left rest
 
-module _ {R W S K : Type 0} (view : DeviceView R W) (streams : Views S K) (plan rest : Plan) (a b : Outside S K) (x y : R) (watchers left : List W)
-    (used : EachStep IsInUse plan) (whole : MeansWhole view streams plan rest a b x y watchers left) where
-  pub planned_lead : StoryLeads NoneReturns view whole.with.means.story (devices x Begun watchers) (devices y whole.session left) whole.with.works
-  planned_lead =
-      in_use_leads view whole.with.means.story (devices x Begun watchers) (devices y whole.session left) whole.with.works
-      (steps_along IsInUse whole.with.means.story plan rest used whole.with.means.follows)
+same_left : (n : ℕ) (deed : Deed) (plan rest : Plan) → at_step allowance deed ≤ 0 → AllowsAtMost n plan → rest ≡ plan → Leaves n deed rest
+same_left n deed plan rest none allows same =
+    record { left = n; within = omega (arith, none); allows = subst (AllowsAtMost n) (sym same) allows }
 
-  -- such a call is borne out
-  pub borne_planned : IsBorneOut view streams plan rest a b x y watchers left
-  borne_planned = borne_with view streams plan rest a b x y watchers left whole.session whole.with planned_lead
+move_allows : (n : ℕ) (deed : Deed) (plan rest : Plan) → AllowsAtMost n plan → Moves deed plan rest → Leaves n deed rest
+move_allows n (FoundOut asked) (Ask question k) rest allows moves =
+    same_left n (FoundOut asked) (k moves.0) rest (omega arith) (allows moves.0 moves.2) moves.3
+move_allows n (Took bytes) (Take least most k short) rest allows moves = same_left n (Took bytes) (k bytes) rest (omega arith) (allows.0 bytes) moves.1
+move_allows n (TookLast bytes) (Take least most k short) rest allows moves =
+    same_left n (TookLast bytes) (short bytes) rest (omega arith) (allows.1 bytes) moves.1
+move_allows n (TakeFailed bytes) (Take least most k short) rest allows moves = same_left n (TakeFailed bytes) _ rest (omega arith) tt moves.1
+move_allows n (HasPut bytes) (Put all plan) rest allows moves = same_left n (HasPut bytes) plan rest (omega arith) allows moves.1
+move_allows n (PutFailed part) (Put all plan) rest allows moves = same_left n (PutFailed part) _ rest (omega arith) tt moves.1
+move_allows n Grew (Allocate plan) rest allows moves = same_left n Grew plan rest (omega arith) allows moves
+move_allows n RanOut (Allocate plan) rest allows moves = same_left n RanOut _ rest (omega arith) tt moves
+move_allows n (Did did came) (Do action k) rest allows moves =
+    same_left n (Did did came) (after action k moves.0) rest (omega arith) (after_allowed n action k moves.0 allows) moves.2
+move_allows n (Stepped did came events left) (Try step k) rest allows moves = record {
+  left = allows.0;
+  within = subst (λ (taken : Deed). at_step allowance taken + allows.0 ≤ n) (sym moves.1) allows.1;
+  allows = subst (AllowsAtMost allows.0) (sym moves.2) (allows.2 moves.0 left);
+}
+move_allows n (Stepped did came events left) (RebuildAll slots done k) rest allows moves = record {
+  left = n;
+  within = subst (λ (taken : Deed). at_step allowance taken + n ≤ n) (sym moves.1) (omega arith);
+  allows = subst (AllowsAtMost n) (sym moves.2) (rebuilt_allowed n slots done k moves.0 allows);
+}
+move_allows n _ _ rest allows moves = absurd moves
+
+-- the steps of a story are allowed no more than its plan
+pub allowed_along : (n : ℕ) (story : List Deed) (plan rest : Plan) → AllowsAtMost n plan → Leads Moves story plan rest → over_steps allowance story ≤ n
+allowed_along n [] plan rest allows follows = omega arith
+allowed_along n (deed ∷ story) plan rest allows follows =
+    let one = move_allows n deed plan follows.0 allows follows.1 in
+    omega (arith, one.within, allowed_along one.left story follows.0 rest one.allows follows.2)
 
 -- ---- plans that take no step
 
@@ -118,3 +128,13 @@ none_each IsSo (Allocate plan) none = none_each IsSo plan none
 none_each IsSo (Do action k) none = λ done. none_each IsSo (k done) (none done)
 none_each IsSo (Try step k) none = absurd none
 none_each IsSo (RebuildAll slots done k) none = absurd none
+
+pub none_allows : (n : ℕ) (plan : Plan) → TakesNoStep plan → AllowsAtMost n plan
+none_allows n (Over status) none = tt
+none_allows n (Ask question k) none = λ reply is. none_allows n (k reply) (none reply is)
+none_allows n (Take least most k short) none = (λ bytes. none_allows n (k bytes) (none.0 bytes), λ bytes. none_allows n (short bytes) (none.1 bytes))
+none_allows n (Put bytes plan) none = none_allows n plan none
+none_allows n (Allocate plan) none = none_allows n plan none
+none_allows n (Do action k) none = λ done. none_allows n (k done) (none done)
+none_allows n (Try step k) none = absurd none
+none_allows n (RebuildAll slots done k) none = absurd none

@@ -1,6 +1,6 @@
 -- What the calls of an open array did, as steps that are told to watchers.
 use Rattle.std.proofs.Common.{Option, ◌≡◌, ℕ, List, [], ap, inl, inr, length, refl, subst, sym, ◌∙◌}
-use Rattle.std.specs.Prelude.{Err, IfErr, IsErrAnd, IsOk, None, Ok, Result, Some, nat_le, not}
+use Rattle.std.specs.Prelude.{Bool, Err, IfErr, IsErrAnd, IsOk, None, Ok, Result, Some, nat_le, not}
 use Rattle.stair_rack.specs.Telling.{Telling}
 use Rattle.stair_rack.specs.declared.watcher.Event.{Event}
 use Rattle.stair_member.specs.Membership.{IsMembership, Membership}
@@ -9,20 +9,28 @@ use Rattle.stair_member.specs.declared.fault.FenceFault.TheVariants as fence
 use Rattle.stair_session.specs.Courses.{point}
 use Rattle.stair_session.specs.Rebuilding.{Rebuild}
 use Rattle.stair_session.specs.Session.{ArrayState, IsArray}
-use Rattle.stair_array.specs.Arrays.{OpenArray, answer_as, state_of}
-use Rattle.stair_array.specs.Faults.{array_fault, opening_refusal}
+use Rattle.stair_array.specs.Arrays.{OpenArray, answer_as, outcome, rebuilt_as, replaced_as, state_of}
+use Rattle.stair_array.specs.Faults.{array_fault, opening_refusal, rebuild_fault, replace_fault}
 use Rattle.stair_array.specs.declared.fault.RecoverFault.{RecoverFault}
 use Rattle.stair_array.specs.declared.fault.ArrayFault.{ArrayFault}
+use Rattle.stair_array.specs.declared.fault.Progress.{Progress}
+use Rattle.stair_array.specs.declared.fault.RebuildFault.{RebuildFault}
+use Rattle.stair_array.specs.declared.fault.ReplaceFault.{ReplaceFault}
 use Rattle.stair_array.specs.Calls.{Reads, WritesBlocks, refused}
 use Rattle.stair_array.specs.Events.{events_of}
-use Rattle.stair_array.specs.Machine.{Answer, EpochsSpent, ReadBlock, Recover, Refusal, Step, TooFew, WriteBlocks}
+use Rattle.stair_array.specs.Machine.{Answer, EpochsSpent, ReadBlock, RebuildNext, Recover, Refusal, ReplaceSlot, ScrubStripe, SetFrozen, SetLabel, Step, TooFew, WriteBlocks}
+use Rattle.stair_array.specs.Mends.{Rebuilds, Replaces, Scrubs, StampsAs}
 use Rattle.stair_array.specs.News.{AddsNews, events_in, no_news}
 use Rattle.stair_array.specs.Openings.{Recovers}
-use Rattle.stair_array.specs.Promise.{Closed, DoesStep, EndsIn, Found, Keeps, Opened, Performs, Seen, Session, Stops, left_of, rebuild_after, running}
+use Rattle.stair_array.specs.Promise.{Closed, DoesStep, EndsIn, Found, Keeps, Opened, Performs, Seen, Session, Stops, rebuild_after, rebuild_then, running}
 use Rattle.stair_array.specs.declared.news.News.{News}
 use Rattle.stair_array.proofs.NewsLemmas.{step_told}
 use Rattle.stair_array.proofs.PerformsLemmas.{performs}
 use Rattle.stair_array.proofs.ReadCauseLemmas.{read_performs}
+use Rattle.stair_array.proofs.RebuildLemmas.{rebuild_performs}
+use Rattle.stair_array.proofs.ReplaceLemmas.{replace_performs}
+use Rattle.stair_array.proofs.ScrubLemmas.{scrub_performs}
+use Rattle.stair_array.proofs.StampLemmas.{frozen_performs, label_performs}
 use Rattle.stair_array.proofs.WriteCauseLemmas.{write_performs}
 use Rattle.stair_story.specs.Devices.{DeviceView, Devices, KeepsRules, devices}
 use Rattle.stair_story.specs.Kept.{HasMember}
@@ -58,20 +66,35 @@ pub fault_answered : {T : Type 0} (given : T) (result : Result (Unit {0}) ArrayF
 fault_answered given result (fence.TooFew whys) is = ap (answer_as given) is
 fault_answered given result fence.EpochsSpent is = ap (answer_as given) is
 
+pub outcome_answered : {T : Type 0} (result : Result T ArrayFault) (fault : FenceFault) → result ≡ Err (array_fault fault)
+    → outcome result ≡ Err (refused fault)
+outcome_answered result (fence.TooFew whys) is = ap outcome is
+outcome_answered result fence.EpochsSpent is = ap outcome is
+
+pub replace_answered : (result : Result (Unit {0}) ReplaceFault) (fault : FenceFault) → result ≡ Err (replace_fault fault)
+    → replaced_as result ≡ Err (refused fault)
+replace_answered result (fence.TooFew whys) is = ap replaced_as is
+replace_answered result fence.EpochsSpent is = ap replaced_as is
+
+pub rebuild_answered : (result : Result Progress RebuildFault) (fault : FenceFault) → result ≡ Err (rebuild_fault fault)
+    → rebuilt_as result ≡ Err (refused fault)
+rebuild_answered result (fence.TooFew whys) is = ap rebuilt_as is
+rebuild_answered result fence.EpochsSpent is = ap rebuilt_as is
+
 -- an array whose news were cleared is as good as before
 pub cleared_array : (was a : OpenArray) → was ≡ record a { news = no_news } → (a.stopped ≡ None → IsArray (state_of a))
     → was.stopped ≡ None → IsArray (state_of was)
 cleared_array was a cleared array = subst (λ (o : OpenArray). o.stopped ≡ None → IsArray (state_of o)) (sym cleared) array
 
--- what a call leaves of an array, whose news were cleared before it
-pub record Leaves (step : Step) (answer : Answer step) (was is : OpenArray) : Type 0 where
+-- what a call leaves of an array, whose news were cleared before it, with this rebuild
+pub record Leaves (step : Step) (answer : Answer step) (after : Option Rebuild) (was is : OpenArray) : Type 0 where
   pub cleared : was.news ≡ no_news
-  pub rebuild : is.rebuild ≡ rebuild_after is.member was.rebuild
+  pub rebuild : is.rebuild ≡ after
   pub news : AddsNews step answer was.member.array is.member.array was.news is.news
 
-pub left_by : (step : Step) (answer : Answer step) (a was is : OpenArray) → was ≡ record a { news = no_news }
-    → is.rebuild ≡ rebuild_after is.member was.rebuild → AddsNews step answer was.member.array is.member.array was.news is.news
-    → Leaves step answer was is
+pub left_by : (step : Step) (answer : Answer step) {after : Option Rebuild} (a was is : OpenArray) → was ≡ record a { news = no_news }
+    → is.rebuild ≡ after → AddsNews step answer was.member.array is.member.array was.news is.news
+    → Leaves step answer after was is
 left_by step answer a was is cleared rebuild news =
     record { cleared = ap (λ (o : OpenArray). o.news) cleared; rebuild = rebuild; news = news }
 
@@ -123,9 +146,9 @@ module _ {R W : Type 0} (view : DeviceView R W) (old new : R) (watchers left : L
       (inl (performs m last (Err refusal) (told_of view.rack old) (told_of view.rack new) rules recovers)) same rules
 
   -- a step of an open array, of which the session had this
-  pub step_taken : (step : Step) (answer : Answer step) (was is : OpenArray) (had : ArrayState) → state_of was ≡ had
+  pub step_taken : (step : Step) (answer : Answer step) {after : Option Rebuild} (was is : OpenArray) (had : ArrayState) → state_of was ≡ had
       → (step ≡ Recover → IsOk answer)
-      → Leaves step answer was is → Promises step answer was is (told_of view.rack old) (told_of view.rack new) → AnswersFault step answer was is old new
+      → Leaves step answer after was is → Promises step answer was is (told_of view.rack old) (told_of view.rack new) → AnswersFault step answer was is old new
       → (told : News) → told ≡ is.news → TellsAll view.watcher (events_in told) watchers left
       → Takes view step answer (devices old (Opened had) watchers) (devices new (Opened (state_of is)) left)
   step_taken step answer was is had same goes leaves promises stopped told news tells =
@@ -166,7 +189,7 @@ performed_array step answer events x y a performs is going =
     ]
 
 -- where it isn't stopped by then it is one that runs
-stays_array : {R : Type 0} (step : Step) (answer : Answer step) (was is : OpenArray) (x y : Telling) (old new : R)
+pub stays_array : {R : Type 0} (step : Step) (answer : Answer step) (was is : OpenArray) (x y : Telling) (old new : R)
     → Promises step answer was is x y → (was.stopped ≡ None → Keeps answer is.stopped) → AnswersFault step answer was is old new
     → is.stopped ≡ None → IsArray (state_of is)
 stays_array step answer was is x y old new promises kept stopped none = by was.stopped refl
@@ -195,40 +218,79 @@ pub opening_refused : {X : Type 0} (result : Result X RecoverFault) (fault : Rec
 opening_refused (Ok x) fault IsSo is all = tt
 opening_refused (Err e) fault IsSo is all = λ refusal told. all refusal (sym (ap opening_refusal is) ∙ told)
 
--- READS AND WRITES
+-- READS, WRITES AND WHAT IS DONE FOR DEVICES
 
 module _ (was is : OpenArray) (array : was.stopped ≡ None → IsArray (state_of was)) (x y : Telling) where
   -- a step of an array that ran, with what is left of it
-  promised : (step : Step) (answer : Answer step) → Leaves step answer was is
+  promised : (step : Step) (answer : Answer step) {after : Option Rebuild} → Leaves step answer after was is
       → (was.stopped ≡ None → IsArray (running was.member was.rebuild)
       → Performs step answer (events_of step answer was.member.array is.member.array)
-      (seen x (Opened (running was.member was.rebuild))) (seen y (Opened (left_of is.member was.rebuild is.stopped))))
+      (seen x (Opened (running was.member was.rebuild)))
+      (seen y (Opened (record { member = is.member; rebuild = after; stopped = is.stopped }))))
       → Promises step answer was is x y
-  promised step answer leaves does none =
+  promised step answer {after} leaves does none =
       let ran = state_is was was.rebuild None refl none in
-      rw (ran, state_is is (rebuild_after is.member was.rebuild) is.stopped leaves.rebuild refl) (does none (subst IsArray ran (array none)))
+      rw (ran, state_is is after is.stopped leaves.rebuild refl) (does none (subst IsArray ran (array none)))
 
-  module _ (b : ℕ) (answer : Answer (ReadBlock b)) (told : was.stopped ≡ None → Reads b answer (point was.member x) (point is.member y))
-      (kept : was.stopped ≡ None → Keeps answer is.stopped) (leaves : Leaves (ReadBlock b) answer was is) where
-    pub read_promises : Promises (ReadBlock b) answer was is x y
-    read_promises =
-        promised (ReadBlock b) answer leaves
-        (λ none ran. read_performs b answer was.member is.member was.rebuild is.stopped x y ran (told none) (kept none))
+  -- what a call leaves that keeps a rebuild as long as its slot is rebuilt
+  abbrev LeavesIt : (step : Step) → Answer step → Type 0
+  LeavesIt step answer = Leaves step answer (rebuild_after is.member was.rebuild) was is
 
-    pub read_array : {R : Type 0} (old new : R) → AnswersFault (ReadBlock b) answer was is old new → is.stopped ≡ None → IsArray (state_of is)
-    read_array old new stopped = stays_array (ReadBlock b) answer was is x y old new read_promises kept stopped
+  pub read_promises : (b : ℕ) (answer : Answer (ReadBlock b)) → (was.stopped ≡ None → Reads b answer (point was.member x) (point is.member y))
+      → (was.stopped ≡ None → Keeps answer is.stopped) → LeavesIt (ReadBlock b) answer
+      → Promises (ReadBlock b) answer was is x y
+  read_promises b answer told kept leaves =
+      promised (ReadBlock b) answer leaves
+      (λ none ran. read_performs b answer was.member is.member was.rebuild is.stopped x y ran (told none) (kept none))
 
-  module _ (first : ℕ) (contents : List (List ℕ)) (answer : Answer (WriteBlocks first contents))
-      (told : was.stopped ≡ None → WritesBlocks first contents answer (point was.member x) (point is.member y))
-      (kept : was.stopped ≡ None → Keeps answer is.stopped) (leaves : Leaves (WriteBlocks first contents) answer was is) where
-    pub write_promises : Promises (WriteBlocks first contents) answer was is x y
-    write_promises =
-        promised (WriteBlocks first contents) answer leaves
-        (λ none ran. write_performs first contents answer was.member is.member was.rebuild is.stopped x y ran (told none) (kept none))
+  pub write_promises : (first : ℕ) (contents : List (List ℕ)) (answer : Answer (WriteBlocks first contents))
+      → (was.stopped ≡ None → WritesBlocks first contents answer (point was.member x) (point is.member y))
+      → (was.stopped ≡ None → Keeps answer is.stopped) → LeavesIt (WriteBlocks first contents) answer
+      → Promises (WriteBlocks first contents) answer was is x y
+  write_promises first contents answer told kept leaves =
+      promised (WriteBlocks first contents) answer leaves
+      (λ none ran. write_performs first contents answer was.member is.member was.rebuild is.stopped x y ran (told none) (kept none))
 
-    pub write_array : {R : Type 0} (old new : R) → AnswersFault (WriteBlocks first contents) answer was is old new → is.stopped ≡ None
-        → IsArray (state_of is)
-    write_array old new stopped = stays_array (WriteBlocks first contents) answer was is x y old new write_promises kept stopped
+  pub scrub_promises : (t : ℕ) (answer : Answer (ScrubStripe t)) → (was.stopped ≡ None → Scrubs t answer (point was.member x) (point is.member y))
+      → (was.stopped ≡ None → Keeps answer is.stopped) → LeavesIt (ScrubStripe t) answer
+      → Promises (ScrubStripe t) answer was is x y
+  scrub_promises t answer told kept leaves =
+      promised (ScrubStripe t) answer leaves
+      (λ none ran. scrub_performs t answer was.member is.member was.rebuild is.stopped x y ran (told none) (kept none))
+
+  pub replace_promises : (slot : ℕ) (answer : Answer (ReplaceSlot slot))
+      → (was.stopped ≡ None → Replaces slot answer (point was.member x) (point is.member y))
+      → (was.stopped ≡ None → Keeps answer is.stopped) → LeavesIt (ReplaceSlot slot) answer
+      → Promises (ReplaceSlot slot) answer was is x y
+  replace_promises slot answer told kept leaves =
+      promised (ReplaceSlot slot) answer leaves
+      (λ none ran. replace_performs slot answer was.member is.member was.rebuild is.stopped x y ran (told none) (kept none))
+
+  pub rebuild_promises : (answer : Answer RebuildNext)
+      → (was.stopped ≡ None → Rebuilds (state_of was) answer (point was.member x) (point is.member y))
+      → (was.stopped ≡ None → Keeps answer is.stopped) → Leaves RebuildNext answer (rebuild_then answer is.member was.rebuild) was is
+      → Promises RebuildNext answer was is x y
+  rebuild_promises answer told kept leaves =
+      promised RebuildNext answer leaves
+      (λ none ran. rebuild_performs answer was.member is.member was.rebuild is.stopped x y ran
+      (subst (λ (s : ArrayState). Rebuilds s answer (point was.member x) (point is.member y)) (state_is was was.rebuild None refl none) (told none))
+      (kept none))
+
+  pub frozen_promises : (frozen : Bool) (answer : Answer (SetFrozen frozen))
+      → (was.stopped ≡ None → StampsAs frozen was.member.array.label answer (point was.member x) (point is.member y))
+      → (was.stopped ≡ None → Keeps answer is.stopped) → LeavesIt (SetFrozen frozen) answer
+      → Promises (SetFrozen frozen) answer was is x y
+  frozen_promises frozen answer told kept leaves =
+      promised (SetFrozen frozen) answer leaves
+      (λ none ran. frozen_performs frozen answer was.member is.member was.rebuild is.stopped x y ran (told none) (kept none))
+
+  pub label_promises : (label : List ℕ) (answer : Answer (SetLabel label))
+      → (was.stopped ≡ None → StampsAs was.member.array.frozen label answer (point was.member x) (point is.member y))
+      → (was.stopped ≡ None → Keeps answer is.stopped) → LeavesIt (SetLabel label) answer
+      → Promises (SetLabel label) answer was is x y
+  label_promises label answer told kept leaves =
+      promised (SetLabel label) answer leaves
+      (λ none ran. label_performs label answer was.member is.member was.rebuild is.stopped x y ran (told none) (kept none))
 
 -- THE GEOMETRY
 

@@ -1,6 +1,7 @@
 -- How a call ends, and predicates on plans by which that is told for all commands at once.
-use Rattle.std.specs.Prelude.{◌≡◌, ◌≢◌, ◌≤◌, ℕ, Bool, List, ⊤}
-use Rattle.stair_array.specs.Machine.{Answer, ReadBlock, RebuildNext, Recover, Refusal, Step, WriteBlocks}
+use Rattle.std.specs.Prelude.{◌≡◌, ◌≢◌, ◌+◌, ◌≤◌, ℕ, Bool, List, ⊤}
+use Rattle.stair_array.specs.Draws.{allowance}
+use Rattle.stair_array.specs.Machine.{Answer, RebuildNext, Refusal, ReplaceSlot, Step}
 use Rattle.stair_rack.specs.Count.{Rose}
 use Rattle.stair_story.specs.declared.status.Status.{Status}
 use Rattle.stair_story.specs.declared.status.Status.TheVariants.{Done, InputFault, OutputFault, OutOfMemory}
@@ -109,12 +110,24 @@ EachStep IsSo (Try step k) = IsSo step
 EachStep IsSo (RebuildAll slots done k) = IsSo RebuildNext
     × ((count : ℕ) → EachStep IsSo (k count))
 
--- the steps of which it is proved so far what they lead to
-abbrev pub IsInUse : Step → Type 0
-IsInUse Recover = ⊤
-IsInUse (ReadBlock b) = ⊤
-IsInUse (WriteBlocks first contents) = ⊤
-IsInUse _ = ⊥
+-- a step that admits no medium
+abbrev pub AdmitsNone : Step → Type 0
+AdmitsNone (ReplaceSlot j) = ⊥
+AdmitsNone _ = ⊤
+
+-- the steps of any way through the plan are allowed so many draws together, at most
+abbrev pub AllowsAtMost : ℕ → Plan → Type 0
+AllowsAtMost n (Over status) = ⊤
+AllowsAtMost n (Ask question k) =
+    (reply : Reply question) → IsReply question reply → AllowsAtMost n (k reply)
+AllowsAtMost n (Take least most k short) = ((bytes : List ℕ) → AllowsAtMost n (k bytes))
+    × ((bytes : List ℕ) → AllowsAtMost n (short bytes))
+AllowsAtMost n (Put bytes plan) = AllowsAtMost n plan
+AllowsAtMost n (Allocate plan) = AllowsAtMost n plan
+AllowsAtMost n (Do action k) = (done : OkOf action) → AllowsAtMost n (k done)
+AllowsAtMost n (Try step k) = (rest : ℕ) × (allowance step + rest ≤ n)
+    × ((answer : Answer step) (left : Bool) → AllowsAtMost rest (k answer left))
+AllowsAtMost n (RebuildAll slots done k) = (count : ℕ) → AllowsAtMost n (k count)
 
 -- memory isn't asked for, so it can't be short
 abbrev pub AsksForNone : Plan → Type 0

@@ -1,6 +1,6 @@
 -- The status of a call that ended with a fault.
 use Rattle.std.specs.Prelude.{Result, Ok, Err}
-use Rattle.stair_array.specs.Faults.{refusal_for}
+use Rattle.stair_array.specs.Faults.{rebuild_refusal, refusal_for, replace_refusal}
 use Rattle.stair_array.specs.declared.fault.RecoverFault.{RecoverFault}
 use Rattle.stair_array.specs.declared.fault.RecoverFault.TheVariants as recover
 use Rattle.stair_conf.specs.declared.fault.ConfigFault.{ConfigFault}
@@ -10,7 +10,7 @@ use Rattle.stair_story.specs.declared.fault.Fault.TheVariants as fault
 use Rattle.stair_story.specs.Action.{status_of_create, status_of_survey}
 use Rattle.stair_story.specs.Refused.{status_of_refusal}
 use Rattle.stair_story.specs.declared.status.Status.{Status}
-use Rattle.stair_story.specs.declared.status.Status.TheVariants.{EpochsSpent, JournalLost, Key, Limit, NotToml, Input, InputFault, OutOfRange, OutputFault, OutOfMemory, TooFew}
+use Rattle.stair_story.specs.declared.status.Status.TheVariants.{EpochsSpent, Gone, JournalLost, Key, Limit, NotToml, Input, InputFault, OutOfRange, OutputFault, OutOfMemory, TooFew}
 
 -- the status of a geometry text
 abbrev pub status_of_config : ConfigFault → Status
@@ -37,6 +37,9 @@ status_of_fault (fault.Create fault) = status_of_create fault
 status_of_fault (fault.Survey fault) = status_of_survey fault
 status_of_fault (fault.Opening fault) = status_of_opening fault
 status_of_fault (fault.Step fault slots) = status_of_refusal slots (refusal_for fault)
+status_of_fault (fault.Replace fault slots) = status_of_refusal slots (replace_refusal fault)
+status_of_fault (fault.Rebuild fault slots) = status_of_refusal slots (rebuild_refusal fault)
+status_of_fault (fault.Gone slot) = Gone slot
 status_of_fault (fault.OutOfRange asked limit) = OutOfRange asked limit
 
 -- the status of a call that may have ended with a fault

@@ -17,7 +17,6 @@ use Rattle.stair_array.specs.declared.fault.CreateFault.{CreateFault}
 use Rattle.stair_array.specs.Machine.{GivenBy, Step}
 use Rattle.stair_array.specs.Promise.{Begun, Session}
 use Rattle.stair_story.specs.Devices.{DeviceView, Devices, MeansWhole, MeansWith, WorksAll, devices}
-use Rattle.stair_story.specs.Ending.{EachStep, IsInUse, TakesNoStep}
 use Rattle.stair_story.specs.Outside.{Outside, Views}
 use Rattle.stair_story.specs.Plan.{Plan}
 use Rattle.stair_story.specs.Run.{Goes, IsCalmUpTo, IsRun, IsSafe, Now, StepLeads, StoryLeads, TakesStep, history_of}
@@ -121,17 +120,9 @@ StoriesLead R W = (returning : Returning) → PerformedLeads returning → (view
     (story : List Deed) (x y : Devices R W) (works : Leads (WorksAll view) story x y)
     → StoryLeads returning view story x y works
 
--- A call whose plan takes no steps but openings, reads and writes is borne out.
-abbrev pub PlannedIsBorneOut : (R W S K : Type 0) → Type 0
-PlannedIsBorneOut R W S K = (view : DeviceView R W) (streams : Views S K) (plan rest : Plan)
+-- And every call is borne out.
+abbrev pub AllAreBorneOut : (R W S K : Type 0) → Type 0
+AllAreBorneOut R W S K = (view : DeviceView R W) (streams : Views S K) (plan rest : Plan)
     (old new : Outside S K) (first last : R) (watchers left : List W)
-    → EachStep IsInUse plan → MeansWhole view streams plan rest old new first last watchers left
-    → IsBorneOut view streams plan rest old new first last watchers left
-
--- A call whose plan takes no step is borne out, whatever is proved of steps.
-abbrev pub SteplessIsBorneOut : (R W S K : Type 0) → Type 0
-SteplessIsBorneOut R W S K = (view : DeviceView R W) (streams : Views S K) (plan rest : Plan)
-    (old new : Outside S K) (first last : R) (watchers left : List W) (session : Session)
-    → TakesNoStep plan → MeansWith view streams plan rest old new (devices first Begun watchers)
-    (devices last session left)
+    → MeansWhole view streams plan rest old new first last watchers left
     → IsBorneOut view streams plan rest old new first last watchers left

@@ -15,6 +15,7 @@ pub mod Rack
 pub mod Ending
 pub mod Devices
 pub mod Steps
+pub mod Comes
 pub mod Run
 pub mod Headline
 pub mod Streams

@@ -1,10 +1,13 @@
 -- In which order the chunks of a rebuild come.
-use Rattle.std.specs.Prelude.{◌≡◌, ◌+◌, ◌-◌, ◌<◌, ◌≤◌, ◌&&◌, ℕ, zero, suc, Bool, true, false, List, [], ◌∷◌, ◌++◌, Option, None, Some, Ok, if◌then◌else◌, nat_lt, ⊤}
+use Rattle.std.specs.Prelude.{◌≡◌, ◌+◌, ◌-◌, ◌*◌, ◌<◌, ◌≤◌, ◌&&◌, ℕ, zero, suc, Bool, true, false, List, [], ◌∷◌, ◌++◌, Option, None, Some, Ok, if◌then◌else◌, nat_lt, ⊤}
 use Rattle.std.specs.Option.{option_map_or}
 use Rattle.stair_member.specs.Membership.{Membership, why_of}
 use Rattle.stair_member.specs.declared.why.Why.{Why}
 use Rattle.stair_member.specs.declared.why.Why.TheVariants as why
+use Rattle.stair_session.specs.Rebuilding.{Rebuild}
+use Rattle.stair_session.specs.Session.{ArrayState}
 use Rattle.stair_array.specs.Causes.{IsLowestRebuilt}
+use Rattle.stair_array.specs.Draws.{weights}
 use Rattle.stair_array.specs.Machine.{Chunk, Dropped, Nothing, Progress, Promoted, RebuildNext}
 use Rattle.stair_array.specs.Promise.{Opened, Session}
 use Rattle.stair_story.specs.Devices.{DeviceView, Devices, WorksAll}
@@ -121,3 +124,15 @@ abbrev pub RunsAreWhole : (R W : Type 0) → Type 0
 RunsAreWhole R W = (view : DeviceView R W) (story : List Deed) (deed : Deed)
     (old mid new : Devices R W) → Leads (WorksAll view) story old mid → WorksAll view deed mid new
     → stands_in old.session ≡ None → ComesBehind deed story mid.session
+
+-- HOW MANY STEPS IT TAKES
+
+-- so many stripes of the slot that is under way were rebuilt
+abbrev pub stripes_done : Option Rebuild → ℕ
+stripes_done (Some rebuild) = rebuild.stripe
+stripes_done None = 0
+
+-- No fewer than the steps of a rebuild that come until there is nothing: a slot that is rebuilt weighs two, and one that is live
+-- one.
+abbrev pub steps_left : ArrayState → ℕ
+steps_left a = weights a.member * (a.member.array.geometry.stripes + 1) - stripes_done a.rebuild

@@ -78,7 +78,7 @@ abbrev pub line_of : Status → List ℕ
 line_of Done = []
 line_of (NotCodeword broken) = codes "not a codeword: " ++ equation_line broken
 line_of NoCodeword = codes "no codeword holds these cells"
-line_of Usage = codes "usage: stair FOLDER check|stripe|restore|create|show|read|write"
+line_of Usage = codes "usage: stair FOLDER check|stripe|restore|create|show|read|write|scrub|replace|rebuild|freeze|thaw|label"
 line_of (Limit k) = codes "geometry: limit " ++ decimal k
 line_of (Key key) = codes "geometry: key " ++ name_of key
 line_of NotToml = codes "geometry: not TOML"

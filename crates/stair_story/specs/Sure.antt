@@ -24,7 +24,7 @@ use Rattle.stair_story.specs.declared.status.Status.TheVariants.{Done, OutOfMemo
 use Rattle.stair_story.specs.Action.{Create, Survey}
 use Rattle.stair_story.specs.Bounded.{IsBoundedAt}
 use Rattle.stair_story.specs.Devices.{DeviceView, Devices, MeansWhole, MeansWith, WorksAll}
-use Rattle.stair_story.specs.Ending.{EachStep, IsInUse}
+use Rattle.stair_story.specs.Ending.{AdmitsNone, AllowsAtMost, EachStep}
 use Rattle.stair_story.specs.Outside.{Outside, Views}
 use Rattle.stair_story.specs.Plan.{Plan, Over, Ask, Take, Put, Allocate, Do, Try, RebuildAll}
 use Rattle.stair_story.specs.Question.{IsReply, Reply}
@@ -220,13 +220,18 @@ pub record ServesThroughout {R : Type 0} (rack : RackView R) (s : State) (first 
 abbrev pub no_assurance : Assurance
 no_assurance = record { kept = no_slots; away = no_slots }
 
--- Of a plan that takes no steps but openings, reads and writes nothing is asked of the story: it is done where it is sure without
+-- so many draws are left then for the steps of a plan
+abbrev pub most_allowed : ℕ
+most_allowed = 2 ^ 38
+
+-- Of a plan that admits no medium and draws few numbers nothing is asked of the story: it is done where it is sure without
 -- counting on a slot.
 abbrev pub PlannedSureIsDone : (R W S K : Type 0) → Type 0
 PlannedSureIsDone R W S K = (view : DeviceView R W) (streams : Views S K) (plan : Plan)
     (status : Status) (s : State) (old new : Outside S K) (first last : R) (watchers left : List W)
     → MeansWhole view streams plan (Over status) old new first last watchers left
-    → EachStep IsInUse plan → ServesThroughout view.rack s first last → HasNoFault streams old new
+    → EachStep AdmitsNone plan → AllowsAtMost most_allowed plan
+    → ServesThroughout view.rack s first last → HasNoFault streams old new
     → IsSure no_assurance plan (without_seats s) (streams.source.left old.source) → IsDone status
 
 -- Over a rack alone, which suffices for a plan that takes no step, nothing is asked of steps. The session began at `before`.

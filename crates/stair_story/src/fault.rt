@@ -1,7 +1,7 @@
 ghost use Rattle.std.specs.Prelude.{◌≡◌};
 ghost use Rattle.stair_story.specs.declared.fault.Fault.TheVariants.{Memory, Text, Create, Survey, Opening};
 
-use stair_array::{ArrayFault, CreateFault, RecoverFault};
+use stair_array::{ArrayFault, CreateFault, RebuildFault, RecoverFault, ReplaceFault};
 use stair_conf::ConfigFault;
 use stair_member::SurveyFault;
 use std::alloc::AllocError;
@@ -27,6 +27,12 @@ pub enum Fault {
     Opening(RecoverFault),
     /// An open array of so many slots refused a step.
     Step { fault: ArrayFault, slots: u8 },
+    /// An open array of so many slots didn't admit the device in a slot.
+    Replace { fault: ReplaceFault, slots: u8 },
+    /// A step of a rebuild was refused by an open array of so many slots.
+    Rebuild { fault: RebuildFault, slots: u8 },
+    /// The slot that was replaced isn't Live at the end.
+    Gone(u8),
     /// The number `asked` is at or past the `limit`.
     OutOfRange { asked: u64, limit: u64 },
 }

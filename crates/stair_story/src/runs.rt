@@ -2,14 +2,15 @@
 
 ghost use Rattle.stair_story.specs.Headline.{
   AcknowledgedAreTaken,
+  AllAreBorneOut,
   CallsAreRuns,
   CreatesAreRefused,
-  PlannedIsBorneOut,
-  SteplessIsBorneOut,
+  PerformedLeads,
   StoriesAreCutSafely,
   StoriesAreRuns,
   StoriesLead,
 };
+ghost use Rattle.stair_session.specs.Returning.{NoneReturns};
 
 /// What follows of every story whose steps lead on. It does nothing.
 pub fn run_laws<R, W, S, K>()
@@ -25,8 +26,8 @@ pub fn run_laws<R, W, S, K>()
     ensures refused { CreatesAreRefused }
     // what a call means gives both, where no medium comes back
     ensures borne_out { CallsAreRuns R W S K }
-    // a call whose plan takes no steps but openings, reads and writes is borne out
-    ensures planned { PlannedIsBorneOut R W S K }
-    // a call whose plan takes no step is borne out, whatever is proved of steps
-    ensures stepless { SteplessIsBorneOut R W S K }
+    // where no medium comes back all that is performed leads on
+    ensures performed { PerformedLeads NoneReturns }
+    // so every call is borne out
+    ensures called { AllAreBorneOut R W S K }
 {}

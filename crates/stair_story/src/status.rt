@@ -1,11 +1,11 @@
 ghost use Rattle.std.specs.Prelude.{◌≡◌, Some};
-ghost use Rattle.stair_array.specs.Faults.{refusal_for};
+ghost use Rattle.stair_array.specs.Faults.{rebuild_refusal, refusal_for, replace_refusal};
 ghost use Rattle.stair_story.specs.Refused.{status_of_refusal};
 ghost use Rattle.stair_story.specs.Status.{words_of as words_of_mark};
 
 use crate::fault::Fault;
 use crate::text::identity_digits;
-use stair_array::{ArrayFault, CreateFault, RecoverFault};
+use stair_array::{ArrayFault, CreateFault, RebuildFault, RecoverFault, ReplaceFault};
 use stair_base::Broken;
 use stair_conf::{ConfigFault, Key};
 use stair_member::{SurveyFault, Why};
@@ -101,6 +101,9 @@ impl From<Fault> for Status {
             Fault::Survey(fault) => Status::from(fault),
             Fault::Opening(fault) => Status::from(fault),
             Fault::Step { fault, slots } => status_of_step(fault, slots),
+            Fault::Replace { fault, slots } => status_of_replacement(fault, slots),
+            Fault::Rebuild { fault, slots } => status_of_rebuild(fault, slots),
+            Fault::Gone(slot) => Status::Gone(slot),
             Fault::OutOfRange { asked, limit } => Status::OutOfRange { asked, limit },
         }
     }
@@ -135,6 +138,36 @@ fn status_of_step(fault: ArrayFault, slots: u8) -> Status
         },
         ArrayFault::TooFew(whys) => Status::TooFew(whys),
         ArrayFault::EpochsSpent => Status::EpochsSpent,
+    }
+}
+
+// The status of a replacement that an open array of so many slots refused.
+fn status_of_replacement(fault: ReplaceFault, slots: u8) -> Status
+    ensures { result ≡ status_of_refusal slots (replace_refusal fault) }
+{
+    match fault {
+        ReplaceFault::OutOfRange { asked, limit } => Status::OutOfRange { asked, limit },
+        ReplaceFault::SlotBusy { slot, mark } => Status::SlotBusy { slot, mark },
+        ReplaceFault::Gone(slot) => Status::Gone(slot),
+        ReplaceFault::SmallDevice { slot, has, needs } => Status::SmallDevice { slot, has, needs },
+        ReplaceFault::AlreadyArray(slot) => Status::AlreadyArray(slot),
+        ReplaceFault::TooFew(whys) => Status::TooFew(whys),
+        ReplaceFault::EpochsSpent => Status::EpochsSpent,
+    }
+}
+
+// The status of a step of a rebuild that an open array of so many slots refused.
+fn status_of_rebuild(fault: RebuildFault, slots: u8) -> Status
+    ensures { result ≡ status_of_refusal slots (rebuild_refusal fault) }
+{
+    match fault {
+        RebuildFault::Lost { stripe, counts } => Status::Lost {
+            stripe,
+            counts,
+            n: slots,
+        },
+        RebuildFault::TooFew(whys) => Status::TooFew(whys),
+        RebuildFault::EpochsSpent => Status::EpochsSpent,
     }
 }
 
@@ -236,7 +269,7 @@ impl fmt::Display for Status {
             Status::NoCodeword => write!(f, "no codeword holds these cells"),
             Status::Usage => write!(
                 f,
-                "usage: stair FOLDER check|stripe|restore|create|show|read|write"
+                "usage: stair FOLDER check|stripe|restore|create|show|read|write|scrub|replace|rebuild|freeze|thaw|label"
             ),
             Status::Limit(limit) => write!(f, "geometry: limit {limit}"),
             Status::Key(key) => write!(f, "geometry: key {}", key.name()),

@@ -1,22 +1,37 @@
 // The open array of a session, whose steps are told to watchers.
 
-ghost use Rattle.std.specs.Prelude.{◌≡◌, ◌%◌, ◌/◌, length, IfErr, IfOk, Some, Ok, Err};
+ghost use Rattle.std.specs.Prelude.{◌≡◌, ◌%◌, ◌/◌, ◌<◌, length, IfErr, IfOk, None, OnOk, Some, Ok, Err};
 ghost use Rattle.stair_rack.specs.Watching.{watcher_view};
-ghost use Rattle.stair_array.specs.Arrays.{answer_as, blocks_of, outcome};
-ghost use Rattle.stair_array.specs.Faults.{opening_refusal};
-ghost use Rattle.stair_array.specs.Machine.{ReadBlock, Recover, Refusal, WriteBlocks};
+ghost use Rattle.stair_array.specs.Arrays.{answer_as, blocks_of, outcome, rebuilt_as, replaced_as};
+ghost use Rattle.stair_array.specs.Faults.{array_fault, opening_refusal};
+ghost use Rattle.stair_member.specs.declared.fault.FenceFault.{FenceFault};
+ghost use Rattle.stair_session.specs.Session.{IsArray, seats_in};
+ghost use Rattle.stair_array.specs.Machine.{
+  ReadBlock,
+  RebuildNext,
+  Recover,
+  Refusal,
+  ReplaceSlot,
+  ScrubStripe,
+  SetFrozen,
+  SetLabel,
+  WriteBlocks,
+};
 ghost use Rattle.stair_array.specs.News.{events_in};
 ghost use Rattle.stair_array.specs.Promise.{Closed, Found, Opened as IsOpen};
 ghost use Rattle.stair_state.specs.Blocks.{AreOfOneStripe};
 ghost use Rattle.stair_story.specs.Devices.{device_view, devices};
 ghost use Rattle.stair_story.specs.Rack.{rack_view};
+ghost use Rattle.stair_story.specs.Rebuilt.{steps_left};
 ghost use Rattle.stair_story.specs.Steps.{Takes};
 ghost use Rattle.stair_watch.specs.WatcherList.{AllStay, TellsAll};
 
 use stair_array::{Array, ArrayFault, News, RecoverFault};
 use stair_base::{Geometry, SECTOR, StripeCode};
 use stair_member::Member;
+use stair_mend::{Progress, RebuildFault, ReplaceFault, rebuild_step, replace, scrub_step};
 use stair_rack::{Rack, Watcher};
+use stair_super::{Label, Mark};
 use stair_watch::tell;
 use std::alloc::Global;
 use std::marker::Model;
@@ -121,6 +136,127 @@ impl<C: StripeCode> Opened<C> {
         let written = self.array.write_blocks(rack, first, from);
         tell_all(self.array.news(), watchers);
         written
+    }
+
+    /// Scrubs a stripe, as [`scrub_step`] does, and tells what that did.
+    pub fn scrub<R: Rack>(
+        &mut self,
+        rack: &mut R,
+        stripe: u32,
+        watchers: &mut Vec<Box<dyn Watcher>>,
+    ) -> Result<u16, ArrayFault>
+        requires stay { AllStay (watcher_view told count left patience) watchers.old.items }
+        ensures taken { Takes
+            (device_view (rack_view R.is_honest R.history R.bads R.gones) (watcher_view told count left patience))
+            (ScrubStripe stripe) (outcome result)
+            (devices rack.old (IsOpen self.old) watchers.old.items)
+            (devices rack.new (IsOpen self.new) watchers.new.items) }
+        ensures stay { AllStay (watcher_view told count left patience) watchers.new.items }
+    {
+        self.array.clear_news();
+        let scrubbed = scrub_step(&mut self.array, rack, stripe);
+        tell_all(self.array.news(), watchers);
+        scrubbed
+    }
+
+    /// Replaces a slot that is Down, as [`replace`] does, and tells what that did.
+    pub fn replace<R: Rack>(
+        &mut self,
+        rack: &mut R,
+        slot: u8,
+        watchers: &mut Vec<Box<dyn Watcher>>,
+    ) -> Result<(), ReplaceFault>
+        requires stay { AllStay (watcher_view told count left patience) watchers.old.items }
+        ensures taken { Takes
+            (device_view (rack_view R.is_honest R.history R.bads R.gones) (watcher_view told count left patience))
+            (ReplaceSlot slot) (replaced_as result)
+            (devices rack.old (IsOpen self.old) watchers.old.items)
+            (devices rack.new (IsOpen self.new) watchers.new.items) }
+        ensures stay { AllStay (watcher_view told count left patience) watchers.new.items }
+    {
+        self.array.clear_news();
+        let replaced = replace(&mut self.array, rack, slot);
+        tell_all(self.array.news(), watchers);
+        replaced
+    }
+
+    /// Makes one step of a rebuild, as [`rebuild_step`] does, and tells what that did.
+    pub fn rebuild_step<R: Rack>(
+        &mut self,
+        rack: &mut R,
+        watchers: &mut Vec<Box<dyn Watcher>>,
+    ) -> Result<Progress, RebuildFault>
+        requires stay { AllStay (watcher_view told count left patience) watchers.old.items }
+        ensures taken { Takes
+            (device_view (rack_view R.is_honest R.history R.bads R.gones) (watcher_view told count left patience))
+            RebuildNext (rebuilt_as result)
+            (devices rack.old (IsOpen self.old) watchers.old.items)
+            (devices rack.new (IsOpen self.new) watchers.new.items) }
+        ensures stay { AllStay (watcher_view told count left patience) watchers.new.items }
+        ensures sooner { IfOk result (λ progress. (progress ≡ Progress.Nothing → ⊥) →
+            steps_left self.new < steps_left self.old) }
+    {
+        self.array.clear_news();
+        let came = rebuild_step(&mut self.array, rack);
+        tell_all(self.array.news(), watchers);
+        came
+    }
+
+    /// Freezes the array, or thaws it, as [`Array::set_frozen`] does, and tells what that did.
+    pub fn set_frozen<R: Rack>(
+        &mut self,
+        rack: &mut R,
+        frozen: bool,
+        watchers: &mut Vec<Box<dyn Watcher>>,
+    ) -> Result<(), ArrayFault>
+        requires stay { AllStay (watcher_view told count left patience) watchers.old.items }
+        ensures taken { Takes
+            (device_view (rack_view R.is_honest R.history R.bads R.gones) (watcher_view told count left patience))
+            (SetFrozen frozen) (outcome result)
+            (devices rack.old (IsOpen self.old) watchers.old.items)
+            (devices rack.new (IsOpen self.new) watchers.new.items) }
+        ensures stay { AllStay (watcher_view told count left patience) watchers.new.items }
+    {
+        self.array.clear_news();
+        let stamped = self.array.set_frozen(rack, frozen);
+        tell_all(self.array.news(), watchers);
+        stamped
+    }
+
+    /// Gives the array this label, as [`Array::set_label`] does, and tells what that did.
+    pub fn set_label<R: Rack>(
+        &mut self,
+        rack: &mut R,
+        label: Label,
+        watchers: &mut Vec<Box<dyn Watcher>>,
+    ) -> Result<(), ArrayFault>
+        requires stay { AllStay (watcher_view told count left patience) watchers.old.items }
+        ensures taken { Takes
+            (device_view (rack_view R.is_honest R.history R.bads R.gones) (watcher_view told count left patience))
+            (SetLabel label) (outcome result)
+            (devices rack.old (IsOpen self.old) watchers.old.items)
+            (devices rack.new (IsOpen self.new) watchers.new.items) }
+        ensures stay { AllStay (watcher_view told count left patience) watchers.new.items }
+    {
+        self.array.clear_news();
+        let stamped = self.array.set_label(rack, label);
+        tell_all(self.array.news(), watchers);
+        stamped
+    }
+
+    /// The mark of a slot. A stopped array answers by what it was stopped, as any step does.
+    pub fn mark(&self, slot: u8) -> Result<Mark, ArrayFault>
+        requires { slot < 32 }
+        ensures rules { self.now.stopped ≡ None → IsArray self.now }
+        ensures value { OnOk result (self.now.stopped ≡ None) }
+        ensures mark { IfOk result (λ mark. mark ≡ (seats_in self.now.member.array slot).mark) }
+        ensures stopped { IfErr result (λ fault.
+            (by : FenceFault) × (self.now.stopped ≡ Some by) × (fault ≡ array_fault by)) }
+    {
+        match self.array.stopped() {
+            Some(fault) => Err(ArrayFault::from(fault)),
+            None => Ok(self.array.marks()[usize::from(slot)]),
+        }
     }
 
     /// The geometry of the array.

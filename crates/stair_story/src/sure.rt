@@ -8,7 +8,7 @@ pub fn sure_laws<R, W, S, K>()
     ensures done { SureIsDone R W S K }
     // a slot is kept that is never offline, and whose medium is large enough
     ensures kept { StayingAreKept R W }
-    // where it takes no steps but openings, reads and writes nothing is asked of its story
+    // where it admits no medium and draws few numbers nothing is asked of its story
     ensures planned { PlannedSureIsDone R W S K }
     // over a rack alone nothing is asked of steps
     ensures stepless { SteplessSureIsDone R S K }

@@ -7,8 +7,9 @@ use stair_codec::{By, Codec};
 use stair_conf::Key;
 use stair_member::{Why, survey};
 use stair_memrack::{Act, MemRack, What};
+use stair_mend::Progress;
 use stair_rack::{Event, Watcher};
-use stair_super::Mark;
+use stair_super::{Label, Mark};
 use stair_watch::{Kept, add};
 use std::test::Fail;
 
@@ -68,7 +69,7 @@ const LINES: [(Status, u8, &str); 24] = [
     (
         Status::Usage,
         2,
-        "usage: stair FOLDER check|stripe|restore|create|show|read|write",
+        "usage: stair FOLDER check|stripe|restore|create|show|read|write|scrub|replace|rebuild|freeze|thaw|label",
     ),
     (Status::Limit(3), 3, "geometry: limit 3"),
     (Status::Key(Key::Stripes), 3, "geometry: key stripes"),
@@ -172,5 +173,70 @@ fn steps_are_told(rt: HostRuntime) -> Result<(), Fail> {
     assert_eq!(rt; array.read(&mut rack, 3, &mut into, &mut watchers), Ok(()));
     assert_eq!(rt; into, [0; 512]);
     assert_eq!(rt; told(&watchers, 1), None);
+    Ok(())
+}
+
+/// A scrub tells of the cell that it wrote anew. A new device is told as it is admitted, and its slot as its last chunk is written;
+/// the chunks before it aren't told, nor are the frozen mark and the label.
+#[test]
+fn mending_is_told(rt: HostRuntime) -> Result<(), Fail> {
+    let alloc = rt.alloc();
+    let geometry = Geometry::new(5, 2, 2, &[1], 3, [7; 16])?;
+    let mut rack = MemRack::new(alloc, 5, geometry.need(), &[], 999)?;
+    assert_eq!(rt; create(&mut rack, &geometry), Ok(()));
+    let bad = What::Damage {
+        slot: 3,
+        sector: 13,
+    };
+    let pull = What::Pull { slot: 2 };
+    let blank = What::InsertBlank {
+        slot: 2,
+        sectors: geometry.need(),
+    };
+    let acts = [
+        Act { at: 0, what: bad },
+        Act { at: 0, what: pull },
+        Act { at: 0, what: blank },
+    ];
+    let mut rack = rack.after_crash(alloc, &[], &acts, 999)?;
+    let mut watchers: Vec<Box<dyn Watcher>> = Vec::new(alloc);
+    add(&mut watchers, Box::new(alloc, Kept::new(alloc, 9)?)?)?;
+    let Ok(member) = survey(&mut rack) else {
+        return Ok(assert!(rt; false));
+    };
+    let code = Codec::new(alloc, &member.geometry(), By::Fewest)?;
+    let Ok(array) = Opened::open(alloc, &mut rack, member, code, &mut watchers) else {
+        return Ok(assert!(rt; false));
+    };
+    let mut array = array;
+    assert_eq!(rt; told(&watchers, 0), Some(Event::Fenced { slot: 2 }));
+    assert_eq!(rt; array.scrub(&mut rack, 0, &mut watchers), Ok(1));
+    assert_eq!(rt; array.scrub(&mut rack, 0, &mut watchers), Ok(0));
+    let repaired = Event::Repaired {
+        stripe: 0,
+        cells: 1,
+    };
+    assert_eq!(rt; told(&watchers, 1), Some(repaired));
+    assert_eq!(rt; told(&watchers, 2), None);
+    assert_eq!(rt; array.replace(&mut rack, 2, &mut watchers), Ok(()));
+    assert_eq!(rt; told(&watchers, 2), Some(Event::Admitted { slot: 2 }));
+    let first = Progress::Chunk { slot: 2, stripe: 0 };
+    let second = Progress::Chunk { slot: 2, stripe: 1 };
+    let last = Progress::Promoted { slot: 2 };
+    assert_eq!(rt; array.rebuild_step(&mut rack, &mut watchers), Ok(first));
+    assert_eq!(rt; array.rebuild_step(&mut rack, &mut watchers), Ok(second));
+    assert_eq!(rt; told(&watchers, 3), None);
+    assert_eq!(rt; array.rebuild_step(&mut rack, &mut watchers), Ok(last));
+    assert_eq!(rt; told(&watchers, 3), Some(Event::Promoted { slot: 2 }));
+    assert_eq!(rt;
+        array.rebuild_step(&mut rack, &mut watchers),
+        Ok(Progress::Nothing)
+    );
+    assert_eq!(rt; array.set_frozen(&mut rack, true, &mut watchers), Ok(()));
+    assert_eq!(rt;
+        array.set_label(&mut rack, Label::empty(), &mut watchers),
+        Ok(())
+    );
+    assert_eq!(rt; told(&watchers, 4), None);
     Ok(())
 }

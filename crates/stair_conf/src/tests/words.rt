@@ -2,9 +2,9 @@ use crate::{Job, Method, StripeCommand, WordsFault, read_words};
 use std::alloc::{AllocError, Global};
 use std::test::Fail;
 
-// Each row is a command line, a blank behind each word but the last, and the numbers N M R E.. or BLOCK COUNT that it has,
-// None where it is faulty.
-const LINES: [(&str, Option<&[u64]>); 39] = [
+// Each row is a command line, a blank behind each word but the last, and the numbers N M R E.., BLOCK COUNT or SLOT that it
+// has, None where it is faulty.
+const LINES: [(&str, Option<&[u64]>); 61] = [
     ("check 4 1 2 1", Some(&[4, 1, 2, 1])),
     ("restore 8 2 4 1 1 2", Some(&[8, 2, 4, 1, 1, 2])),
     (
@@ -50,6 +50,50 @@ const LINES: [(&str, Option<&[u64]>); 39] = [
     ("write 0 18446744073709551616", None),
     ("read -1 1", None),
     ("write x 1", None),
+    ("scrub", Some(&[])),
+    ("scrub 0", None),
+    ("scrubs", None),
+    ("replace 0", Some(&[0])),
+    ("replace 18446744073709551615", Some(&[u64::MAX])),
+    ("replace", None),
+    ("replace ", None),
+    ("replace 0 1", None),
+    ("replace 00", None),
+    ("replace -1", None),
+    ("replace 18446744073709551616", None),
+    ("rebuild", Some(&[])),
+    ("rebuild 0", None),
+    ("freeze", Some(&[])),
+    ("freeze 0", None),
+    ("thaw", Some(&[])),
+    ("thaw ", None),
+    ("label shelf", Some(&[])),
+    ("label", None),
+    ("label shelf 7", None),
+    ("label shelf ", None),
+    ("Label shelf", None),
+];
+
+// Each row is the word TEXT, and whether it is one.
+const TEXTS: [(&str, bool); 12] = [
+    ("7", true),
+    (" shelf 7 ", true),
+    ("~-", true),
+    (
+        "0123456789abcdef0123456789abcdef0123456789abcdef0123456789abcdef",
+        true,
+    ),
+    (
+        "0123456789abcdef0123456789abcdef0123456789abcdef0123456789abcdef0",
+        false,
+    ),
+    ("", false),
+    ("-", false),
+    ("-7", false),
+    ("--", false),
+    ("shelf\t7", false),
+    ("shelf\u{7F}", false),
+    ("\u{E9}tag\u{E8}re", false),
 ];
 
 fn words_of(alloc: Global, line: &str) -> Result<Vec<String>, AllocError> {
@@ -75,6 +119,12 @@ fn front_of(job: &Job) -> &'static str {
         Job::Show => "show",
         Job::Read { .. } => "read ",
         Job::Write { .. } => "write ",
+        Job::Scrub => "scrub",
+        Job::Replace { .. } => "replace ",
+        Job::Rebuild => "rebuild",
+        Job::Freeze => "freeze",
+        Job::Thaw => "thaw",
+        Job::Label { .. } => "label ",
     }
 }
 
@@ -85,8 +135,22 @@ fn numbers_of(alloc: Global, job: &Job) -> Result<Vec<u64>, AllocError> {
             numbers.extend_from_slice(e.as_slice())?;
             Ok(numbers)
         }
-        Job::Create | Job::Show => Ok(Vec::new(alloc)),
+        Job::Create
+        | Job::Show
+        | Job::Scrub
+        | Job::Rebuild
+        | Job::Freeze
+        | Job::Thaw
+        | Job::Label { .. } => Ok(Vec::new(alloc)),
         Job::Read { block, count } | Job::Write { block, count } => [*block, *count].to_vec(alloc),
+        Job::Replace { slot } => [*slot].to_vec(alloc),
+    }
+}
+
+fn text_of(job: &Job) -> Option<&[u8]> {
+    match job {
+        Job::Label { text } => Some(text.bytes()),
+        _ => None,
     }
 }
 
@@ -103,6 +167,20 @@ fn reads_exactly_the_words_of_a_command(rt: HostRuntime) -> Result<(), Fail> {
                 );
             }
             Err(fault) => assert_eq!(rt; (fault, said), (WordsFault::Usage, None), "{line}"),
+        }
+    }
+    Ok(())
+}
+
+#[test]
+fn reads_exactly_the_text_of_a_label(rt: HostRuntime) -> Result<(), Fail> {
+    for (text, is_text) in TEXTS {
+        let mut words = words_of(rt.alloc(), "label")?;
+        words.push(String::from_str(rt.alloc(), text)?)?;
+        let said = is_text.then_some(text.as_bytes());
+        match read_words(rt.alloc(), &words) {
+            Ok(job) => assert_eq!(rt; text_of(&job), said, "{text}"),
+            Err(fault) => assert_eq!(rt; (fault, said), (WordsFault::Usage, None), "{text}"),
         }
     }
     Ok(())

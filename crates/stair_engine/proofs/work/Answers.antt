@@ -7,11 +7,12 @@ use Rattle.stair_story.specs.Fault.{status_of, status_of_fault}
 use Rattle.stair_story.specs.Means.{Means}
 use Rattle.stair_story.specs.Outside.{outside, sink_alone, views}
 use Rattle.stair_rack.specs.Watching.{watcher_view}
-use Rattle.stair_conf.specs.declared.job.Job.TheVariants.{Create, Show}
+use Rattle.stair_conf.specs.declared.job.Job.TheVariants.{Create, Freeze, Label, Read, Rebuild, Replace, Scrub, Show, Thaw}
 use Rattle.stair_story.specs.Devices.{MeansWhole, device_view}
 use Rattle.stair_story.proofs.DeviceLaws.{any_source, calls_once, with_once}
 use Rattle.stair_engine.specs.Blocks.{read_plan, write_plan}
-use Rattle.stair_engine.proofs.JobLaws.{job_once, read_takes_none}
+use Rattle.stair_engine.proofs.ArmLaws.{arm}
+use Rattle.stair_engine.proofs.JobLaws.{job_once, job_untaken}
 use Rattle.stair_story.specs.Plan.{Over}
 use Rattle.stair_engine.specs.Plans.{create_plan, job_plan, show_plan, stripe_plan, tested_plan, within_limits}
 use Rattle.stair_story.specs.Question.{Limits}
@@ -138,14 +139,14 @@ returns-in-Read-clause-means g c =
     subst (λ (of : Job). MeansWhole devices view (job_plan of) (Over status) old new c.args.rack.now c.read-done.new.rack c.args.watchers.now.items c.read-done.new.watchers.items)
     (sym job.is)
     (any_source devices view.source view.sink (read_plan job.block job.count) (Over status) c.args.output.now c.read-done.new.output c.args.steps.now c.args.steps.now
-    c.args.rack.now c.read-done.new.rack c.args.watchers.now.items c.read-done.new.watchers.items (read_takes_none job.block job.count)
+    c.args.rack.now c.read-done.new.rack c.args.watchers.now.items c.read-done.new.watchers.items (job_untaken (Read job.block job.count) (λ no. no))
     (subst (λ (s : Status). MeansWhole devices (sink_alone g.K.Sink.held g.K.Sink.faults) (read_plan job.block job.count) (Over s)
     (outside tt c.args.output.now c.args.steps.now) (outside tt c.read-done.new.output c.args.steps.now) c.args.rack.now c.read-done.new.rack
     c.args.watchers.now.items c.read-done.new.watchers.items) (sym is) (c.read-done.ensures.means c.args.steps.now))
     c.args.input.now)
 
-pub returns-clause-means : goal.returns-clause-means
-returns-clause-means g c =
+pub returns-in-Write-clause-means : goal.returns-in-Write-clause-means
+returns-in-Write-clause-means g c =
     let view = views g.S.Source.left g.S.Source.ended g.S.Source.faults g.K.Sink.held g.K.Sink.faults in
     let rack = rack_view g.R.Rack.is_honest g.R.Rack.history g.R.Rack.bads g.R.Rack.gones in
     let told = watcher_view
@@ -164,3 +165,87 @@ returns-clause-means g c =
     (sym job.is)
     (subst (λ (s : Status). MeansWhole devices view (write_plan job.block job.count) (Over s) old new c.args.rack.now c.write-done.new.rack
     c.args.watchers.now.items c.write-done.new.watchers.items) (sym is) (c.write-done.ensures.means c.args.steps.now))
+
+pub returns-in-Scrub-clause-means : goal.returns-in-Scrub-clause-means
+returns-in-Scrub-clause-means g c =
+    let rack = rack_view g.R.Rack.is_honest g.R.Rack.history g.R.Rack.bads g.R.Rack.gones in
+    let told = watcher_view
+    (λ b. (goal.Watcher-dyn g (b.vtable, b.value)).told b.value)
+    (λ b. (goal.Watcher-dyn g (b.vtable, b.value)).count b.value)
+    (λ b. (goal.Watcher-dyn g (b.vtable, b.value)).left b.value)
+    (λ b. (goal.Watcher-dyn g (b.vtable, b.value)).patience b.value)
+    in
+    let view = views g.S.Source.left g.S.Source.ended g.S.Source.faults g.K.Sink.held g.K.Sink.faults in
+    arm (device_view rack told) view.source view.sink Scrub (job_untaken Scrub (λ no. no)) c.scrub.result c.unwrap_or_else-in-Scrub.result
+    (status_is _ c.scrub.result c.unwrap_or_else-in-Scrub.ensures) _ c.in-Scrub.is c.args.input.now c.args.output.now c.scrub.new.output c.args.steps.now
+    c.args.rack.now c.scrub.new.rack c.args.watchers.now.items c.scrub.new.watchers.items c.scrub.ensures.means
+
+pub returns-in-Replace-clause-means : goal.returns-in-Replace-clause-means
+returns-in-Replace-clause-means g c =
+    let rack = rack_view g.R.Rack.is_honest g.R.Rack.history g.R.Rack.bads g.R.Rack.gones in
+    let told = watcher_view
+    (λ b. (goal.Watcher-dyn g (b.vtable, b.value)).told b.value)
+    (λ b. (goal.Watcher-dyn g (b.vtable, b.value)).count b.value)
+    (λ b. (goal.Watcher-dyn g (b.vtable, b.value)).left b.value)
+    (λ b. (goal.Watcher-dyn g (b.vtable, b.value)).patience b.value)
+    in
+    let view = views g.S.Source.left g.S.Source.ended g.S.Source.faults g.K.Sink.held g.K.Sink.faults in
+    arm (device_view rack told) view.source view.sink (Replace c.in-Replace.slot) (job_untaken (Replace c.in-Replace.slot) (λ no. no)) c.replace-done.result c.unwrap_or_else-in-Replace.result
+    (status_is _ c.replace-done.result c.unwrap_or_else-in-Replace.ensures) _ c.in-Replace.is c.args.input.now c.args.output.now c.replace-done.new.output c.args.steps.now
+    c.args.rack.now c.replace-done.new.rack c.args.watchers.now.items c.replace-done.new.watchers.items c.replace-done.ensures.means
+
+pub returns-in-Rebuild-clause-means : goal.returns-in-Rebuild-clause-means
+returns-in-Rebuild-clause-means g c =
+    let rack = rack_view g.R.Rack.is_honest g.R.Rack.history g.R.Rack.bads g.R.Rack.gones in
+    let told = watcher_view
+    (λ b. (goal.Watcher-dyn g (b.vtable, b.value)).told b.value)
+    (λ b. (goal.Watcher-dyn g (b.vtable, b.value)).count b.value)
+    (λ b. (goal.Watcher-dyn g (b.vtable, b.value)).left b.value)
+    (λ b. (goal.Watcher-dyn g (b.vtable, b.value)).patience b.value)
+    in
+    let view = views g.S.Source.left g.S.Source.ended g.S.Source.faults g.K.Sink.held g.K.Sink.faults in
+    arm (device_view rack told) view.source view.sink Rebuild (job_untaken Rebuild (λ no. no)) c.rebuild.result c.unwrap_or_else-in-Rebuild.result
+    (status_is _ c.rebuild.result c.unwrap_or_else-in-Rebuild.ensures) _ c.in-Rebuild.is c.args.input.now c.args.output.now c.rebuild.new.output c.args.steps.now
+    c.args.rack.now c.rebuild.new.rack c.args.watchers.now.items c.rebuild.new.watchers.items c.rebuild.ensures.means
+
+pub returns-in-Freeze-clause-means : goal.returns-in-Freeze-clause-means
+returns-in-Freeze-clause-means g c =
+    let rack = rack_view g.R.Rack.is_honest g.R.Rack.history g.R.Rack.bads g.R.Rack.gones in
+    let told = watcher_view
+    (λ b. (goal.Watcher-dyn g (b.vtable, b.value)).told b.value)
+    (λ b. (goal.Watcher-dyn g (b.vtable, b.value)).count b.value)
+    (λ b. (goal.Watcher-dyn g (b.vtable, b.value)).left b.value)
+    (λ b. (goal.Watcher-dyn g (b.vtable, b.value)).patience b.value)
+    in
+    let view = views g.S.Source.left g.S.Source.ended g.S.Source.faults g.K.Sink.held g.K.Sink.faults in
+    arm (device_view rack told) view.source view.sink Freeze (job_untaken Freeze (λ no. no)) c.freeze.result c.unwrap_or_else-in-Freeze.result
+    (status_is _ c.freeze.result c.unwrap_or_else-in-Freeze.ensures) _ c.in-Freeze.is c.args.input.now c.args.output.now c.freeze.new.output c.args.steps.now
+    c.args.rack.now c.freeze.new.rack c.args.watchers.now.items c.freeze.new.watchers.items c.freeze.ensures.means
+
+pub returns-in-Thaw-clause-means : goal.returns-in-Thaw-clause-means
+returns-in-Thaw-clause-means g c =
+    let rack = rack_view g.R.Rack.is_honest g.R.Rack.history g.R.Rack.bads g.R.Rack.gones in
+    let told = watcher_view
+    (λ b. (goal.Watcher-dyn g (b.vtable, b.value)).told b.value)
+    (λ b. (goal.Watcher-dyn g (b.vtable, b.value)).count b.value)
+    (λ b. (goal.Watcher-dyn g (b.vtable, b.value)).left b.value)
+    (λ b. (goal.Watcher-dyn g (b.vtable, b.value)).patience b.value)
+    in
+    let view = views g.S.Source.left g.S.Source.ended g.S.Source.faults g.K.Sink.held g.K.Sink.faults in
+    arm (device_view rack told) view.source view.sink Thaw (job_untaken Thaw (λ no. no)) c.thaw.result c.unwrap_or_else-in-Thaw.result
+    (status_is _ c.thaw.result c.unwrap_or_else-in-Thaw.ensures) _ c.in-Thaw.is c.args.input.now c.args.output.now c.thaw.new.output c.args.steps.now
+    c.args.rack.now c.thaw.new.rack c.args.watchers.now.items c.thaw.new.watchers.items c.thaw.ensures.means
+
+pub returns-clause-means : goal.returns-clause-means
+returns-clause-means g c =
+    let rack = rack_view g.R.Rack.is_honest g.R.Rack.history g.R.Rack.bads g.R.Rack.gones in
+    let told = watcher_view
+    (λ b. (goal.Watcher-dyn g (b.vtable, b.value)).told b.value)
+    (λ b. (goal.Watcher-dyn g (b.vtable, b.value)).count b.value)
+    (λ b. (goal.Watcher-dyn g (b.vtable, b.value)).left b.value)
+    (λ b. (goal.Watcher-dyn g (b.vtable, b.value)).patience b.value)
+    in
+    let view = views g.S.Source.left g.S.Source.ended g.S.Source.faults g.K.Sink.held g.K.Sink.faults in
+    arm (device_view rack told) view.source view.sink (Label c.in-Label.text) (job_untaken (Label c.in-Label.text) (λ no. no)) c.label-done.result c.unwrap_or_else-in-Label.result
+    (status_is _ c.label-done.result c.unwrap_or_else-in-Label.ensures) _ c.in-Label.is c.args.input.now c.args.output.now c.label-done.new.output c.args.steps.now
+    c.args.rack.now c.label-done.new.rack c.args.watchers.now.items c.label-done.new.watchers.items c.label-done.ensures.means

@@ -1,7 +1,7 @@
 -- Each law, by the plans of the jobs.
 use Rattle.stair_story.specs.Outside.{views}
 use Rattle.stair_engine.proofs.MeaningLaws.{bytes_are_answered, words_are_done}
-use Rattle.stair_engine.proofs.CallLaws.{all_is_kept, array_is_left, array_is_made, arrays_are_spared, memory_comes_first, rack_is_left, read_takes_nothing, show_only_looks, usage_is_exact}
+use Rattle.stair_engine.proofs.CallLaws.{all_is_kept, array_is_left, array_is_made, arrays_are_spared, memory_comes_first, rack_is_left, show_only_looks, source_is_left, usage_is_exact}
 use Rattle.stair_engine.proofs.CameLaws.{whole_blocks_stand}
 use Rattle.stair_engine.proofs.CompleteLaws.{all_is_complete}
 use Rattle.stair_engine.proofs.laws.plan_laws.Goals as goal
@@ -16,7 +16,7 @@ returns g c =
       kept = all_is_kept _ _;
       left = rack_is_left _ _ _ _;
       looks = show_only_looks _ _ _ _;
-      untaken = read_takes_nothing _ _;
+      untaken = source_is_left _ _;
       written = whole_blocks_stand _ _;
       stands = array_is_left _ _ _ _;
       memory = memory_comes_first _ _ _ _;

@@ -11,8 +11,8 @@ returns g c = record {
       sure_done view streams plan status s assured old new first last with honest begun history represents tolerated returned none lead draws fit keeps away sure;
   kept = λ view s kept story first last works honest begun history represents tolerated returned lead stays.
       staying_kept view s kept story first last works honest begun history represents tolerated returned lead stays;
-  planned = λ view streams plan status s old new first last watchers left whole used serves none sure.
-      planned_sure view streams plan status s old new first last watchers left whole used serves none sure;
+  planned = λ view streams plan status s old new first last watchers left whole none allowed serves unfailed sure.
+      planned_sure view streams plan status s old new first last watchers left whole none allowed serves unfailed sure;
   stepless = λ rack streams plan status s assured before old new first last over honest since represents tolerated returned none sure.
       stepless_done rack honest assured before streams plan status s old new first last over since represents tolerated returned none sure;
 }

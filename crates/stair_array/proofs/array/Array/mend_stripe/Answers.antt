@@ -4,6 +4,7 @@ use Rattle.stair_model.specs.Geometry.{Geometry}
 use Rattle.stair_rack.specs.Told.{told}
 use Rattle.stair_session.specs.Courses.{point}
 use Rattle.stair_array.proofs.MendingLemmas.{scrub_past}
+use Rattle.stair_array.proofs.RebuildingLemmas.{under_after}
 use Rattle.stair_array.proofs.array.Array.mend_stripe.Goals as goal
 
 pub returns-then-stripe-limit-clause-told : goal.returns-then-stripe-limit-clause-told
@@ -13,3 +14,15 @@ returns-then-stripe-limit-clause-told g c none =
     rw (← c.self.view_is)
     (scrub_past c.args.stripe _ _ (point c.self.inside.session.member (told g.R.Rack c.args.rack.now)) c.from-then-stripe-limit.ensures
     (limit ∙ c.stripes-limit.ensures.value ∙ ap (λ (k : Geometry). k.stripes) c.geometry.ensures.value) (omega (arith, limit, past)))
+
+pub invariant_of-self : goal.invariant_of-self
+invariant_of-self g c = (
+  c.scrub-scrubbed.ensures.fits,
+  rw c.left_of-self-inside.ensures (under_after _ _ c.scrub-scrubbed.ensures.geometry _ c.self.invariant.1),
+)
+
+pub invariant_of-self-2 : goal.invariant_of-self-2
+invariant_of-self-2 g c = (
+  c.scrub-scrubbed.ensures.fits,
+  rw c.left_of-self-inside.ensures (under_after _ _ c.scrub-scrubbed.ensures.geometry _ c.self.invariant.1),
+)

@@ -3,6 +3,7 @@ use Rattle.stair_rack.specs.Told.{told}
 use Rattle.stair_session.specs.Courses.{point}
 use Rattle.stair_array.proofs.ReadingLemmas.{read_own, read_past, read_refused, read_restored}
 use Rattle.stair_array.proofs.NewsLemmas.{read_news}
+use Rattle.stair_array.proofs.RebuildingLemmas.{under_after}
 use Rattle.stair_array.proofs.array.Array.read.Goals as goal
 
 pub returns-in_err-place-clause-told : goal.returns-in_err-place-clause-told
@@ -36,3 +37,15 @@ returns-in_err-loaded-clause-news g c = rw (← c.self.view_is) (read_news _ _ _
 
 pub returns-clause-news : goal.returns-clause-news
 returns-clause-news g c = rw (← c.self.view_is) (read_news _ _ _ _ _ _ c.add_fallen.ensures)
+
+pub invariant_of-self : goal.invariant_of-self
+invariant_of-self g c = (
+  c.load-loaded.ensures.fits,
+  rw c.left_of-self-inside.ensures (under_after _ _ c.load-loaded.ensures.geometry _ c.self.invariant.1),
+)
+
+pub invariant_of-self-2 : goal.invariant_of-self-2
+invariant_of-self-2 g c = (
+  c.load-loaded.ensures.fits,
+  rw c.left_of-self-inside.ensures (under_after _ _ c.load-loaded.ensures.geometry _ c.self.invariant.1),
+)

@@ -10,6 +10,7 @@ use Rattle.stair_array.specs.Arrays.{OpenArray}
 use Rattle.stair_array.specs.Calls.{AreOfBlocks}
 use Rattle.stair_array.proofs.NewsLemmas.{write_news}
 use Rattle.stair_array.proofs.WritingLemmas.{blocks_sectors, frozen_write, written_past}
+use Rattle.stair_array.proofs.RebuildingLemmas.{under_after}
 use Rattle.stair_array.proofs.array.Array.write_blocks.Goals as goal
 
 pub returns-in_err-place_of-clause-told : goal.returns-in_err-place_of-clause-told
@@ -39,3 +40,9 @@ returns-clause-once g c cells of =
     (c.write-written.ensures.once cells
     (subst (λ (n : ℕ). AreOfBlocks c.self.inside.session.member.array.geometry c.args.first n cells) (sym c.as_chunks.ensures.front_len)
     (subst (λ (g : Geometry). AreOfBlocks g c.args.first (length c.args.from.now / 512) cells) (sym same) of)))
+
+pub invariant_of-self : goal.invariant_of-self
+invariant_of-self g c = (
+  c.write-written.ensures.fits,
+  rw c.left_of-self-inside.ensures (under_after _ _ c.write-written.ensures.geometry _ c.self.invariant.1),
+)

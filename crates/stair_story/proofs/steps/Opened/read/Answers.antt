@@ -1,7 +1,7 @@
 -- A read as a step that was told.
 use Rattle.std.proofs.Common.{ap, ◌∙◌}
 use Rattle.stair_array.specs.Arrays.{state_of}
-use Rattle.stair_story.proofs.TakenLaws.{cleared_array, fault_answered, left_by, read_array, read_promises, step_taken}
+use Rattle.stair_story.proofs.TakenLaws.{cleared_array, fault_answered, left_by, read_promises, stays_array, step_taken}
 use Rattle.stair_story.proofs.steps.Opened.read.Goals as goal
 
 pub invariant_of-self : goal.invariant_of-self
@@ -10,9 +10,10 @@ invariant_of-self g c =
     let was = c.clear_news.new.self in
     let is = c.read-read.new.self in
     let did = c.read-read.ensures in
-    read_array was is (cleared_array was before c.clear_news.ensures c.self.invariant) _ _ c.args.block _ did.told did.kept
-    (left_by _ _ before was is c.clear_news.ensures did.rebuild did.news) c.args.rack.now c.read-read.new.rack
-    (λ fault some. let same = did.stopped fault some in (fault_answered _ c.read-read.result fault same.0, same.1, same.2))
+    stays_array _ _ was is _ _ c.args.rack.now c.read-read.new.rack
+    (read_promises was is (cleared_array was before c.clear_news.ensures c.self.invariant) _ _ c.args.block _ did.told did.kept
+    (left_by _ _ before was is c.clear_news.ensures did.rebuild did.news))
+    did.kept (λ fault some. let same = did.stopped fault some in (fault_answered _ c.read-read.result fault same.0, same.1, same.2))
 
 pub returns-clause-taken : goal.returns-clause-taken
 returns-clause-taken g c =

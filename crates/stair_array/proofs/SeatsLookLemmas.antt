@@ -1,0 +1,172 @@
+-- A look at the seats of an open array is what is promised of a step, on any rack, and one of the machine, where no medium comes back.
+use Rattle.std.proofs.Common.{◌≡◌, inl, inr, refl, sym, ap, ◌∙◌, subst, arith, List, None, Option, Some}
+use Rattle.std.specs.Prelude.{Err, IfErr, IsOk, IsTrue, Ok}
+use Rattle.stair_rack.specs.Crash.{EachImage}
+use Rattle.stair_rack.specs.History.{Happening}
+use Rattle.stair_rack.specs.Moments.{AtEveryMoment, IsMoment}
+use Rattle.stair_rack.specs.Telling.{Telling}
+use Rattle.stair_rack.specs.declared.watcher.Event.{Event}
+use Rattle.stair_rack.proofs.MomentLemmas.{at_every_none, at_moment}
+use Rattle.stair_rack.proofs.TellingLemmas.{later_none}
+use Rattle.stair_member.specs.Membership.{Membership}
+use Rattle.stair_member.specs.Seats.{Seats}
+use Rattle.stair_state.specs.State.{State}
+use Rattle.stair_state.proofs.AloneLemmas.{left_stands}
+use Rattle.stair_session.specs.Courses.{Point, point}
+use Rattle.stair_session.specs.InSession.{IsOfContent, state_with}
+use Rattle.stair_session.specs.Leading.{led_to}
+use Rattle.stair_session.specs.Rebuilding.{Rebuild}
+use Rattle.stair_session.specs.Returning.{IsCalm, NoneReturns}
+use Rattle.stair_session.specs.Session.{IsArray, seats_in}
+use Rattle.stair_session.proofs.FencesLemmas.{stays_open}
+use Rattle.stair_array.specs.Causes.{IsAllowed}
+use Rattle.stair_array.specs.Draws.{Before}
+use Rattle.stair_array.specs.Events.{events_of}
+use Rattle.stair_array.specs.Machine.{Answer, LookAtSeats, Recover, Row}
+use Rattle.stair_array.specs.Promise.{EndsIn, IsInState, IsLed, IsLeftBy, IsOpenFor, KeepsProgress, LeadsStep, Opened, Performs, Seen, is_open, running}
+use Rattle.stair_array.proofs.AnsweredLemmas.{never_answered}
+use Rattle.stair_array.proofs.GoesOnLemmas.{draws_few, member_goes_on}
+use Rattle.stair_array.proofs.LeftServingLemmas.{represents_serving}
+use Rattle.stair_array.proofs.OpenStepLemmas.{calm_here, of_state, open_first, serves_first, serves_over}
+use Rattle.stair_array.proofs.PartsLemmas.{IsPart, part_none}
+use Rattle.stair_array.proofs.ServingLemmas.{IsCalmTo, IsServing}
+
+-- ON ANY RACK
+
+module _ (m : Membership) (rebuild : Option Rebuild) (x : Telling) (array : IsArray (running m rebuild)) where
+  none : IsPart 0 (point m x) (point m x)
+  none = part_none (point m x) array.member
+
+  abbrev seen : Seen
+  seen = record { told = x; session = Opened (running m rebuild) }
+
+  pub look_performs : Performs LookAtSeats (Ok (seats_in m.array)) (events_of LookAtSeats (Ok (seats_in m.array)) m.array m.array) seen seen
+  look_performs = record {
+    was = running m rebuild;
+    is = running m rebuild;
+    starts = (refl, refl);
+    ends = EndsIn.GoesOn (λ never. absurd (cc)) refl refl;
+    later = later_none x;
+    goes_on = member_goes_on m m rebuild None x x array none LookAtSeats;
+    rebuild = KeepsProgress.Stays refl (λ r is. (array.rebuilds r is).0);
+    draws_few = draws_few LookAtSeats (point m x) (point m x) none;
+    events_are = refl;
+    caused = tt;
+    allowed = refl;
+    array = λ going. array;
+    counted = tt;
+    does = refl;
+    left_out = λ honest j call here was gone. absurd (never_answered j call x.history was);
+    made = λ honest. tt;
+    repaired = λ honest. tt;
+    looked = λ honest. tt;
+  }
+
+-- WHERE IT LEADS
+
+no_opening : ¬ (LookAtSeats ≡ Recover)
+no_opening same = cc
+
+module _ (answer : Answer LookAtSeats) (events : List Event) (x y : Seen) (p : Performs LookAtSeats answer events x y) (before : List Happening)
+    (s : State) (state : IsInState NoneReturns before s x) where
+  abbrev m : Membership
+  m = p.was.member
+
+  abbrev last : Membership
+  last = p.is.member
+
+  abbrev begins : IsOpenFor NoneReturns before s p.was x.told.history
+  begins = open_first LookAtSeats no_opening answer events x y p before s state
+
+  of_kept : IsOfContent m begins.words s.content
+  of_kept = of_state LookAtSeats no_opening answer events x y p before s state
+
+  serves : IsServing before p.was begins.words x.told.history
+  serves = serves_first LookAtSeats no_opening answer events x y p before s state
+
+  calm_to : (h : List Happening) → IsCalm NoneReturns s.geometry (is_open x.session) before h → IsCalmTo m.array.geometry before h
+  calm_to = calm_here LookAtSeats no_opening answer events x y p before s state
+
+  -- nothing was called, and nothing is changed
+  same_member : last ≡ m
+  same_member = ap (λ (u : Point). u.member) p.does
+
+  same_told : y.told ≡ x.told
+  same_told = ap (λ (u : Point). u.told) p.does
+
+  -- the seats are answered
+  answered : answer ≡ Ok (seats_in m.array)
+  answered = by answer p.caused p.allowed
+    where
+      by : (given : Answer LookAtSeats) → IfErr given (λ refusal. ⊥) → IsAllowed LookAtSeats given p.was → given ≡ Ok (seats_in m.array)
+      by (Ok seats) never same = ap (λ (found : Seats). Ok found) same
+      by (Err refusal) never same = absurd never
+
+  row : (now : State) → now.geometry ≡ m.array.geometry → now.content ≡ s.content → now.in_doubt ≡ None → now.seats ≡ Some (seats_in m.array)
+      → Row LookAtSeats (Ok (seats_in m.array)) (seats_in m.array) s now
+  row now geometry content certain seats = record {
+    geometry = geometry ∙ begins.geometry;
+    begins = begins.certain;
+    passes = λ begun. tt;
+    holds = record { content = content; in_doubt = certain };
+    seats = seats_in m.array;
+    known = seats;
+    marks = (refl, refl);
+  }
+
+  leads : IsCalm NoneReturns s.geometry (is_open x.session) before y.told.history → IsLed NoneReturns m before s LookAtSeats answer y
+  leads calm = record {
+    state = state_with last s.content None last.array;
+    is_step = record {
+      begun = seats_in m.array;
+      begins = begins.seats;
+      row =
+          subst (λ (given : Answer LookAtSeats). Row LookAtSeats given (seats_in m.array) s (state_with last s.content None last.array)) (sym answered)
+          (row (state_with last s.content None last.array) (ap (λ (k : Membership). k.array.geometry) same_member) refl refl
+          (ap (λ (k : Membership). Some (seats_in k.array)) same_member));
+    };
+    is_in =
+        serves_over LookAtSeats no_opening answer events x y p before s state begins.words s.content
+        (ap (λ (k : Membership). k.array.geometry) same_member)
+        (subst (λ (k : Membership). IsOfContent k begins.words s.content) (sym same_member) of_kept)
+        (subst (λ (k : Membership). IsServing before (led_to p.was k) begins.words y.told.history) (sym same_member)
+        (record { is_open = stays_open before p.was begins.words y.told.history here.is_open; begun = here.begun })) p.rebuild
+        (calm_to y.told.history calm);
+  }
+    where
+      here : IsServing before p.was begins.words y.told.history
+      here = subst (λ (t : Telling). IsServing before p.was begins.words t.history) (sym same_told) serves
+
+  abbrev LeavesAt : List Happening → Type 0
+  LeavesAt c = IsCalmTo m.array.geometry before c → EachImage (IsLeftBy NoneReturns LookAtSeats m before c s) c
+
+  at_once : LeavesAt x.told.history
+  at_once calm image left =
+      record {
+        state = state_with m s.content None m.array;
+        cut = record {
+          begun = seats_in m.array;
+          begins = begins.seats;
+          within = inr (Ok (seats_in m.array), row (state_with m s.content None m.array) refl refl refl refl);
+        };
+        stands =
+            left_stands (state_with m s.content None m.array) x.told.history image serves.begun.history
+            (represents_serving before p.was begins.words s.content of_kept x.told.history serves calm) left;
+      }
+
+  cuts : (c : List Happening) → IsMoment x.told.history c y.told.history → IsCalm NoneReturns s.geometry (is_open x.session) before c
+      → EachImage (IsLeftBy NoneReturns LookAtSeats m before c s) c
+  cuts c at calm =
+      at_moment {P = LeavesAt}
+      (subst (λ (t : Telling). AtEveryMoment LeavesAt x.told.history t.history) (sym same_told) (at_every_none {P = LeavesAt} x.told.history at_once)) at
+      (calm_to c calm)
+
+-- So it is what is promised of a step.
+pub promise : (answer : Answer LookAtSeats) (events : List Event) (x y : Seen) (p : Performs LookAtSeats answer events x y)
+    → LeadsStep NoneReturns p.was.member LookAtSeats answer x y
+promise answer events x y p = record {
+  leads = λ honest before s history state calm. leads answer events x y p before s state calm;
+  cuts = λ honest before s history state c at calm. cuts answer events x y p before s state c at calm;
+  complete = λ honest before s history state calm can.
+      subst (λ (given : Answer LookAtSeats). IsOk given) (sym (answered answer events x y p before s state)) refl;
+}

@@ -1,0 +1,15 @@
+-- The journal was written, and the slot was synced.
+use Rattle.std.proofs.Common.{◌∙◌, sym}
+use Rattle.stair_rack.proofs.PassCounts.{Done-compared, Gone-compared}
+use Rattle.stair_array.proofs.NewJournalLemmas.{journal_cut, journal_placed}
+use Rattle.stair_array.proofs.replacing.lay_out_journal.Goals as goal
+
+pub returns-then-eq-clause-told : goal.returns-then-eq-clause-told
+returns-then-eq-clause-told g c honest =
+    let gone = Gone-compared c.write_journal.result (sym c.eq.ensures ∙ c.if-eq.true) in
+    journal_cut c.args.geometry.now c.args.slot _ _ (rw gone at (c.write_journal.ensures.told honest))
+
+pub returns-clause-told : goal.returns-clause-told
+returns-clause-told g c honest =
+    let done = Done-compared c.write_journal.result (sym c.eq.ensures ∙ c.if-eq.false) in
+    journal_placed c.args.geometry.now c.args.slot _ _ _ c.sync.result (rw done at (c.write_journal.ensures.told honest)) (c.sync.ensures.told honest)

@@ -1,0 +1,88 @@
+-- Each way out of the look, by the calls up to there.
+use Rattle.std.proofs.Common.{◌∙◌, ◌≡◌, ◌≤◌, inl, inr, refl, sym}
+use Rattle.stair_model.specs.Geometry.{sectors_needed}
+use Rattle.stair_rack.specs.declared.rack.Reply.TheVariants as reply
+use Rattle.stair_rack.proofs.PassCounts.{Done-compared, Gone-compared}
+use Rattle.stair_array.proofs.ReplacingLemmas.{gone_at_attach, gone_first, gone_second, looked_fit, looked_other, looked_small}
+use Rattle.stair_array.proofs.replacing.look_for.Goals as goal
+use Rattle.stair_array.proofs.replacing.look_for.Goals.{then-is_other-via-then-is_other, then-is_other-via-else-is_other+then-is_other-2}
+
+pub returns-then-eq-clause-told : goal.returns-then-eq-clause-told
+returns-then-eq-clause-told g c =
+    let gone : c.attach.result ≡ reply.Gone = Gone-compared c.attach.result (sym c.eq.ensures ∙ c.if-eq.true) in (
+      refl,
+      gone_at_attach c.args.geometry.now c.args.slot g.R.Rack.is_honest (g.R.Rack.history c.args.rack.now) (g.R.Rack.history c.attach.new.self) (g.R.Rack.bads c.args.rack.now) (g.R.Rack.bads c.attach.new.self) (g.R.Rack.gones c.args.rack.now) (g.R.Rack.gones c.attach.new.self)
+          (λ honest. rw gone at (c.attach.ensures.told honest)) c.attach.ensures.counts (c.attach.ensures.gone gone),
+    )
+
+pub returns-then-has-need-clause-told : goal.returns-then-has-need-clause-told
+returns-then-has-need-clause-told g c =
+    let done : c.attach.result ≡ reply.Done = Done-compared c.attach.result (sym c.eq.ensures ∙ c.if-eq.false) in (
+      refl,
+      looked_small c.args.geometry.now c.args.slot g.R.Rack.is_honest
+          (g.R.Rack.history c.args.rack.now) (g.R.Rack.history c.attach.new.self) (g.R.Rack.history c.sectors-has.new.self)
+          (g.R.Rack.bads c.args.rack.now) (g.R.Rack.bads c.attach.new.self) (g.R.Rack.bads c.sectors-has.new.self)
+          (g.R.Rack.gones c.args.rack.now) (g.R.Rack.gones c.attach.new.self) (g.R.Rack.gones c.sectors-has.new.self)
+          (λ honest. rw done at (c.attach.ensures.told honest)) c.attach.ensures.counts c.sectors-has.result c.sectors-has.ensures.told c.sectors-has.ensures.counts
+          _ c.need-then-has-need.ensures.value (rw c.need.ensures.value at c.if-has-need.true),
+    )
+
+pub returns-in_default-clause-told : goal.returns-in_default-clause-told
+returns-in_default-clause-told g c =
+    let done : c.attach.result ≡ reply.Done = Done-compared c.attach.result (sym c.eq.ensures ∙ c.if-eq.false) in (
+      refl,
+      gone_first c.args.geometry.now c.args.slot g.R.Rack.is_honest
+          (g.R.Rack.history c.args.rack.now) (g.R.Rack.history c.attach.new.self) (g.R.Rack.history c.sectors-has.new.self)
+          (g.R.Rack.bads c.args.rack.now) (g.R.Rack.bads c.attach.new.self) (g.R.Rack.bads c.sectors-has.new.self)
+          (g.R.Rack.gones c.args.rack.now) (g.R.Rack.gones c.attach.new.self) (g.R.Rack.gones c.sectors-has.new.self)
+          (λ honest. rw done at (c.attach.ensures.told honest)) c.attach.ensures.counts c.sectors-has.result c.sectors-has.ensures.told c.sectors-has.ensures.counts
+          (g.R.Rack.history c.read_place.new.rack) (g.R.Rack.bads c.read_place.new.rack) (g.R.Rack.gones c.read_place.new.rack) c.read_place.ensures.ran c.read_place.ensures.counts
+          c.in_default.ensures.told,
+    )
+
+pub returns-in_default-read_place-clause-told : goal.returns-in_default-read_place-clause-told
+returns-in_default-read_place-clause-told g c =
+    let done : c.attach.result ≡ reply.Done = Done-compared c.attach.result (sym c.eq.ensures ∙ c.if-eq.false) in (
+      refl,
+      gone_second c.args.geometry.now c.args.slot g.R.Rack.is_honest
+          (g.R.Rack.history c.args.rack.now) (g.R.Rack.history c.attach.new.self) (g.R.Rack.history c.sectors-has.new.self)
+          (g.R.Rack.bads c.args.rack.now) (g.R.Rack.bads c.attach.new.self) (g.R.Rack.bads c.sectors-has.new.self)
+          (g.R.Rack.gones c.args.rack.now) (g.R.Rack.gones c.attach.new.self) (g.R.Rack.gones c.sectors-has.new.self)
+          (λ honest. rw done at (c.attach.ensures.told honest)) c.attach.ensures.counts c.sectors-has.result c.sectors-has.ensures.told c.sectors-has.ensures.counts
+          (g.R.Rack.history c.read_place.new.rack) (g.R.Rack.bads c.read_place.new.rack) (g.R.Rack.gones c.read_place.new.rack) c.read_place.ensures.ran c.read_place.ensures.counts
+          (g.R.Rack.history c.read_place-2.new.rack) (g.R.Rack.bads c.read_place-2.new.rack) (g.R.Rack.gones c.read_place-2.new.rack) c.read_place-2.ensures.ran c.read_place-2.ensures.counts
+          c.in_default-read_place.ensures.told,
+    )
+
+pub returns-then-is_other-clause-told : goal.returns-then-is_other-clause-told
+returns-then-is_other-clause-told g c =
+    let done : c.attach.result ≡ reply.Done = Done-compared c.attach.result (sym c.eq.ensures ∙ c.if-eq.false) in
+    let enough : sectors_needed c.args.geometry.now ≤ c.sectors-has.result = rw c.need.ensures.value at c.if-has-need.false in (
+      refl,
+      looked_other c.args.geometry.now c.args.slot g.R.Rack.is_honest
+          (g.R.Rack.history c.args.rack.now) (g.R.Rack.history c.attach.new.self) (g.R.Rack.history c.sectors-has.new.self)
+          (g.R.Rack.bads c.args.rack.now) (g.R.Rack.bads c.attach.new.self) (g.R.Rack.bads c.sectors-has.new.self)
+          (g.R.Rack.gones c.args.rack.now) (g.R.Rack.gones c.attach.new.self) (g.R.Rack.gones c.sectors-has.new.self)
+          (λ honest. rw done at (c.attach.ensures.told honest)) c.attach.ensures.counts c.sectors-has.result c.sectors-has.ensures.told c.sectors-has.ensures.counts
+          (g.R.Rack.history c.read_place.new.rack) (g.R.Rack.bads c.read_place.new.rack) (g.R.Rack.gones c.read_place.new.rack) c.read_place.ensures.ran c.read_place.ensures.counts
+          (g.R.Rack.history c.read_place-2.new.rack) (g.R.Rack.bads c.read_place-2.new.rack) (g.R.Rack.gones c.read_place-2.new.rack) c.read_place-2.ensures.ran c.read_place-2.ensures.counts
+          enough c.in-Some.first c.in-Some-read_place.second c.in-Some.ensures.told c.in-Some-read_place.ensures.told
+          (elim c.then-is_other.branch [
+            | then-is_other-via-then-is_other w ↦ inl w.if-is_other.ensures
+            | then-is_other-via-else-is_other+then-is_other-2 w ↦ inr w.if-is_other-2.ensures
+          ]),
+    )
+
+pub returns-clause-told : goal.returns-clause-told
+returns-clause-told g c =
+    let done : c.attach.result ≡ reply.Done = Done-compared c.attach.result (sym c.eq.ensures ∙ c.if-eq.false) in
+    let enough : sectors_needed c.args.geometry.now ≤ c.sectors-has.result = rw c.need.ensures.value at c.if-has-need.false in
+    looked_fit c.args.geometry.now c.args.slot g.R.Rack.is_honest
+    (g.R.Rack.history c.args.rack.now) (g.R.Rack.history c.attach.new.self) (g.R.Rack.history c.sectors-has.new.self)
+    (g.R.Rack.bads c.args.rack.now) (g.R.Rack.bads c.attach.new.self) (g.R.Rack.bads c.sectors-has.new.self)
+    (g.R.Rack.gones c.args.rack.now) (g.R.Rack.gones c.attach.new.self) (g.R.Rack.gones c.sectors-has.new.self)
+    (λ honest. rw done at (c.attach.ensures.told honest)) c.attach.ensures.counts c.sectors-has.result c.sectors-has.ensures.told c.sectors-has.ensures.counts
+    (g.R.Rack.history c.read_place.new.rack) (g.R.Rack.bads c.read_place.new.rack) (g.R.Rack.gones c.read_place.new.rack) c.read_place.ensures.ran c.read_place.ensures.counts
+    (g.R.Rack.history c.read_place-2.new.rack) (g.R.Rack.bads c.read_place-2.new.rack) (g.R.Rack.gones c.read_place-2.new.rack) c.read_place-2.ensures.ran c.read_place-2.ensures.counts
+    enough c.in-Some.first c.in-Some-read_place.second c.in-Some.ensures.told c.in-Some-read_place.ensures.told
+    c.if-is_other.ensures c.if-is_other-2.ensures c.sectors-has.ensures.began

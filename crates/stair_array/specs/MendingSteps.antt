@@ -1,0 +1,131 @@
+-- The parts of a replacement and of a step of a rebuild.
+use Rattle.std.specs.Prelude.{◌≡◌, ◌≢◌, ◌+◌, ◌<◌, ◌≤◌, ℕ, IsTrue, Option, None, Some, Result, Ok, Err, ⊤}
+use Rattle.stair_model.specs.Device.{gate_sector}
+use Rattle.stair_model.specs.Geometry.{Geometry}
+use Rattle.stair_model.specs.Stripe.{Stripe}
+use Rattle.stair_rack.specs.Answers.{Calls, Ran}
+use Rattle.stair_rack.specs.History.{Attach}
+use Rattle.stair_rack.specs.Sector.{Cell}
+use Rattle.stair_rack.specs.Telling.{IsFoundGone, IsLater, IsReading, Telling}
+use Rattle.stair_rack.specs.declared.rack.Reply.{Reply}
+use Rattle.stair_rack.specs.declared.rack.Reply.TheVariants as reply
+use Rattle.stair_super.specs.Superblock.{Superblock, mark_in}
+use Rattle.stair_super.specs.declared.mark.Mark.TheVariants.{Down}
+use Rattle.stair_member.specs.Membership.{IsHere, Membership}
+use Rattle.stair_member.specs.Superblocks.{HoldsThis}
+use Rattle.stair_member.specs.declared.fault.FenceFault.{FenceFault}
+use Rattle.stair_session.specs.Courses.{Point}
+use Rattle.stair_session.specs.Rebuilding.{Rebuild}
+use Rattle.stair_session.specs.Session.{IsLiveIn, IsRebuiltIn}
+use Rattle.stair_array.specs.Calls.{LoadsStripe, answer_of}
+use Rattle.stair_array.specs.Causes.{BearsOther, IsSmall}
+use Rattle.stair_array.specs.Faults.{rebuild_refusal}
+use Rattle.stair_array.specs.Look.{IsLookAt, IsTaken}
+use Rattle.stair_array.specs.Machine.{Chunk, Dropped, Nothing, Progress, Promoted, Refusal}
+use Rattle.stair_array.specs.Mends.{Drops, IsFit, IsSecondLook, WritesChunk}
+use Rattle.stair_array.specs.Promise.{rebuild_after}
+use Rattle.stair_array.specs.declared.fault.RebuildFault.{RebuildFault}
+use Rattle.stair_array.specs.declared.fault.ReplaceFault.{ReplaceFault}
+use Rattle.stair_array.specs.declared.fault.ReplaceFault.TheVariants as fault
+use Rattle.stair_array.specs.declared.replacing.Places.{Places}
+
+-- LOOKING AT A DEVICE
+
+-- why a slot isn't replaced, before its device is looked at
+abbrev pub IsNotFree : Membership → ℕ → ReplaceFault → Type 0
+IsNotFree m slot (fault.OutOfRange asked limit) =
+    (asked ≡ slot) × (limit ≡ m.array.geometry.n) × (limit ≤ slot)
+IsNotFree m slot (fault.SlotBusy at mark) =
+    (at ≡ slot) × (slot < m.array.geometry.n) × (mark_in m.array slot ≡ mark) × (mark ≢ Down)
+IsNotFree m slot other = ⊥
+
+-- a superblock place was read, and holds this
+pub record IsPlaceRead (slot place : ℕ) (held : Option Superblock) (old new : Telling) : Type 0 where
+  pub cell : Cell
+  pub reading : IsReading slot place old new cell
+  pub holds : HoldsThis cell held
+
+-- it is of another array
+abbrev pub IsOther : Geometry → Option Superblock → Type 0
+IsOther g None = ⊥
+IsOther g (Some s) = s.array.geometry ≢ g
+
+-- it isn't
+abbrev pub IsOwn : Geometry → Option Superblock → Type 0
+IsOwn g None = ⊤
+IsOwn g (Some s) = s.array.geometry ≡ g
+
+-- the slot was attached, once, and then looked at
+pub record WasLookedAt (slot : ℕ) (mid old new : Telling) : Type 0 where
+  pub first : IsLater old mid
+  pub attached : IsTrue mid.honest → Calls old.history mid.history slot (Attach reply.Done)
+  pub later : IsLater mid new
+  pub ran : IsTrue new.honest → Ran (IsSecondLook slot) mid.history new.history
+
+-- it was gone to a call, and nothing was written
+pub record WasGoneToLook (slot : ℕ) (old new : Telling) : Type 0 where
+  pub later : IsLater old new
+  pub ran : IsTrue new.honest → Ran (IsLookAt slot) old.history new.history
+  pub gone : IsFoundGone slot old new
+
+-- its device is fit to be admitted, and holds these superblocks
+pub record WasFit (g : Geometry) (slot : ℕ) (places : Places) (old new : Telling) : Type 0 where
+  pub mid : Telling
+  pub looked : WasLookedAt slot mid old new
+  pub fit : IsFit g slot places.first places.second mid new
+  pub taken : IsTrue new.honest → IsTaken g slot old.history new.history
+
+-- what was found of the slot, or why its device isn't fit
+abbrev pub LooksAt : Geometry → ℕ → Telling → Telling → Result Places ReplaceFault → Type 0
+LooksAt g slot old new (Ok places) = WasFit g slot places old new
+LooksAt g slot old new (Err (fault.Gone at)) = (at ≡ slot) × WasGoneToLook slot old new
+LooksAt g slot old new (Err (fault.SmallDevice at has needs)) =
+    (at ≡ slot) × ((mid : Telling) × WasLookedAt slot mid old new × IsSmall g slot has needs mid new)
+LooksAt g slot old new (Err (fault.AlreadyArray at)) =
+    (at ≡ slot) × ((mid : Telling) × WasLookedAt slot mid old new × BearsOther g slot mid new)
+LooksAt g slot old new (Err other) = ⊥
+
+-- the sectors of this slot that come behind the gate
+abbrev pub IsBodyOf : ℕ → ℕ → ℕ → Type 0
+IsBodyOf slot j k = (j ≡ slot) × (gate_sector < k)
+
+-- ONE CHUNK
+
+-- Stripe t was loaded and slot j's chunk of it written, Done; or the slot was gone in this, and is left out.
+pub data WritesNext (j t : ℕ) : Result Reply Refusal → Point → Point → Type 0 where
+  Unread : (into : Stripe) (refusal : Refusal) (x y : Point) → LoadsStripe t into (Err refusal) x y
+      → WritesNext j t (Err refusal) x y
+  FellLoading : (into : Stripe) (x y : Point) → LoadsStripe t into (Ok tt) x y
+      → ¬ IsRebuiltIn y.member j → WritesNext j t (Ok reply.Gone) x y
+  Fell : (into : Stripe) (refusal : Option FenceFault) (x y z w : Point)
+      → LoadsStripe t into (Ok tt) x y → IsRebuiltIn y.member j
+      → WritesChunk j t into reply.Gone y z → Drops j refusal z w
+      → WritesNext j t (answer_of reply.Gone refusal) x w
+  Wrote : (into : Stripe) (x y z : Point) → LoadsStripe t into (Ok tt) x y
+      → IsRebuiltIn y.member j → WritesChunk j t into reply.Done y z
+      → WritesNext j t (Ok reply.Done) x z
+
+abbrev pub written_as : Result Reply RebuildFault → Result Reply Refusal
+written_as (Ok written) = Ok written
+written_as (Err fault) = Err (rebuild_refusal fault)
+
+-- whether the slot goes on to be rebuilt
+abbrev pub IsStillThere : ℕ → Membership → Reply → Type 0
+IsStillThere j m reply.Done = IsRebuiltIn m j
+IsStillThere j m reply.Gone = ¬ IsHere m j
+
+-- what a step for slot j and stripe t came to: which slot is told, and whether that is still rebuilt
+abbrev pub CameTo : ℕ → ℕ → Membership → Result Progress Refusal → Type 0
+CameTo j t m (Ok Nothing) = ⊥
+CameTo j t m (Ok (Chunk slot stripe)) = (slot ≡ j) × (stripe ≡ t)
+    × (t + 1 < m.array.geometry.stripes) × IsRebuiltIn m j
+CameTo j t m (Ok (Promoted slot)) =
+    (slot ≡ j) × (m.array.geometry.stripes ≤ t + 1) × IsLiveIn m j
+CameTo j t m (Ok (Dropped slot)) = (slot ≡ j) × ¬ IsHere m j
+CameTo j t m (Err refusal) = ⊤
+
+-- what a step whose chunk was this one leaves of a rebuild
+abbrev pub rebuild_behind : Membership → Option Rebuild → Rebuild → Result Progress Refusal → Option Rebuild
+rebuild_behind m rebuild next (Ok (Chunk slot stripe)) =
+    Some (record { slot = next.slot; stripe = next.stripe + 1 })
+rebuild_behind m rebuild next _ = rebuild_after m rebuild

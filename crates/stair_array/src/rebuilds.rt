@@ -1,0 +1,25 @@
+//! What a step of a rebuild does to an array, where no medium comes back.
+
+ghost use Rattle.std.specs.Prelude.{◌≡◌, IsTrue, List, Err};
+ghost use Rattle.stair_rack.specs.History.{Happening};
+ghost use Rattle.stair_rack.specs.declared.watcher.Event.{Event};
+ghost use Rattle.stair_state.specs.State.{State};
+ghost use Rattle.stair_session.specs.Returning.{IsCalm, NoneReturns};
+ghost use Rattle.stair_array.specs.Machine.{Answer, EpochsSpent, RebuildNext, Refusal};
+ghost use Rattle.stair_array.specs.Promise.{IsInState, LeadsStep, Performs, Seen, is_open};
+
+/// What a step of a rebuild leads to. It does nothing.
+pub fn rebuild_laws()
+    // What is promised of a step is so of it: it is one of the machine, refused or not, what a crash leaves at a moment of it is
+    // what one within the step leaves, and it is done where it can be.
+    ensures promise { (answer : Answer RebuildNext) (events : List Event) (x y : Seen)
+        (p : Performs RebuildNext answer events x y) →
+        LeadsStep NoneReturns p.was.member RebuildNext answer x y }
+    // Within tolerance none is refused, unless no epoch is left: what couldn't be read of its stripe is covered, and enough slots
+    // are left.
+    ensures refused { (answer : Answer RebuildNext) (events : List Event) (refusal : Refusal)
+        (x y : Seen) (p : Performs RebuildNext answer events x y) → IsTrue y.told.honest →
+        (before : List Happening) (s : State) → IsInState NoneReturns before s x →
+        IsCalm NoneReturns s.geometry (is_open x.session) before y.told.history →
+        answer ≡ Err refusal → refusal ≡ EpochsSpent }
+{}

@@ -1,0 +1,86 @@
+ghost use Rattle.std.specs.Prelude.{◌≡◌, ℕ, IfErr, IfOk};
+ghost use Rattle.stair_model.specs.Geometry.{Geometry};
+ghost use Rattle.stair_rack.specs.Watching.{watcher_view};
+ghost use Rattle.stair_array.specs.Promise.{Opened as IsOpen};
+ghost use Rattle.stair_engine.specs.Mending.{rebuild_plan, rebuilt_line as line_of_rebuilt};
+ghost use Rattle.stair_story.specs.Comes.{ComesTo};
+ghost use Rattle.stair_story.specs.Devices.{MeansWhole, device_view, devices};
+ghost use Rattle.stair_story.specs.Fault.{status_of, status_of_fault};
+ghost use Rattle.stair_story.specs.Outside.{outside, sink_alone};
+ghost use Rattle.stair_story.specs.Plan.{Over, Plan, RebuildAll};
+ghost use Rattle.stair_story.specs.Rack.{rack_view};
+ghost use Rattle.stair_watch.specs.WatcherList.{AllStay};
+
+use crate::line::put_line;
+use crate::open::session;
+use stair_base::StripeCode;
+use stair_mend::Progress;
+use stair_rack::{Rack, Sink, Watcher};
+use stair_story::{Fault, Opened, Status};
+use stair_watch::Line;
+use std::alloc::Global;
+
+/// Opens the array of the rack, and rebuilds the slots that are Rebuilding to their end.
+pub(crate) fn rebuild<R: Rack, K: Sink>(
+    alloc: Global,
+    rack: &mut R,
+    output: &mut K,
+    watchers: &mut Vec<Box<dyn Watcher>>,
+) -> Result<Status, Fault>
+    requires stay { AllStay (watcher_view told count (λ w. (Watcher-box w).left w.value) patience) watchers.old.items }
+    ensures means { (counter : ℕ) → MeansWhole
+        (device_view (rack_view R.is_honest R.history R.bads R.gones) (watcher_view told count (λ w. (Watcher-box w).left w.value) patience))
+        (sink_alone K.held K.faults)
+        rebuild_plan (Over (status_of result))
+        (outside tt output.old counter) (outside tt output.new counter)
+        rack.old rack.new watchers.old.items watchers.new.items }
+    ensures stay { AllStay (watcher_view told count (λ w. (Watcher-box w).left w.value) patience) watchers.new.items }
+{
+    let mut array = session(alloc, rack, watchers)?;
+    let steps = rebuild_all(&mut array, rack, watchers)?;
+    put_line(output, rebuilt_line(steps).bytes())
+}
+
+/// Makes steps of a rebuild until there is nothing to rebuild, and answers how many there were.
+pub(crate) fn rebuild_all<C: StripeCode, R: Rack>(
+    array: &mut Opened<C>,
+    rack: &mut R,
+    watchers: &mut Vec<Box<dyn Watcher>>,
+) -> Result<u64, Fault>
+    requires stay { AllStay (watcher_view told count (λ w. (Watcher-box w).left w.value) patience) watchers.old.items }
+    ensures done { IfOk result (λ steps. (k : ℕ → Plan) → ComesTo
+        (device_view (rack_view R.is_honest R.history R.bads R.gones) (watcher_view told count (λ w. (Watcher-box w).left w.value) patience))
+        (RebuildAll array.old.member.array.geometry.n 0 k) (k steps)
+        (devices rack.old (IsOpen array.old) watchers.old.items)
+        (devices rack.new (IsOpen array.new) watchers.new.items)) }
+    ensures refused { IfErr result (λ fault. (k : ℕ → Plan) → ComesTo
+        (device_view (rack_view R.is_honest R.history R.bads R.gones) (watcher_view told count (λ w. (Watcher-box w).left w.value) patience))
+        (RebuildAll array.old.member.array.geometry.n 0 k) (Over (status_of_fault fault))
+        (devices rack.old (IsOpen array.old) watchers.old.items)
+        (devices rack.new (IsOpen array.new) watchers.new.items)) }
+    ensures geometry { array.new.member.array.geometry ≡ array.old.member.array.geometry }
+    ensures stay { AllStay (watcher_view told count (λ w. (Watcher-box w).left w.value) patience) watchers.new.items }
+{
+    let slots = array.geometry().n();
+    let mut steps = 0;
+    loop {
+        let came = match array.rebuild_step(rack, watchers) {
+            Ok(came) => came,
+            Err(fault) => return Err(Fault::Rebuild { fault, slots }),
+        };
+        if let Progress::Nothing = came {
+            return Ok(steps);
+        }
+        steps += 1;
+    }
+}
+
+// The line for so many steps.
+fn rebuilt_line(steps: u64) -> Line
+    ensures { result ≡ line_of_rebuilt steps }
+{
+    let mut line = Line::new();
+    line.push_named(b"rebuild ", steps);
+    line.push(b" steps\n");
+    line
+}

@@ -1,0 +1,85 @@
+ghost use Rattle.std.specs.Prelude.{◌≡◌, ℕ, IfErr, IfOk};
+ghost use Rattle.stair_rack.specs.Watching.{watcher_view};
+ghost use Rattle.stair_array.specs.Promise.{Opened as IsOpen};
+ghost use Rattle.stair_engine.specs.Mending.{scrub_plan, scrubbed, scrubbed_line as line_of_scrubbed, scrubs};
+ghost use Rattle.stair_story.specs.Comes.{ComesTo};
+ghost use Rattle.stair_story.specs.Devices.{MeansWhole, device_view, devices};
+ghost use Rattle.stair_story.specs.Fault.{status_of, status_of_fault};
+ghost use Rattle.stair_story.specs.Outside.{outside, sink_alone};
+ghost use Rattle.stair_story.specs.Plan.{Over};
+ghost use Rattle.stair_story.specs.Rack.{rack_view};
+ghost use Rattle.stair_watch.specs.WatcherList.{AllStay};
+
+use crate::line::put_line;
+use crate::open::session;
+use stair_base::StripeCode;
+use stair_rack::{Rack, Sink, Watcher};
+use stair_story::{Fault, Opened, Status};
+use stair_watch::Line;
+use std::alloc::Global;
+
+/// Opens the array of the rack, and scrubs all its stripes, in rising order.
+pub(crate) fn scrub<R: Rack, K: Sink>(
+    alloc: Global,
+    rack: &mut R,
+    output: &mut K,
+    watchers: &mut Vec<Box<dyn Watcher>>,
+) -> Result<Status, Fault>
+    requires stay { AllStay (watcher_view told count (λ w. (Watcher-box w).left w.value) patience) watchers.old.items }
+    ensures means { (counter : ℕ) → MeansWhole
+        (device_view (rack_view R.is_honest R.history R.bads R.gones) (watcher_view told count (λ w. (Watcher-box w).left w.value) patience))
+        (sink_alone K.held K.faults)
+        scrub_plan (Over (status_of result))
+        (outside tt output.old counter) (outside tt output.new counter)
+        rack.old rack.new watchers.old.items watchers.new.items }
+    ensures stay { AllStay (watcher_view told count (λ w. (Watcher-box w).left w.value) patience) watchers.new.items }
+{
+    let mut array = session(alloc, rack, watchers)?;
+    let stripes = array.geometry().stripes();
+    let cells = scrub_all(&mut array, rack, watchers)?;
+    put_line(output, scrubbed_line(stripes, cells).bytes())
+}
+
+// Scrubs all stripes, and answers how many cells were written anew.
+fn scrub_all<C: StripeCode, R: Rack>(
+    array: &mut Opened<C>,
+    rack: &mut R,
+    watchers: &mut Vec<Box<dyn Watcher>>,
+) -> Result<u64, Fault>
+    requires stay { AllStay (watcher_view told count (λ w. (Watcher-box w).left w.value) patience) watchers.old.items }
+    ensures done { IfOk result (λ cells. ComesTo
+        (device_view (rack_view R.is_honest R.history R.bads R.gones) (watcher_view told count (λ w. (Watcher-box w).left w.value) patience))
+        (scrubs array.old.member.array.geometry 0 array.old.member.array.geometry.stripes 0)
+        (scrubbed array.old.member.array.geometry.stripes cells)
+        (devices rack.old (IsOpen array.old) watchers.old.items)
+        (devices rack.new (IsOpen array.new) watchers.new.items)) }
+    ensures refused { IfErr result (λ fault. ComesTo
+        (device_view (rack_view R.is_honest R.history R.bads R.gones) (watcher_view told count (λ w. (Watcher-box w).left w.value) patience))
+        (scrubs array.old.member.array.geometry 0 array.old.member.array.geometry.stripes 0)
+        (Over (status_of_fault fault))
+        (devices rack.old (IsOpen array.old) watchers.old.items)
+        (devices rack.new (IsOpen array.new) watchers.new.items)) }
+    ensures stay { AllStay (watcher_view told count (λ w. (Watcher-box w).left w.value) patience) watchers.new.items }
+{
+    let geometry = array.geometry();
+    let slots = geometry.n();
+    let mut cells = 0;
+    for stripe in 0..geometry.stripes() {
+        match array.scrub(rack, stripe, watchers) {
+            Ok(count) => cells += u64::from(count),
+            Err(fault) => return Err(Fault::Step { fault, slots }),
+        }
+    }
+    Ok(cells)
+}
+
+// The line for so many stripes that were scrubbed, in which so many cells were written anew.
+fn scrubbed_line(stripes: u32, cells: u64) -> Line
+    ensures { result ≡ line_of_scrubbed stripes cells }
+{
+    let mut line = Line::new();
+    line.push_named(b"scrubbed ", u64::from(stripes));
+    line.push_named(b" stripes cells ", cells);
+    line.push(b"\n");
+    line
+}
