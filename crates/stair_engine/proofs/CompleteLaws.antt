@@ -1,8 +1,8 @@
 -- Where a job can be done it is done, if there was memory.
-use Rattle.std.proofs.Common.{◌≡◌, ◌∙◌, inl, inr, ℕ, zero, suc, ◌+◌, ◌-◌, ◌*◌, ◌/◌, ◌<◌, ◌≤◌, length-append, List, [], ◌∷◌, ◌++◌, All, Option, None, Some, IfSome, Result, Ok, Err, length, take, drop, true, false, refl, sym, ap, subst, arith}
+use Rattle.std.proofs.Common.{◌≡◌, ◌≢◌, ◌∙◌, inl, inr, ℕ, zero, suc, ◌+◌, ◌-◌, ◌*◌, ◌/◌, ◌<◌, ◌≤◌, length-append, List, [], ◌∷◌, ◌++◌, All, Option, None, Some, IfSome, Result, Ok, Err, length, take, drop, true, false, refl, sym, ap, subst, arith}
 use Rattle.std.specs.List.{concat}
 use Rattle.std.specs.Prelude.{Bool, codes, nat_lt}
-use Rattle.std.proofs.lemmas.Bool.{ltb-false, ltb-true}
+use Rattle.std.proofs.lemmas.Bool.{lt-ltb, ltb-false, ltb-true}
 use Rattle.std.proofs.lemmas.List.{nil_from_length}
 use lib.Seq.{drop-append_seam, take-append_seam}
 use Rattle.std.proofs.lemmas.List.Elements.{All-head, All-tail}
@@ -18,7 +18,7 @@ use Rattle.stair_array.specs.Creates.{CanBeMade, Creates}
 use Rattle.stair_state.specs.Blocks.{AreOfOneStripe}
 use Rattle.stair_state.specs.State.{Content, State, without_seats}
 use Rattle.stair_array.specs.Arrays.{blocks_of}
-use Rattle.stair_member.specs.Seats.{Seats}
+use Rattle.stair_member.specs.Seats.{Seat, Seats}
 use Rattle.stair_array.specs.Machine.{IsDecided, PassesTests, SetFrozen, SetLabel, Step, WriteBlocks}
 use Rattle.stair_conf.specs.Config.{TextReadsAs}
 use Rattle.stair_conf.specs.declared.fault.ConfigFault.{ConfigFault}
@@ -32,7 +32,7 @@ use Rattle.stair_conf.proofs.WordsLemmas.{spells_once}
 use Rattle.stair_story.specs.Answer.{HasBytes, Judges}
 use Rattle.stair_engine.specs.Cause.{HasCause}
 use Rattle.stair_engine.specs.Complete.{IsComplete, IsThawed, IsValidInput}
-use Rattle.stair_engine.specs.Laws.{AllIsComplete}
+use Rattle.stair_engine.specs.Laws.{AllIsComplete, ReplacementIsDone}
 use Rattle.stair_story.specs.Outside.{Outside, Views, outside}
 use Rattle.stair_engine.specs.Plans.{create_plan, job_plan, making_plan, plan_of}
 use Rattle.stair_engine.specs.Show.{show_text}
@@ -43,17 +43,24 @@ use Rattle.stair_story.specs.declared.status.Status.{Status}
 use Rattle.stair_story.specs.declared.status.Status.TheVariants.{Done, NotCodeword, NoCodeword, Limit, Input, InputFault, OutputFault, Lost, OutOfMemory}
 use Rattle.stair_engine.proofs.MeaningLaws.{told_more, words_are_done}
 use Rattle.stair_engine.specs.Blocks.{IsInRange, if_in_range, if_left, opens_array, part_of, piece_blocks, read_plan, reads, whole_of, within_range, write_plan, writes, wrote}
-use Rattle.stair_engine.specs.Mending.{rebuild_plan, rebuilt_line, scrub_plan, scrubs, stamps}
-use Rattle.stair_story.specs.Devices.{DeviceView, MeansWhole}
-use Rattle.stair_story.specs.Ending.{AdmitsNone, AllowsAtMost, EachStep}
+use Rattle.stair_engine.specs.Mending.{if_live, if_slot, rebuild_plan, rebuilt_line, replace_plan, replaces, scrub_plan, scrubs, stamps}
+use Rattle.stair_array.specs.Promise.{Begun}
+use Rattle.stair_session.specs.SeatSteps.{MayDrop}
+use Rattle.stair_super.specs.declared.mark.Mark.{Mark}
+use Rattle.stair_super.specs.declared.mark.Mark.TheVariants.{Down, Live, Rebuilding}
+use Rattle.stair_story.specs.Devices.{DeviceView, MeansWhole, devices as at}
+use Rattle.stair_story.specs.Ending.{AdmitsNone, AdmitsOnce, AllowsAtMost, EachStep}
 use Rattle.stair_story.specs.Plan.{Plan, Over, Put, RebuildAll, Take, take_step}
 use Rattle.stair_engine.proofs.CallLaws.{none_opened, stepless}
 use Rattle.stair_engine.proofs.JobLaws.{job_admits_none, job_allowed, words_tell}
 use Rattle.stair_engine.proofs.RangeLaws.{in_range_is}
 use Rattle.stair_engine.proofs.TurnLaws.{blocks_count, few_whole, part_long, part_short, piece_left, piece_some, piece_together, some_whole}
 use Rattle.stair_engine.proofs.WordLaws.{over_spelled}
-use Rattle.stair_story.specs.Sure.{HasNoFault, IsDone, IsSure, ServesThroughout, most_allowed, no_assurance}
-use Rattle.stair_story.proofs.PlannedSureLaws.{planned_sure}
+use Rattle.stair_story.specs.Sure.{EachCanReplace, HasNoFault, IsDone, IsSure, IsRebuiltFrom, Last, More, ServesThroughout, most_allowed}
+use Rattle.stair_story.proofs.PlannedSureLaws.{none_replaced, planned_sure}
+use Rattle.stair_story.proofs.SureDeviceLaws.{devices_replace}
+use Rattle.stair_engine.proofs.MendLaws.{replaces_once}
+use Rattle.stair_engine.proofs.OpenLaws.{opening_once}
 use Rattle.stair_story.proofs.AllEnds.{AllEnd}
 use Rattle.stair_story.proofs.SureLaws.{look_sure, stepless_done}
 
@@ -182,31 +189,31 @@ module _ {R S K : Type 0} (rack : RackView R) (view : Views S K) (a : Outside S 
 
 -- blocks in range are read
 reads_sure : (g : Geometry) (first count : ℕ) (s : State) (left : Option (List ℕ)) → first + count ≤ block_count s.geometry
-    → IsSure no_assurance (reads g first count) s left
+    → IsSure [] (reads g first count) s left
 reads_sure g first zero s left within = refl
 reads_sure g first (suc count) s left within = (
-  λ seats is. omega (arith, within),
+  λ seats is free. omega (arith, within),
   λ bytes gone later done. reads_sure g (first + 1) count later left (omega (arith, within, ap (λ (k : Geometry). block_count k) done.row.geometry)),
 )
 
 -- what is in range isn't refused for its range
 within_sure : (g : Geometry) (first count : ℕ) (plan : Plan) (s : State) (left : Option (List ℕ)) → IsInRange g first count
-    → IsSure no_assurance plan s left → IsSure no_assurance (within_range g first count plan) s left
+    → IsSure [] plan s left → IsSure [] (within_range g first count plan) s left
 within_sure g first count plan s left within sure =
-    subst (λ (is : Bool). IsSure no_assurance (if_in_range g first is plan) s left) (sym (in_range_is g first count within)) sure
+    subst (λ (is : Bool). IsSure [] (if_in_range g first is plan) s left) (sym (in_range_is g first count within)) sure
 
 -- a session whose command is sure is sure
 opens_sure : (k : Geometry → Plan) (s : State) (left : Option (List ℕ))
-    → ((later : State) → IsDecided s later → later.geometry ≡ s.geometry → IsSure no_assurance (k s.geometry) later left)
-    → IsSure no_assurance (opens_array k) s left
+    → ((later : State) → IsDecided s later → later.geometry ≡ s.geometry → IsSure [] (k s.geometry) later left)
+    → IsSure [] (opens_array k) s left
 opens_sure k s left sure = λ member same. (
-  λ seats is. tt,
+  λ seats is free. tt,
   λ g gone later done.
-      subst (λ (h : Geometry). IsSure no_assurance (k h) later left) (sym done.row.holds.0) (sure later done.row.holds.1 done.row.geometry),
+      subst (λ (h : Geometry). IsSure [] (k h) later left) (sym done.row.holds.0) (sure later done.row.holds.1 done.row.geometry),
 )
 
 read_sure : (first count : ℕ) (s : State) (left : Option (List ℕ)) → IsInRange s.geometry first count
-    → IsSure no_assurance (read_plan first count) s left
+    → IsSure [] (read_plan first count) s left
 read_sure first count s left within =
     opens_sure (λ g. within_range g first count (reads g first count)) s left
     (λ later decided same.
@@ -214,40 +221,88 @@ read_sure first count s left within =
     (none_or first count s.geometry later left same within))
   where
     none_or : (first count : ℕ) (g : Geometry) (later : State) (left : Option (List ℕ)) → later.geometry ≡ g → IsInRange g first count
-        → IsSure no_assurance (reads g first count) later left
+        → IsSure [] (reads g first count) later left
     none_or first zero g later left same within = refl
     none_or first (suc count) g later left same within =
         reads_sure g first (suc count) later left (omega (arith, within (omega arith), ap (λ (k : Geometry). block_count k) same))
 
 -- all stripes are scrubbed
 scrubs_sure : (g : Geometry) (stripe count cells : ℕ) (s : State) (left : Option (List ℕ)) → stripe + count ≤ s.geometry.stripes
-    → IsSure no_assurance (scrubs g stripe count cells) s left
+    → IsSure [] (scrubs g stripe count cells) s left
 scrubs_sure g stripe zero cells s left within = refl
 scrubs_sure g stripe (suc count) cells s left within = (
-  λ seats is. omega (arith, within),
+  λ seats is free. omega (arith, within),
   λ repaired gone later done.
       scrubs_sure g (stripe + 1) count (cells + repaired) later left (omega (arith, within, ap (λ (k : Geometry). k.stripes) done.row.geometry)),
 )
 
-scrub_sure : (s : State) (left : Option (List ℕ)) → IsSure no_assurance scrub_plan s left
+scrub_sure : (s : State) (left : Option (List ℕ)) → IsSure [] scrub_plan s left
 scrub_sure s left =
     opens_sure (λ g. scrubs g 0 g.stripes 0) s left
     (λ later decided same. scrubs_sure s.geometry 0 s.geometry.stripes 0 later left (omega (arith, ap (λ (k : Geometry). k.stripes) same)))
 
 -- what is rebuilt is rebuilt to its end
-rebuild_sure : (s : State) (left : Option (List ℕ)) → IsSure no_assurance rebuild_plan s left
+rebuild_sure : (s : State) (left : Option (List ℕ)) → IsSure [] rebuild_plan s left
 rebuild_sure s left =
     opens_sure (λ g. RebuildAll g.n 0 (λ steps. Put (rebuilt_line steps) (Over Done))) s left (λ later decided same steps last rebuilt. refl)
 
+-- A slot that is counted on and isn't Down is live once nothing is rebuilt any more.
+up_live : (mark : Mark) → mark ≢ Down → mark ≢ Rebuilding → mark ≡ Live
+up_live Live up built = refl
+up_live Down up built = absurd (up refl)
+up_live Rebuilding up built = absurd (built refl)
+
+seats_once : {a b : Seats} → Some a ≡ Some b → a ≡ b
+seats_once same = cc
+
+rebuilt_live : (slot : ℕ) (end s : State) → IsRebuiltFrom (slot ∷ []) end s → (seats ended : Seats) → s.seats ≡ Some seats → end.seats ≡ Some ended
+    → (seats slot).mark ≢ Down → (ended slot).mark ≡ Live
+rebuilt_live slot end s (Last _ did) seats ended known last up =
+    let begun : did.begun ≡ seats = seats_once (sym did.begins ∙ known) in
+    let up_then : (did.begun slot).mark ≢ Down = subst (λ (is : Seats). (is slot).mark ≢ Down) (sym begun) up in
+    let same : did.row.seats ≡ ended = seats_once (sym did.row.known ∙ last) in
+    let still : (did.row.seats slot).mark ≢ Down = did.keeps slot (inl refl) up_then in
+    subst (λ (is : Seats). (is slot).mark ≡ Live) same (dropped_or (did.row.marks.1 slot) still (did.row.marks.0 slot))
+  where
+    dropped_or : {old new : Seat} → MayDrop old new → new.mark ≢ Down → old.mark ≢ Rebuilding → new.mark ≡ Live
+    dropped_or (inl same) up built = up_live _ up (λ is. built (sym (ap (λ (seat : Seat). seat.mark) same) ∙ is))
+    dropped_or (inr drops) up built = absurd (up (ap (λ (seat : Seat). seat.mark) drops.1))
+rebuilt_live slot end s (More _ mid progress did rest) seats ended known last up =
+    let begun : did.begun ≡ seats = seats_once (sym did.begins ∙ known) in
+    let up_then : (did.begun slot).mark ≢ Down = subst (λ (is : Seats). (is slot).mark ≢ Down) (sym begun) up in
+    rebuilt_live slot end mid rest did.row.seats ended did.row.known last (did.keeps slot (inl refl) up_then)
+
+-- a slot of the array is replaced, and is live in the end
+replaces_sure : (g : Geometry) (slot : ℕ) (s : State) (left : Option (List ℕ)) → slot < s.geometry.n → IsSure [] (replaces g slot) s left
+replaces_sure g slot s left below = (
+  λ seats known free. (below, free),
+  λ given gone admitted done steps end rebuilt. (
+    λ seats known free. tt,
+    λ seats also shown look.
+        let is : (done.row.seats slot).mark ≡ Rebuilding = done.row.marks.is in
+        let up : (done.row.seats slot).mark ≢ Down = λ down. let never : Rebuilding ≡ Down = sym is ∙ down in cc in
+        let live : (look.begun slot).mark ≡ Live = rebuilt_live slot end admitted rebuilt done.row.seats look.begun done.row.known look.begins up in
+        let seen : (seats slot).mark ≡ Live = ap (λ (is : Seats). (is slot).mark) look.row.marks.0 ∙ live in
+        subst (λ (mark : Mark). IsSure (slot ∷ []) (if_live slot mark) shown left) (sym seen) refl,
+  ),
+)
+
+replace_sure : (slot : ℕ) (s : State) (left : Option (List ℕ)) → slot < s.geometry.n → IsSure [] (replace_plan slot) s left
+replace_sure slot s left below =
+    opens_sure (λ g. if_slot g slot (nat_lt slot g.n) (replaces g slot)) s left
+    (λ later decided same.
+    subst (λ (has : Bool). IsSure [] (if_slot s.geometry slot has (replaces s.geometry slot)) later left) (sym (lt-ltb slot s.geometry.n below))
+    (replaces_sure s.geometry slot later left (omega (arith, below, ap (λ (g : Geometry). g.n) same))))
+
 -- a step that passes its tests in any state
 stamps_sure : (step : Step) (line : List ℕ) → ((s : State) (seats : Seats) → s.seats ≡ Some seats → PassesTests step s seats) → (s : State)
-    (left : Option (List ℕ)) → IsSure no_assurance (stamps step line) s left
+    (left : Option (List ℕ)) → IsSure [] (stamps step line) s left
 stamps_sure step line passes s left =
     opens_sure (λ g. take_step g.n step (λ done. Put line (Over Done))) s left
-    (λ later decided same. (λ seats is. passes later seats is, λ given gone last done. refl))
+    (λ later decided same. (λ seats is free. passes later seats is, λ given gone last done. refl))
 
 -- the end comes behind the last block
-wrote_sure : (all : ℕ) (s : State) → IsSure no_assurance (wrote all) s (Some [])
+wrote_sure : (all : ℕ) (s : State) → IsSure [] (wrote all) s (Some [])
 wrote_sure all s = (
   λ bytes rest told enough. absurd (omega (arith, ap length told, enough.enough, length-append bytes rest)),
   λ few. refl,
@@ -257,9 +312,9 @@ wrote_sure all s = (
 module _ (g : Geometry) (first all : ℕ) (within : first + all ≤ block_count g) where
   writes_sure : (turns done : ℕ) (held : List ℕ) (s : State) (told : List ℕ) → all ≤ done + turns → done ≤ all
       → length held + length told ≡ SECTOR * (all - done) → length held < SECTOR → s.geometry ≡ g → s.content.frozen ≡ false
-      → IsSure no_assurance (writes g first all turns done held) s (Some told)
+      → IsSure [] (writes g first all turns done held) s (Some told)
   writes_sure zero done held s told fuel below long part same thawed =
-      subst (λ (rest : List ℕ). IsSure no_assurance (wrote all) s (Some rest)) (sym (nil_from_length told (omega (arith, long, fuel, below))))
+      subst (λ (rest : List ℕ). IsSure [] (wrote all) s (Some rest)) (sym (nil_from_length told (omega (arith, long, fuel, below))))
       (wrote_sure all s)
   writes_sure (suc turns) done held s told fuel below long part same thawed =
       by (nat_lt done all) refl
@@ -271,15 +326,15 @@ module _ (g : Geometry) (first all : ℕ) (within : first + all ≤ block_count 
           → (done + length (held ++ bytes) / SECTOR ≤ all)
           × (length (part_of (held ++ bytes)) + length rest ≡ SECTOR * (all - (done + length (held ++ bytes) / SECTOR)))
           → all ≤ done + length (held ++ bytes) / SECTOR + turns
-          → IsSure no_assurance (writes g first all turns (done + length (held ++ bytes) / SECTOR) (part_of (held ++ bytes))) later (Some rest))
-          → IsSure no_assurance
+          → IsSure [] (writes g first all turns (done + length (held ++ bytes) / SECTOR) (part_of (held ++ bytes))) later (Some rest))
+          → IsSure []
           (if_left left
           (Take (SECTOR - length held) (SECTOR * piece_blocks g (first + done) (all - done) - length held)
           (λ bytes. take_step g.n (WriteBlocks (first + done) (blocks_of (whole_of (held ++ bytes))))
           (λ ok. writes g first all turns (done + length (held ++ bytes) / SECTOR) (part_of (held ++ bytes))))
           (λ bytes. Over (Input (SECTOR * all) (SECTOR * done + length (held ++ bytes))))) (wrote all)) s (Some told)
       by false is again =
-          subst (λ (rest : List ℕ). IsSure no_assurance (wrote all) s (Some rest))
+          subst (λ (rest : List ℕ). IsSure [] (wrote all) s (Some rest))
           (sym (nil_from_length told (omega (arith, long, ltb-false done all is)))) (wrote_sure all s)
       by true is again =
           let left = ltb-true done all is in (
@@ -291,7 +346,7 @@ module _ (g : Geometry) (first all : ℕ) (within : first + all ≤ block_count 
                 let few : count ≤ blocks = few_whole blocks held bytes part some came in
                 let fits : count ≤ all - done = omega (arith, few, piece_left g first all done left within) in
                 let counted : length (blocks_of (whole_of (held ++ bytes))) ≡ count = blocks_count (held ++ bytes) in (
-                  λ seats known. (
+                  λ seats known free. (
                     subst (λ (k : Geometry). first + done < block_count k) (sym same) (omega (arith, within, left)),
                     subst (λ (k : Geometry). AreOfOneStripe k (first + done) (length (blocks_of (whole_of (held ++ bytes))))) (sym same)
                         (piece_together g first all done left within (length (blocks_of (whole_of (held ++ bytes)))) (omega (arith, counted, some_came))
@@ -309,7 +364,7 @@ module _ (g : Geometry) (first all : ℕ) (within : first + all ≤ block_count 
           )
 
 write_sure : (first count : ℕ) (s : State) (told : List ℕ) → IsInRange s.geometry first count → length told ≡ SECTOR * count
-    → (0 < count → IsThawed s) → IsSure no_assurance (write_plan first count) s (Some told)
+    → (0 < count → IsThawed s) → IsSure [] (write_plan first count) s (Some told)
 write_sure first count s told within long thawed =
     opens_sure (λ g. within_range g first count (writes g first count count 0 [])) s (Some told)
     (λ later decided same.
@@ -321,19 +376,19 @@ write_sure first count s told within long thawed =
     still later (inr made) is = ap (λ (c : Content). c.frozen) made.content ∙ is.1
 
     by : (count : ℕ) (g : Geometry) (later : State) → later.geometry ≡ g → IsInRange g first count → length told ≡ SECTOR * count
-        → (0 < count → later.content.frozen ≡ false) → IsSure no_assurance (writes g first count count 0 []) later (Some told)
+        → (0 < count → later.content.frozen ≡ false) → IsSure [] (writes g first count count 0 []) later (Some told)
     by zero g later same within long thawed =
-        subst (λ (rest : List ℕ). IsSure no_assurance (wrote 0) later (Some rest)) (sym (nil_from_length told (omega (arith, long)))) (wrote_sure 0 later)
+        subst (λ (rest : List ℕ). IsSure [] (wrote 0) later (Some rest)) (sym (nil_from_length told (omega (arith, long)))) (wrote_sure 0 later)
     by (suc count) g later same within long thawed =
         writes_sure g first (suc count) (within (omega arith)) (suc count) 0 [] later told (omega arith) (omega arith) (omega (arith, long)) (omega arith)
         same (thawed (omega arith))
 
 -- so is a call of the words of a sure command
-words_sure : (words : List (List ℕ)) (of : Job) (s : State) (left : Option (List ℕ)) → Spells words of → IsSure no_assurance (job_plan of) s left
-    → IsSure no_assurance (plan_of words) s left
+words_sure : (words : List (List ℕ)) (of : Job) (s : State) (left : Option (List ℕ)) → Spells words of → IsSure [] (job_plan of) s left
+    → IsSure [] (plan_of words) s left
 words_sure words of s left spells sure None not = absurd (not (of, spells))
 words_sure words of s left spells sure (Some job) read =
-    subst (λ (j : Job). IsSure no_assurance (job_plan j) s left) (spells_once words of job spells read) sure
+    subst (λ (j : Job). IsSure [] (job_plan j) s left) (spells_once words of job spells read) sure
 
 -- so are no other steps than those of its plan
 words_admit_none : (words : List (List ℕ)) (of : Job) → Spells words of → ((slot : ℕ) → of ≡ Replace slot → ⊥) → EachStep AdmitsNone (plan_of words)
@@ -341,30 +396,48 @@ words_admit_none words of spells other None is = tt
 words_admit_none words of spells other (Some job) read =
     subst (λ (j : Job). EachStep AdmitsNone (job_plan j)) (spells_once words of job spells read) (job_admits_none of other)
 
-words_allowed : (words : List (List ℕ)) (of : Job) → Spells words of → ((slot : ℕ) → of ≡ Replace slot → ⊥) → AllowsAtMost most_allowed (plan_of words)
-words_allowed words of spells other None is = tt
-words_allowed words of spells other (Some job) read =
-    subst (λ (j : Job). AllowsAtMost most_allowed (job_plan j)) (spells_once words of job spells read) (job_allowed of other)
+words_allowed : (words : List (List ℕ)) (of : Job) → Spells words of → AllowsAtMost most_allowed (plan_of words)
+words_allowed words of spells None is = tt
+words_allowed words of spells (Some job) read =
+    subst (λ (j : Job). AllowsAtMost most_allowed (job_plan j)) (spells_once words of job spells read) (job_allowed of)
+
+-- and `replace` admits a medium to its slot, once
+words_once : (words : List (List ℕ)) (slot : ℕ) → Spells words (Replace slot) → AdmitsOnce slot (plan_of words)
+words_once words slot spells None is = tt
+words_once words slot spells (Some job) read =
+    subst (λ (j : Job). AdmitsOnce slot (job_plan j)) (spells_once words (Replace slot) job spells read)
+    (λ member. opening_once slot member.array.geometry.n _ (λ g. replaces_once g slot))
 
 module _ {R S K : Type 0} (rack : RackView R) (view : Views S K) where
   show_done : (words : List (List ℕ)) (status : Status) (a b : Outside S K) (x y : R) → Spells words Show
       → MeansOver rack view (plan_of words) (Over status) a b x y → IsComplete rack view Show status a b x y
   show_done words status a b x y spells over none can =
       let since = can.1 in
-      stepless_done rack can.0 no_assurance since.before view (plan_of words) status since.state a b x y over since.since since.represents
+      stepless_done rack can.0 since.before view (plan_of words) status since.state a b x y over since.since since.represents
       since.tolerated since.returned none
       (words_sure words Show (without_seats since.state) (view.source.left a.source) spells
-      (look_sure no_assurance show_text (without_seats since.state) (view.source.left a.source)))
+      (look_sure [] show_text (without_seats since.state) (view.source.left a.source)))
 
--- a call of the words of a sure command that admits no medium, on an array that serves
+-- a call of the words of a sure command, on an array that serves
 module _ {R W S K : Type 0} (devices : DeviceView R W) (view : Views S K) (words : List (List ℕ)) (of : Job) (spells : Spells words of)
-    (other : (slot : ℕ) → of ≡ Replace slot → ⊥) where
-  served : (status : Status) (a b : Outside S K) (x y : R) (watchers left : List W)
-      → MeansWhole devices view (plan_of words) (Over status) a b x y watchers left → HasNoFault view a b → (s : State)
-      → ServesThroughout devices.rack s x y → IsSure no_assurance (job_plan of) (without_seats s) (view.source.left a.source) → IsDone status
-  served status a b x y watchers left whole none s serves sure =
-      planned_sure devices view (plan_of words) status s a b x y watchers left whole (words_admit_none words of spells other)
-      (words_allowed words of spells other) serves none (words_sure words of (without_seats s) (view.source.left a.source) spells sure)
+  where
+    served_where : (status : Status) (a b : Outside S K) (x y : R) (watchers left : List W)
+        (whole : MeansWhole devices view (plan_of words) (Over status) a b x y watchers left) → HasNoFault view a b → (s : State)
+        → ServesThroughout devices.rack s x y
+        → EachCanReplace devices s.geometry whole.with.means.story (at x Begun watchers) (at y whole.session left) whole.with.works
+        → IsSure [] (job_plan of) (without_seats s) (view.source.left a.source) → IsDone status
+    served_where status a b x y watchers left whole none s serves can sure =
+        planned_sure devices view (plan_of words) status s a b x y watchers left whole (words_allowed words of spells) serves none can
+        (words_sure words of (without_seats s) (view.source.left a.source) spells sure)
+
+    -- which admits no medium
+    served : ((slot : ℕ) → of ≡ Replace slot → ⊥) → (status : Status) (a b : Outside S K) (x y : R) (watchers left : List W)
+        → MeansWhole devices view (plan_of words) (Over status) a b x y watchers left → HasNoFault view a b → (s : State)
+        → ServesThroughout devices.rack s x y → IsSure [] (job_plan of) (without_seats s) (view.source.left a.source) → IsDone status
+    served other status a b x y watchers left whole none s serves sure =
+        served_where status a b x y watchers left whole none s serves
+        (none_replaced devices view (plan_of words) (Over status) s.geometry a b (at x Begun watchers) (at y whole.session left) whole.with
+        (words_admit_none words of spells other)) sure
 
 pub all_is_complete : (R W S K : Type 0) → AllIsComplete R W S K
 all_is_complete R W S K devices view words (OneStripe command n m r e) status a b x y watchers left spells whole none can =
@@ -387,12 +460,16 @@ all_is_complete R W S K devices view words (Read first count) status a b x y wat
 all_is_complete R W S K devices view words (Write first count) status a b x y watchers left spells whole none can =
     let is = can.2 in
     served devices view words (Write first count) spells (λ slot other. cc) status a b x y watchers left whole none is.0 is.1
-    (subst (λ (told : Option (List ℕ)). IsSure no_assurance (write_plan first count) (without_seats is.0) told) (sym can.1)
+    (subst (λ (told : Option (List ℕ)). IsSure [] (write_plan first count) (without_seats is.0) told) (sym can.1)
     (write_sure first count (without_seats is.0) can.0 is.2 is.3 is.4))
 all_is_complete R W S K devices view words Scrub status a b x y watchers left spells whole none can =
     served devices view words Scrub spells (λ slot is. cc) status a b x y watchers left whole none can.0 can.1
     (scrub_sure (without_seats can.0) (view.source.left a.source))
-all_is_complete R W S K devices view words (Replace slot) status a b x y watchers left spells whole none can = absurd can
+all_is_complete R W S K devices view words (Replace slot) status a b x y watchers left spells whole none can =
+    let device = can.2 in
+    served_where devices view words (Replace slot) spells status a b x y watchers left whole none can.0 can.1
+    (devices_replace devices view (plan_of words) (Over status) can.0 slot a b x y watchers left whole (words_once words slot spells) can.1 device)
+    (replace_sure slot (without_seats can.0) (view.source.left a.source) device.stays.below)
 all_is_complete R W S K devices view words Rebuild status a b x y watchers left spells whole none can =
     served devices view words Rebuild spells (λ slot is. cc) status a b x y watchers left whole none can.0 can.1
     (rebuild_sure (without_seats can.0) (view.source.left a.source))
@@ -405,3 +482,8 @@ all_is_complete R W S K devices view words Thaw status a b x y watchers left spe
 all_is_complete R W S K devices view words (Label text) status a b x y watchers left spells whole none can =
     served devices view words (Label text) spells (λ slot is. cc) status a b x y watchers left whole none can.0 can.1
     (stamps_sure (SetLabel text) (codes "labelled" ++ 10 ∷ []) (λ s seats is. tt) (without_seats can.0) (view.source.left a.source))
+
+pub replacement_is_done : (R W S K : Type 0) → ReplacementIsDone R W S K
+replacement_is_done R W S K devices view words slot status s a b x y watchers left spells whole none serves below can =
+    served_where devices view words (Replace slot) spells status a b x y watchers left whole none s serves can
+    (replace_sure slot (without_seats s) (view.source.left a.source) below)

@@ -27,7 +27,7 @@ use Rattle.stair_story.proofs.DeviceLaws.{ActsOnce, calls_once, once_no_step}
 use Rattle.stair_story.proofs.EndingLaws.{nothing_put, tells_faults, weaker}
 use Rattle.stair_story.proofs.LookLaws.{calls_look, first_unwritten}
 use Rattle.stair_story.proofs.PlannedLaws.{none_allows, none_each}
-use Rattle.stair_engine.proofs.MendLaws.{done_own, replaces_last, replaces_none, replaces_own, replaces_untaken, scrubs_admit_none, scrubs_allowed, scrubs_last, scrubs_none, scrubs_own, scrubs_untaken}
+use Rattle.stair_engine.proofs.MendLaws.{done_own, replaces_allowed, replaces_last, replaces_none, replaces_own, replaces_untaken, scrubs_admit_none, scrubs_allowed, scrubs_last, scrubs_none, scrubs_own, scrubs_untaken}
 use Rattle.stair_engine.proofs.OpenLaws.{IsOfJob, opening_admits_none, opening_allowed, read_admits_none, read_allowed, read_none, read_own, read_untaken, refusal_own, unless_so, write_admits_none, write_allowed, write_last, write_none, write_own}
 use Rattle.stair_engine.specs.Blocks.{opens_array}
 use Rattle.stair_engine.specs.Mending.{scrubs, stamps}
@@ -225,19 +225,19 @@ stamps_allowed : (step : Step) (line : List ℕ) → allowance step ≤ 3 → Al
 stamps_allowed step line few = λ member.
     opening_allowed member.array.geometry.n _ (λ g. (0, omega (arith, few), unless_so (AllowsAtMost 0) g.n _ (λ given left. tt) (λ refusal. tt)))
 
-pub job_allowed : (of : Job) → ((slot : ℕ) → of ≡ job.Replace slot → ⊥) → AllowsAtMost most_allowed (job_plan of)
-job_allowed (job.OneStripe command n m r e) other =
+pub job_allowed : (of : Job) → AllowsAtMost most_allowed (job_plan of)
+job_allowed (job.OneStripe command n m r e) =
     none_allows most_allowed (job_plan (job.OneStripe command n m r e)) (job_no_step (job.OneStripe command n m r e) (λ no. no))
-job_allowed job.Create other = none_allows most_allowed create_plan (job_no_step job.Create (λ no. no))
-job_allowed job.Show other = none_allows most_allowed show_plan (job_no_step job.Show (λ no. no))
-job_allowed (job.Read first count) other = λ member. opening_allowed member.array.geometry.n _ (read_allowed 3 first count)
-job_allowed (job.Write first count) other = λ member. opening_allowed member.array.geometry.n _ (write_allowed 3 first count)
-job_allowed job.Scrub other = λ member. opening_allowed member.array.geometry.n _ (λ g. scrubs_allowed 3 g 0 g.stripes 0)
-job_allowed (job.Replace slot) other = absurd (other slot refl)
-job_allowed job.Rebuild other = λ member. opening_allowed member.array.geometry.n _ (λ g steps. tt)
-job_allowed job.Freeze other = stamps_allowed (SetFrozen true) _ (omega arith)
-job_allowed job.Thaw other = stamps_allowed (SetFrozen false) _ (omega arith)
-job_allowed (job.Label text) other = stamps_allowed (SetLabel text) _ (omega arith)
+job_allowed job.Create = none_allows most_allowed create_plan (job_no_step job.Create (λ no. no))
+job_allowed job.Show = none_allows most_allowed show_plan (job_no_step job.Show (λ no. no))
+job_allowed (job.Read first count) = λ member. opening_allowed member.array.geometry.n _ (read_allowed 3 first count)
+job_allowed (job.Write first count) = λ member. opening_allowed member.array.geometry.n _ (write_allowed 3 first count)
+job_allowed job.Scrub = λ member. opening_allowed member.array.geometry.n _ (λ g. scrubs_allowed 3 g 0 g.stripes 0)
+job_allowed (job.Replace slot) = λ member. opening_allowed member.array.geometry.n _ (λ g. replaces_allowed g slot)
+job_allowed job.Rebuild = λ member. opening_allowed member.array.geometry.n _ (λ g steps. tt)
+job_allowed job.Freeze = stamps_allowed (SetFrozen true) _ (omega arith)
+job_allowed job.Thaw = stamps_allowed (SetFrozen false) _ (omega arith)
+job_allowed (job.Label text) = stamps_allowed (SetLabel text) _ (omega arith)
 
 -- ---- what takes no input takes nothing
 

@@ -26,3 +26,9 @@ pub mod RebuildLaws
 pub mod ScrubLaws
 mod StampLaws
 mod ReplaceLaws
+mod DoneLaws
+mod FollowedLaws
+mod MendedLaws
+mod SparedLaws
+mod OpeningLaws
+mod CountedLaws

@@ -3,7 +3,7 @@ use Rattle.std.proofs.Common.{◌+◌, ℕ, zero, suc, Bool, true, false, nat_lt
 use Rattle.stair_model.specs.Geometry.{Geometry}
 use Rattle.stair_super.specs.declared.mark.Mark.{Mark}
 use Rattle.stair_super.specs.declared.mark.Mark.TheVariants.{Down, Live, Rebuilding}
-use Rattle.stair_story.specs.Ending.{AdmitsNone, AllowsAtMost, AsksForNone, EachStep, EndsIn, PutsLast, TakesNothing}
+use Rattle.stair_story.specs.Ending.{AdmitsNone, AdmitsOnce, AllowsAtMost, AsksForNone, EachStep, EndsIn, PutsLast, TakesNothing}
 use Rattle.stair_story.specs.Plan.{Plan, Over}
 use Rattle.stair_story.specs.declared.status.Status.TheVariants.{Done, Gone, OutOfRange}
 use Rattle.stair_engine.specs.Mending.{if_live, if_slot, replaces, scrubs}
@@ -107,3 +107,34 @@ pub scrubs_allowed : (n : ℕ) (g : Geometry) (stripe left cells : ℕ) → Allo
 scrubs_allowed n g stripe zero cells = tt
 scrubs_allowed n g stripe (suc left) cells =
     (n, omega arith, unless_so (AllowsAtMost n) g.n _ (λ count gone. scrubs_allowed n g (stripe + 1) left (cells + count)) (λ refusal. tt))
+
+live_allowed : (n slot : ℕ) (mark : Mark) → AllowsAtMost n (if_live slot mark)
+live_allowed n slot Live = tt
+live_allowed n slot Rebuilding = tt
+live_allowed n slot Down = tt
+
+live_admits_none : (slot : ℕ) (mark : Mark) → EachStep AdmitsNone (if_live slot mark)
+live_admits_none slot Live = tt
+live_admits_none slot Rebuilding = tt
+live_admits_none slot Down = tt
+
+pub replaces_allowed : (g : Geometry) (slot : ℕ) → AllowsAtMost 3 (if_slot g slot (nat_lt slot g.n) (replaces g slot))
+replaces_allowed g slot =
+    slot_so (AllowsAtMost 3) g slot (replaces g slot) (
+      0,
+      omega arith,
+      unless_so (AllowsAtMost 0) g.n _
+          (λ done gone steps.
+          (0, omega arith, unless_so (AllowsAtMost 0) g.n _ (λ seats also. live_allowed 0 slot (seats slot).mark) (λ refusal. tt)))
+          (λ refusal. tt),
+    ) tt (nat_lt slot g.n)
+
+-- its own slot is replaced, once
+pub replaces_once : (g : Geometry) (slot : ℕ) → AdmitsOnce slot (if_slot g slot (nat_lt slot g.n) (replaces g slot))
+replaces_once g slot =
+    slot_so (AdmitsOnce slot) g slot (replaces g slot) (
+      refl,
+      unless_so (EachStep AdmitsNone) g.n _
+          (λ done gone. (tt, λ steps. (tt, unless_so (EachStep AdmitsNone) g.n _ (λ seats also. live_admits_none slot (seats slot).mark) (λ refusal. tt))))
+          (λ refusal. tt),
+    ) tt (nat_lt slot g.n)

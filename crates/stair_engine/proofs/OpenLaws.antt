@@ -5,7 +5,7 @@ use Rattle.stair_array.specs.Machine.{Recover, Refusal}
 use Rattle.stair_array.specs.Machine as array
 use Rattle.stair_story.specs.declared.status.Status.{Status}
 use Rattle.stair_story.specs.declared.status.Status.TheVariants.{Usage, OutOfMemory}
-use Rattle.stair_story.specs.Ending.{AdmitsNone, AllowsAtMost, AsksForNone, EachStep, EndsIn, IsNoFault, PutsLast, TakesNothing}
+use Rattle.stair_story.specs.Ending.{AdmitsNone, AdmitsOnce, AllowsAtMost, AsksForNone, EachStep, EndsIn, IsNoFault, PutsLast, TakesNothing}
 use Rattle.stair_story.specs.Plan.{Plan, Over, take_step, unless_refused}
 use Rattle.stair_story.specs.Refused.{status_of_refusal}
 use Rattle.stair_story.specs.declared.status.Status.TheVariants.{OutOfRange}
@@ -158,6 +158,9 @@ writes_allowed n g first all (suc turns) done held =
 -- behind the survey
 pub opening_admits_none : (n : ℕ) (k : Geometry → Plan) → ((g : Geometry) → EachStep AdmitsNone (k g)) → EachStep AdmitsNone (take_step n Recover k)
 opening_admits_none n k none = (tt, unless_so (EachStep AdmitsNone) n (λ g left. k g) (λ g left. none g) (λ refusal. tt))
+
+pub opening_once : (slot n : ℕ) (k : Geometry → Plan) → ((g : Geometry) → AdmitsOnce slot (k g)) → AdmitsOnce slot (take_step n Recover k)
+opening_once slot n k once = unless_so (AdmitsOnce slot) n (λ g left. k g) (λ g left. once g) (λ refusal. tt)
 
 -- so many draws are more than enough for any command
 pub opening_allowed : (n : ℕ) (k : Geometry → Plan) → ((g : Geometry) → AllowsAtMost 3 (k g)) → AllowsAtMost most_allowed (take_step n Recover k)

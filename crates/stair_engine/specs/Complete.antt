@@ -18,7 +18,7 @@ use Rattle.stair_engine.specs.Blocks.{IsInRange}
 use Rattle.stair_engine.specs.Plans.{TEXT_LIMIT}
 use Rattle.stair_story.specs.Rack.{RackView}
 use Rattle.stair_story.specs.Restore.{HoldsCells, IsErasedBy}
-use Rattle.stair_story.specs.Sure.{HasNoFault, IsDone, ServesThroughout}
+use Rattle.stair_story.specs.Sure.{HasDevice, HasNoFault, IsDone, ServesThroughout}
 use Rattle.stair_engine.specs.Stands.{StandsThroughout}
 use Rattle.stair_engine.specs.Task.{one_stripe}
 use Rattle.stair_story.specs.declared.status.Status.{Status}
@@ -49,7 +49,8 @@ abbrev pub IsThawed : State → Type 0
 IsThawed s =
     (s.content.frozen ≡ false) × ((changed_if s.in_doubt s.content).frozen ≡ false)
 
--- What is told and the rack are such that the job can be done. When a replacement can isn't said yet.
+-- What is told and the rack are such that the job can be done. A replacement can be where the slot takes no part before
+-- anything is written, and has a device that can be admitted.
 abbrev pub CanBeDone : {R : Type 0} → RackView R → Job → Option (List ℕ) → R → R → Type 0
 CanBeDone rack (job.OneStripe command n m r e) told first last =
     TellsInput told (IsValidInput command (one_stripe n m r e))
@@ -63,7 +64,9 @@ CanBeDone rack (job.Read block count) told first last = (s : State)
 CanBeDone rack (job.Write block count) told first last = TellsInput told (λ input. (s : State)
     × ServesThroughout rack s first last × IsInRange s.geometry block count
     × (length input ≡ SECTOR * count) × (0 < count → IsThawed s))
-CanBeDone rack (job.Replace slot) told first last = ⊥
+CanBeDone rack (job.Replace slot) told first last = (s : State)
+    × ServesThroughout rack s first last
+    × HasDevice s.geometry (rack.history first) (rack.history last) slot
 CanBeDone rack job told first last = (s : State) × ServesThroughout rack s first last
 
 -- The job is done, if there was memory, where it can be and neither source nor sink failed.

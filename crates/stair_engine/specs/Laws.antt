@@ -7,25 +7,30 @@ use Rattle.stair_rack.specs.Count.{Rose}
 use Rattle.stair_member.specs.Asked.{LeavesSectors}
 use Rattle.stair_conf.specs.Words.{IsSpelled, Spells}
 use Rattle.stair_conf.specs.declared.job.Job.{Job}
-use Rattle.stair_conf.specs.declared.job.Job.TheVariants.{OneStripe, Create, Show, Write}
+use Rattle.stair_conf.specs.declared.job.Job.TheVariants.{OneStripe, Create, Replace, Scrub, Show, Write}
 use Rattle.stair_conf.specs.declared.job.StripeCommand.{StripeCommand}
 use Rattle.stair_story.specs.declared.status.Status.{Status}
-use Rattle.stair_story.specs.declared.status.Status.TheVariants.{Usage, InputFault, OutOfMemory}
+use Rattle.stair_story.specs.declared.status.Status.TheVariants.{Done, Usage, InputFault, OutOfMemory}
 use Rattle.stair_story.specs.Answer.{map_bytes}
 use Rattle.stair_engine.specs.Cause.{Answers, IfRefusedAtOnce}
 use Rattle.stair_engine.specs.Complete.{IsComplete}
+use Rattle.stair_engine.specs.Counted.{TellsCount}
 use Rattle.stair_engine.specs.Create.{IsOnceMade, MakesArray, SparesArrays}
 use Rattle.stair_engine.specs.Does.{Does}
 use Rattle.stair_array.specs.Arrays.{blocks_of}
+use Rattle.stair_array.specs.Promise.{Begun}
+use Rattle.stair_state.specs.State.{State}
 use Rattle.stair_engine.specs.Blocks.{whole_of}
 use Rattle.stair_engine.specs.Came.{AreWritten, IsUnrefused, taken_in}
 use Rattle.stair_engine.specs.Jobs.{IsReading, MakesCalls, MayWrite, NotSpelled, OpensArray, TakesInput}
-use Rattle.stair_story.specs.Devices.{DeviceView, MeansWhole}
+use Rattle.stair_story.specs.Devices.{DeviceView, MeansWhole, devices}
 use Rattle.stair_story.specs.Ending.{IfNothingIsPutOut, TellsFaults}
 use Rattle.stair_story.specs.Means.{Means}
 use Rattle.stair_story.specs.Outside.{Outside, Views}
 use Rattle.stair_story.specs.Plan.{Over}
+use Rattle.stair_story.specs.Sure.{EachCanReplace, HasNoFault, IsDone, ServesThroughout}
 use Rattle.stair_engine.specs.Plans.{plan_of}
+use Rattle.stair_engine.specs.Mended.{EndsMended, IsMended, Mends}
 use Rattle.stair_engine.specs.Stands.{ArrayStands}
 use Rattle.stair_engine.specs.Task.{one_stripe}
 
@@ -154,3 +159,41 @@ AllIsComplete R W S K = (view : DeviceView R W) (streams : Views S K) (words : L
     (watchers left : List W) → Spells words job
     → MeansWhole view streams (plan_of words) (Over status) old new first last watchers left
     → IsComplete view.rack streams job status old new first last
+
+-- a job that mends an array leaves it so, where its rack is honest
+abbrev pub ArrayIsMended : (R W S K : Type 0) → Type 0
+ArrayIsMended R W S K = (view : DeviceView R W) (streams : Views S K) (words : List (List ℕ))
+    (job : Job) (status : Status) (old new : Outside S K) (first last : R)
+    (watchers left : List W) → Spells words job
+    → MeansWhole view streams (plan_of words) (Over status) old new first last watchers left
+    → IsTrue view.rack.honest
+    → IsMended job status (view.rack.history first) (view.rack.history last)
+
+-- And of the session's array in the end it is so whatever the rack was before.
+abbrev pub SessionIsMended : (R W S K : Type 0) → Type 0
+SessionIsMended R W S K = (view : DeviceView R W) (streams : Views S K) (words : List (List ℕ))
+    (job : Job) (status : Status) (old new : Outside S K) (first last : R)
+    (watchers left : List W) → Spells words job
+    → (whole : MeansWhole view streams (plan_of words) (Over status) old new first last watchers left)
+    → IsTrue view.rack.honest → Mends job → status ≡ Done
+    → EndsMended job whole.session (view.rack.history first) (view.rack.history last)
+
+-- `scrub` tells the exact number, where its rack is honest and left alone
+abbrev pub ScrubsAreCounted : (R W S K : Type 0) → Type 0
+ScrubsAreCounted R W S K = (view : DeviceView R W) (streams : Views S K) (words : List (List ℕ))
+    (status : Status) (old new : Outside S K) (first last : R) (watchers left : List W)
+    → Spells words Scrub
+    → MeansWhole view streams (plan_of words) (Over status) old new first last watchers left
+    → IsTrue view.rack.honest → TellsCount streams.sink status old.sink new.sink
+    (view.rack.history first) (view.rack.history last)
+
+-- A slot is replaced, if there was memory, where the array serves throughout, no fault is counted, and the slot can be replaced as
+-- that step begins: it is Down then, and its medium is fit from then on.
+abbrev pub ReplacementIsDone : (R W S K : Type 0) → Type 0
+ReplacementIsDone R W S K = (view : DeviceView R W) (streams : Views S K) (words : List (List ℕ))
+    (slot : ℕ) (status : Status) (s : State) (old new : Outside S K) (first last : R)
+    (watchers left : List W) → Spells words (Replace slot)
+    → (whole : MeansWhole view streams (plan_of words) (Over status) old new first last watchers left)
+    → HasNoFault streams old new → ServesThroughout view.rack s first last → slot < s.geometry.n
+    → EachCanReplace view s.geometry whole.with.means.story (devices first Begun watchers)
+    (devices last whole.session left) whole.with.works → IsDone status

@@ -10,6 +10,8 @@ pub mod Create
 pub mod Show
 pub mod Stands
 pub mod Complete
+pub mod Mended
+pub mod Counted
 pub mod ShowSteps
 pub mod Taking
 pub mod Cause

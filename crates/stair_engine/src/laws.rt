@@ -8,11 +8,15 @@ ghost use Rattle.stair_engine.specs.Laws.{
   AllIsKept,
   ArrayIsLeft,
   ArrayIsMade,
+  ArrayIsMended,
   ArraysAreSpared,
   BytesAreAnswered,
   DifferAtErased,
   MemoryComesFirst,
   RackIsLeft,
+  ReplacementIsDone,
+  ScrubsAreCounted,
+  SessionIsMended,
   ShowOnlyLooks,
   SourceIsLeft,
   UsageIsExact,
@@ -55,6 +59,14 @@ pub fn plan_laws<R, W, S: Source, K: Sink>()
     ensures spared { ArraysAreSpared R W S K }
     // a job is done where it can be, if there was memory
     ensures complete { AllIsComplete R W S K }
+    // and so is a replacement by any medium, where its slot is Down and the medium fit as that step begins
+    ensures replaced { ReplacementIsDone R W S K }
+    // what a scrub, a replacement and a rebuild leave good
+    ensures mended { ArrayIsMended R W S K }
+    // and to the session, whatever the rack was before
+    ensures ended { SessionIsMended R W S K }
+    // the number that a scrub tells is that of the cells that couldn't be read, on a rack that is left alone
+    ensures counted { ScrubsAreCounted R W S K }
 {}
 
 /// What stands in the place of an erased cell makes no difference. It does nothing.

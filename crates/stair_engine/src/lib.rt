@@ -19,23 +19,23 @@ mod scrub;
 mod show;
 mod stamp;
 mod task;
-#[cfg(test)]
-mod tests;
 mod write;
 
 ghost use Rattle.std.specs.Prelude.{◌≡◌, IsTrue, map, string_bytes};
 ghost use Rattle.stair_conf.specs.Words.{IsCommandLine, Spells};
 ghost use Rattle.stair_conf.specs.declared.job.Job.{Job as Jobs};
-ghost use Rattle.stair_conf.specs.declared.job.Job.TheVariants.{Create};
+ghost use Rattle.stair_conf.specs.declared.job.Job.TheVariants.{Create, Scrub};
 ghost use Rattle.stair_engine.specs.Complete.{IsComplete};
+ghost use Rattle.stair_engine.specs.Counted.{TellsCount};
 ghost use Rattle.stair_engine.specs.Create.{IsOnceMade, MakesArray, SparesArrays};
 ghost use Rattle.stair_story.specs.Fault.{status_of};
 ghost use Rattle.stair_rack.specs.Watching.{watcher_view};
 ghost use Rattle.stair_engine.specs.Jobs.{MayWrite, NotSpelled};
+ghost use Rattle.stair_engine.specs.Mended.{IsMended};
 ghost use Rattle.stair_story.specs.Devices.{MeansWhole, device_view};
 ghost use Rattle.stair_story.specs.Headline.{IsBorneOut};
 ghost use Rattle.stair_story.specs.Means.{Means};
-ghost use Rattle.stair_story.specs.Outside.{outside, views};
+ghost use Rattle.stair_story.specs.Outside.{outside, sink_view, views};
 ghost use Rattle.stair_story.specs.Plan.{Over};
 ghost use Rattle.stair_engine.specs.Plans.{job_plan, plan_of, stripe_plan};
 ghost use Rattle.stair_story.specs.Rack.{rack_view};
@@ -135,6 +135,18 @@ pub fn stair<R: Rack, S: Source, K: Sink, L: Ledger>(
         (views S.left S.ended S.faults K.held K.faults) job result
         (outside input.old output.old steps.old) (outside input.new output.new steps.new)
         rack.old rack.new }
+
+    // On an honest rack that is an array in a state, within tolerance to the end and to which no medium comes back: once `scrub` is
+    // done each cell of a live slot was good at some moment of the call, and so was each sector of its slot once `replace` is; and once
+    // one of these or `rebuild` is, each cell of a slot that is live and wasn't as the array was found.
+    ensures mended { (job : Jobs) → Spells (map string_bytes words.now) job → IsTrue R.is_honest →
+        IsMended job result (R.history rack.old) (R.history rack.new) }
+
+    // On such a rack that is left alone meanwhile, and on which no redo is left, the line of `scrub` tells exactly how many stripe
+    // cells couldn't be read at first, on the slots that were live.
+    ensures counted { IsTrue R.is_honest → Spells (map string_bytes words.now) Scrub →
+        TellsCount (sink_view K.held K.faults) result output.old output.new
+        (R.history rack.old) (R.history rack.new) }
 {
     match read_words(alloc, words) {
         Ok(job) => work(alloc, job, rack, input, output, watchers, steps),

@@ -3,8 +3,9 @@ ghost use Rattle.std.specs.Prelude.{◌≡◌, ◌<◌};
 
 use stair_engine::{Status, stair};
 use stair_gf::Steps;
+use stair_member::Why;
 use stair_memrack::{Act, MemRack, What};
-use stair_rack::{Event, Got, MemSink, MemSource, Rack, Watcher};
+use stair_rack::{Event, Got, MemSink, MemSource, Rack, Sink, Watcher};
 use stair_watch::{Kept, add};
 use std::alloc::{AllocError, Global};
 use std::marker::Brand;
@@ -58,32 +59,62 @@ pub(crate) fn call(
     ends: Ends,
 ) -> Result<Came, AllocError> {
     let words = words_of(alloc, line)?;
-    call_on::<Brand>(Blank::new(1), alloc, rack, &words, input, ends)
+    call_words(alloc, rack, &words, input, ends)
 }
 
-fn words_of(alloc: Global, line: &str) -> Result<Vec<String>, AllocError> {
-    let mut words = Vec::new(alloc);
-    for word in line.split(' ') {
-        words.push(String::from_str(alloc, word)?)?;
-    }
-    Ok(words)
+// Calls with these words.
+pub(crate) fn call_words(
+    alloc: Global,
+    rack: &mut MemRack,
+    words: &[String],
+    input: &[u8],
+    ends: Ends,
+) -> Result<Came, AllocError> {
+    let mut sink = MemSink::new(alloc, ends.room)?;
+    let ended = call_into(alloc, rack, words, input, ends, &mut sink)?;
+    Ok(Came {
+        status: ended.status,
+        put: sink.bytes().to_vec(alloc)?,
+        told: ended.told,
+        left: ended.left,
+    })
+}
+
+// How a call ended, but for what was put out.
+#[derive(Clone, Copy)]
+pub(crate) struct Ended {
+    pub(crate) status: Status,
+    told: Told,
+    left: usize,
+}
+
+// Calls with these words and this sink.
+pub(crate) fn call_into<K: Sink>(
+    alloc: Global,
+    rack: &mut MemRack,
+    words: &[String],
+    input: &[u8],
+    ends: Ends,
+    sink: &mut K,
+) -> Result<Ended, AllocError> {
+    call_on::<K, Brand>(Blank::new(1), alloc, rack, words, input, ends, sink)
 }
 
 // The same, with the counter on a ledger of its own.
-fn call_on<L: Ledger>(
+fn call_on<K: Sink, L: Ledger>(
     blank: Blank,
     alloc: Global,
     rack: &mut MemRack,
     words: &[String],
     input: &[u8],
     ends: Ends,
-) -> Result<Came, AllocError>
+    sink: &mut K,
+) -> Result<Ended, AllocError>
     requires name { blank.name ≡ L.name }
     requires parts { blank.parts ≡ L.parts }
     requires some { 0 < L.parts }
 {
     let mut source = MemSource::new(alloc, input, ends.piece.max(1), ends.fails_at)?;
-    let mut sink = MemSink::new(alloc, ends.room)?;
     let mut steps = Steps::<L>::new(blank);
     let mut watchers = Vec::new(alloc);
     add(&mut watchers, Box::new(alloc, Kept::new(alloc, 100)?)?)?;
@@ -92,7 +123,7 @@ fn call_on<L: Ledger>(
         words,
         rack,
         &mut source,
-        &mut sink,
+        sink,
         &mut watchers,
         &mut steps,
     );
@@ -100,12 +131,28 @@ fn call_on<L: Ledger>(
         Some(kept) => Some([kept.kept(0), kept.kept(1)]),
         None => None,
     };
-    Ok(Came {
+    Ok(Ended {
         status,
-        put: sink.bytes().to_vec(alloc)?,
         told,
         left: source.left().len(),
     })
+}
+
+pub(crate) fn words_of(alloc: Global, line: &str) -> Result<Vec<String>, AllocError> {
+    let mut words = Vec::new(alloc);
+    for word in line.split(' ') {
+        words.push(String::from_str(alloc, word)?)?;
+    }
+    Ok(words)
+}
+
+// The status of too few slots, of which the first ones have these reasons and the others are here.
+pub(crate) fn too_few(first: &[Why]) -> Status {
+    let mut whys = [Why::Here; 32];
+    for (slot, why) in whys.iter_mut().zip(first.iter()) {
+        *slot = *why;
+    }
+    Status::TooFew(whys)
 }
 
 // Blocks one behind the other, each filled with one of these bytes.

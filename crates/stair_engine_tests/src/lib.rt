@@ -14,4 +14,10 @@ mod reading;
 #[cfg(test)]
 mod refusals;
 #[cfg(test)]
+mod rows;
+#[cfg(test)]
+mod told;
+#[cfg(test)]
+mod versions;
+#[cfg(test)]
 mod writing;

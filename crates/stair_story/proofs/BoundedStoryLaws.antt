@@ -114,62 +114,99 @@ module _ {R W : Type 0} (view : DeviceView R W) (honest : IsTrue view.rack.hones
   came (Did Survey outcome) x y works begun = absurd (begun works.1)
   came deed x y works begun = Rested (same_session view works) (ap (λ (d : Devices R W). view.rack.history d.rack) works)
 
-  pub stays_over : (story : List Deed) (x y : Devices R W) → Leads (WorksAll view) story x y → (now : ℕ)
-      → now ≤ bound → x.session ≢ Begun → IsBoundedAt g now (view.rack.history x.rack)
-      → ((n : Membership) → HasMember x.session n → HasRoom now story n) → StaysWithin view g bound x y
-  stays_over [] x y works now few begun bounded has =
-      subst (λ (d : Devices R W). StaysWithin view g bound x d) (sym works)
-      (at_every_none {P = IsBoundedAt g bound} (view.rack.history x.rack) (weaker g now bound few (view.rack.history x.rack) bounded))
-  stays_over (deed ∷ story) x y works now few begun bounded has =
-      elim (came deed x works.0 works.1 begun) [
-        | Rested session same ↦
-            subst (λ (h : List Happening). StaysBounded g bound h (view.rack.history y.rack)) same
-            (stays_over story works.0 y works.2 now few (λ is. begun (sym session ∙ is))
-            (subst (IsBoundedAt g now) (sym same) bounded)
-            (λ n is. let room = has n (subst (λ (s : Session). HasMember s n) session is) in record {
-              geometry = room.geometry;
-              known = room.known;
-              room = omega (arith, room.room);
-            }))
-        | Took step answer events does allowed ↦
-            took step answer events does allowed (λ then. stays_over story works.0 y works.2 then)
-      ]
-    where
-      took : (step : Step) (answer : Answer step) (events : List Event) (does : Performs step answer events (seen_of view x) (seen_of view works.0))
-          → at_step allowance deed ≡ allowance step
-          → ((then : ℕ) → then ≤ bound → works.0.session ≢ Begun → IsBoundedAt g then (view.rack.history works.0.rack)
-          → ((n : Membership) → HasMember works.0.session n → HasRoom then story n) → StaysWithin view g bound works.0 y)
-          → StaysWithin view g bound x y
-      took step answer events does allowed rest =
-          let room = has does.was.member (starts_from step does.was x.session does.starts) in
-          let seen : does.draws_few.draw ≤ now =
-          seen_within step does.was.member (seen_of view x).told (seen_of view works.0).told does.draws_few.draw now honest (does.later.ran honest)
-          room.known (subst (λ (array : Geometry). IsBoundedAt array now (view.rack.history x.rack)) (sym room.geometry) bounded)
-          does.draws_few.had_seen in
-          let then : ℕ = max now does.is.member.drawn in
-          let low : now ≤ then = le-max_left now does.is.member.drawn in
-          let high : does.is.member.drawn ≤ then = le-max_right now does.is.member.drawn in
-          let grow = weights_grow (seen_of view x).told (seen_of view works.0).told does.was.member does.is.member step does.goes_on in
-          let before = room.room in
-          let drew = does.draws_few.few in
-          let lowest : now ≤ bound - (weights does.is.member + over_steps allowance story) =
-          omega (arith, before, grow, allowed) in
-          let highest : does.is.member.drawn ≤ bound - (weights does.is.member + over_steps allowance story) =
-          omega (arith, before, drew, seen, allowed) in
-          let most : then ≤ bound - (weights does.is.member + over_steps allowance story) = max-le lowest highest in
-          let enough : weights does.is.member + over_steps allowance story ≤ bound = omega (arith, before, grow, allowed) in
-          let few_then : then ≤ bound = omega (arith, most, enough) in
-          let stays : StaysBounded g then (view.rack.history x.rack) (view.rack.history works.0.rack) =
-          stays_in_step step does.was answer (point does.was.member (seen_of view x).told) (point does.is.member (seen_of view works.0).told) g then
-          does.does honest high (weaker g now then low (view.rack.history x.rack) bounded) in
-          let ends = ends_in does in
-          at_every_join (stays_weaker g then bound few_then stays)
-          (rest then few_then ends.1 (at_last stays)
-          (λ n is. subst (HasRoom then story) (sym (ends.0 n is)) (record {
+  -- Where a story stands: no draw above `now` is borne or known, and there is room for what its steps are allowed.
+  pub record IsAhead (now : ℕ) (story : List Deed) (x : Devices R W) : Type 0 where
+    pub few : now ≤ bound
+    pub begun : x.session ≢ Begun
+    pub bounded : IsBoundedAt g now (view.rack.history x.rack)
+    pub has : (n : Membership) → HasMember x.session n → HasRoom now story n
+
+  -- so it is behind a deed
+  pub record GoesAhead (story : List Deed) (x y : Devices R W) : Type 0 where
+    pub then : ℕ
+    pub ahead : IsAhead then story y
+    pub stays : StaysBounded g bound (view.rack.history x.rack) (view.rack.history y.rack)
+
+  rested : (deed : Deed) (story : List Deed) (x y : Devices R W) (now : ℕ) → y.session ≡ x.session
+      → view.rack.history y.rack ≡ view.rack.history x.rack → IsAhead now (deed ∷ story) x → GoesAhead story x y
+  rested deed story x y now session same ahead = record {
+    then = now;
+    ahead = record {
+      few = ahead.few;
+      begun = λ is. ahead.begun (sym session ∙ is);
+      bounded = subst (IsBoundedAt g now) (sym same) ahead.bounded;
+      has = λ n is.
+          let room = ahead.has n (subst (λ (s : Session). HasMember s n) session is) in
+          record { geometry = room.geometry; known = room.known; room = omega (arith, room.room) };
+    };
+    stays = subst (λ (h : List Happening). StaysBounded g bound (view.rack.history x.rack) h) (sym same)
+        (at_every_none {P = IsBoundedAt g bound} (view.rack.history x.rack)
+        (weaker g now bound ahead.few (view.rack.history x.rack) ahead.bounded));
+  }
+
+  took : (deed : Deed) (story : List Deed) (x y : Devices R W) (now : ℕ) (step : Step) (answer : Answer step) (events : List Event)
+      (does : Performs step answer events (seen_of view x) (seen_of view y)) → at_step allowance deed ≡ allowance step
+      → IsAhead now (deed ∷ story) x → GoesAhead story x y
+  took deed story x y now step answer events does allowed ahead =
+      let room = ahead.has does.was.member (starts_from step does.was x.session does.starts) in
+      let seen : does.draws_few.draw ≤ now =
+      seen_within step does.was.member (seen_of view x).told (seen_of view y).told does.draws_few.draw now honest (does.later.ran honest)
+      room.known (subst (λ (array : Geometry). IsBoundedAt array now (view.rack.history x.rack)) (sym room.geometry) ahead.bounded)
+      does.draws_few.had_seen in
+      let then : ℕ = max now does.is.member.drawn in
+      let low : now ≤ then = le-max_left now does.is.member.drawn in
+      let high : does.is.member.drawn ≤ then = le-max_right now does.is.member.drawn in
+      let grow = weights_grow (seen_of view x).told (seen_of view y).told does.was.member does.is.member step does.goes_on in
+      let before = room.room in
+      let drew = does.draws_few.few in
+      let lowest : now ≤ bound - (weights does.is.member + over_steps allowance story) =
+      omega (arith, before, grow, allowed) in
+      let highest : does.is.member.drawn ≤ bound - (weights does.is.member + over_steps allowance story) =
+      omega (arith, before, drew, seen, allowed) in
+      let most : then ≤ bound - (weights does.is.member + over_steps allowance story) = max-le lowest highest in
+      let enough : weights does.is.member + over_steps allowance story ≤ bound = omega (arith, before, grow, allowed) in
+      let few_then : then ≤ bound = omega (arith, most, enough) in
+      let stays : StaysBounded g then (view.rack.history x.rack) (view.rack.history y.rack) =
+      stays_in_step step does.was answer (point does.was.member (seen_of view x).told) (point does.is.member (seen_of view y).told) g then
+      does.does honest high (weaker g now then low (view.rack.history x.rack) ahead.bounded) in
+      let ends = ends_in does in
+      record {
+        then = then;
+        ahead = record {
+          few = few_then;
+          begun = ends.1;
+          bounded = at_last stays;
+          has = λ n is. subst (HasRoom then story) (sym (ends.0 n is)) (record {
             geometry = does.goes_on.geometry ∙ room.geometry;
             known = high;
             room = omega (arith, most, enough);
-          })))
+          });
+        };
+        stays = stays_weaker g then bound few_then stays;
+      }
+
+  pub goes_ahead : (deed : Deed) (story : List Deed) (x y : Devices R W) (now : ℕ) → WorksAll view deed x y → IsAhead now (deed ∷ story) x
+      → GoesAhead story x y
+  goes_ahead deed story x y now works ahead =
+      elim (came deed x y works ahead.begun) [
+        | Rested session same ↦ rested deed story x y now session same ahead
+        | Took step answer events does allowed ↦ took deed story x y now step answer events does allowed ahead
+      ]
+
+  all_ahead : (story : List Deed) (x y : Devices R W) → Leads (WorksAll view) story x y → (now : ℕ) → IsAhead now story x → StaysWithin view g bound x y
+  all_ahead [] x y works now ahead =
+      subst (λ (d : Devices R W). StaysWithin view g bound x d) (sym works)
+      (at_every_none {P = IsBoundedAt g bound} (view.rack.history x.rack)
+      (weaker g now bound ahead.few (view.rack.history x.rack) ahead.bounded))
+  all_ahead (deed ∷ story) x y works now ahead =
+      let goes = goes_ahead deed story x works.0 now works.1 ahead in
+      at_every_join goes.stays (all_ahead story works.0 y works.2 goes.then goes.ahead)
+
+  pub stays_over : (story : List Deed) (x y : Devices R W) → Leads (WorksAll view) story x y → (now : ℕ)
+      → now ≤ bound → x.session ≢ Begun → IsBoundedAt g now (view.rack.history x.rack)
+      → ((n : Membership) → HasMember x.session n → HasRoom now story n) → StaysWithin view g bound x y
+  stays_over story x y works now few begun bounded has =
+      all_ahead story x y works now (record { few = few; begun = begun; bounded = bounded; has = has })
 
 pub stories_bounded : (R W : Type 0) → StoriesAreBounded R W
 stories_bounded R W view story x y works first most from =

@@ -14,6 +14,7 @@ pub mod RunLaws
 pub mod CutLaws
 pub mod HeadlineLaws
 pub mod SureLaws
+pub mod SureSlotLaws
 pub mod SureStepLaws
 pub mod SureKeptLaws
 pub mod ComesLaws
@@ -31,5 +32,9 @@ pub mod BoundedStepLaws
 pub mod BoundedStoryLaws
 pub mod BoundedCallLaws
 pub mod PlannedSureLaws
+pub mod SureDeviceLaws
+pub mod LiveLaws
 pub mod RebuiltLaws
 pub mod SoonerLaws
+pub mod PromotedLaws
+pub mod SoundLaws

@@ -83,7 +83,7 @@ progress_follows next was is (Ended rebuild before not none) stands =
     (λ one. let found = rebuilt_is is.member at.slot one in not (record { below = found.0; why = found.1 })) ∙ sym is_then
 
 -- a step other than the opening starts from an open array that wasn't stopped
-starts_open : (step : Step) (was : ArrayState) (session : Session) → (step ≡ Recover → ⊥) → StartsFrom step was session
+pub starts_open : (step : Step) (was : ArrayState) (session : Session) → (step ≡ Recover → ⊥) → StartsFrom step was session
     → (session ≡ Opened was) × (was.stopped ≡ None)
 starts_open Recover was session other starts = absurd (other refl)
 starts_open (ReadBlock b) was (Opened a) other starts = (ap Opened (sym starts.0), ap (λ a. a.stopped) starts.0 ∙ starts.1)
@@ -102,7 +102,7 @@ starts_found was (Found m) starts = ap Found (sym (ap (λ a. a.member) starts))
 starts_found was _ starts = absurd starts
 
 -- behind which no slot is under way
-opened_fresh : (answer : Answer Recover) (was is : ArrayState) → KeepsRebuild Recover answer was is → IsOk answer → is.rebuild ≡ None
+pub opened_fresh : (answer : Answer Recover) (was is : ArrayState) → KeepsRebuild Recover answer was is → IsOk answer → is.rebuild ≡ None
 opened_fresh (Ok g) was is kept ok = kept
 opened_fresh (Err refusal) was is kept ok = absurd (let same = ok in cc)
 

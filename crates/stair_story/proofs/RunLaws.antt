@@ -322,6 +322,7 @@ module _ {R W : Type 0} (view : DeviceView R W) where
       pub stop : Option Refusal
       pub runs : Runs before story (now s (h_of x) stopped) (now state (h_of y) stop)
       pub is_at : IsAt returning before state stop y
+      pub geometry : state.geometry ≡ s.geometry
 
     -- a story over which failures stay within tolerance is a run
     pub runs_on : (returning : Returning) (before : List Happening) (s : State) (stopped : Option Refusal) (story : List Deed) (x y : Devices R W)
@@ -332,6 +333,7 @@ module _ {R W : Type 0} (view : DeviceView R W) where
       stop = stopped;
       runs = ap (λ (z : Devices R W). now s (h_of z) stopped) works;
       is_at = subst (IsAt returning before s stopped) (sym works) is_at;
+      geometry = refl;
     }
     runs_on returning before s stopped (deed ∷ story) x y works led history is_at calm =
         let later = works_ran story works.0 y works.2 in
@@ -344,4 +346,5 @@ module _ {R W : Type 0} (view : DeviceView R W) where
           stop = rest.stop;
           runs = (now one.state (h_of works.0) one.stop, one.goes, rest.runs);
           is_at = rest.is_at;
+          geometry = rest.geometry ∙ one.geometry;
         }

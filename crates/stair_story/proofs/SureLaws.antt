@@ -30,7 +30,7 @@ use Rattle.stair_story.specs.Outside.{Outside, Views}
 use Rattle.stair_story.specs.Plan.{Plan, Over, Ask, Take, Put, Allocate, Do, Try, RebuildAll, after_rebuild}
 use Rattle.stair_story.specs.Rack.{MeansOver, RackView, Works, told_of}
 use Rattle.stair_story.specs.Story.{AreEnough, Deed, Found, Took, TookLast, TakeFailed, HasPut, PutFailed, Grew, RanOut, Did, Stepped, Leads, Moves, after}
-use Rattle.stair_story.specs.Sure.{Assurance, HasNoFault, IsDone, IsDoneFrom, IsSure, Last, More}
+use Rattle.stair_story.specs.Sure.{HasNoFault, IsDone, IsDoneFrom, IsFreeFor, IsSure, Last, More, counted_behind}
 use Rattle.stair_story.proofs.EndingLaws.{sink_on, source_on}
 use Rattle.stair_story.proofs.EndingLaws.{ends_so}
 use Rattle.stair_story.proofs.RackLaws.{IsOffDevices, works_still}
@@ -38,10 +38,10 @@ use Rattle.stair_story.proofs.RunLaws.{forgets}
 
 -- ---- what is taken
 
-module _ (assured : Assurance) (s : State) where
+module _ (counted : List ℕ) (s : State) where
   -- a piece came
   took_sure : (least most : ℕ) (k short : List ℕ → Plan) (bytes : List ℕ) (left later : Option (List ℕ)) → AreEnough least most bytes
-      → Consumes left later bytes → IsSure assured (Take least most k short) s left → IsSure assured (k bytes) s later
+      → Consumes left later bytes → IsSure counted (Take least most k short) s left → IsSure counted (k bytes) s later
   took_sure least most k short bytes None later enough consumes sure = absurd sure
   took_sure least most k short bytes (Some told) None enough consumes sure = absurd consumes
   took_sure least most k short bytes (Some told) (Some rest) enough consumes sure = sure.0 bytes rest consumes enough
@@ -51,148 +51,148 @@ module _ (assured : Assurance) (s : State) where
   none_left told rest same = nil_from_length rest (omega (arith, ap (λ (bytes : List ℕ). length bytes) same, length-append told rest))
 
   took_last_sure : (least most : ℕ) (k short : List ℕ → Plan) (bytes : List ℕ) (left later : Option (List ℕ)) → length bytes < least
-      → Consumes left later bytes → IfSome left (λ all. bytes ≡ all) → IsSure assured (Take least most k short) s left → IsSure assured (short bytes) s later
+      → Consumes left later bytes → IfSome left (λ all. bytes ≡ all) → IsSure counted (Take least most k short) s left → IsSure counted (short bytes) s later
   took_last_sure least most k short bytes None later few consumes all sure = absurd sure
   took_last_sure least most k short bytes (Some told) None few consumes all sure = absurd consumes
   took_last_sure least most k short bytes (Some told) (Some rest) few consumes all sure =
       let same : told ≡ told ++ rest = subst (λ (piece : List ℕ). told ≡ piece ++ rest) all consumes in
-      subst (λ (piece : List ℕ). IsSure assured (short piece) s (Some rest)) (sym all)
-      (subst (λ (none : List ℕ). IsSure assured (short told) s (Some none)) (sym (none_left told rest same))
+      subst (λ (piece : List ℕ). IsSure counted (short piece) s (Some rest)) (sym all)
+      (subst (λ (none : List ℕ). IsSure counted (short told) s (Some none)) (sym (none_left told rest same))
       (sure.1 (subst (λ (piece : List ℕ). length piece < least) all few)))
 
 -- ---- a story, whatever bears it out
 
 -- An array that is looked for was found.
-pub record IsFoundOn {X : Type 0} (One : Deed → X → X → Type 0) (IsReady : State → (story : List Deed) → (x y : X) → Leads One story x y → Type 0)
-    (s : State) (came : Outcome Survey) (story : List Deed) (x y : X) (works : Leads One (Did Survey came ∷ story) x y) : Type 0 where
+pub record IsFoundOn {X : Type 0} (One : Deed → X → X → Type 0) (IsReady : List ℕ → State → (story : List Deed) → (x y : X) → Leads One story x y → Type 0)
+    (counted : List ℕ) (s : State) (came : Outcome Survey) (story : List Deed) (x y : X) (works : Leads One (Did Survey came ∷ story) x y) : Type 0 where
   pub member : Membership
   pub found : came ≡ Ok member
   pub geometry : member.array.geometry ≡ s.geometry
-  pub ready : IsReady s story works.0 y works.2
+  pub ready : IsReady counted s story works.0 y works.2
 
 -- A step was done.
-pub record IsSteppedOn {X : Type 0} (assured : Assurance) (One : Deed → X → X → Type 0) (IsReady : State → (story : List Deed) → (x y : X) → Leads One story x y → Type 0)
-    (s : State) (step : Step) (answer : Answer step) (events : List Event) (left : Bool) (story : List Deed) (x y : X)
+pub record IsSteppedOn {X : Type 0} (One : Deed → X → X → Type 0) (IsReady : List ℕ → State → (story : List Deed) → (x y : X) → Leads One story x y → Type 0)
+    (counted : List ℕ) (s : State) (step : Step) (answer : Answer step) (events : List Event) (left : Bool) (story : List Deed) (x y : X)
     (works : Leads One (Stepped step answer events left ∷ story) x y) : Type 0 where
   pub given : GivenBy step
   pub is : answer ≡ Ok given
   pub later : State
-  pub done : IsDoneFrom assured step given s later
-  pub ready : IsReady later story works.0 y works.2
+  pub done : IsDoneFrom counted step given s later
+  pub ready : IsReady (counted_behind step counted) later story works.0 y works.2
 
 -- What holds as a story begins goes on behind each of its deeds, and what can be done there is done.
-pub record CarriesOn {X : Type 0} (assured : Assurance) (One : Deed → X → X → Type 0) (IsReady : State → (story : List Deed) → (x y : X) → Leads One story x y → Type 0)
+pub record CarriesOn {X : Type 0} (One : Deed → X → X → Type 0) (IsReady : List ℕ → State → (story : List Deed) → (x y : X) → Leads One story x y → Type 0)
     : Type 0 where
-  pub still : (s : State) (deed : Deed) (story : List Deed) (x y : X) (works : Leads One (deed ∷ story) x y) → IsOffDevices deed
-      → IsReady s (deed ∷ story) x y works → IsReady s story works.0 y works.2
-  pub found : (s : State) (came : Outcome Survey) (story : List Deed) (x y : X) (works : Leads One (Did Survey came ∷ story) x y)
-      → IsReady s (Did Survey came ∷ story) x y works → IsFoundOn One IsReady s came story x y works
-  pub stepped : (s : State) (step : Step) (answer : Answer step) (events : List Event) (left : Bool) (story : List Deed) (x y : X)
+  pub still : (counted : List ℕ) (s : State) (deed : Deed) (story : List Deed) (x y : X) (works : Leads One (deed ∷ story) x y) → IsOffDevices deed
+      → IsReady counted s (deed ∷ story) x y works → IsReady counted s story works.0 y works.2
+  pub found : (counted : List ℕ) (s : State) (came : Outcome Survey) (story : List Deed) (x y : X) (works : Leads One (Did Survey came ∷ story) x y)
+      → IsReady counted s (Did Survey came ∷ story) x y works → IsFoundOn One IsReady counted s came story x y works
+  pub stepped : (counted : List ℕ) (s : State) (step : Step) (answer : Answer step) (events : List Event) (left : Bool) (story : List Deed) (x y : X)
       (works : Leads One (Stepped step answer events left ∷ story) x y)
-      → ((seats : Seats) → s.seats ≡ Some seats → PassesTests step s seats)
-      → IsReady s (Stepped step answer events left ∷ story) x y works
-      → IsSteppedOn assured One IsReady s step answer events left story x y works
+      → ((seats : Seats) → s.seats ≡ Some seats → IsFreeFor step seats → PassesTests step s seats)
+      → IsReady counted s (Stepped step answer events left ∷ story) x y works
+      → IsSteppedOn One IsReady counted s step answer events left story x y works
 
-module _ {X S K : Type 0} (assured : Assurance) (One : Deed → X → X → Type 0)
-    (IsReady : State → (story : List Deed) → (x y : X) → Leads One story x y → Type 0) (carries : CarriesOn assured One IsReady) (streams : Views S K) where
+module _ {X S K : Type 0} (One : Deed → X → X → Type 0)
+    (IsReady : List ℕ → State → (story : List Deed) → (x y : X) → Leads One story x y → Type 0) (carries : CarriesOn One IsReady) (streams : Views S K) where
   -- behind a deed the rest of the plan is sure, or memory was short
   data GoesSure (rest : Plan) (story : List Deed) (x y : X) (works : Leads One story x y) (left : Option (List ℕ)) : Type 0 where
-    StaysSure : (later : State) → IsReady later story x y works → IsSure assured rest later left → GoesSure rest story x y works left
+    StaysSure : (counted : List ℕ) (later : State) → IsReady counted later story x y works → IsSure counted rest later left → GoesSure rest story x y works left
     Short : rest ≡ Over OutOfMemory → GoesSure rest story x y works left
 
   -- the source and the plan that is left are the same
-  same_sure : (s : State) (rest next : Plan) (a b : S) → rest ≡ next → b ≡ a → IsSure assured next s (streams.source.left a)
-      → IsSure assured rest s (streams.source.left b)
-  same_sure s rest next a b same kept sure =
-      subst (λ (plan : Plan). IsSure assured plan s (streams.source.left b)) (sym same)
-      (subst (λ (source : S). IsSure assured next s (streams.source.left source)) (sym kept) sure)
+  same_sure : (counted : List ℕ) (s : State) (rest next : Plan) (a b : S) → rest ≡ next → b ≡ a → IsSure counted next s (streams.source.left a)
+      → IsSure counted rest s (streams.source.left b)
+  same_sure counted s rest next a b same kept sure =
+      subst (λ (plan : Plan). IsSure counted plan s (streams.source.left b)) (sym same)
+      (subst (λ (source : S). IsSure counted next s (streams.source.left source)) (sym kept) sure)
 
   -- an array was looked for
-  did_sure : (s : State) (action : Action) (outcome : Outcome action) (k : OkOf action → Plan) (rest : Plan) (story : List Deed) (x y : X) (a b : S)
-      → rest ≡ after action k outcome → b ≡ a → IsSure assured (Do action k) s (streams.source.left a)
-      → (works : Leads One (Did action outcome ∷ story) x y) → IsReady s (Did action outcome ∷ story) x y works
+  did_sure : (counted : List ℕ) (s : State) (action : Action) (outcome : Outcome action) (k : OkOf action → Plan) (rest : Plan) (story : List Deed) (x y : X) (a b : S)
+      → rest ≡ after action k outcome → b ≡ a → IsSure counted (Do action k) s (streams.source.left a)
+      → (works : Leads One (Did action outcome ∷ story) x y) → IsReady counted s (Did action outcome ∷ story) x y works
       → GoesSure rest story works.0 y works.2 (streams.source.left b)
-  did_sure s (Create g) outcome k rest story x y a b goes kept sure works ready = absurd sure
-  did_sure s Survey came k rest story x y a b goes kept sure works ready =
-      let finds = carries.found s came story x y works ready in
-      StaysSure s finds.ready
-      (same_sure s rest (k finds.member) a b (goes ∙ ap (after Survey k) finds.found) kept (sure finds.member finds.geometry))
+  did_sure counted s (Create g) outcome k rest story x y a b goes kept sure works ready = absurd sure
+  did_sure counted s Survey came k rest story x y a b goes kept sure works ready =
+      let finds = carries.found counted s came story x y works ready in
+      StaysSure counted s finds.ready
+      (same_sure counted s rest (k finds.member) a b (goes ∙ ap (after Survey k) finds.found) kept (sure finds.member finds.geometry))
 
   -- what is left of a rebuild is sure
-  rebuild_sure : (slots done : ℕ) (k : ℕ → Plan) (progress : Progress) (s later : State) (left : Option (List ℕ))
-      → IsSure assured (RebuildAll slots done k) s left → IsDoneFrom assured RebuildNext progress s later
-      → IsSure assured (after_rebuild slots done k (Ok progress)) later left
-  rebuild_sure slots done k Nothing s later left sure did = sure done later (Last s did)
-  rebuild_sure slots done k (Chunk j t) s later left sure did = λ count end rebuilt. sure count end (More s later (Chunk j t) did rebuilt)
-  rebuild_sure slots done k (Promoted j) s later left sure did = λ count end rebuilt. sure count end (More s later (Promoted j) did rebuilt)
-  rebuild_sure slots done k (Dropped j) s later left sure did = λ count end rebuilt. sure count end (More s later (Dropped j) did rebuilt)
+  rebuild_sure : (counted : List ℕ) (slots done : ℕ) (k : ℕ → Plan) (progress : Progress) (s later : State) (left : Option (List ℕ))
+      → IsSure counted (RebuildAll slots done k) s left → IsDoneFrom counted RebuildNext progress s later
+      → IsSure counted (after_rebuild slots done k (Ok progress)) later left
+  rebuild_sure counted slots done k Nothing s later left sure did = sure done later (Last s did)
+  rebuild_sure counted slots done k (Chunk j t) s later left sure did = λ count end rebuilt. sure count end (More s later (Chunk j t) did rebuilt)
+  rebuild_sure counted slots done k (Promoted j) s later left sure did = λ count end rebuilt. sure count end (More s later (Promoted j) did rebuilt)
+  rebuild_sure counted slots done k (Dropped j) s later left sure did = λ count end rebuilt. sure count end (More s later (Dropped j) did rebuilt)
 
   -- a step was taken, which passes its tests, and behind which the rest is sure
-  stepped_sure : (s : State) (step : Step) (answer : Answer step) (events : List Event) (left : Bool) (goes_on : Answer step → Plan) (rest : Plan)
-      (story : List Deed) (x y : X) (a b : S) → rest ≡ goes_on answer → b ≡ a → ((seats : Seats) → s.seats ≡ Some seats → PassesTests step s seats)
-      → ((given : GivenBy step) (later : State) → IsDoneFrom assured step given s later → IsSure assured (goes_on (Ok given)) later (streams.source.left a))
-      → (works : Leads One (Stepped step answer events left ∷ story) x y) → IsReady s (Stepped step answer events left ∷ story) x y works
+  stepped_sure : (counted : List ℕ) (s : State) (step : Step) (answer : Answer step) (events : List Event) (left : Bool) (goes_on : Answer step → Plan) (rest : Plan)
+      (story : List Deed) (x y : X) (a b : S) → rest ≡ goes_on answer → b ≡ a → ((seats : Seats) → s.seats ≡ Some seats → IsFreeFor step seats → PassesTests step s seats)
+      → ((given : GivenBy step) (later : State) → IsDoneFrom counted step given s later → IsSure (counted_behind step counted) (goes_on (Ok given)) later (streams.source.left a))
+      → (works : Leads One (Stepped step answer events left ∷ story) x y) → IsReady counted s (Stepped step answer events left ∷ story) x y works
       → GoesSure rest story works.0 y works.2 (streams.source.left b)
-  stepped_sure s step answer events left goes_on rest story x y a b goes kept passes sure works ready =
-      let stepped = carries.stepped s step answer events left story x y works passes ready in
-      StaysSure stepped.later stepped.ready
-      (same_sure stepped.later rest (goes_on (Ok stepped.given)) a b (goes ∙ ap goes_on stepped.is) kept (sure stepped.given stepped.later stepped.done))
+  stepped_sure counted s step answer events left goes_on rest story x y a b goes kept passes sure works ready =
+      let stepped = carries.stepped counted s step answer events left story x y works passes ready in
+      StaysSure (counted_behind step counted) stepped.later stepped.ready
+      (same_sure (counted_behind step counted) stepped.later rest (goes_on (Ok stepped.given)) a b (goes ∙ ap goes_on stepped.is) kept (sure stepped.given stepped.later stepped.done))
 
-  one_sure : (s : State) (deed : Deed) (plan rest : Plan) (story : List Deed) (x y : X) (works : Leads One (deed ∷ story) x y) (a b : S) (k l : K)
+  one_sure : (counted : List ℕ) (s : State) (deed : Deed) (plan rest : Plan) (story : List Deed) (x y : X) (works : Leads One (deed ∷ story) x y) (a b : S) (k l : K)
       → Moves deed plan rest → Gives streams.source deed a b → Holds streams.sink deed k l
       → ¬ Rose (streams.source.faults a) (streams.source.faults b) → ¬ Rose (streams.sink.faults k) (streams.sink.faults l)
-      → IsReady s (deed ∷ story) x y works → IsSure assured plan s (streams.source.left a)
+      → IsReady counted s (deed ∷ story) x y works → IsSure counted plan s (streams.source.left a)
       → GoesSure rest story works.0 y works.2 (streams.source.left b)
-  one_sure s (Found asked) (Ask question next) rest story x y works a b k l moves gives holds sound whole ready sure =
-      StaysSure s (carries.still s (Found asked) story x y works tt ready)
-      (same_sure s rest (next moves.0) a b moves.3 gives (sure moves.0 moves.2))
-  one_sure s (Took bytes) (Take least most next short) rest story x y works a b k l moves gives holds sound whole ready sure =
-      StaysSure s (carries.still s (Took bytes) story x y works tt ready)
-      (same_sure s rest (next bytes) b b moves.1 refl
-      (took_sure assured s least most next short bytes (streams.source.left a) (streams.source.left b) moves.0 gives.0 sure))
-  one_sure s (TookLast bytes) (Take least most next short) rest story x y works a b k l moves gives holds sound whole ready sure =
-      StaysSure s (carries.still s (TookLast bytes) story x y works tt ready)
-      (same_sure s rest (short bytes) b b moves.1 refl
-      (took_last_sure assured s least most next short bytes (streams.source.left a) (streams.source.left b) moves.0 gives.0 gives.1 sure))
-  one_sure s (TakeFailed bytes) (Take least most next short) rest story x y works a b k l moves gives holds sound whole ready sure =
+  one_sure counted s (Found asked) (Ask question next) rest story x y works a b k l moves gives holds sound whole ready sure =
+      StaysSure counted s (carries.still counted s (Found asked) story x y works tt ready)
+      (same_sure counted s rest (next moves.0) a b moves.3 gives (sure moves.0 moves.2))
+  one_sure counted s (Took bytes) (Take least most next short) rest story x y works a b k l moves gives holds sound whole ready sure =
+      StaysSure counted s (carries.still counted s (Took bytes) story x y works tt ready)
+      (same_sure counted s rest (next bytes) b b moves.1 refl
+      (took_sure counted s least most next short bytes (streams.source.left a) (streams.source.left b) moves.0 gives.0 sure))
+  one_sure counted s (TookLast bytes) (Take least most next short) rest story x y works a b k l moves gives holds sound whole ready sure =
+      StaysSure counted s (carries.still counted s (TookLast bytes) story x y works tt ready)
+      (same_sure counted s rest (short bytes) b b moves.1 refl
+      (took_last_sure counted s least most next short bytes (streams.source.left a) (streams.source.left b) moves.0 gives.0 gives.1 sure))
+  one_sure counted s (TakeFailed bytes) (Take least most next short) rest story x y works a b k l moves gives holds sound whole ready sure =
       absurd (sound gives.4)
-  one_sure s (HasPut bytes) (Put all plan) rest story x y works a b k l moves gives holds sound whole ready sure =
-      StaysSure s (carries.still s (HasPut bytes) story x y works tt ready) (same_sure s rest plan a b moves.1 gives sure)
-  one_sure s (PutFailed part) (Put all plan) rest story x y works a b k l moves gives holds sound whole ready sure = absurd (whole holds.2)
-  one_sure s Grew (Allocate plan) rest story x y works a b k l moves gives holds sound whole ready sure =
-      StaysSure s (carries.still s Grew story x y works tt ready) (same_sure s rest plan a b moves gives sure)
-  one_sure s RanOut (Allocate plan) rest story x y works a b k l moves gives holds sound whole ready sure = Short moves
-  one_sure s (Did did came) (Do action next) rest story x y works a b k l moves gives holds sound whole ready sure =
+  one_sure counted s (HasPut bytes) (Put all plan) rest story x y works a b k l moves gives holds sound whole ready sure =
+      StaysSure counted s (carries.still counted s (HasPut bytes) story x y works tt ready) (same_sure counted s rest plan a b moves.1 gives sure)
+  one_sure counted s (PutFailed part) (Put all plan) rest story x y works a b k l moves gives holds sound whole ready sure = absurd (whole holds.2)
+  one_sure counted s Grew (Allocate plan) rest story x y works a b k l moves gives holds sound whole ready sure =
+      StaysSure counted s (carries.still counted s Grew story x y works tt ready) (same_sure counted s rest plan a b moves gives sure)
+  one_sure counted s RanOut (Allocate plan) rest story x y works a b k l moves gives holds sound whole ready sure = Short moves
+  one_sure counted s (Did did came) (Do action next) rest story x y works a b k l moves gives holds sound whole ready sure =
       subst
-      (λ (deed : Deed). (works : Leads One (deed ∷ story) x y) → IsReady s (deed ∷ story) x y works → GoesSure rest story works.0 y works.2 (streams.source.left b))
-      (sym moves.1) (did_sure s action moves.0 next rest story x y a b moves.2 gives sure) works ready
-  one_sure s (Stepped did came events left) (Try step next) rest story x y works a b k l moves gives holds sound whole ready sure =
+      (λ (deed : Deed). (works : Leads One (deed ∷ story) x y) → IsReady counted s (deed ∷ story) x y works → GoesSure rest story works.0 y works.2 (streams.source.left b))
+      (sym moves.1) (did_sure counted s action moves.0 next rest story x y a b moves.2 gives sure) works ready
+  one_sure counted s (Stepped did came events left) (Try step next) rest story x y works a b k l moves gives holds sound whole ready sure =
       subst
-      (λ (deed : Deed). (works : Leads One (deed ∷ story) x y) → IsReady s (deed ∷ story) x y works → GoesSure rest story works.0 y works.2 (streams.source.left b))
+      (λ (deed : Deed). (works : Leads One (deed ∷ story) x y) → IsReady counted s (deed ∷ story) x y works → GoesSure rest story works.0 y works.2 (streams.source.left b))
       (sym moves.1)
-      (stepped_sure s step moves.0 events left (λ answer. next answer left) rest story x y a b moves.2 gives sure.0
+      (stepped_sure counted s step moves.0 events left (λ answer. next answer left) rest story x y a b moves.2 gives sure.0
       (λ given later done. sure.1 given left later done)) works ready
-  one_sure s (Stepped did came events left) (RebuildAll slots done next) rest story x y works a b k l moves gives holds sound whole ready sure =
+  one_sure counted s (Stepped did came events left) (RebuildAll slots done next) rest story x y works a b k l moves gives holds sound whole ready sure =
       subst
-      (λ (deed : Deed). (works : Leads One (deed ∷ story) x y) → IsReady s (deed ∷ story) x y works → GoesSure rest story works.0 y works.2 (streams.source.left b))
+      (λ (deed : Deed). (works : Leads One (deed ∷ story) x y) → IsReady counted s (deed ∷ story) x y works → GoesSure rest story works.0 y works.2 (streams.source.left b))
       (sym moves.1)
-      (stepped_sure s RebuildNext moves.0 events left (after_rebuild slots done next) rest story x y a b moves.2 gives (λ seats is. tt)
-      (λ given later did. rebuild_sure slots done next given s later (streams.source.left a) sure did)) works ready
-  one_sure s _ _ rest story x y works a b k l moves gives holds sound whole ready sure = absurd moves
+      (stepped_sure counted s RebuildNext moves.0 events left (after_rebuild slots done next) rest story x y a b moves.2 gives (λ seats is free. tt)
+      (λ given later did. rebuild_sure counted slots done next given s later (streams.source.left a) sure did)) works ready
+  one_sure counted s _ _ rest story x y works a b k l moves gives holds sound whole ready sure = absurd moves
 
   -- a sure plan ends with Done, or for want of memory
-  pub ends_done : (story : List Deed) (plan : Plan) (status : Status) (s : State) (x y : X) (works : Leads One story x y) (a b : S) (k l : K)
+  pub ends_done : (counted : List ℕ) (story : List Deed) (plan : Plan) (status : Status) (s : State) (x y : X) (works : Leads One story x y) (a b : S) (k l : K)
       → Leads Moves story plan (Over status) → Leads (Gives streams.source) story a b → Leads (Holds streams.sink) story k l
       → ¬ Rose (streams.source.faults a) (streams.source.faults b) → ¬ Rose (streams.sink.faults k) (streams.sink.faults l)
-      → IsReady s story x y works → IsSure assured plan s (streams.source.left a) → IsDone status
-  ends_done [] plan status s x y works a b k l follows gives holds sound whole ready sure =
-      let over : IsSure assured (Over status) s (streams.source.left a) = subst (λ (p : Plan). IsSure assured p s (streams.source.left a)) (sym follows) sure in
+      → IsReady counted s story x y works → IsSure counted plan s (streams.source.left a) → IsDone status
+  ends_done counted [] plan status s x y works a b k l follows gives holds sound whole ready sure =
+      let over : IsSure counted (Over status) s (streams.source.left a) = subst (λ (p : Plan). IsSure counted p s (streams.source.left a)) (sym follows) sure in
       inl over
-  ends_done (deed ∷ story) plan status s x y works a b k l follows gives holds sound whole ready sure =
-      elim (one_sure s deed plan follows.0 story x y works a gives.0 k holds.0 follows.1 gives.1 holds.1
+  ends_done counted (deed ∷ story) plan status s x y works a b k l follows gives holds sound whole ready sure =
+      elim (one_sure counted s deed plan follows.0 story x y works a gives.0 k holds.0 follows.1 gives.1 holds.1
       (λ rose. sound (Rose-kept _ _ _ rose source_later)) (λ rose. whole (Rose-kept _ _ _ rose sink_later)) ready sure) as (λ _. IsDone status) [
-        | StaysSure later on still ↦
-            ends_done story follows.0 status later works.0 y works.2 gives.0 b holds.0 l follows.2 gives.2 holds.2
+        | StaysSure behind later on still ↦
+            ends_done behind story follows.0 status later works.0 y works.2 gives.0 b holds.0 l follows.2 gives.2 holds.2
             (λ rose. sound (kept-Rose _ _ _ source_first source_later rose)) (λ rose. whole (kept-Rose _ _ _ sink_first sink_later rose)) on still
         | Short out ↦ inr (ends_so story OutOfMemory status (subst (λ (p : Plan). Leads Moves story p (Over status)) out follows.2))
       ]
@@ -211,7 +211,7 @@ module _ {X S K : Type 0} (assured : Assurance) (One : Deed → X → X → Type
 
 -- ---- over a rack alone
 
-module _ {R : Type 0} (rack : RackView R) (honest : IsTrue rack.honest) (assured : Assurance) (before : List Happening) where
+module _ {R : Type 0} (rack : RackView R) (honest : IsTrue rack.honest) (before : List Happening) where
   abbrev h_of : R → List Happening
   h_of x = rack.history x
 
@@ -229,16 +229,16 @@ module _ {R : Type 0} (rack : RackView R) (honest : IsTrue rack.honest) (assured
   all_ran (deed ∷ story) x y works = ran_join (deed_ran deed x works.0 works.1) (all_ran story works.0 y works.2)
 
   -- The rack represents a state whose seats aren't known, and is within tolerance from here to the end.
-  pub record IsReadyOver (s : State) (story : List Deed) (x y : R) (works : Leads (Works rack) story x y) : Type 0 where
+  pub record IsReadyOver (counted : List ℕ) (s : State) (story : List Deed) (x y : R) (works : Leads (Works rack) story x y) : Type 0 where
     pub since : Ran any_call before (h_of x)
     pub represents : Represents s (h_of x)
     pub unknown : s.seats ≡ None
     pub tolerated : ToleratedSince s.geometry before (h_of y)
     pub returned : NothingReturned (h_of x) (h_of y)
 
-  over_still : (s : State) (deed : Deed) (story : List Deed) (x y : R) (works : Leads (Works rack) (deed ∷ story) x y) → IsOffDevices deed
-      → IsReadyOver s (deed ∷ story) x y works → IsReadyOver s story works.0 y works.2
-  over_still s deed story x y works off ready =
+  over_still : (counted : List ℕ) (s : State) (deed : Deed) (story : List Deed) (x y : R) (works : Leads (Works rack) (deed ∷ story) x y) → IsOffDevices deed
+      → IsReadyOver counted s (deed ∷ story) x y works → IsReadyOver counted s story works.0 y works.2
+  over_still counted s deed story x y works off ready =
       let same : works.0 ≡ x = works_still rack deed x works.0 off works.1 in
       record {
         since = subst (λ (z : R). Ran any_call before (h_of z)) (sym same) ready.since;
@@ -248,9 +248,9 @@ module _ {R : Type 0} (rack : RackView R) (honest : IsTrue rack.honest) (assured
         returned = subst (λ (z : R). NothingReturned (h_of z) (h_of y)) (sym same) ready.returned;
       }
 
-  over_found : (s : State) (came : Outcome Survey) (story : List Deed) (x y : R) (works : Leads (Works rack) (Did Survey came ∷ story) x y)
-      → IsReadyOver s (Did Survey came ∷ story) x y works → IsFoundOn (Works rack) IsReadyOver s came story x y works
-  over_found s came story x y works ready =
+  over_found : (counted : List ℕ) (s : State) (came : Outcome Survey) (story : List Deed) (x y : R) (works : Leads (Works rack) (Did Survey came ∷ story) x y)
+      → IsReadyOver counted s (Did Survey came ∷ story) x y works → IsFoundOn (Works rack) IsReadyOver counted s came story x y works
+  over_found counted s came story x y works ready =
       let looked = asked_ran 32 (h_of x) (h_of works.0) (works.1.asked honest) in
       let ran : Ran any_call (h_of x) (h_of works.0) = ran_any looked in
       let later = all_ran story works.0 y works.2 in
@@ -274,20 +274,20 @@ module _ {R : Type 0} (rack : RackView R) (honest : IsTrue rack.honest) (assured
         };
       }
 
-  over_carries : CarriesOn assured (Works rack) IsReadyOver
+  over_carries : CarriesOn (Works rack) IsReadyOver
   over_carries = record {
     still = over_still;
     found = over_found;
-    stepped = λ s step answer events left story x y works passes ready. absurd works.1;
+    stepped = λ counted s step answer events left story x y works passes ready. absurd works.1;
   }
 
   -- a sure plan is done
   pub stepless_done : {S K : Type 0} (streams : Views S K) (plan : Plan) (status : Status) (s : State) (a b : Outside S K) (x y : R)
       → MeansOver rack streams plan (Over status) a b x y → Ran any_call before (h_of x) → Represents s (h_of x)
       → ToleratedSince s.geometry before (h_of y) → NothingReturned (h_of x) (h_of y) → HasNoFault streams a b
-      → IsSure assured plan (without_seats s) (streams.source.left a.source) → IsDone status
+      → IsSure [] plan (without_seats s) (streams.source.left a.source) → IsDone status
   stepless_done streams plan status s a b x y over since represents tolerated returned none sure =
-      ends_done assured (Works rack) IsReadyOver over_carries streams over.means.story plan status (without_seats s) x y over.works a.source b.source
+      ends_done (Works rack) IsReadyOver over_carries streams [] over.means.story plan status (without_seats s) x y over.works a.source b.source
       a.sink b.sink over.means.follows over.means.bears.gives over.means.bears.holds none.source none.sink
       (record {
         since = since;
@@ -300,6 +300,6 @@ module _ {R : Type 0} (rack : RackView R) (honest : IsTrue rack.honest) (assured
 -- ---- plans
 
 -- A command that looks for the array and puts out what it found is sure, in every state and of any source.
-pub look_sure : (assured : Assurance) (text : Membership → List ℕ) (s : State) (left : Option (List ℕ))
-    → IsSure assured (Do Survey (λ member. Put (text member) (Over Done))) s left
-look_sure assured text s left = λ member same. refl
+pub look_sure : (counted : List ℕ) (text : Membership → List ℕ) (s : State) (left : Option (List ℕ))
+    → IsSure counted (Do Survey (λ member. Put (text member) (Over Done))) s left
+look_sure counted text s left = λ member same. refl

@@ -1,35 +1,34 @@
 -- Over a rack, a session and watchers a sure plan ends with Done: a step that can be done is done and leads on, and what comes
 -- behind it is sure again.
-use Rattle.std.proofs.Common.{◌≡◌, ◌≢◌, ◌∙◌, ◌⊎◌, ℕ, ◌<◌, List, ◌∷◌, Option, None, Some, Result, Ok, Err, inl, inr, refl, sym, ap, subst, arith}
+use Rattle.std.proofs.Common.{◌≡◌, ◌≢◌, ◌∙◌, ◌⊎◌, ℕ, ◌<◌, List, [], ◌∷◌, Option, None, Some, Result, Ok, Err, inl, inr, refl, sym, ap, subst, arith}
 use Rattle.std.proofs.lemmas.Bool.{false≢true}
 use Rattle.std.specs.Prelude.{Bool, IsOk, IsSome, IsTrue}
 use Rattle.stair_model.specs.Geometry.{Geometry}
-use Rattle.stair_model.specs.Slots.{HasSlot, Slots}
 use Rattle.stair_rack.specs.Answers.{IsHistory, Ran, any_call}
 use Rattle.stair_rack.specs.History.{Happening}
 use Rattle.stair_rack.specs.Moments.{IsMoment}
+use Rattle.stair_rack.specs.Offline.{IsHeld, IsOffline}
 use Rattle.stair_rack.specs.Stretch.{NothingReturned}
 use Rattle.stair_rack.specs.Telling.{Telling}
 use Rattle.stair_rack.specs.declared.watcher.Event.{Event}
-use Rattle.stair_rack.proofs.MomentLemmas.{moment_last, ran_none}
+use Rattle.stair_rack.proofs.MomentLemmas.{at_every_from, moment_between, moment_first, moment_last, moment_sooner, ran_join, ran_none}
+use Rattle.stair_rack.proofs.OfflineLemmas.{held_on}
 use Rattle.stair_rack.proofs.TidyLemmas.{history_on}
+use Rattle.stair_super.specs.Superblock.{mark_in}
 use Rattle.stair_super.specs.declared.mark.Mark.TheVariants.{Down}
-use Rattle.stair_member.specs.Aims.{mark_for}
-use Rattle.stair_member.specs.Membership.{IsHere, Membership, why_of}
+use Rattle.stair_member.specs.Membership.{Membership}
 use Rattle.stair_member.specs.Seats.{Seats}
 use Rattle.stair_member.specs.declared.fault.FenceFault.{FenceFault}
-use Rattle.stair_member.specs.declared.why.Why.{Why}
-use Rattle.stair_member.specs.declared.why.Why.TheVariants as why
 use Rattle.stair_state.specs.Represents.{Represents}
 use Rattle.stair_state.specs.State.{State, without_seats}
 use Rattle.stair_state.specs.Tolerance.{ToleratedSince}
 use Rattle.stair_state.proofs.SurveyedLemmas.{finds_array}
 use Rattle.stair_session.specs.Returning.{IsCalm, NoneReturns}
+use Rattle.stair_session.specs.Courses.{point}
 use Rattle.stair_session.specs.Session.{ArrayState, seats_in}
-use Rattle.stair_array.specs.Causes.{WhyGoesOn}
 use Rattle.stair_array.specs.Draws.{HasDraws}
-use Rattle.stair_array.specs.Machine.{Answer, GivenBy, PassesTests, Recover, Refusal, Row, Step}
-use Rattle.stair_array.specs.Promise.{AnswersStopped, Begun, BeginsWith, EndsIn, Ends, Found, GoesOn, Opened, Performs, Seen, ServesState, Session, StartsFrom, Stops, is_open}
+use Rattle.stair_array.specs.Machine.{Answer, GivenBy, PassesTests, Recover, ReplaceSlot, Row, Step}
+use Rattle.stair_array.specs.Promise.{AnswersStopped, Begun, BeginsWith, EndsIn, Ends, Found, GoesOn, IsFitFor, IsOpenFor, MayReplace, Opened, Performs, Seen, ServesState, Session, StartsFrom, is_open}
 use Rattle.stair_story.specs.declared.status.Status.{Status}
 use Rattle.stair_story.specs.Action.{Outcome, Survey}
 use Rattle.stair_story.specs.Devices.{DeviceView, Devices, MeansWith, WorksAll, seen_of}
@@ -37,10 +36,11 @@ use Rattle.stair_story.specs.Outside.{Outside, Views}
 use Rattle.stair_story.specs.Plan.{Plan, Over}
 use Rattle.stair_story.specs.Run.{IsCalmUpTo, StoryLeads}
 use Rattle.stair_story.specs.Story.{Deed, Did, Stepped, Leads}
-use Rattle.stair_story.specs.Sure.{AreDown, Assurance, EachIsAway, GoesAsAssured, BeginsAs, EachHasDraws, EachIsFit, EachKeeps, HasNoFault, IsDone, IsSure, LeavesDraws, NoneGoesDown}
+use Rattle.stair_story.specs.Sure.{BeginsAs, CanReplaceAt, EachCanReplace, EachHasDraws, HasNoFault, IsCounted, IsDone, IsFitFrom, IsFreeFor, IsSure, IsThere, KeepsCounted, LeavesDraws, MediumLeavesDraws, NoneGoesDown, counted_behind}
 use Rattle.stair_story.proofs.HeadlineLaws.{calm_story}
 use Rattle.stair_story.proofs.RackLaws.{IsOffDevices}
 use Rattle.stair_story.proofs.RunLaws.{IsAt, IsStoppedBy, forgets, one_goes, one_ran, refusal_kept, upto_end, works_ran}
+use Rattle.stair_story.proofs.SureSlotLaws.{replaced_held, stays_up}
 use Rattle.stair_story.proofs.SureLaws.{CarriesOn, IsFoundOn, IsSteppedOn, ends_done}
 
 -- ---- answers
@@ -59,7 +59,7 @@ starts_drawn _ was (Opened a) starts draws = subst (λ (b : ArrayState). HasDraw
 starts_drawn _ was _ starts draws = absurd starts
 
 -- behind a step that was done the array is open, and isn't stopped
-record IsOpened (is : ArrayState) (session : Session) : Type 0 where
+pub record IsOpened (is : ArrayState) (session : Session) : Type 0 where
   pub is_open : session ≡ Opened is
   pub unstopped : is.stopped ≡ None
 
@@ -76,21 +76,35 @@ pub none_some : (fault : Option FenceFault) → fault ≡ None → IsSome fault 
 none_some None none some = false≢true some
 none_some (Some fault) none some = let same : Some fault ≡ None = none in cc
 
--- the seats that an array which isn't stopped knows are those of the state
-opened_seats : (before : List Happening) (s : State) (is : ArrayState) (session : Session) (told : Telling) → IsOpened is session
-    → ServesState NoneReturns before s session told → s.seats ≡ Some (seats_in is.member.array)
-opened_seats before s is session told opened serves =
-    at (subst (λ (end : Session). ServesState NoneReturns before s end told) opened.is_open serves)
-  where
-    at : ServesState NoneReturns before s (Opened is) told → s.seats ≡ Some (seats_in is.member.array)
-    at (inl serving) = serving.seats
-    at (inr stopped) = absurd (none_some is.stopped opened.unstopped stopped)
-
 -- so is the array with which a step but an opening begins
-starts_open : (step : Step) (was : ArrayState) (session : Session) → StartsFrom step was session → (step ≡ Recover) ⊎ IsOpened was session
+pub starts_open : (step : Step) (was : ArrayState) (session : Session) → StartsFrom step was session → (step ≡ Recover) ⊎ IsOpened was session
 starts_open Recover was session starts = inl refl
 starts_open _ was (Opened a) starts = inr (record { is_open = ap Opened (sym starts.0); unstopped = ap (λ (b : ArrayState). b.stopped) starts.0 ∙ starts.1 })
 starts_open _ was _ starts = absurd starts
+
+-- which isn't an opening
+never_opening : (step : Step) (was : ArrayState) (session : Session) → step ≡ Recover → StartsFrom step was session → session ≡ Opened was → ⊥
+never_opening step was session opening starts is =
+    subst (λ (end : Session). StartsFrom Recover was end) is (subst (λ (begun : Step). StartsFrom begun was session) opening starts)
+
+-- what is so of an open array that isn't stopped
+pub open_for : (before : List Happening) (s : State) (array : ArrayState) (x : Seen) → x.session ≡ Opened array → array.stopped ≡ None
+    → ServesState NoneReturns before s x.session x.told → IsOpenFor NoneReturns before s array x.told.history
+open_for before s array x opened unstopped serves = at (subst (λ (session : Session). ServesState NoneReturns before s session x.told) opened serves)
+  where
+    at : ServesState NoneReturns before s (Opened array) x.told → IsOpenFor NoneReturns before s array x.told.history
+    at (inl serving) = serving
+    at (inr stopped) = absurd (none_some array.stopped unstopped stopped)
+
+-- so the seats that it knows are those of the state
+opened_seats : (before : List Happening) (s : State) (is : ArrayState) (session : Session) (told : Telling) → IsOpened is session
+    → ServesState NoneReturns before s session told → s.seats ≡ Some (seats_in is.member.array)
+opened_seats before s is session told opened serves =
+    (open_for before s is (record { told = told; session = session }) opened.is_open opened.unstopped serves).seats
+
+-- a slot that was to be replaced is one of the array
+replaced_below : (step : Step) (s : State) (seats : Seats) → PassesTests step s seats → (j : ℕ) → step ≡ ReplaceSlot j → j < s.geometry.n
+replaced_below step s seats passes j is = let passed : PassesTests (ReplaceSlot j) s seats = subst (λ (begun : Step). PassesTests begun s seats) is passes in passed.0
 
 -- the seats with which it begins
 begins_as : (step : Step) (m : Membership) (before h : List Happening) (s : State) (begun : Seats) → BeginsWith step m before h s begun → BeginsAs step s begun
@@ -101,119 +115,139 @@ seats_once : {a b : Seats} → Some a ≡ Some b → a ≡ b
 seats_once same = cc
 
 -- seats that are known twice are the same
-kept_twice : (slots : Slots) (begun ended was is : Seats) (known later : Option Seats) → known ≡ Some begun → known ≡ Some was → later ≡ Some ended
+kept_twice : (slots : ℕ → Type 0) (begun ended was is : Seats) (known later : Option Seats) → known ≡ Some begun → known ≡ Some was → later ≡ Some ended
     → later ≡ Some is → NoneGoesDown slots was is → NoneGoesDown slots begun ended
 kept_twice slots begun ended was is known later is_begun is_was is_ended is_is kept =
     subst (λ (old : Seats). NoneGoesDown slots old ended) (seats_once (sym is_was ∙ is_begun))
     (subst (λ (new : Seats). NoneGoesDown slots was new) (seats_once (sym is_is ∙ is_ended)) kept)
 
--- A slot that takes no part in the array that was found is Down once it is open.
-down_for : (reason : Why) → reason ≢ why.Here → reason ≢ why.Rebuilding → mark_for reason ≡ Down
-down_for why.Here not_here not_rebuilt = absurd (not_here refl)
-down_for why.Rebuilding not_here not_rebuilt = absurd (not_rebuilt refl)
-down_for _ not_here not_rebuilt = refl
-
-away_down : (j : ℕ) (m last : Membership) (old new : Telling) → j < m.array.geometry.n → ¬ IsHere m j → WhyGoesOn Recover old new m last j
-    → mark_for (why_of last j) ≡ Down
-away_down j m last old new below away (WhyGoesOn.Stays same) =
-    down_for (why_of last j) (λ here. away (record { below = below; why = inl (sym same ∙ here) }))
-    (λ rebuilt. away (record { below = below; why = inr (sym same ∙ rebuilt) }))
-away_down j m last old new below away (WhyGoesOn.Went gone was) = ap mark_for gone
-away_down j m last old new below away (WhyGoesOn.IsAdmitted replaces is) = cc
-away_down j m last old new below away (WhyGoesOn.IsPromoted rebuilds was is) = cc
-
--- of a session
-abbrev AreAwayIn : Slots → Session → Type 0
-AreAwayIn away session = (member : Membership) → session ≡ Found member → (j : ℕ) → HasSlot away j → (j < member.array.geometry.n) × (¬ IsHere member j)
-
-opens_down : (away : Slots) (answer : Answer Recover) (events : List Event) (x y : Seen) (does : Performs Recover answer events x y) → ¬ Stops answer
-    → AreAwayIn away x.session → AreDown away (seats_in does.is.member.array)
-opens_down away answer events x y does unstopped absent = at x.session does.starts absent
-  where
-    at : (session : Session) → StartsFrom Recover does.was session → AreAwayIn away session → AreDown away (seats_in does.is.member.array)
-    at (Found found) starts absent = λ j has.
-        let was : (j < does.was.member.array.geometry.n) × (¬ IsHere does.was.member j) =
-        subst (λ (a : ArrayState). (j < a.member.array.geometry.n) × (¬ IsHere a.member j)) (sym starts) (absent found refl j has) in
-        let below : j < does.is.member.array.geometry.n = omega (arith, was.0, ap (λ (g : Geometry). g.n) does.goes_on.geometry) in
-        (does.array unstopped).marks j below ∙ away_down j does.was.member does.is.member x.told y.told was.0 was.1 (does.goes_on.whys j was.0)
-    at _ starts absent = absurd starts
-
-not_stopping : {T : Type 0} (answer : Result T Refusal) (given : T) → answer ≡ Ok given → ¬ Stops answer
-not_stopping answer given is stops = let stopped : Stops (Ok given) = subst Stops is stops in stopped
-
 -- what the array's seats do the row's do
-goes_by : (assured : Assurance) (step : Step) (answer : Answer step) (events : List Event) (given : GivenBy step) (before h : List Happening)
-    (s later : State) (begun : Seats) (row : Row step (Ok given) begun s later) (x y : Seen) (does : Performs step answer events x y) → answer ≡ Ok given
+keeps_by : (counted : List ℕ) (step : Step) (answer : Answer step) (events : List Event) (given : GivenBy step) (before h : List Happening)
+    (s later : State) (begun : Seats) (row : Row step (Ok given) begun s later) (x y : Seen) (does : Performs step answer events x y)
     → BeginsWith step does.was.member before h s begun → IsOpened does.is y.session → ServesState NoneReturns before s x.session x.told
     → ServesState NoneReturns before later y.session y.told
-    → (IsOpened does.was x.session → NoneGoesDown assured.kept (seats_in does.was.member.array) (seats_in does.is.member.array))
-    → AreAwayIn assured.away x.session → GoesAsAssured assured step begun row.seats
-goes_by assured Recover answer events given before h s later begun row x y does is begins opened serves serves_later kept absent =
-    subst (AreDown assured.away) (seats_once (sym (opened_seats before later does.is y.session y.told opened serves_later) ∙ row.known))
-    (opens_down assured.away answer events x y does (not_stopping answer given is) absent)
-goes_by assured step answer events given before h s later begun row x y does is begins opened serves serves_later kept absent =
+    → (IsOpened does.was x.session → NoneGoesDown (IsCounted counted) (seats_in does.was.member.array) (seats_in does.is.member.array))
+    → KeepsCounted counted step begun row.seats
+keeps_by counted Recover answer events given before h s later begun row x y does begins opened serves serves_later kept = tt
+keeps_by counted step answer events given before h s later begun row x y does begins opened serves serves_later kept =
     elim (starts_open step does.was x.session does.starts) [
       | inl opening ↦ let same : step ≡ Recover = opening in absurd cc
       | inr began ↦
-          kept_twice assured.kept begun row.seats (seats_in does.was.member.array) (seats_in does.is.member.array) s.seats later.seats begins
+          kept_twice (IsCounted counted) begun row.seats (seats_in does.was.member.array) (seats_in does.is.member.array) s.seats later.seats begins
           (opened_seats before s does.was x.session x.told began serves) row.known
           (opened_seats before later does.is y.session y.told opened serves_later) (kept began)
     ]
 
+-- the slot that is to be replaced is Down in the state's seats, where it is in the array's
+free_for : (step : Step) (before : List Happening) (s : State) (was : ArrayState) (session : Session) (told : Telling) (seats : Seats)
+    → StartsFrom step was session → ServesState NoneReturns before s session told → s.seats ≡ Some seats
+    → ((j : ℕ) → step ≡ ReplaceSlot j → IsOpened was session → mark_in was.member.array j ≡ Down) → IsFreeFor step seats
+free_for (ReplaceSlot j) before s was session told seats starts serves known down =
+    elim (starts_open (ReplaceSlot j) was session starts) [
+      | inl opening ↦ let same : ReplaceSlot j ≡ Recover = opening in absurd cc
+      | inr began ↦
+          subst (λ (is : Seats). (is j).mark ≡ Down) (seats_once (sym (opened_seats before s was session told began serves) ∙ known)) (down j refl began)
+    ]
+free_for _ before s was session told seats starts serves known down = tt
+
+-- the moments of a step
+may_replace : (g : Geometry) (j : ℕ) (old new last : List Happening) → Ran any_call old new → Ran any_call new last → IsFitFrom g old last j
+    → MediumLeavesDraws (ReplaceSlot j) g old new → MayReplace g j old new
+may_replace g j old new last ran later fit draws = record {
+  online = at_every_from {P = λ h. ¬ IsOffline old h j} ran.more ran.is (λ h at. fit.there.online h (moment_sooner at until));
+  large = fit.there.large old (let all = ran_join ran later in moment_first all.more all.is);
+  own = λ h k super at unwritten place holds.
+      let own = fit.own h k super (moment_sooner at until) unwritten place holds in
+      (own, draws h k super at unwritten place holds own);
+}
+  where
+    until : IsMoment old new last
+    until = moment_between ran later
+
+-- the medium is fit over the step that is to admit it
+fit_for : (step : Step) (g : Geometry) (old new last : List Happening) → Ran any_call old new → Ran any_call new last
+    → ((j : ℕ) → step ≡ ReplaceSlot j → IsFitFrom g old last j) → MediumLeavesDraws step g old new → IsFitFor step g old new
+fit_for (ReplaceSlot j) g old new last ran later fit draws = may_replace g j old new last ran later (fit j refl) draws
+fit_for _ g old new last ran later fit draws = tt
+
 -- ---- stories
 
-module _ {R W : Type 0} (view : DeviceView R W) (honest : IsTrue view.rack.honest) (assured : Assurance) (before : List Happening) where
+module _ {R W : Type 0} (view : DeviceView R W) (honest : IsTrue view.rack.honest) (before : List Happening) where
   abbrev h_of : Devices R W → List Happening
   h_of x = view.rack.history x.rack
 
-  -- The rack is an array in this state, which isn't stopped; the rest of the story is calm, its steps lead on, and nothing of the
-  -- outside is in their way.
-  pub record IsReadyWith (s : State) (story : List Deed) (x y : Devices R W) (works : Leads (WorksAll view) story x y) : Type 0 where
+  -- A slot was replaced, and is there from then on to the end.
+  pub record StaysUp (g : Geometry) (h last : List Happening) (j : ℕ) : Type 0 where
+    pub below : j < g.n
+    pub from : List Happening
+    pub since : Ran any_call from h
+    pub held : IsHeld from h j
+    pub there : IsThere g from from last j
+
+  stays_on : (g : Geometry) (h then last : List Happening) (j : ℕ) → Ran any_call h then → StaysUp g h last j → StaysUp g then last j
+  stays_on g h then last j ran stays = record {
+    below = stays.below;
+    from = stays.from;
+    since = ran_join stays.since ran;
+    held = held_on {allowed = any_call} j ran stays.held;
+    there = stays.there;
+  }
+
+  abbrev pub StayUp : List ℕ → Geometry → List Happening → List Happening → Type 0
+  StayUp counted g h last = (j : ℕ) → IsCounted counted j → StaysUp g h last j
+
+  -- The rack is an array in this state, which isn't stopped; the rest of the story is calm, its steps lead on, nothing of the
+  -- outside is in their way, and the slots that are counted on stay up.
+  pub record IsReadyWith (counted : List ℕ) (s : State) (story : List Deed) (x y : Devices R W) (works : Leads (WorksAll view) story x y) : Type 0 where
     pub history : IsHistory (h_of x)
     pub is_at : IsAt view NoneReturns before s None x
     pub calm : IsCalmUpTo view NoneReturns s.geometry before (h_of y) story x y works
     pub lead : StoryLeads NoneReturns view story x y works
-    pub draws : EachHasDraws view story x y works
-    pub fit : EachIsFit view s.geometry story x y works
-    pub keeps : EachKeeps view assured.kept story x y works
-    pub away : EachIsAway view assured.away story x y works
+    pub draws : EachHasDraws view s.geometry story x y works
+    pub can : EachCanReplace view s.geometry story x y works
+    pub stay : StayUp counted s.geometry (h_of x) (h_of y)
 
   -- what comes behind a deed
-  behind : (s later : State) (deed : Deed) (story : List Deed) (x y : Devices R W) (works : Leads (WorksAll view) (deed ∷ story) x y)
-      → later.geometry ≡ s.geometry → IsAt view NoneReturns before later None works.0 → IsReadyWith s (deed ∷ story) x y works
-      → IsReadyWith later story works.0 y works.2
-  behind s later deed story x y works geometry is_at ready = record {
+  behind : (counted after : List ℕ) (s later : State) (deed : Deed) (story : List Deed) (x y : Devices R W)
+      (works : Leads (WorksAll view) (deed ∷ story) x y) → later.geometry ≡ s.geometry → IsAt view NoneReturns before later None works.0
+      → StayUp after s.geometry (h_of works.0) (h_of y) → IsReadyWith counted s (deed ∷ story) x y works → IsReadyWith after later story works.0 y works.2
+  behind counted after s later deed story x y works geometry is_at stay ready = record {
     history = history_on ready.history (one_ran view honest deed x works.0 works.1);
     is_at = is_at;
     calm = subst (λ (g : Geometry). IsCalmUpTo view NoneReturns g before (h_of y) story works.0 y works.2) (sym geometry) ready.calm.1;
     lead = ready.lead.1;
-    draws = ready.draws.1;
-    fit = subst (λ (g : Geometry). EachIsFit view g story works.0 y works.2) (sym geometry) ready.fit.1;
-    keeps = ready.keeps.1;
-    away = ready.away.1;
+    draws = subst (λ (g : Geometry). EachHasDraws view g story works.0 y works.2) (sym geometry) ready.draws.1;
+    can = subst (λ (g : Geometry). EachCanReplace view g story works.0 y works.2) (sym geometry) ready.can.1;
+    stay = subst (λ (g : Geometry). StayUp after g (h_of works.0) (h_of y)) (sym geometry) stay;
   }
 
-  -- calm over the first deed
-  calm_deed : (s : State) (deed : Deed) (story : List Deed) (x y : Devices R W) (works : Leads (WorksAll view) (deed ∷ story) x y)
-      → IsReadyWith s (deed ∷ story) x y works → (h : List Happening) → IsMoment (h_of x) h (h_of works.0)
-      → IsCalm NoneReturns s.geometry (is_open x.session) before h
-  calm_deed s deed story x y works ready h at = ready.calm.0 h at (upto_end at (works_ran view honest story works.0 y works.2))
+  -- the slots that are counted on stay up over any deed
+  stay_on : (counted : List ℕ) (g : Geometry) (deed : Deed) (x y last : Devices R W) → WorksAll view deed x y → StayUp counted g (h_of x) (h_of last)
+      → StayUp counted g (h_of y) (h_of last)
+  stay_on counted g deed x y last works stay j is = stays_on g (h_of x) (h_of y) (h_of last) j (one_ran view honest deed x y works) (stay j is)
 
-  with_still : (s : State) (deed : Deed) (story : List Deed) (x y : Devices R W) (works : Leads (WorksAll view) (deed ∷ story) x y) → IsOffDevices deed
-      → IsReadyWith s (deed ∷ story) x y works → IsReadyWith s story works.0 y works.2
-  with_still s deed story x y works off ready =
-      behind s s deed story x y works refl (subst (IsAt view NoneReturns before s None) (sym (left deed works.0 off works.1)) ready.is_at) ready
+  -- calm over the first deed
+  calm_deed : (counted : List ℕ) (s : State) (deed : Deed) (story : List Deed) (x y : Devices R W) (works : Leads (WorksAll view) (deed ∷ story) x y)
+      → IsReadyWith counted s (deed ∷ story) x y works → (h : List Happening) → IsMoment (h_of x) h (h_of works.0)
+      → IsCalm NoneReturns s.geometry (is_open x.session) before h
+  calm_deed counted s deed story x y works ready h at = ready.calm.0 h at (upto_end at (works_ran view honest story works.0 y works.2))
+
+  with_still : (counted : List ℕ) (s : State) (deed : Deed) (story : List Deed) (x y : Devices R W) (works : Leads (WorksAll view) (deed ∷ story) x y) → IsOffDevices deed
+      → IsReadyWith counted s (deed ∷ story) x y works → IsReadyWith counted s story works.0 y works.2
+  with_still counted s deed story x y works off ready =
+      behind counted counted s s deed story x y works refl (subst (IsAt view NoneReturns before s None) (sym (left deed works.0 off works.1)) ready.is_at)
+      (stay_on counted s.geometry deed x works.0 y works.1 ready.stay) ready
     where
       left : (deed : Deed) (z : Devices R W) → IsOffDevices deed → WorksAll view deed x z → z ≡ x
       left (Did action outcome) z off works = absurd off
       left (Stepped step answer events gone) z off works = absurd off
       left deed z off works = works
 
-  with_found : (s : State) (came : Outcome Survey) (story : List Deed) (x y : Devices R W) (works : Leads (WorksAll view) (Did Survey came ∷ story) x y)
-      → IsReadyWith s (Did Survey came ∷ story) x y works → IsFoundOn (WorksAll view) IsReadyWith s came story x y works
-  with_found s came story x y works ready =
+  with_found : (counted : List ℕ) (s : State) (came : Outcome Survey) (story : List Deed) (x y : Devices R W) (works : Leads (WorksAll view) (Did Survey came ∷ story) x y)
+      → IsReadyWith counted s (Did Survey came ∷ story) x y works → IsFoundOn (WorksAll view) IsReadyWith counted s came story x y works
+  with_found counted s came story x y works ready =
       let surveys = works.1.0 in
-      let calm = calm_deed s (Did Survey came) story x y works ready in
+      let calm = calm_deed counted s (Did Survey came) story x y works ready in
       let ran : Ran any_call (h_of x) (h_of works.0) = one_ran view honest (Did Survey came) x works.0 works.1 in
       let one = one_goes view honest NoneReturns before s None (Did Survey came) x works.0 works.1 tt ready.history ready.is_at calm in
       let serves = subst (λ (session : Session). ServesState NoneReturns before s session (seen_of view x).told) works.1.1 ready.is_at.is_in.serves in
@@ -226,26 +260,75 @@ module _ {R W : Type 0} (view : DeviceView R W) (honest : IsTrue view.rack.hones
         member = finds.member;
         found = finds.found;
         geometry = finds.identity;
-        ready = behind s s (Did Survey came) story x y works refl
+        ready = behind counted counted s s (Did Survey came) story x y works refl
             (subst (λ (t : State). IsAt view NoneReturns before t None works.0) one.goes.state
-            (subst (λ (stop : _). IsAt view NoneReturns before one.state stop works.0) one.goes.stopped one.is_at)) ready;
+            (subst (λ (stop : _). IsAt view NoneReturns before one.state stop works.0) one.goes.stopped one.is_at))
+            (stay_on counted s.geometry (Did Survey came) x works.0 y works.1 ready.stay) ready;
       }
 
+  -- no slot that is counted on goes Down over a step of an open array
+  counted_up : (counted : List ℕ) (s : State) (step : Step) (answer : Answer step) (events : List Event) (x y : Devices R W) (last : List Happening)
+      (does : Performs step answer events (seen_of view x) (seen_of view y)) → step ≢ Recover → IsOpened does.was x.session
+      → ServesState NoneReturns before s x.session (seen_of view x).told → Ran any_call (h_of y) last → StayUp counted s.geometry (h_of x) last
+      → NoneGoesDown (IsCounted counted) (seats_in does.was.member.array) (seats_in does.is.member.array)
+  counted_up counted s step answer events x y last does other began serves later stay j is up =
+      let up_to = stay j is in
+      let serving = open_for before s does.was (seen_of view x) began.is_open began.unstopped serves in
+      let below : j < does.was.member.array.geometry.n = omega (arith, up_to.below, ap (λ (g : Geometry). g.n) serving.geometry) in
+      stays_up s.geometry up_to.from last does.was j (seen_of view x).told (seen_of view y).told
+      (record {
+        from = up_to.from;
+        there = up_to.there;
+        held = up_to.held;
+        since = up_to.since;
+        ran = does.later.ran honest;
+        later = later;
+        honest = honest;
+        geometry = serving.geometry;
+        below = below;
+      }) step does.is.member other up (does.goes_on.marks j below)
+
+  -- behind a replacement its slot is counted on too
+  stay_behind : (counted : List ℕ) (g : Geometry) (step : Step) (given : GivenBy step) (answer : Answer step) (events : List Event) (x y : Devices R W)
+      (last : List Happening) (does : Performs step answer events (seen_of view x) (seen_of view y)) → answer ≡ Ok given
+      → ((j : ℕ) → step ≡ ReplaceSlot j → (j < g.n) × IsFitFrom g (h_of x) last j) → StayUp counted g (h_of x) last
+      → StayUp (counted_behind step counted) g (h_of y) last
+  stay_behind counted g (ReplaceSlot slot) given answer events x y last does is fit stay j (inl same) =
+      subst (StaysUp g (h_of y) last) (sym same) (record {
+        below = (fit slot refl).0;
+        from = h_of x;
+        since = does.later.ran honest;
+        held = replaced_held slot answer (point does.was.member (seen_of view x).told) (point does.is.member (seen_of view y).told) does.does
+            is honest;
+        there = (fit slot refl).1.there;
+      })
+  stay_behind counted g (ReplaceSlot slot) given answer events x y last does is fit stay j (inr has) =
+      stays_on g (h_of x) (h_of y) last j (does.later.ran honest) (stay j has)
+  stay_behind counted g _ given answer events x y last does is fit stay j has = stays_on g (h_of x) (h_of y) last j (does.later.ran honest) (stay j has)
+
   -- a step that can be done is done
-  performed : (s : State) (step : Step) (answer : Answer step) (events : List Event) (left : Bool) (story : List Deed) (x y : Devices R W)
-      (works : Leads (WorksAll view) (Stepped step answer events left ∷ story) x y)
-      → ((seats : Seats) → s.seats ≡ Some seats → PassesTests step s seats) → IsReadyWith s (Stepped step answer events left ∷ story) x y works
-      → Performs step answer events (seen_of view x) (seen_of view works.0)
-      → IsSteppedOn assured (WorksAll view) IsReadyWith s step answer events left story x y works
-  performed s step answer events left story x y works passes ready does =
+  performed : (counted : List ℕ) (s : State) (step : Step) (answer : Answer step) (events : List Event) (left : Bool) (story : List Deed)
+      (x y : Devices R W) (works : Leads (WorksAll view) (Stepped step answer events left ∷ story) x y)
+      → ((seats : Seats) → s.seats ≡ Some seats → IsFreeFor step seats → PassesTests step s seats)
+      → IsReadyWith counted s (Stepped step answer events left ∷ story) x y works → Performs step answer events (seen_of view x) (seen_of view works.0)
+      → IsSteppedOn (WorksAll view) IsReadyWith counted s step answer events left story x y works
+  performed counted s step answer events left story x y works passes ready does =
       let ran = does.later.ran honest in
-      let calm = calm_deed s (Stepped step answer events left) story x y works ready (h_of works.0) (moment_last ran.more ran.is) in
+      let later = works_ran view honest story works.0 y works.2 in
+      let calm = calm_deed counted s (Stepped step answer events left) story x y works ready (h_of works.0) (moment_last ran.more ran.is) in
       let steps = ready.lead.0 does in
       let leads = steps.leads honest before s ready.history ready.is_at.is_in calm in
+      let can = can_at step answer ready.can.0 in
       let given =
       given_by answer
       (steps.complete honest before s ready.history ready.is_at.is_in calm
-      (record { passes = passes; draws = starts_drawn step does.was x.session does.starts ready.draws.0; fit = ready.fit.0 })) in
+      (record {
+        passes = λ seats known. passes seats known
+            (free_for step before s does.was x.session (seen_of view x).told seats does.starts ready.is_at.is_in.serves known
+            (λ j is began. (can j is).0 does.was began.is_open));
+        draws = starts_drawn step does.was x.session does.starts ready.draws.0.0;
+        fit = fit_for step s.geometry (h_of x) (h_of works.0) (h_of y) ran later (λ j is. (can j is).1) ready.draws.0.1;
+      })) in
       let opened = ends_open step given.0 does.is works.0.session (subst (λ (a : Answer step). EndsIn step a does.is works.0.session) given.1 does.ends) in
       let row : Row step (Ok given.0) leads.is_step.begun s leads.state = subst (λ (a : Answer step). Row step a leads.is_step.begun s leads.state) given.1 leads.is_step.row in
       record {
@@ -256,21 +339,35 @@ module _ {R W : Type 0} (view : DeviceView R W) (honest : IsTrue view.rack.hones
           begun = leads.is_step.begun;
           begins = begins_as step does.was.member before (h_of works.0) s leads.is_step.begun leads.is_step.begins;
           row = row;
-          goes = goes_by assured step answer events given.0 before (h_of works.0) s leads.state leads.is_step.begun row (seen_of view x) (seen_of view works.0)
-              does given.1 leads.is_step.begins opened ready.is_at.is_in.serves leads.is_in.serves
-              (λ began. ready.keeps.0 does.was does.is began.is_open opened.is_open) ready.away.0;
+          keeps = keeps_by counted step answer events given.0 before (h_of works.0) s leads.state leads.is_step.begun row (seen_of view x)
+              (seen_of view works.0) does leads.is_step.begins opened ready.is_at.is_in.serves leads.is_in.serves
+              (λ began.
+              counted_up counted s step answer events x works.0 (h_of y) does
+              (λ opening. never_opening step does.was x.session opening does.starts began.is_open) began ready.is_at.is_in.serves later ready.stay);
         };
-        ready = behind s leads.state (Stepped step answer events left) story x y works row.geometry
-            (record { is_in = leads.is_in; kept = opened_kept does.is works.0.session opened }) ready;
+        ready = behind counted (counted_behind step counted) s leads.state (Stepped step answer events left) story x y works row.geometry
+            (record { is_in = leads.is_in; kept = opened_kept does.is works.0.session opened })
+            (stay_behind counted s.geometry step given.0 answer events x works.0 (h_of y) does given.1
+            (λ j is. (replaced_below step s leads.is_step.begun (row.passes tt) j is, (can j is).1)) ready.stay) ready;
       }
+    where
+      can_at : (step : Step) (answer : Answer step) → CanReplaceAt view s.geometry (h_of y) (Stepped step answer events left) x works.0 → (j : ℕ)
+          → step ≡ ReplaceSlot j
+          → ((was : ArrayState) → x.session ≡ Opened was → mark_in was.member.array j ≡ Down) × IsFitFrom s.geometry (h_of x) (h_of y) j
+      can_at (ReplaceSlot slot) answer can j is =
+          let same : slot ≡ j = cc in
+          subst (λ (i : ℕ). ((was : ArrayState) → x.session ≡ Opened was → mark_in was.member.array i ≡ Down) × IsFitFrom s.geometry (h_of x) (h_of y) i)
+          same can
+      can_at _ answer can j is = absurd cc
 
-  with_stepped : (s : State) (step : Step) (answer : Answer step) (events : List Event) (left : Bool) (story : List Deed) (x y : Devices R W)
+  with_stepped : (counted : List ℕ) (s : State) (step : Step) (answer : Answer step) (events : List Event) (left : Bool) (story : List Deed) (x y : Devices R W)
       (works : Leads (WorksAll view) (Stepped step answer events left ∷ story) x y)
-      → ((seats : Seats) → s.seats ≡ Some seats → PassesTests step s seats) → IsReadyWith s (Stepped step answer events left ∷ story) x y works
-      → IsSteppedOn assured (WorksAll view) IsReadyWith s step answer events left story x y works
-  with_stepped s step answer events left story x y works passes ready =
+      → ((seats : Seats) → s.seats ≡ Some seats → IsFreeFor step seats → PassesTests step s seats)
+      → IsReadyWith counted s (Stepped step answer events left ∷ story) x y works
+      → IsSteppedOn (WorksAll view) IsReadyWith counted s step answer events left story x y works
+  with_stepped counted s step answer events left story x y works passes ready =
       elim works.1.0 [
-        | inl does ↦ performed s step answer events left story x y works passes ready does
+        | inl does ↦ performed counted s step answer events left story x y works passes ready does
         | inr stopped ↦ absurd (not_stopped stopped)
       ]
     where
@@ -280,7 +377,7 @@ module _ {R W : Type 0} (view : DeviceView R W) (honest : IsTrue view.rack.hones
           let same : None ≡ refusal_kept (Some stopped.fault) = kept ∙ ap refusal_kept stopped.stopped in
           cc
 
-  with_carries : CarriesOn assured (WorksAll view) IsReadyWith
+  with_carries : CarriesOn (WorksAll view) IsReadyWith
   with_carries = record { still = with_still; found = with_found; stepped = with_stepped }
 
 -- ---- from a session's beginning
@@ -299,18 +396,17 @@ begins_at view s x begun represents = record {
 
 module _ {R W S K : Type 0} (view : DeviceView R W) (streams : Views S K) where
   -- a command whose plan is sure is done
-  pub sure_done : (plan : Plan) (status : Status) (s : State) (assured : Assurance) (a b : Outside S K) (x y : Devices R W)
+  pub sure_done : (plan : Plan) (status : Status) (s : State) (a b : Outside S K) (x y : Devices R W)
       (with : MeansWith view streams plan (Over status) a b x y) → IsTrue view.rack.honest → x.session ≡ Begun
       → IsHistory (view.rack.history x.rack) → Represents s (view.rack.history x.rack)
       → ToleratedSince s.geometry (view.rack.history x.rack) (view.rack.history y.rack)
       → NothingReturned (view.rack.history x.rack) (view.rack.history y.rack) → HasNoFault streams a b
-      → StoryLeads NoneReturns view with.means.story x y with.works → EachHasDraws view with.means.story x y with.works
-      → EachIsFit view s.geometry with.means.story x y with.works → EachKeeps view assured.kept with.means.story x y with.works
-      → EachIsAway view assured.away with.means.story x y with.works
-      → IsSure assured plan (without_seats s) (streams.source.left a.source) → IsDone status
-  sure_done plan status s assured a b x y with honest begun history represents tolerated returned none lead draws fit keeps away sure =
-      ends_done assured (WorksAll view) (IsReadyWith view honest assured (view.rack.history x.rack))
-      (with_carries view honest assured (view.rack.history x.rack)) streams with.means.story plan status (without_seats s) x y with.works a.source b.source
+      → StoryLeads NoneReturns view with.means.story x y with.works → EachHasDraws view s.geometry with.means.story x y with.works
+      → EachCanReplace view s.geometry with.means.story x y with.works
+      → IsSure [] plan (without_seats s) (streams.source.left a.source) → IsDone status
+  sure_done plan status s a b x y with honest begun history represents tolerated returned none lead draws can sure =
+      ends_done (WorksAll view) (IsReadyWith view honest (view.rack.history x.rack))
+      (with_carries view honest (view.rack.history x.rack)) streams [] with.means.story plan status (without_seats s) x y with.works a.source b.source
       a.sink b.sink with.means.follows with.means.bears.gives with.means.bears.holds none.source none.sink
       (record {
         history = history;
@@ -319,7 +415,6 @@ module _ {R W S K : Type 0} (view : DeviceView R W) (streams : Views S K) where
             (ran_none (view.rack.history x.rack)) tolerated returned;
         lead = lead;
         draws = draws;
-        fit = fit;
-        keeps = keeps;
-        away = away;
+        can = can;
+        stay = λ j none. absurd none;
       }) sure

@@ -115,6 +115,21 @@ abbrev pub AdmitsNone : Step → Type 0
 AdmitsNone (ReplaceSlot j) = ⊥
 AdmitsNone _ = ⊤
 
+-- no medium is admitted but to this slot, and to this one once at most
+abbrev pub AdmitsOnce : ℕ → Plan → Type 0
+AdmitsOnce slot (Over status) = ⊤
+AdmitsOnce slot (Ask question k) =
+    (reply : Reply question) → IsReply question reply → AdmitsOnce slot (k reply)
+AdmitsOnce slot (Take least most k short) = ((bytes : List ℕ) → AdmitsOnce slot (k bytes))
+    × ((bytes : List ℕ) → AdmitsOnce slot (short bytes))
+AdmitsOnce slot (Put bytes plan) = AdmitsOnce slot plan
+AdmitsOnce slot (Allocate plan) = AdmitsOnce slot plan
+AdmitsOnce slot (Do action k) = (done : OkOf action) → AdmitsOnce slot (k done)
+AdmitsOnce slot (Try (ReplaceSlot j) k) = (j ≡ slot)
+    × ((answer : Answer (ReplaceSlot j)) (left : Bool) → EachStep AdmitsNone (k answer left))
+AdmitsOnce slot (Try step k) = (answer : Answer step) (left : Bool) → AdmitsOnce slot (k answer left)
+AdmitsOnce slot (RebuildAll slots done k) = (count : ℕ) → AdmitsOnce slot (k count)
+
 -- the steps of any way through the plan are allowed so many draws together, at most
 abbrev pub AllowsAtMost : ℕ → Plan → Type 0
 AllowsAtMost n (Over status) = ⊤

@@ -28,4 +28,6 @@ pub mod Kept
 pub mod Drawn
 pub mod Bounded
 pub mod Sure
+pub mod Living
 pub mod Rebuilt
+pub mod Sound

@@ -1,30 +1,35 @@
 -- When a command is sure to end with Done: all that completeness asks of it is a fact of its plan alone.
-use Rattle.std.specs.Prelude.{◌≡◌, ◌≢◌, ◌⊎◌, ◌<◌, ◌-◌, ◌^◌, ℕ, Bool, IsTrue, List, [], ◌∷◌, ◌++◌, Option, None, Some, Ok, length, ⊤}
+use Rattle.std.specs.Prelude.{◌≡◌, ◌≢◌, ◌⊎◌, ◌<◌, ◌≤◌, ◌-◌, ◌^◌, ℕ, Bool, IsTrue, List, [], ◌∷◌, ◌++◌, Option, None, Some, Ok, length, ⊤}
 use Rattle.stair_model.specs.Geometry.{Geometry}
-use Rattle.stair_model.specs.Slots.{HasSlot, Slots, no_slots}
+use Rattle.stair_model.specs.Slots.{HasSlot, Slots}
 use Rattle.stair_rack.specs.Answers.{IsHistory, Ran, any_call}
 use Rattle.stair_rack.specs.Count.{Rose}
+use Rattle.stair_rack.specs.Crash.{image_now}
 use Rattle.stair_rack.specs.History.{Happening, slot_state}
 use Rattle.stair_rack.specs.Moments.{IsMoment}
 use Rattle.stair_rack.specs.Offline.{IsOffline}
-use Rattle.stair_rack.specs.Stretch.{NothingReturned}
+use Rattle.stair_rack.specs.Stretch.{NoneWritten, NothingReturned, NothingWritten}
+use Rattle.stair_super.specs.Superblock.{Superblock, mark_in}
 use Rattle.stair_super.specs.declared.mark.Mark.TheVariants.{Down}
-use Rattle.stair_member.specs.Membership.{IsHere, Membership}
+use Rattle.stair_member.specs.Current.{IsCurrent}
+use Rattle.stair_member.specs.Membership.{Membership}
 use Rattle.stair_member.specs.Seats.{Seats}
+use Rattle.stair_member.specs.Superblocks.{HasSuper, HoldsSuper}
 use Rattle.stair_state.specs.Represents.{IsLargeEnough, Represents}
 use Rattle.stair_state.specs.State.{State, without_seats}
 use Rattle.stair_state.specs.Tolerance.{ToleratedSince}
 use Rattle.stair_session.specs.Returning.{NoneReturns}
 use Rattle.stair_session.specs.Session.{ArrayState, seats_in}
-use Rattle.stair_array.specs.Draws.{HasDraws}
-use Rattle.stair_array.specs.Machine.{GivenBy, Nothing, PassesTests, Progress, RebuildNext, Recover, Row, Step}
-use Rattle.stair_array.specs.Promise.{Begun, Found, IsFitFor, Opened, Session}
+use Rattle.stair_array.specs.Draws.{HasDraws, most_drawn}
+use Rattle.stair_array.specs.Looking.{cells_at}
+use Rattle.stair_array.specs.Machine.{GivenBy, Nothing, PassesTests, Progress, RebuildNext, Recover, ReplaceSlot, Row, Step}
+use Rattle.stair_array.specs.Promise.{Begun, Found, Opened, Session}
 use Rattle.stair_story.specs.declared.status.Status.{Status}
 use Rattle.stair_story.specs.declared.status.Status.TheVariants.{Done, OutOfMemory}
 use Rattle.stair_story.specs.Action.{Create, Survey}
 use Rattle.stair_story.specs.Bounded.{IsBoundedAt}
-use Rattle.stair_story.specs.Devices.{DeviceView, Devices, MeansWhole, MeansWith, WorksAll}
-use Rattle.stair_story.specs.Ending.{AdmitsNone, AllowsAtMost, EachStep}
+use Rattle.stair_story.specs.Devices.{DeviceView, Devices, MeansWhole, MeansWith, WorksAll, devices}
+use Rattle.stair_story.specs.Ending.{AdmitsNone, AdmitsOnce, AllowsAtMost, EachStep}
 use Rattle.stair_story.specs.Outside.{Outside, Views}
 use Rattle.stair_story.specs.Plan.{Plan, Over, Ask, Take, Put, Allocate, Do, Try, RebuildAll}
 use Rattle.stair_story.specs.Question.{IsReply, Reply}
@@ -37,25 +42,25 @@ abbrev pub IsToldSo : Option (List ℕ) → (List ℕ → Type 0) → Type 0
 IsToldSo None IsSo = ⊥
 IsToldSo (Some told) IsSo = IsSo told
 
--- WHAT IS ASSURED OF SLOTS
+-- SLOTS THAT ARE COUNTED ON
 
--- A step may drop any slot, and an opening begins with any seats, for all that the machine's table says. So a command that is to
--- bring a slot up has to count on slots: on these, that an open array gives up none of them, and on those, that they don't take
--- part as the array is found, so that they are Down once it is open.
-pub record Assurance : Type 0 where
-  pub kept : Slots
-  pub away : Slots
+-- A step may drop any slot, for all that the machine's table says. A command that is to bring a slot up counts on those that
+-- it has replaced so far.
+abbrev pub IsCounted : List ℕ → ℕ → Type 0
+IsCounted [] j = ⊥
+IsCounted (slot ∷ counted) j = (j ≡ slot) ⊎ IsCounted counted j
 
-abbrev pub NoneGoesDown : Slots → Seats → Seats → Type 0
-NoneGoesDown kept old new = (j : ℕ) → HasSlot kept j → (old j).mark ≢ Down → (new j).mark ≢ Down
+abbrev pub counted_behind : Step → List ℕ → List ℕ
+counted_behind (ReplaceSlot slot) counted = slot ∷ counted
+counted_behind step counted = counted
 
-abbrev pub AreDown : Slots → Seats → Type 0
-AreDown away seats = (j : ℕ) → HasSlot away j → (seats j).mark ≡ Down
+-- none of them goes Down over a step; an opening begins with what was found of slots
+abbrev pub NoneGoesDown : (ℕ → Type 0) → Seats → Seats → Type 0
+NoneGoesDown kept old new = (j : ℕ) → kept j → (old j).mark ≢ Down → (new j).mark ≢ Down
 
--- over a step
-abbrev pub GoesAsAssured : Assurance → Step → Seats → Seats → Type 0
-GoesAsAssured assured Recover old new = AreDown assured.away new
-GoesAsAssured assured _ old new = NoneGoesDown assured.kept old new
+abbrev pub KeepsCounted : List ℕ → Step → Seats → Seats → Type 0
+KeepsCounted counted Recover old new = ⊤
+KeepsCounted counted step old new = NoneGoesDown (IsCounted counted) old new
 
 -- STEPS THAT ARE DONE
 
@@ -64,46 +69,52 @@ abbrev pub BeginsAs : Step → State → Seats → Type 0
 BeginsAs Recover s begun = ⊤
 BeginsAs _ s begun = s.seats ≡ Some begun
 
--- The step was done, and gave this, by a row of the machine over which the slots went as is assured.
-pub record IsDoneFrom (assured : Assurance) (step : Step) (given : GivenBy step) (s later : State)
+-- The step was done, and gave this, by a row of the machine over which no slot that is counted on went Down.
+pub record IsDoneFrom (counted : List ℕ) (step : Step) (given : GivenBy step) (s later : State)
     : Type 0 where
   pub begun : Seats
   pub begins : BeginsAs step s begun
   pub row : Row step (Ok given) begun s later
-  pub goes : GoesAsAssured assured step begun row.seats
+  pub keeps : KeepsCounted counted step begun row.seats
 
 -- steps of a rebuild to this state from another, up to the one that finds nothing
-pub data IsRebuiltFrom (assured : Assurance) (later : State) : State → Type 0 where
-  Last : (s : State) → IsDoneFrom assured RebuildNext Nothing s later
-      → IsRebuiltFrom assured later s
-  More : (s mid : State) (progress : Progress) → IsDoneFrom assured RebuildNext progress s mid
-      → IsRebuiltFrom assured later mid → IsRebuiltFrom assured later s
+pub data IsRebuiltFrom (counted : List ℕ) (later : State) : State → Type 0 where
+  Last : (s : State) → IsDoneFrom counted RebuildNext Nothing s later
+      → IsRebuiltFrom counted later s
+  More : (s mid : State) (progress : Progress) → IsDoneFrom counted RebuildNext progress s mid
+      → IsRebuiltFrom counted later mid → IsRebuiltFrom counted later s
+
+-- the slot that is to be replaced is Down
+abbrev pub IsFreeFor : Step → Seats → Type 0
+IsFreeFor (ReplaceSlot j) seats = (seats j).mark ≡ Down
+IsFreeFor step seats = ⊤
 
 -- PLANS
 
--- The plan ends with Done, whatever the machine answers: in this state, of a source that tells that this is left, and where
--- slots go as is assured. So each step of it passes its tests, and no input is wrong. A plan that takes nothing needs
--- no source that tells. Any piece may come that is large enough, or what is left, where that is less. An array that is looked
--- for is found. One that is to be made over an array is refused, so a plan that makes one is sure in no state of an array.
-abbrev pub IsSure : Assurance → Plan → State → Option (List ℕ) → Type 0
-IsSure assured (Over status) s left = status ≡ Done
-IsSure assured (Ask question k) s left =
-    (reply : Reply question) → IsReply question reply → IsSure assured (k reply) s left
-IsSure assured (Take least most k short) s left = IsToldSo left (λ told.
+-- The plan ends with Done, whatever the machine answers: in this state, of a source that tells that this is left, and where no
+-- slot goes Down that is counted on, and each that is to be replaced is Down then. So each step of it passes its tests, and no
+-- input is wrong. A plan that takes nothing needs no source that tells. Any piece may come that is large enough, or what is
+-- left, where that is less. An array that is looked for is found. One that is to be made over an array is refused, so a plan
+-- that makes one is sure in no state of an array.
+abbrev pub IsSure : List ℕ → Plan → State → Option (List ℕ) → Type 0
+IsSure counted (Over status) s left = status ≡ Done
+IsSure counted (Ask question k) s left =
+    (reply : Reply question) → IsReply question reply → IsSure counted (k reply) s left
+IsSure counted (Take least most k short) s left = IsToldSo left (λ told.
     ((bytes rest : List ℕ) → told ≡ bytes ++ rest → AreEnough least most bytes
-    → IsSure assured (k bytes) s (Some rest))
-    × (length told < least → IsSure assured (short told) s (Some [])))
-IsSure assured (Put bytes plan) s left = IsSure assured plan s left
-IsSure assured (Allocate plan) s left = IsSure assured plan s left
-IsSure assured (Do (Create g) k) s left = ⊥
-IsSure assured (Do Survey k) s left = (member : Membership)
-    → member.array.geometry ≡ s.geometry → IsSure assured (k member) s left
-IsSure assured (Try step k) s left =
-    ((seats : Seats) → s.seats ≡ Some seats → PassesTests step s seats)
-    × ((given : GivenBy step) (gone : Bool) (later : State) → IsDoneFrom assured step given s later
-    → IsSure assured (k (Ok given) gone) later left)
-IsSure assured (RebuildAll slots done k) s left = (count : ℕ) (later : State)
-    → IsRebuiltFrom assured later s → IsSure assured (k count) later left
+    → IsSure counted (k bytes) s (Some rest))
+    × (length told < least → IsSure counted (short told) s (Some [])))
+IsSure counted (Put bytes plan) s left = IsSure counted plan s left
+IsSure counted (Allocate plan) s left = IsSure counted plan s left
+IsSure counted (Do (Create g) k) s left = ⊥
+IsSure counted (Do Survey k) s left = (member : Membership)
+    → member.array.geometry ≡ s.geometry → IsSure counted (k member) s left
+IsSure counted (Try step k) s left =
+    ((seats : Seats) → s.seats ≡ Some seats → IsFreeFor step seats → PassesTests step s seats)
+    × ((given : GivenBy step) (gone : Bool) (later : State) → IsDoneFrom counted step given s later
+    → IsSure (counted_behind step counted) (k (Ok given) gone) later left)
+IsSure counted (RebuildAll slots done k) s left = (count : ℕ) (later : State)
+    → IsRebuiltFrom counted later s → IsSure counted (k count) later left
 
 -- STORIES
 
@@ -119,23 +130,12 @@ EachDeed view IsSo (deed ∷ story) old new works =
 abbrev pub KeepsAt : {R W : Type 0} → Slots → Deed → Devices R W → Devices R W → Type 0
 KeepsAt kept (Stepped step answer events left) old new = (was is : ArrayState)
     → old.session ≡ Opened was → new.session ≡ Opened is
-    → NoneGoesDown kept (seats_in was.member.array) (seats_in is.member.array)
+    → NoneGoesDown (HasSlot kept) (seats_in was.member.array) (seats_in is.member.array)
 KeepsAt kept _ old new = ⊤
 
 abbrev pub EachKeeps : {R W : Type 0} → (view : DeviceView R W) → Slots → (story : List Deed)
     → (old new : Devices R W) → Leads (WorksAll view) story old new → Type 0
 EachKeeps view kept story old new works = EachDeed view (KeepsAt kept) story old new works
-
--- none of these slots takes part in the array that was found, as a step begins
-abbrev pub IsAwayAt : {R W : Type 0} → Slots → Deed → Devices R W → Devices R W → Type 0
-IsAwayAt away (Stepped step answer events left) old new = (member : Membership)
-    → old.session ≡ Found member → (j : ℕ) → HasSlot away j
-    → (j < member.array.geometry.n) × (¬ IsHere member j)
-IsAwayAt away _ old new = ⊤
-
-abbrev pub EachIsAway : {R W : Type 0} → (view : DeviceView R W) → Slots → (story : List Deed)
-    → (old new : Devices R W) → Leads (WorksAll view) story old new → Type 0
-EachIsAway view away story old new works = EachDeed view (IsAwayAt away) story old new works
 
 -- what the session knows was drawn leaves room for draws
 abbrev pub LeavesDraws : Session → Type 0
@@ -143,33 +143,55 @@ LeavesDraws (Found member) = HasDraws member
 LeavesDraws (Opened array) = HasDraws array.member
 LeavesDraws _ = ⊤
 
+-- and so does what a medium bears that is to be admitted, before anything of it is written
+abbrev pub MediumLeavesDraws : Step → Geometry → List Happening → List Happening → Type 0
+MediumLeavesDraws (ReplaceSlot j) g old new = (h : List Happening) (k : ℕ) (super : Superblock)
+    → IsMoment old h new → NoneWritten (λ i. i ≡ j) old h → k < 2
+    → HoldsSuper (cells_at h j k) super → super.array.geometry ≡ g → super.draw ≤ most_drawn
+MediumLeavesDraws step g old new = ⊤
+
 -- as a step begins
-abbrev pub HasDrawsAt : {R W : Type 0} → Deed → Devices R W → Devices R W → Type 0
-HasDrawsAt (Stepped step answer events left) old new = LeavesDraws old.session
-HasDrawsAt _ old new = ⊤
-
-abbrev pub EachHasDraws : {R W : Type 0} → (view : DeviceView R W) → (story : List Deed)
-    → (old new : Devices R W) → Leads (WorksAll view) story old new → Type 0
-EachHasDraws view story old new works = EachDeed view HasDrawsAt story old new works
-
--- a medium that is to be admitted to an array of this geometry is fit for it
-abbrev pub IsFitAt : {R W : Type 0} → DeviceView R W → Geometry → Deed → Devices R W → Devices R W
+abbrev pub HasDrawsAt : {R W : Type 0} → DeviceView R W → Geometry → Deed → Devices R W → Devices R W
     → Type 0
-IsFitAt view g (Stepped step answer events left) old new =
-    IsFitFor step g (history_of view old) (history_of view new)
-IsFitAt view g _ old new = ⊤
+HasDrawsAt view g (Stepped step answer events left) old new = LeavesDraws old.session
+    × MediumLeavesDraws step g (history_of view old) (history_of view new)
+HasDrawsAt view g _ old new = ⊤
 
-abbrev pub EachIsFit : {R W : Type 0} → (view : DeviceView R W) → Geometry → (story : List Deed)
+abbrev pub EachHasDraws : {R W : Type 0} → (view : DeviceView R W) → Geometry → (story : List Deed)
     → (old new : Devices R W) → Leads (WorksAll view) story old new → Type 0
-EachIsFit view g story old new works = EachDeed view (IsFitAt view g) story old new works
+EachHasDraws view g story old new works = EachDeed view (HasDrawsAt view g) story old new works
 
--- Slot j is one of an array of this geometry, is never offline in the session that began at `before`, up to h, and holds a medium
--- that is large enough all the time.
+-- In a session that began at `before` slot j is at no moment from here to h offline, and the medium that it holds is large enough for
+-- an array of this geometry.
+pub record IsThere (g : Geometry) (before from h : List Happening) (j : ℕ) : Type 0 where
+  pub online : (moment : List Happening) → IsMoment from moment h → ¬ IsOffline before moment j
+  pub large : (moment : List Happening) → IsMoment from moment h
+      → IsLargeEnough g (slot_state moment j).size
+
+-- It is there from here to h, whatever was before, and until it is written its medium bears no superblock of another array.
+pub record IsFitFrom (g : Geometry) (from h : List Happening) (j : ℕ) : Type 0 where
+  pub there : IsThere g from from h j
+  pub own : (moment : List Happening) (k : ℕ) (super : Superblock) → IsMoment from moment h
+      → NoneWritten (λ i. i ≡ j) from moment → k < 2 → HoldsSuper (cells_at moment j k) super
+      → super.array.geometry ≡ g
+
+-- As a replacement begins, in a story that ends at h, its slot is Down, and it is fit from then on.
+abbrev pub CanReplaceAt : {R W : Type 0} → DeviceView R W → Geometry → List Happening → Deed
+    → Devices R W → Devices R W → Type 0
+CanReplaceAt view g h (Stepped (ReplaceSlot j) answer events left) old new =
+    ((was : ArrayState) → old.session ≡ Opened was → mark_in was.member.array j ≡ Down)
+    × IsFitFrom g (history_of view old) h j
+CanReplaceAt view g h _ old new = ⊤
+
+abbrev pub EachCanReplace : {R W : Type 0} → (view : DeviceView R W) → Geometry
+    → (story : List Deed) → (old new : Devices R W) → Leads (WorksAll view) story old new → Type 0
+EachCanReplace view g story old new works =
+    EachDeed view (CanReplaceAt view g (history_of view new)) story old new works
+
+-- slot j is one of an array of this geometry, and is there in the whole session, up to h
 pub record StaysIn (g : Geometry) (before h : List Happening) (j : ℕ) : Type 0 where
   pub below : j < g.n
-  pub online : (moment : List Happening) → IsMoment before moment h → ¬ IsOffline before moment j
-  pub large : (moment : List Happening) → IsMoment before moment h
-      → IsLargeEnough g (slot_state moment j).size
+  pub there : IsThere g before before h j
 
 -- THE LAWS
 
@@ -184,10 +206,10 @@ IsDone status = (status ≡ Done) ⊎ (status ≡ OutOfMemory)
 
 -- A command whose plan is sure is done, if there is memory: on an honest rack that is an array in this state as the session
 -- begins, within tolerance and with no medium that comes back, where neither source nor sink fails, each step that is performed
--- leads on, there are draws left at each, each medium to be admitted is fit, and the slots are kept, or away, as is assured.
+-- leads on, there are draws left at each, and each slot that is to be replaced can be.
 abbrev pub SureIsDone : (R W S K : Type 0) → Type 0
 SureIsDone R W S K = (view : DeviceView R W) (streams : Views S K) (plan : Plan) (status : Status)
-    (s : State) (assured : Assurance) (old new : Outside S K) (first last : Devices R W)
+    (s : State) (old new : Outside S K) (first last : Devices R W)
     (with : MeansWith view streams plan (Over status) old new first last)
     → IsTrue view.rack.honest → first.session ≡ Begun
     → IsHistory (history_of view first) → Represents s (history_of view first)
@@ -195,11 +217,9 @@ SureIsDone R W S K = (view : DeviceView R W) (streams : Views S K) (plan : Plan)
     → NothingReturned (history_of view first) (history_of view last)
     → HasNoFault streams old new
     → StoryLeads NoneReturns view with.means.story first last with.works
-    → EachHasDraws view with.means.story first last with.works
-    → EachIsFit view s.geometry with.means.story first last with.works
-    → EachKeeps view assured.kept with.means.story first last with.works
-    → EachIsAway view assured.away with.means.story first last with.works
-    → IsSure assured plan (without_seats s) (streams.source.left old.source) → IsDone status
+    → EachHasDraws view s.geometry with.means.story first last with.works
+    → EachCanReplace view s.geometry with.means.story first last with.works
+    → IsSure [] plan (without_seats s) (streams.source.left old.source) → IsDone status
 
 -- a draw up to this one, as a call begins, leaves room for all that it draws
 abbrev pub most_borne : ℕ
@@ -216,33 +236,67 @@ pub record ServesThroughout {R : Type 0} (rack : RackView R) (s : State) (first 
     pub returned : NothingReturned (rack.history first) (rack.history last)
     pub drawn : IsBoundedAt s.geometry most_borne (rack.history first)
 
--- no slot is counted on
-abbrev pub no_assurance : Assurance
-no_assurance = record { kept = no_slots; away = no_slots }
-
 -- so many draws are left then for the steps of a plan
 abbrev pub most_allowed : ℕ
 most_allowed = 2 ^ 38
 
--- Of a plan that admits no medium and draws few numbers nothing is asked of the story: it is done where it is sure without
--- counting on a slot.
+-- Of a plan that draws few numbers nothing is asked of the story but that each slot which is to be replaced can be: it is done
+-- where it is sure.
 abbrev pub PlannedSureIsDone : (R W S K : Type 0) → Type 0
 PlannedSureIsDone R W S K = (view : DeviceView R W) (streams : Views S K) (plan : Plan)
     (status : Status) (s : State) (old new : Outside S K) (first last : R) (watchers left : List W)
-    → MeansWhole view streams plan (Over status) old new first last watchers left
-    → EachStep AdmitsNone plan → AllowsAtMost most_allowed plan
-    → ServesThroughout view.rack s first last → HasNoFault streams old new
-    → IsSure no_assurance plan (without_seats s) (streams.source.left old.source) → IsDone status
+    (whole : MeansWhole view streams plan (Over status) old new first last watchers left)
+    → AllowsAtMost most_allowed plan → ServesThroughout view.rack s first last
+    → HasNoFault streams old new
+    → EachCanReplace view s.geometry whole.with.means.story (devices first Begun watchers)
+    (devices last whole.session left) whole.with.works
+    → IsSure [] plan (without_seats s) (streams.source.left old.source) → IsDone status
+
+-- And none is where the plan admits no medium.
+abbrev pub NoneIsReplaced : (R W S K : Type 0) → Type 0
+NoneIsReplaced R W S K = (view : DeviceView R W) (streams : Views S K) (plan rest : Plan)
+    (g : Geometry) (old new : Outside S K) (first last : Devices R W)
+    (with : MeansWith view streams plan rest old new first last) → EachStep AdmitsNone plan
+    → EachCanReplace view g with.means.story first last with.works
+
+-- Until something is written the slot bears no superblock, of whatever array,
+abbrev pub BearsNone : List Happening → List Happening → ℕ → Type 0
+BearsNone before h j = (moment : List Happening) → IsMoment before moment h
+    → NothingWritten before moment → ¬ HasSuper (cells_at moment j)
+
+-- or the array's current superblock marks it Down.
+abbrev pub IsMarkedDown : Geometry → List Happening → List Happening → ℕ → Type 0
+IsMarkedDown g before h j = (moment : List Happening) → IsMoment before moment h
+    → NothingWritten before moment → (current : Superblock)
+    → IsCurrent g (image_now moment) current → mark_in current.array j ≡ Down
+
+-- In a session from `before` to h slot j has a device that can be admitted: it is there, bears no superblock of another array, and
+-- takes no part before anything is written.
+pub record HasDevice (g : Geometry) (before h : List Happening) (j : ℕ) : Type 0 where
+  pub stays : StaysIn g before h j
+  pub own : (moment : List Happening) (k : ℕ) (super : Superblock) → IsMoment before moment h → k < 2
+      → HoldsSuper (cells_at moment j k) super → super.array.geometry ≡ g
+  pub out : BearsNone before h j ⊎ IsMarkedDown g before h j
+
+-- Such a device can replace what its slot had, where that slot is the one that is to be replaced.
+abbrev pub DevicesCanReplace : (R W S K : Type 0) → Type 0
+DevicesCanReplace R W S K = (view : DeviceView R W) (streams : Views S K) (plan rest : Plan)
+    (s : State) (slot : ℕ) (old new : Outside S K) (first last : R) (watchers left : List W)
+    (whole : MeansWhole view streams plan rest old new first last watchers left)
+    → AdmitsOnce slot plan → ServesThroughout view.rack s first last
+    → HasDevice s.geometry (view.rack.history first) (view.rack.history last) slot
+    → EachCanReplace view s.geometry whole.with.means.story (devices first Begun watchers)
+    (devices last whole.session left) whole.with.works
 
 -- Over a rack alone, which suffices for a plan that takes no step, nothing is asked of steps. The session began at `before`.
 abbrev pub SteplessSureIsDone : (R S K : Type 0) → Type 0
 SteplessSureIsDone R S K = (rack : RackView R) (streams : Views S K) (plan : Plan) (status : Status)
-    (s : State) (assured : Assurance) (before : List Happening) (old new : Outside S K) (first last : R)
+    (s : State) (before : List Happening) (old new : Outside S K) (first last : R)
     → MeansOver rack streams plan (Over status) old new first last → IsTrue rack.honest
     → Ran any_call before (rack.history first) → Represents s (rack.history first)
     → ToleratedSince s.geometry before (rack.history last)
     → NothingReturned (rack.history first) (rack.history last) → HasNoFault streams old new
-    → IsSure assured plan (without_seats s) (streams.source.left old.source) → IsDone status
+    → IsSure [] plan (without_seats s) (streams.source.left old.source) → IsDone status
 
 -- A slot that stays in isn't given up: on an honest rack that is an array in this state as the session begins, within tolerance
 -- and with no medium that comes back, where each step that is performed leads on.

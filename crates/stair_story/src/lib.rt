@@ -8,12 +8,11 @@ pub mod laws;
 pub mod lives;
 pub mod runs;
 pub mod session;
+pub mod sound;
 mod status;
 mod steps;
 mod streams;
 pub mod sure;
-#[cfg(test)]
-mod tests;
 mod text;
 
 pub use fault::Fault;

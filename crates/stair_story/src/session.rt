@@ -2,6 +2,7 @@
 
 ghost use Rattle.stair_story.specs.Drawn.{DrawsAreFew, DrawsAreWithin, SpentAtTheEnd};
 ghost use Rattle.stair_story.specs.Kept.{NoneIsGivenUp, NoneIsLeftOut};
+ghost use Rattle.stair_story.specs.Living.{LiveSlotsAreKept, LiveSlotsStay};
 ghost use Rattle.stair_story.specs.Rebuilt.{ChunksInOrder, RunsAreWhole};
 
 /// What follows over a story of steps of one array, whatever the rack is. It does nothing.
@@ -10,6 +11,11 @@ pub fn session_laws<R, W>()
     ensures kept { NoneIsGivenUp R W }
     // and at the opening only where it didn't take part as the array was found
     ensures opened { NoneIsLeftOut R W }
+    // on an honest rack that is an array in a state, within tolerance and where no medium comes back: a slot that is live to an open
+    // array and stays whole is live in the end
+    ensures stays { LiveSlotsStay R W }
+    // and so is one that was live before anything was written, and stays whole in the whole session
+    ensures live { LiveSlotsAreKept R W }
     // the chunks of a rebuild come in order, and a promotion with the last of them
     ensures rebuilt { ChunksInOrder R W }
     // so a chunk comes behind all that are below it, and a promotion behind all but the last

@@ -1,6 +1,13 @@
 //! The laws of completeness: a command whose plan is sure is done.
 
-ghost use Rattle.stair_story.specs.Sure.{PlannedSureIsDone, StayingAreKept, SteplessSureIsDone, SureIsDone};
+ghost use Rattle.stair_story.specs.Sure.{
+  DevicesCanReplace,
+  NoneIsReplaced,
+  PlannedSureIsDone,
+  StayingAreKept,
+  SteplessSureIsDone,
+  SureIsDone,
+};
 
 /// What follows of every call whose plan is sure to end with Done. It does nothing.
 pub fn sure_laws<R, W, S, K>()
@@ -8,8 +15,12 @@ pub fn sure_laws<R, W, S, K>()
     ensures done { SureIsDone R W S K }
     // a slot is kept that is never offline, and whose medium is large enough
     ensures kept { StayingAreKept R W }
-    // where it admits no medium and draws few numbers nothing is asked of its story
+    // where it draws few numbers nothing is asked of its story but that each slot which is to be replaced can be
     ensures planned { PlannedSureIsDone R W S K }
+    // and none is where it admits no medium
+    ensures unreplaced { NoneIsReplaced R W S K }
+    // and one can be where its slot takes no part in the array, and has a device throughout the call that is large enough and of no other one
+    ensures replaceable { DevicesCanReplace R W S K }
     // over a rack alone nothing is asked of steps
     ensures stepless { SteplessSureIsDone R S K }
 {}

@@ -1,6 +1,5 @@
-//! The codes and lines of statuses, as the formats have them; and the steps of an array as watchers are told of them.
-
-use super::*;
+// The codes and lines of statuses, as the formats have them; and the steps of an array as watchers are told of them.
+use crate::calls::too_few;
 use stair_array::{ArrayFault, create};
 use stair_base::{Broken, Geometry, StripeCode};
 use stair_codec::{By, Codec};
@@ -9,6 +8,7 @@ use stair_member::{Why, survey};
 use stair_memrack::{Act, MemRack, What};
 use stair_mend::Progress;
 use stair_rack::{Event, Watcher};
+use stair_story::{Opened, Status};
 use stair_super::{Label, Mark};
 use stair_watch::{Kept, add};
 use std::test::Fail;
@@ -100,14 +100,6 @@ const LINES: [(Status, u8, &str); 24] = [
     (Status::Frozen, 20, "frozen"),
 ];
 
-fn too_few(first: &[Why]) -> Status {
-    let mut whys = [Why::Here; 32];
-    for (slot, why) in whys.iter_mut().zip(first.iter()) {
-        *slot = *why;
-    }
-    Status::TooFew(whys)
-}
-
 #[test]
 fn each_status_has_its_code_and_line(rt: HostRuntime) -> Result<(), Fail> {
     for (status, code, line) in LINES {
@@ -132,12 +124,12 @@ fn each_status_has_its_code_and_line(rt: HostRuntime) -> Result<(), Fail> {
     Ok(())
 }
 
-/// What the first watcher has kept of its event `at`.
+// What the first watcher has kept of its event `at`.
 fn told(watchers: &Vec<Box<dyn Watcher>>, at: u64) -> Option<Event> {
     watchers.first()?.kept(at)
 }
 
-/// An opening tells of the slot that was away before it; the steps after it don't tell it again.
+// An opening tells of the slot that was away before it; the steps after it don't tell it again.
 #[test]
 fn steps_are_told(rt: HostRuntime) -> Result<(), Fail> {
     let alloc = rt.alloc();
@@ -176,8 +168,8 @@ fn steps_are_told(rt: HostRuntime) -> Result<(), Fail> {
     Ok(())
 }
 
-/// A scrub tells of the cell that it wrote anew. A new device is told as it is admitted, and its slot as its last chunk is written;
-/// the chunks before it aren't told, nor are the frozen mark and the label.
+// A scrub tells of the cell that it wrote anew. A new device is told as it is admitted, and its slot as its last chunk is written;
+// the chunks before it aren't told, nor are the frozen mark and the label.
 #[test]
 fn mending_is_told(rt: HostRuntime) -> Result<(), Fail> {
     let alloc = rt.alloc();

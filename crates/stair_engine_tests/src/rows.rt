@@ -1,17 +1,16 @@
-//! Worked rows of the commands, over memory. The cells and the answers were worked out elsewhere.
+// Worked rows of the commands. The cells and the answers were worked out elsewhere.
+ghost use Rattle.std.specs.Prelude.{None};
 
-ghost use Rattle.std.specs.Prelude.{◌≡◌, ◌<◌, None};
-
-use super::*;
+use crate::calls::{self, Came, Ends, call, call_into, too_few, words_of};
 use stair_base::{Broken, SECTOR};
 use stair_conf::Key;
+use stair_engine::Status;
+use stair_engine::laws::plan_laws;
 use stair_member::Why;
 use stair_memrack::{Act, MemRack, What};
-use stair_rack::{MemSink, MemSource, Put};
-use stair_watch::{Kept, Tally, add};
-use std::alloc::AllocError;
-use std::marker::Brand;
-use std::sync::ledger::Blank;
+use stair_rack::{MemSink, MemSource, Put, Sink};
+use stair_watch::Kept;
+use std::alloc::{AllocError, Global};
 use std::test::Fail;
 
 // A map or a line, and behind it cells: each has one byte in all of its places, and one that the map erases EE.
@@ -165,13 +164,13 @@ const LOST: Status = Status::Lost {
 };
 
 // The byte at which the source fails, and the room of the sink.
-type Ends = (Option<u64>, usize);
+type Streams = (Option<u64>, usize);
 
 // No fault, and room for the cells of eight devices.
-const WHOLE: Ends = (None, 32 * SECTOR);
+const WHOLE: Streams = (None, 32 * SECTOR);
 
 // Each row is a command line, its input, the ends, the status, and what is put out where there is room.
-const CALLS: [(&str, Bytes, Ends, Status, Bytes); 34] = [
+const CALLS: [(&str, Bytes, Streams, Status, Bytes); 34] = [
     (CHECK, FOUR, WHOLE, Status::Done, LINE),
     (CHECK, ROW_BROKEN, WHOLE, IN_ROW, NOTHING),
     (CHECK, GLOBAL_BROKEN, WHOLE, IN_GLOBAL, NOTHING),
@@ -216,14 +215,6 @@ const CALLS: [(&str, Bytes, Ends, Status, Bytes); 34] = [
     ("show 4", TEXT, WHOLE, Status::Usage, NOTHING),
 ];
 
-fn words_of(alloc: Global, line: &str) -> Result<Vec<String>, AllocError> {
-    let mut words = Vec::new(alloc);
-    for word in line.split(' ') {
-        words.push(String::from_str(alloc, word)?)?;
-    }
-    Ok(words)
-}
-
 fn bytes_of(alloc: Global, bytes: Bytes) -> Result<Vec<u8>, AllocError> {
     let (front, cells) = bytes;
     let mut whole = front.to_vec(alloc)?;
@@ -234,55 +225,22 @@ fn bytes_of(alloc: Global, bytes: Bytes) -> Result<Vec<u8>, AllocError> {
     Ok(whole)
 }
 
-// What came of a call, and what was put out.
-#[derive(Drop)]
-struct Outcome {
-    status: Status,
-    put: Vec<u8>,
-}
-
+// Calls with the words of a line; the source fails at this byte, and the sink has so much room.
 fn run(
     alloc: Global,
     rack: &mut MemRack,
     line: &str,
     input: Bytes,
-    ends: Ends,
-) -> Result<Outcome, AllocError> {
+    streams: Streams,
+) -> Result<Came, AllocError> {
     let bytes = bytes_of(alloc, input)?;
-    let words = words_of(alloc, line)?;
-    run_on::<Brand>(Blank::new(1), alloc, rack, &words, &bytes, ends)
-}
-
-// The same, with the counter on a ledger of its own.
-fn run_on<L: Ledger>(
-    blank: Blank,
-    alloc: Global,
-    rack: &mut MemRack,
-    words: &[String],
-    bytes: &[u8],
-    ends: Ends,
-) -> Result<Outcome, AllocError>
-    requires name { blank.name ≡ L.name }
-    requires parts { blank.parts ≡ L.parts }
-    requires some { 0 < L.parts }
-{
-    let (fail_at, room) = ends;
-    let mut input = MemSource::new(alloc, bytes, 100, fail_at)?;
-    let mut output = MemSink::new(alloc, room)?;
-    let mut steps = Steps::<L>::new(blank);
-    let mut watchers = Vec::new(alloc);
-    add(&mut watchers, Box::new(alloc, Tally::new(1))?)?;
-    let status = stair(
-        alloc,
-        words,
-        rack,
-        &mut input,
-        &mut output,
-        &mut watchers,
-        &mut steps,
-    );
-    let put = output.bytes().to_vec(alloc)?;
-    Ok(Outcome { status, put })
+    let (fails_at, room) = streams;
+    let ends = Ends {
+        piece: 100,
+        fails_at,
+        room,
+    };
+    call(alloc, rack, line, &bytes, ends)
 }
 
 // Every clause allows a body that always wants memory: this is what refuses it.
@@ -296,7 +254,7 @@ fn each_command_is_done_and_a_fault_ends_it(rt: HostRuntime) -> Result<(), Fail>
         assert_eq!(rt; came.status, status, "{line} {input:?} {ends:?}");
         assert!(rt; came.put == front, "{line} {input:?} {ends:?}");
     }
-    laws::plan_laws::<MemRack, Kept, MemSource, MemSink>();
+    plan_laws::<MemRack, Kept, MemSource, MemSink>();
     Ok(())
 }
 
@@ -375,15 +333,16 @@ fn a_line_is_one_put(rt: HostRuntime) -> Result<(), Fail> {
     let mut rack = MemRack::new(rt.alloc(), 4, 17, &[], 1000)?;
     run(rt.alloc(), &mut rack, CREATE, TEXT, WHOLE)?;
     let mut output = PutCounter { puts: 0 };
-    assert_eq!(rt; show(&mut rack, &mut output), Ok(Status::Done));
+    let words = words_of(rt.alloc(), SHOW)?;
+    let ended = call_into(
+        rt.alloc(),
+        &mut rack,
+        &words,
+        &[],
+        calls::WHOLE,
+        &mut output,
+    )?;
+    assert_eq!(rt; ended.status, Status::Done);
     assert_eq!(rt; output.puts, 7);
     Ok(())
-}
-
-fn too_few(first: &[Why]) -> Status {
-    let mut whys = [Why::Here; 32];
-    for (slot, why) in whys.iter_mut().zip(first.iter()) {
-        *slot = *why;
-    }
-    Status::TooFew(whys)
 }

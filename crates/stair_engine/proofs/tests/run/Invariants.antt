@@ -1,5 +1,0 @@
--- The ledger is the blank's.
-use Rattle.stair_engine.proofs.tests.run.Given as goal
-
-abbrev pub ghosts-run_on : goal.ghosts-run_on
-ghosts-run_on a = record { name = a.blank.name; parts = a.blank.parts }

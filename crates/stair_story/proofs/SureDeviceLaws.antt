@@ -1,0 +1,444 @@
+-- A device that takes no part in an array can replace what its slot had: to no survey is the slot here, so it is Down until it is
+-- replaced.
+use Rattle.std.proofs.Common.{◌≡◌, ◌≢◌, ◌∙◌, ◌⊎◌, ℕ, ◌<◌, List, [], ◌∷◌, Ok, Err, Result, inl, inr, refl, sym, ap, subst, arith}
+use Rattle.std.proofs.lemmas.Bool.{false≢true}
+use Rattle.std.specs.Prelude.{Bool, IsOk, IsTrue, ⊤}
+use Rattle.stair_model.specs.Geometry.{Geometry}
+use Rattle.stair_model.specs.Slots.{HasSlot}
+use Rattle.stair_rack.specs.Answers.{Ran, any_call}
+use Rattle.stair_rack.specs.History.{Attach, Happening, Read, Sectors, SlotCall, Sync, Write}
+use Rattle.stair_rack.specs.Moments.{IsMoment}
+use Rattle.stair_rack.specs.Offline.{IsOffline}
+use Rattle.stair_rack.specs.Sector.{Cell, Good}
+use Rattle.stair_rack.specs.Stretch.{IsNoWrite, NothingWritten, every_slot}
+use Rattle.stair_rack.specs.Telling.{IsReading, Telling}
+use Rattle.stair_rack.specs.declared.watcher.Event.{Event}
+use Rattle.stair_rack.specs.Crash.{image_now}
+use Rattle.stair_rack.proofs.CrashLemmas.{CrashMayLeave-now}
+use Rattle.stair_rack.proofs.MomentLemmas.{moment_between, moment_first, moment_last, moment_later, moment_sooner, ran_any, ran_before, ran_join, ran_none}
+use Rattle.stair_rack.proofs.OfflineLemmas.{pulls_on}
+use Rattle.stair_rack.proofs.StretchLemmas.{each_before, none_written}
+use Rattle.stair_super.specs.Superblock.{Superblock, mark_in}
+use Rattle.stair_super.specs.declared.mark.Mark.TheVariants.{Down, Rebuilding}
+use Rattle.stair_member.specs.Aims.{mark_for}
+use Rattle.stair_member.specs.Asked.{LeavesSectors}
+use Rattle.stair_member.specs.Findings.{IsPlaceFound, Unread}
+use Rattle.stair_member.specs.Findings as found
+use Rattle.stair_member.specs.Membership.{IsHere, Membership, why_of}
+use Rattle.stair_member.specs.Reasons.{Applies, rank}
+use Rattle.stair_member.specs.Superblocks.{HoldsSuper}
+use Rattle.stair_member.specs.Survey.{IsSurveyed, Surveys}
+use Rattle.stair_super.specs.declared.configuration.Configuration.{Configuration}
+use Rattle.stair_member.specs.declared.why.Why.{Why}
+use Rattle.stair_member.specs.declared.why.Why.TheVariants as why
+use Rattle.stair_member.proofs.AskedLemmas.{asked_ran}
+use Rattle.stair_member.proofs.SuperLemmas.{counts_limits}
+use Rattle.stair_state.specs.State.{State}
+use Rattle.stair_state.specs.Surveyed.{FindsArray}
+use Rattle.stair_state.specs.Tolerance.{IsWithinTolerance}
+use Rattle.stair_state.proofs.SurveyedLemmas.{finds_array}
+use Rattle.stair_session.specs.Session.{ArrayState}
+use Rattle.stair_array.specs.Causes.{MarkGoesOn, WhyGoesOn}
+use Rattle.stair_array.specs.Machine.{Answer, Chunk, Dropped, Nothing, Promoted, RebuildNext, Recover, Refusal, ReplaceSlot, Step}
+use Rattle.stair_array.specs.Promise.{Begun, Closed, Ends, Found, GoesOn, Opened, Performs, Seen, Session, StartsFrom, Stops, unopened}
+use Rattle.stair_story.specs.Action.{Action, Create, OkOf, Outcome, Survey}
+use Rattle.stair_story.specs.Devices.{DeviceView, Devices, MeansWhole, WorksAll, devices, seen_of}
+use Rattle.stair_story.specs.Ending.{AdmitsNone, AdmitsOnce, EachStep}
+use Rattle.stair_story.specs.Outside.{Outside, Views}
+use Rattle.stair_story.specs.Plan.{Plan, Ask, Take, Put, Allocate, Do, Try, RebuildAll, after_rebuild}
+use Rattle.stair_story.specs.Rack.{told_of}
+use Rattle.stair_story.specs.Story.{Deed, Found as FoundOut, Took, TookLast, TakeFailed, HasPut, PutFailed, Grew, RanOut, Did, Stepped, Leads, Moves, after}
+use Rattle.stair_story.specs.Sure.{CanReplaceAt, EachCanReplace, EachDeed, HasDevice, BearsNone, IsFitFrom, IsMarkedDown, ServesThroughout}
+use Rattle.stair_story.proofs.KeptLaws.{known_begun, starts_known}
+use Rattle.stair_story.proofs.PlannedLaws.{steps_along}
+use Rattle.stair_story.proofs.PlannedSureLaws.{none_replaced_in}
+use Rattle.stair_story.proofs.RunLaws.{one_ran, works_ran}
+use Rattle.stair_story.proofs.SureStepLaws.{starts_open}
+
+-- ---- what a survey finds
+
+module _ (s : State) (m : Membership) (old new : Telling) (last : List Happening) (j : ℕ) (honest : IsTrue new.honest) (surveys : Surveys (Ok m) old new)
+    (later : Ran any_call new.history last) where
+  surveyed : IsSurveyed surveys.findings m
+  surveyed = surveys.answered.0
+
+  asked : Ran LeavesSectors old.history new.history
+  asked = asked_ran 32 old.history new.history (surveys.asked honest)
+
+  -- a moment of the survey, at which nothing is written yet
+  until : {h : List Happening} → IsMoment old.history h new.history → IsMoment old.history h last
+  until at = moment_sooner at (moment_between (ran_any asked) later)
+
+  unwritten : {h : List Happening} → IsMoment old.history h new.history → NothingWritten old.history h
+  unwritten at = none_written {allowed = LeavesSectors} {slots = every_slot} leaves (ran_before asked at)
+    where
+      leaves : (i : ℕ) (call : SlotCall) → LeavesSectors i call → every_slot i → IsNoWrite call
+      leaves i (Attach answer) is on = tt
+      leaves i (Sectors size) is on = tt
+      leaves i (Read k answer) is on = tt
+      leaves i (Write k bytes answer) is on = absurd is
+      leaves i (Sync answer) is on = tt
+
+  small : IsHere m j → j < 32
+  small here = let drawn = surveyed.drawn in
+      let slots = (counts_limits m.array.geometry surveys.findings.image drawn.slot drawn.super drawn.counts).devices.1 in
+      omega (arith, here.below, slots)
+
+  -- no reason came before
+  none_first : IsHere m j → (other : Why) → rank other < rank why.Rebuilding → ¬ Applies (HasSlot surveys.findings.gone) m.array.geometry surveys.findings.image surveyed.current j other
+  none_first here other less = (surveyed.reasons j here.below).first other (by (why_of m j) here.why)
+    where
+      by : (reason : Why) → (reason ≡ why.Here) ⊎ (reason ≡ why.Rebuilding) → rank other < rank reason
+      by why.Here is = omega (arith, less)
+      by why.Rebuilding is = less
+      by _ is = absurd (elim is [ inl same ↦ cc | inr same ↦ cc ])
+
+  -- what was read was there
+  was_there : (k : ℕ) (super : Superblock) (cell : Cell) → k < 2 → IsReading j k old new cell → HoldsSuper cell super → BearsNone old.history last j → ⊥
+  was_there k super (Good bytes) place reading holds bare =
+      let was = reading honest in
+      bare was.moment (until was.is_one) (unwritten was.is_one) (record {
+        place = k;
+        place_in = place;
+        super = super;
+        holds = record { bytes = holds.bytes; good = was.found ∙ holds.good; spells = holds.spells };
+      })
+  was_there k super cell place reading holds bare = absurd (let is = holds.good in cc)
+
+  found_there : (k : ℕ) (super : Superblock) {gone : Type 0} {cell : Cell} → k < 2 → IsPlaceFound gone j k old new cell → HoldsSuper cell super
+      → BearsNone old.history last j → ⊥
+  found_there k super {cell = cell} place (found.Read reading) holds bare = was_there k super cell place reading holds bare
+  found_there k super place (Unread gone is) holds bare = absurd (let good = holds.good in cc)
+
+  -- a slot that is bare, or marked Down, isn't here
+  not_here : FindsArray s (Ok m) old.history old.history new.history → IsWithinTolerance (IsOffline old.history old.history) s.geometry (image_now old.history)
+      → IsWithinTolerance (IsOffline old.history new.history) s.geometry (image_now new.history) → BearsNone old.history last j ⊎ IsMarkedDown s.geometry old.history last j
+      → ¬ IsHere m j
+  not_here finds first then (inl bare) here =
+      none_first here why.NoSuper (omega arith)
+      (λ has. found_there has.place has.super has.place_in ((surveys.found.each j (small here)).places has.place has.place_in) has.holds bare)
+  not_here finds first then (inr down) here =
+      none_first here why.MarkedDown (omega arith)
+      (ap (λ (c : Configuration). mark_in c j) (sym surveyed.array)
+      ∙ elim (finds.named first.current then.current first.is_current then.is_current) [
+        | inl same ↦
+            ap (λ (c : Configuration). mark_in c j) (named ∙ same)
+            ∙ down new.history (until at_end) (unwritten at_end) then.current then.is_current
+        | inr same ↦
+            ap (λ (c : Configuration). mark_in c j) (named ∙ same)
+            ∙ down old.history (until at_start) (unwritten at_start) first.current first.is_current
+      ])
+    where
+      named : m.array ≡ finds.member.array
+      named = let is = finds.found in cc
+
+      at_end : IsMoment old.history new.history new.history
+      at_end = moment_last asked.more asked.is
+
+      at_start : IsMoment old.history old.history new.history
+      at_start = moment_first asked.more asked.is
+
+-- ---- a slot that takes no part
+
+-- it doesn't where the array was found, and is Down where it is open
+abbrev IsOut : ℕ → Session → Type 0
+IsOut slot (Found m) = (slot < m.array.geometry.n) × (¬ IsHere m slot)
+IsOut slot (Opened a) = (slot < a.member.array.geometry.n) × (mark_in a.member.array slot ≡ Down)
+IsOut slot _ = ⊤
+
+-- a reason for which a slot isn't here is one for which it is marked Down
+down_for : (reason : Why) → reason ≢ why.Here → reason ≢ why.Rebuilding → mark_for reason ≡ Down
+down_for why.Here not_live not_rebuilt = absurd (not_live refl)
+down_for why.Rebuilding not_live not_rebuilt = absurd (not_rebuilt refl)
+down_for _ not_live not_rebuilt = refl
+
+module _ (slot : ℕ) (step : Step) (other : step ≢ ReplaceSlot slot) (m last : Membership) (old new : Telling) where
+  still_away : slot < m.array.geometry.n → ¬ IsHere m slot → WhyGoesOn step old new m last slot → mark_for (why_of last slot) ≡ Down
+  still_away below away (WhyGoesOn.Stays same) =
+      down_for (why_of last slot) (λ here. away (record { below = below; why = inl (sym same ∙ here) }))
+      (λ rebuilt. away (record { below = below; why = inr (sym same ∙ rebuilt) }))
+  still_away below away (WhyGoesOn.Went gone was) = ap mark_for gone
+  still_away below away (WhyGoesOn.IsAdmitted replaces is) = absurd (other replaces)
+  still_away below away (WhyGoesOn.IsPromoted rebuilds was is) = absurd (away (record { below = below; why = inr was }))
+
+  still_down : mark_in m.array slot ≡ Down → MarkGoesOn step old new m last slot → mark_in last.array slot ≡ Down
+  still_down down (MarkGoesOn.Stays same) = same ∙ down
+  still_down down (MarkGoesOn.WasAway opens not_live not_rebuilt to_down) = to_down
+  still_down down (MarkGoesOn.Went gone to_down) = to_down
+  still_down down (MarkGoesOn.IsAdmitted replaces mark) = absurd (other replaces)
+  still_down down (MarkGoesOn.IsPromoted rebuilds was_mark mark) = let never : Down ≡ Rebuilding = sym down ∙ was_mark in absurd cc
+
+-- from what an opening opens an array
+record OpensFrom (was : ArrayState) (session : Session) : Type 0 where
+  found : Membership
+  is_found : session ≡ Found found
+  same : was ≡ unopened found
+
+opens_from : (was : ArrayState) (session : Session) → StartsFrom Recover was session → OpensFrom was session
+opens_from was (Found found) starts = record { found = found; is_found = refl; same = starts }
+opens_from was _ starts = absurd starts
+
+ok_goes_on : {T : Type 0} (answer : Result T Refusal) → IsOk answer → ¬ Stops answer
+ok_goes_on (Ok given) ok stops = absurd stops
+ok_goes_on (Err refusal) ok stops = absurd (false≢true ok)
+
+-- it stays so over every step but its own replacement
+module _ (slot : ℕ) (step : Step) (other : step ≢ ReplaceSlot slot) (answer : Answer step) (events : List Event) (x y : Seen)
+    (does : Performs step answer events x y) where
+  opened_out : (step ≡ Recover → IsOk answer) → IsOut slot x.session → IsOut slot (Opened does.is)
+  opened_out ok out =
+      elim (starts_open step does.was x.session does.starts) [
+        | inl opening ↦
+            let opens = opens_from does.was x.session (subst (λ (begun : Step). StartsFrom begun does.was x.session) opening does.starts) in
+            let found : IsOut slot (Found opens.found) = subst (IsOut slot) opens.is_found out in
+            let was : (slot < does.was.member.array.geometry.n) × (¬ IsHere does.was.member slot) =
+            subst (λ (a : ArrayState). (slot < a.member.array.geometry.n) × (¬ IsHere a.member slot)) (sym opens.same) found in
+            let below : slot < does.is.member.array.geometry.n = omega (arith, was.0, ap (λ (g : Geometry). g.n) does.goes_on.geometry) in (
+              below,
+              (does.array (ok_goes_on answer (ok opening))).marks slot below
+                  ∙ still_away slot step other does.was.member does.is.member x.told y.told was.0 was.1 (does.goes_on.whys slot was.0),
+            )
+        | inr began ↦
+            let was : IsOut slot (Opened does.was) = subst (IsOut slot) began.is_open out in
+            let below : slot < does.is.member.array.geometry.n = omega (arith, was.0, ap (λ (g : Geometry). g.n) does.goes_on.geometry) in
+            (below, still_down slot step other does.was.member does.is.member x.told y.told was.1 (does.goes_on.marks slot was.0))
+      ]
+
+  performed_out : IsOut slot x.session → IsOut slot y.session
+  performed_out out =
+      elim does.ends [
+        | Ends is err closed ↦ subst (IsOut slot) (sym closed) tt
+        | GoesOn ok kept opened ↦ subst (IsOut slot) (sym opened) (opened_out ok out)
+      ]
+
+-- ---- the replacement in a story
+
+-- the deed is a step of the replacement of this slot, or admits no medium
+abbrev Replaces : ℕ → Deed → Type 0
+Replaces slot (Stepped (ReplaceSlot j) answer events left) = j ≡ slot
+Replaces slot _ = ⊥
+
+abbrev ReplacesNone : Deed → Type 0
+ReplacesNone (Stepped (ReplaceSlot j) answer events left) = ⊥
+ReplacesNone _ = ⊤
+
+-- what is left of a plan that admits a medium to it once
+data Admits (slot : ℕ) (deed : Deed) (rest : Plan) : Type 0 where
+  StillOnce : ReplacesNone deed → AdmitsOnce slot rest → Admits slot deed rest
+  NoneMore : Replaces slot deed → EachStep AdmitsNone rest → Admits slot deed rest
+
+module _ (slot : ℕ) where
+  after_once : (action : Action) (k : OkOf action → Plan) (outcome : Outcome action) → ((done : OkOf action) → AdmitsOnce slot (k done))
+      → AdmitsOnce slot (after action k outcome)
+  after_once action k (Ok done) once = once done
+  after_once action k (Err refusal) once = tt
+
+  rebuilt_once : (slots done : ℕ) (k : ℕ → Plan) (answer : Answer RebuildNext) → AdmitsOnce slot (RebuildAll slots done k)
+      → AdmitsOnce slot (after_rebuild slots done k answer)
+  rebuilt_once slots done k (Ok Nothing) once = once done
+  rebuilt_once slots done k (Ok (Chunk j t)) once = once
+  rebuilt_once slots done k (Ok (Promoted j)) once = once
+  rebuilt_once slots done k (Ok (Dropped j)) once = once
+  rebuilt_once slots done k (Err refusal) once = tt
+
+  tried : (step : Step) (k : Answer step → Bool → Plan) (answer : Answer step) (events : List Event) (left : Bool) → AdmitsOnce slot (Try step k)
+      → Admits slot (Stepped step answer events left) (k answer left)
+  tried (ReplaceSlot j) k answer events left once = NoneMore once.0 (once.1 answer left)
+  tried _ k answer events left once = StillOnce tt (once answer left)
+
+  same_rest : (deed one : Deed) (rest next : Plan) → deed ≡ one → rest ≡ next → Admits slot one next → Admits slot deed rest
+  same_rest deed one rest next deeds plans admits =
+      subst (λ (d : Deed). Admits slot d rest) (sym deeds) (subst (Admits slot one) (sym plans) admits)
+
+  move_admits : (deed : Deed) (plan rest : Plan) → AdmitsOnce slot plan → Moves deed plan rest → Admits slot deed rest
+  move_admits (FoundOut reply) (Ask question k) rest once moves = StillOnce tt (subst (AdmitsOnce slot) (sym moves.3) (once moves.0 moves.2))
+  move_admits (Took bytes) (Take least most k short) rest once moves = StillOnce tt (subst (AdmitsOnce slot) (sym moves.1) (once.0 bytes))
+  move_admits (TookLast bytes) (Take least most k short) rest once moves = StillOnce tt (subst (AdmitsOnce slot) (sym moves.1) (once.1 bytes))
+  move_admits (TakeFailed bytes) (Take least most k short) rest once moves = StillOnce tt (subst (AdmitsOnce slot) (sym moves.1) tt)
+  move_admits (HasPut bytes) (Put all plan) rest once moves = StillOnce tt (subst (AdmitsOnce slot) (sym moves.1) once)
+  move_admits (PutFailed part) (Put all plan) rest once moves = StillOnce tt (subst (AdmitsOnce slot) (sym moves.1) tt)
+  move_admits Grew (Allocate plan) rest once moves = StillOnce tt (subst (AdmitsOnce slot) (sym moves) once)
+  move_admits RanOut (Allocate plan) rest once moves = StillOnce tt (subst (AdmitsOnce slot) (sym moves) tt)
+  move_admits (Did did came) (Do action k) rest once moves =
+      StillOnce tt (subst (AdmitsOnce slot) (sym moves.2) (after_once action k moves.0 once))
+  move_admits (Stepped did came events left) (Try step k) rest once moves =
+      same_rest (Stepped did came events left) (Stepped step moves.0 events left) rest (k moves.0 left) moves.1 moves.2
+      (tried step k moves.0 events left once)
+  move_admits (Stepped did came events left) (RebuildAll slots done k) rest once moves =
+      same_rest (Stepped did came events left) (Stepped RebuildNext moves.0 events left) rest (after_rebuild slots done k moves.0) moves.1 moves.2
+      (StillOnce tt (rebuilt_once slots done k moves.0 once))
+  move_admits _ _ rest once moves = absurd moves
+
+module _ {R W : Type 0} (view : DeviceView R W) (honest : IsTrue view.rack.honest) (g : Geometry) (slot : ℕ) (first : List Happening) where
+  abbrev h_of : Devices R W → List Happening
+  h_of x = view.rack.history x.rack
+
+  -- what is offline later is so in the whole session
+  offline_before : {from h : List Happening} → Ran any_call first from → IsOffline from h slot → IsOffline first h slot
+  offline_before ran (IsOffline.NoMedium none) = IsOffline.NoMedium none
+  offline_before ran (IsOffline.Unattached apart pulled) =
+      let fewer = pulls_on {allowed = any_call} slot ran in
+      IsOffline.Unattached apart (omega (arith, fewer, pulled))
+  offline_before ran (IsOffline.RackStopped stops) = IsOffline.RackStopped stops
+
+  fit_from : (from last : List Happening) → Ran any_call first from → Ran any_call from last → HasDevice g first last slot → IsFitFrom g from last slot
+  fit_from from last since ran device =
+      let until : IsMoment first from last = moment_between since ran in
+      record {
+        there = record {
+          online = λ moment at offline. device.stays.there.online moment (moment_later until at) (offline_before since offline);
+          large = λ moment at. device.stays.there.large moment (moment_later until at);
+        };
+        own = λ moment k super at unwritten place holds. device.own moment k super (moment_later until at) place holds;
+      }
+
+  -- as it is replaced the slot is Down
+  can_replace : (deed : Deed) (x y : Devices R W) (last : List Happening) → IsOut slot x.session → Ran any_call first (h_of x) → Ran any_call (h_of x) last
+      → HasDevice g first last slot → Replaces slot deed → CanReplaceAt view g last deed x y
+  can_replace (Stepped (ReplaceSlot j) answer events left) x y last out since ran device same = (
+    λ was opened.
+        let is : IsOut slot (Opened was) = subst (IsOut slot) opened out in
+        subst (λ (i : ℕ). mark_in was.member.array i ≡ Down) (sym same) is.1,
+    subst (IsFitFrom g (h_of x) last) (sym same) (fit_from (h_of x) last since ran device),
+  )
+  can_replace _ x y last out since ran device same = absurd same
+
+  none_to_replace : (deed : Deed) (x y : Devices R W) (last : List Happening) → ReplacesNone deed → CanReplaceAt view g last deed x y
+  none_to_replace (Stepped (ReplaceSlot j) answer events left) x y last none = absurd none
+  none_to_replace _ x y last none = tt
+
+  -- any deed but its replacement leaves it out, where none is a survey
+  steps_other : (step : Step) (answer : Answer step) (events : List Event) (left : Bool) → ReplacesNone (Stepped step answer events left) → step ≢ ReplaceSlot slot
+  steps_other (ReplaceSlot j) answer events left none is = absurd none
+  steps_other _ answer events left none is = absurd (cc)
+
+  out_on : (deed : Deed) (x y : Devices R W) → WorksAll view deed x y → x.session ≢ Begun → ReplacesNone deed → IsOut slot x.session → IsOut slot y.session
+  out_on (Stepped step answer events left) x y works begun none out =
+      elim works.0 [
+        | inl does ↦ performed_out slot step (steps_other step answer events left none) answer events (seen_of view x) (seen_of view y) does out
+        | inr stopped ↦ subst (λ (s : Session). IsOut slot s) (sym (ap (λ (z : Seen). z.session) stopped.same)) out
+      ]
+  out_on (Did (Create array) outcome) x y works begun none out = absurd (begun works.1)
+  out_on (Did Survey outcome) x y works begun none out = absurd (begun works.1)
+  out_on deed x y works begun none out = subst (λ (d : Devices R W). IsOut slot d.session) (sym works) out
+
+  not_begun : (deed : Deed) (x y : Devices R W) → WorksAll view deed x y → x.session ≢ Begun → y.session ≢ Begun
+  not_begun (Stepped step answer events left) x y works begun is =
+      elim works.0 [
+        | inl does ↦ elim does.ends [
+          | Ends opens err closed ↦ let never : Closed ≡ Begun = sym closed ∙ is in cc
+          | GoesOn ok kept opened ↦ let never : Opened does.is ≡ Begun = sym opened ∙ is in cc
+        ]
+        | inr stopped ↦ begun (sym (ap (λ (z : Seen). z.session) stopped.same) ∙ is)
+      ]
+  not_begun (Did (Create array) outcome) x y works begun is = begun works.1
+  not_begun (Did Survey outcome) x y works begun is = begun works.1
+  not_begun deed x y works begun is = begun (sym (ap (λ (d : Devices R W). d.session) works) ∙ is)
+
+  -- behind the survey
+  found_can : (story : List Deed) (plan rest : Plan) (x y : Devices R W) (works : Leads (WorksAll view) story x y) → Leads Moves story plan rest
+      → AdmitsOnce slot plan → x.session ≢ Begun → IsOut slot x.session → Ran any_call first (h_of x) → HasDevice g first (h_of y) slot
+      → EachDeed view (CanReplaceAt view g (h_of y)) story x y works
+  found_can [] plan rest x y works follows once begun out since device = tt
+  found_can (deed ∷ story) plan rest x y works follows once begun out since device =
+      let one = one_ran view honest deed x works.0 works.1 in
+      let later = works_ran view honest story works.0 y works.2 in
+      elim (move_admits slot deed plan follows.0 once follows.1) [
+        | StillOnce none still ↦ (
+          none_to_replace deed x works.0 (h_of y) none,
+          found_can story follows.0 rest works.0 y works.2 follows.2 still (not_begun deed x works.0 works.1 begun)
+              (out_on deed x works.0 works.1 begun none out) (ran_join since one) device,
+        )
+        | NoneMore replaces none ↦ (
+          can_replace deed x works.0 (h_of y) out since (ran_join one later) device replaces,
+          none_replaced_in view g (h_of y) story works.0 y works.2 (steps_along AdmitsNone story follows.0 rest none follows.2),
+        )
+      ]
+
+-- from the beginning of a session
+module _ {R W : Type 0} (view : DeviceView R W) (s : State) (slot : ℕ) where
+  abbrev Serves : Devices R W → Devices R W → Type 0
+  Serves x y = (x.session ≡ Begun) × ServesThroughout view.rack s x.rack y.rack
+      × HasDevice s.geometry (view.rack.history x.rack) (view.rack.history y.rack) slot
+
+  surveyed_out : (found : Outcome Survey) (x mid y : Devices R W) → WorksAll view (Did Survey found) x mid → Ran any_call (view.rack.history mid.rack) (view.rack.history y.rack)
+      → Serves x y → IsOut slot mid.session
+  surveyed_out (Err fault) x mid y did later serves = subst (IsOut slot) (sym did.2) tt
+  surveyed_out (Ok m) x mid y did later serves =
+      let ready = serves.1 in
+      let device = serves.2 in
+      let ran = asked_ran 32 (view.rack.history x.rack) (view.rack.history mid.rack) (did.0.asked ready.honest) in
+      let until : IsMoment (view.rack.history x.rack) (view.rack.history mid.rack) (view.rack.history y.rack) =
+      moment_between (ran_any ran) later in
+      let finds =
+      finds_array s (view.rack.history x.rack) (told_of view.rack x.rack) (told_of view.rack mid.rack) (Ok m) did.0 ready.honest
+      (ran_none (view.rack.history x.rack)) ready.represents (each_before ready.returned until)
+      (λ h is. ready.tolerated h (moment_sooner is until)) in
+      let same : m ≡ finds.member = let is = finds.found in cc in
+      let geometry : m.array.geometry ≡ s.geometry = ap (λ (n : Membership). n.array.geometry) same ∙ finds.identity in
+      let within : (h : List Happening) → IsMoment (view.rack.history x.rack) h (view.rack.history mid.rack)
+      → IsWithinTolerance (IsOffline (view.rack.history x.rack) h) s.geometry (image_now h) =
+      λ h at. ready.tolerated h (moment_sooner at until) (image_now h) (CrashMayLeave-now h) in
+      subst (IsOut slot) (sym did.2) (
+        omega (arith, device.stays.below, ap (λ (g : Geometry). g.n) geometry),
+        not_here s m (told_of view.rack x.rack) (told_of view.rack mid.rack) (view.rack.history y.rack) slot ready.honest did.0 later finds
+            (within (view.rack.history x.rack) (moment_first ran.more ran.is)) (within (view.rack.history mid.rack) (moment_last ran.more ran.is)) device.out,
+      )
+
+  begun_can : (story : List Deed) (plan rest : Plan) (x y : Devices R W) (works : Leads (WorksAll view) story x y) → Leads Moves story plan rest
+      → AdmitsOnce slot plan → Serves x y → EachCanReplace view s.geometry story x y works
+  begun_can [] plan rest x y works follows once serves = tt
+  begun_can (Stepped step answer events left ∷ story) plan rest x y works follows once serves = absurd (
+      elim works.1.0 [
+        | inl does ↦ known_begun x.session does.was.member serves.0 (starts_known step does.was x.session does.starts)
+        | inr stopped ↦ let same : Begun ≡ Opened stopped.array = sym serves.0 ∙ stopped.is_open in cc
+      ])
+  begun_can (Did action outcome ∷ story) plan rest x y works follows once serves =
+      by action outcome works.1 (move_admits slot (Did action outcome) plan follows.0 once follows.1)
+    where
+      honest : IsTrue view.rack.honest
+      honest = serves.1.honest
+
+      one : WorksAll view (Did action outcome) x works.0 → Ran any_call (view.rack.history x.rack) (view.rack.history works.0.rack)
+      one did = one_ran view honest (Did action outcome) x works.0 did
+
+      later : Ran any_call (view.rack.history works.0.rack) (view.rack.history y.rack)
+      later = works_ran view honest story works.0 y works.2
+
+      behind : works.0.session ≢ Begun → IsOut slot works.0.session → AdmitsOnce slot follows.0
+          → EachDeed view (CanReplaceAt view s.geometry (view.rack.history y.rack)) story works.0 y works.2
+      behind begun out still =
+          found_can view honest s.geometry slot (view.rack.history x.rack) story follows.0 rest works.0 y works.2 follows.2 still begun out (one works.1)
+          serves.2
+
+      by : (action : Action) (outcome : Outcome action) (did : WorksAll view (Did action outcome) x works.0) → Admits slot (Did action outcome) follows.0
+          → EachDeed view (CanReplaceAt view s.geometry (view.rack.history y.rack)) (Did action outcome ∷ story) x y (works.0, did, works.2)
+      by action outcome did (NoneMore replaces none) = absurd replaces
+      by (Create array) outcome did (StillOnce none still) = (
+        tt,
+        behind (λ begun. let never : Closed ≡ Begun = sym did.2 ∙ begun in cc) (subst (IsOut slot) (sym did.2) tt) still,
+      )
+      by Survey found did (StillOnce none still) = (
+        tt,
+        behind (ended found did) (surveyed_out found x works.0 y did later serves) still,
+      )
+        where
+          ended : (found : Outcome Survey) → WorksAll view (Did Survey found) x works.0 → works.0.session ≢ Begun
+          ended (Ok m) did begun = let never : Found m ≡ Begun = sym did.2 ∙ begun in cc
+          ended (Err fault) did begun = let never : Closed ≡ Begun = sym did.2 ∙ begun in cc
+  begun_can (deed ∷ story) plan rest x y works follows once serves =
+      elim (move_admits slot deed plan follows.0 once follows.1) [
+        | StillOnce none still ↦ (
+          tt,
+          begun_can story follows.0 rest works.0 y works.2 follows.2 still (subst (λ (d : Devices R W). Serves d y) (sym works.1) serves),
+        )
+        | NoneMore replaces none ↦ absurd replaces
+      ]
+
+pub devices_replace : {R W S K : Type 0} (view : DeviceView R W) (streams : Views S K) (plan rest : Plan) (s : State) (slot : ℕ) (a b : Outside S K)
+    (x y : R) (watchers left : List W) (whole : MeansWhole view streams plan rest a b x y watchers left) → AdmitsOnce slot plan
+    → ServesThroughout view.rack s x y → HasDevice s.geometry (view.rack.history x) (view.rack.history y) slot
+    → EachCanReplace view s.geometry whole.with.means.story (devices x Begun watchers) (devices y whole.session left) whole.with.works
+devices_replace view streams plan rest s slot a b x y watchers left whole once serves device =
+    begun_can view s slot whole.with.means.story plan rest (devices x Begun watchers) (devices y whole.session left) whole.with.works
+    whole.with.means.follows once (refl, serves, device)
