@@ -27,7 +27,7 @@ use Rattle.stair_array.specs.Machine.{Answer, AreKnown, GivenBy, Gone, HoldsAfte
 use Rattle.stair_array.specs.Promise.{BeginsWith, IsInState, IsLed, IsLeftBy, IsOpenFor, Keeps, KeepsProgress, KeepsRebuild, Performs, Seen, is_open}
 use Rattle.stair_array.proofs.LedOnLemmas.{still_of}
 use Rattle.stair_array.proofs.LoadingLemmas.{ServesOn}
-use Rattle.stair_array.proofs.OpenStepLemmas.{calm_here, goes_on_as, kept_fault, of_state, open_first, serves_as, serves_first, stops_as}
+use Rattle.stair_array.proofs.OpenStepLemmas.{calm_for, goes_on_as, kept_fault, of_state, open_first, serves_as, serves_first, stops_as}
 use Rattle.stair_array.proofs.ReadPartLemmas.{Stands}
 use Rattle.stair_array.proofs.ServingLemmas.{IsCalmTo, IsServing}
 
@@ -66,9 +66,6 @@ module _ (step : Step) (keeping : IsKeeping step) (answer : Answer step) (events
 
   pub serves : IsServing before p.was begins.words x.told.history
   serves = serves_first step keeping.no_opening answer events x y p before s state
-
-  pub calm_to : (h : List Happening) → IsCalm NoneReturns s.geometry (is_open x.session) before h → IsCalmTo p.was.member.array.geometry before h
-  calm_to = calm_here step keeping.no_opening answer events x y p before s state
 
   as_it_was : (now : State) → now.content ≡ s.content → now.in_doubt ≡ None → IsAsItWas s now
   as_it_was now content certain = record { content = content; in_doubt = certain ∙ sym begins.certain }
@@ -150,7 +147,7 @@ module _ (step : Step) (keeping : IsKeeping step) (answer : Answer step) (events
       → IsCalm NoneReturns s.geometry (is_open x.session) before c → EachImage (IsLeftBy NoneReturns step p.was.member before c s) c
   cuts every c at calm image left =
       let is =
-      at_moment {P = Stands before p.was.rebuild p.was.stopped begins.words s.content (point p.was.member x.told) of_kept} every at (calm_to c calm)
+      at_moment {P = Stands before p.was.rebuild p.was.stopped begins.words s.content (point p.was.member x.told) of_kept} every at (calm_for begins c calm)
       image left in
       let now : State = state_with p.was.member s.content None is.array in
       record {

@@ -1,5 +1,5 @@
 -- Where a step of an open array begins and ends, where no medium comes back: the array serves a state's stripes, and goes on or stops.
-use Rattle.std.proofs.Common.{◌≡◌, List, inl, inr, refl, sym, ap, ◌∙◌, subst, None, Option}
+use Rattle.std.proofs.Common.{◌≡◌, ◌⊎◌, List, inl, inr, refl, sym, ap, ◌∙◌, subst, None, Option}
 use Rattle.std.specs.Prelude.{IsSome, Err}
 use Rattle.stair_model.specs.Geometry.{Geometry}
 use Rattle.stair_rack.specs.History.{Happening}
@@ -13,11 +13,11 @@ use Rattle.stair_state.specs.Tolerance.{ToleratedSince}
 use Rattle.stair_session.specs.InSession.{IsOfContent, state_with}
 use Rattle.stair_session.specs.Leading.{led_to}
 use Rattle.stair_session.specs.Opening.{StaysArray}
-use Rattle.stair_session.specs.Returning.{IsCalm, NoneReturns}
+use Rattle.stair_session.specs.Returning.{NoneReturns}
 use Rattle.stair_session.specs.Session.{ArrayState}
 use Rattle.stair_array.specs.Calls.{refused}
 use Rattle.stair_array.specs.Machine.{Answer, Recover, Step}
-use Rattle.stair_array.specs.Promise.{Begun, Closed, EndsIn, Found, IsInState, IsOpenFor, Keeps, KeepsProgress, Opened, Performs, Seen, ServesState, Session, StartsFrom, is_open}
+use Rattle.stair_array.specs.Promise.{EndsIn, IsInState, IsOpenFor, Keeps, KeepsProgress, Opened, Performs, Seen, ServesState, Session, StartsFrom, is_open}
 use Rattle.stair_array.proofs.LeftServingLemmas.{represents_serving}
 use Rattle.stair_array.proofs.LedOnLemmas.{led_open}
 use Rattle.stair_array.proofs.ServingLemmas.{IsCalmTo, IsServing}
@@ -25,40 +25,51 @@ use Rattle.stair_array.proofs.ServingLemmas.{IsCalmTo, IsServing}
 pub calm_over : (g f : Geometry) (before h : List Happening) → g ≡ f → IsCalmTo f before h → IsCalmTo g before h
 calm_over g f before h same calm = (subst (λ (k : Geometry). ToleratedSince k before h) (sym same) calm.0, calm.1)
 
+-- what is calm to a state is calm to the array that is open for it
+pub calm_for : {before now : List Happening} {s : State} {was : ArrayState} → IsOpenFor NoneReturns before s was now → (h : List Happening)
+    → IsCalmTo s.geometry before h → IsCalmTo was.member.array.geometry before h
+calm_for {before} {now} {s} {was} begins h calm = calm_over was.member.array.geometry s.geometry before h begins.geometry calm
+
 -- a refusal for good is kept
 pub kept_fault : (T : Type 0) (fault : FenceFault) (kept : Option FenceFault) → Keeps {T = T} (Err (refused fault)) kept → IsSome kept
 kept_fault T (fence.TooFew whys) kept keeps = subst IsSome (sym keeps.1) refl
 kept_fault T fence.EpochsSpent kept keeps = subst IsSome (sym keeps.1) refl
 
 -- the session has an array that wasn't stopped
-pub record OpensWith (was : ArrayState) (session : Session) : Type 0 where
-  pub is : session ≡ Opened was
-  pub going : was.stopped ≡ None
+pub record IsOpened (is : ArrayState) (session : Session) : Type 0 where
+  pub is_open : session ≡ Opened is
+  pub unstopped : is.stopped ≡ None
 
 -- as it has before any step but an opening
-starts_open : (step : Step) → ¬ (step ≡ Recover) → (was : ArrayState) (session : Session) → StartsFrom step was session → OpensWith was session
-starts_open Recover other was session starts = absurd (other refl)
-starts_open step other was (Opened a) starts = record {
-  is = ap (λ (b : ArrayState). Opened b) (sym starts.0);
-  going = ap (λ (b : ArrayState). b.stopped) starts.0 ∙ starts.1;
-}
-starts_open step other was Begun starts = absurd starts
-starts_open step other was (Found m) starts = absurd starts
-starts_open step other was Closed starts = absurd starts
+pub opening_or_open : (step : Step) (was : ArrayState) (session : Session) → StartsFrom step was session
+    → (step ≡ Recover) ⊎ IsOpened was session
+opening_or_open Recover was session starts = inl refl
+opening_or_open step was (Opened a) starts = inr (record {
+  is_open = ap (λ (b : ArrayState). Opened b) (sym starts.0);
+  unstopped = ap (λ (b : ArrayState). b.stopped) starts.0 ∙ starts.1;
+})
+opening_or_open step was _ starts = absurd starts
+
+pub starts_open : (step : Step) → ¬ (step ≡ Recover) → (was : ArrayState) (session : Session) → StartsFrom step was session → IsOpened was session
+starts_open step other was session starts =
+    elim (opening_or_open step was session starts) [
+      | inl opening ↦ absurd (other opening)
+      | inr open_at ↦ open_at
+    ]
 
 -- A step but an opening:
 module _ (step : Step) (other : ¬ (step ≡ Recover)) (answer : Answer step) (events : List Event) (x y : Seen) (p : Performs step answer events x y)
     (before : List Happening) (s : State) (state : IsInState NoneReturns before s x) where
-  opens : OpensWith p.was x.session
+  opens : IsOpened p.was x.session
   opens = starts_open step other p.was x.session p.starts
 
   -- the array that it begins with is open, and wasn't stopped
   pub open_first : IsOpenFor NoneReturns before s p.was x.told.history
-  open_first = by (subst (λ (e : Session). ServesState NoneReturns before s e x.told) opens.is state.serves)
+  open_first = by (subst (λ (e : Session). ServesState NoneReturns before s e x.told) opens.is_open state.serves)
     where
       by : ServesState NoneReturns before s (Opened p.was) x.told → IsOpenFor NoneReturns before s p.was x.told.history
       by (inl is) = is
-      by (inr stops) = absurd (let never = subst IsSome opens.going stops in cc)
+      by (inr stops) = absurd (let never = subst IsSome opens.unstopped stops in cc)
 
   pub of_state : IsOfContent p.was.member open_first.words s.content
   of_state = record {
@@ -70,9 +81,6 @@ module _ (step : Step) (other : ¬ (step ≡ Recover)) (answer : Answer step) (e
 
   pub serves_first : IsServing before p.was open_first.words x.told.history
   serves_first = record { is_open = open_first.is_open; begun = open_first.knows }
-
-  pub calm_here : (h : List Happening) → IsCalm NoneReturns s.geometry (is_open x.session) before h → IsCalmTo p.was.member.array.geometry before h
-  calm_here h calm = calm_over p.was.member.array.geometry s.geometry before h open_first.geometry calm
 
   -- the session goes on with the array that it ends with
   pub goes_on_as : y.session ≡ Opened p.is × Keeps answer p.is.stopped

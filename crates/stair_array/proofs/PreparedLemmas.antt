@@ -2,8 +2,8 @@
 -- for the epoch.
 use Rattle.std.proofs.Common.{◌≡◌, ◌≢◌, ℕ, ◌<◌, ◌≤◌, List, inl, inr, refl, sym, ap, ◌∙◌, subst, arith, true≢false, None, Some, Option}
 use Rattle.std.specs.Prelude.{◌⊎◌, Err, IsTrue, Result, max}
-use Rattle.std.proofs.lemmas.Bool.{cases_eq, cases_lt, cond-false, cond-true, le-ltb, lt-ltb}
-use Rattle.stair_model.specs.Device.{chunks_start, gate_sector}
+use Rattle.std.proofs.lemmas.Bool.{cases_eq}
+use Rattle.stair_model.specs.Device.{gate_sector}
 use Rattle.stair_model.specs.Geometry.{Geometry}
 use Rattle.stair_rack.specs.Answers.{Calls, IsBesideAttach, Ran, any_call, is_good}
 use Rattle.stair_rack.specs.History.{Attach, Happening, Read, Sectors, SlotCall, Sync, Write, slot_state}
@@ -46,10 +46,10 @@ use Rattle.stair_session.proofs.OwnLaws.{attached_or_bare}
 use Rattle.stair_session.proofs.ReadyLemmas.{laid, looked, ready_admit}
 use Rattle.stair_session.proofs.RebaseLemmas.{shut_now}
 use Rattle.stair_session.proofs.SawMoreLemmas.{saw_more}
-use Rattle.stair_array.specs.Created.{created_sector}
 use Rattle.stair_array.specs.Mends.{IsPreparing, IsSecondLook, Looks, Prepared, PreparesSlot, WasGone, WasOther, WasSmall, new_journal}
 use Rattle.stair_array.specs.Machine.{Refusal}
 use Rattle.stair_array.proofs.BesideServingLemmas.{beside_serves}
+use Rattle.stair_array.proofs.NewJournalLemmas.{journal_gate, journal_is}
 use Rattle.stair_array.proofs.PreparedSlotLemmas.{IsReady}
 use Rattle.stair_array.proofs.ServingLemmas.{IsGoing, IsServing, going_sooner}
 
@@ -118,32 +118,10 @@ module _ (g : Geometry) (slot : ℕ) where
       ran_join {allowed = IsPreparing g slot} (attaching x.told.history mid.history (looks.attached honest_mid))
       (ran_weakened {allowed = IsSecondLook slot} {more = IsPreparing g slot} (looking g slot) (looks.ran honest))
 
-  journal_writes : (j k : ℕ) (bytes : List ℕ) → new_journal g j k ≡ Some bytes → (gate_sector ≤ k) × (k < chunks_start g)
-  journal_writes j k bytes is =
-      elim (cases_lt k gate_sector) [
-        | inl before ↦
-            let none : None ≡ Some bytes = sym (cond-true _ _ _ (lt-ltb k gate_sector before)) ∙ is in
-            absurd (cc)
-        | inr past ↦
-            elim (cases_lt k (chunks_start g)) [
-              | inl below ↦ (past, below)
-              | inr after ↦
-                  let none : None ≡ Some bytes =
-                  sym (cond-false _ _ _ (le-ltb k gate_sector past) ∙ cond-false _ _ _ (le-ltb k (chunks_start g) after)) ∙ is in
-                  absurd (cc)
-            ]
-      ]
-
-  journal_there : (j k : ℕ) → gate_sector ≤ k → k < chunks_start g → new_journal g j k ≡ Some (created_sector g j k)
-  journal_there j k past below = cond-false _ _ _ (le-ltb k gate_sector past) ∙ cond-true _ _ _ (lt-ltb k (chunks_start g) below)
-
-  -- its gate is closed
-  gate_closed : (j : ℕ) → new_journal g j gate_sector ≡ Some closed_gate
-  gate_closed j = journal_there j gate_sector (omega arith) (omega arith)
-
   writing : (j : ℕ) (c : SlotCall) → IsWriteOf (new_journal g) (IsSlot slot) j c → IsPreparing g slot j c
   writing j c is =
-      subst (IsPreparing g slot j) (sym is.is) (is.on, (journal_writes j is.sector is.bytes is.is_one).0, (journal_writes j is.sector is.bytes is.is_one).1)
+      let at = journal_is g j is.sector is.bytes is.is_one in
+      subst (IsPreparing g slot j) (sym is.is) (is.on, at.0, at.1)
 
   syncing : (j : ℕ) (c : SlotCall) → IsSyncOf (IsSlot slot) j c → IsPreparing g slot j c
   syncing j c is = subst (IsPreparing g slot j) (sym is.is) is.on
@@ -312,7 +290,7 @@ module _ (before : List Happening) (a : ArrayState) (words : Codewords) (slot : 
       (λ j c may at. subst IsBesideAttach (sym may.is) tt) (prep.placed honest).syncs)) attached in
       shut_now z.member.array.geometry slot prep.seen.told.history z.told.history there.1
       (laid z.member.array.geometry slot prep.seen.told.history z.told.history
-      ((prep.placed honest).done slot gate_sector closed_gate refl (λ never. never) (gate_closed a.member.array.geometry slot slot)))
+      ((prep.placed honest).done slot gate_sector closed_gate refl (λ never. never) (journal_gate a.member.array.geometry slot)))
 
   -- So it is ready for the epoch that admits it.
   pub prepared_ready : IsReadyFor (Admit slot) z.member words z.told.history

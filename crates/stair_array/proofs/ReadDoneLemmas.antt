@@ -21,8 +21,9 @@ use Rattle.stair_array.specs.Machine.{Answer, ReadBlock, Refusal}
 use Rattle.stair_array.specs.Promise.{CanBeDone, IsInState, LeadsStep, Performs, Seen, is_open}
 use Rattle.stair_array.proofs.CoveredLemmas.{covered, never_too_few}
 use Rattle.stair_array.proofs.DrawsLemmas.{done_with_room}
+use Rattle.stair_array.proofs.OpenStepLemmas.{calm_for}
 use Rattle.stair_array.proofs.ReadPartLemmas.{Calm, HasAsked, HasLoaded, array_here, has_asked, placed_in, whole_loaded}
-use Rattle.stair_array.proofs.ReadStepLemmas.{begins, calm_to, cuts, leads, of_kept, serves}
+use Rattle.stair_array.proofs.ReadStepLemmas.{begins, cuts, leads, of_kept, serves}
 use Rattle.stair_array.proofs.ServingLemmas.{IsServing}
 
 -- NOTHING IS REFUSED but an epoch of which no number is left to draw
@@ -80,7 +81,7 @@ module _ (b : ℕ) (answer : Answer (ReadBlock b)) (events : List Event) (x y : 
       only_spent before p.was.rebuild p.was.stopped (begins b answer events x y p honest before s state).words s.content
       (point p.was.member x.told) (of_kept b answer events x y p honest before s state) (serves b answer events x y p honest before s state) b answer
       (point p.was.member x.told) (point p.is.member y.told) p.does refl honest
-      (calm_to b answer events x y p honest before s state y.told.history calm)
+      (calm_for (begins b answer events x y p honest before s state) y.told.history calm)
       (subst (λ (g : Geometry). b < block_count g) (sym (begins b answer events x y p honest before s state).geometry) below) refusal same
 
   -- so it is done

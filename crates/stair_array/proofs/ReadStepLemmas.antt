@@ -15,8 +15,9 @@ use Rattle.stair_array.specs.Machine.{Answer, ReadBlock}
 use Rattle.stair_array.specs.Promise.{IsInState, IsLed, IsLeftBy, IsOpenFor, Performs, Seen, is_open}
 use Rattle.stair_array.proofs.KeptStepLemmas as kept
 use Rattle.stair_array.proofs.KeptStepLemmas.{IsKeeping}
+use Rattle.stair_array.proofs.OpenStepLemmas.{calm_for}
 use Rattle.stair_array.proofs.ReadOutcomeLemmas.{IsBlock, IsInside, moments, outcome}
-use Rattle.stair_array.proofs.ServingLemmas.{IsCalmTo, IsServing}
+use Rattle.stair_array.proofs.ServingLemmas.{IsServing}
 
 pub keeping : (b : ℕ) → IsKeeping (ReadBlock b)
 keeping b = record {
@@ -40,16 +41,13 @@ module _ (b : ℕ) (answer : Answer (ReadBlock b)) (events : List Event) (x y : 
   abbrev pub serves : IsServing before p.was begins.words x.told.history
   serves = kept.serves (ReadBlock b) (keeping b) answer events x y p before s state
 
-  pub calm_to : (h : List Happening) → IsCalm NoneReturns s.geometry (is_open x.session) before h → IsCalmTo p.was.member.array.geometry before h
-  calm_to = kept.calm_to (ReadBlock b) (keeping b) answer events x y p before s state
-
   pub leads : IsCalm NoneReturns s.geometry (is_open x.session) before y.told.history → IsLed NoneReturns p.was.member before s (ReadBlock b) answer y
   leads calm =
       kept.led (ReadBlock b) (keeping b) answer events x y p before s state (IsInside b (point p.was.member x.told)) (IsBlock b s.content)
       (λ inside. subst (λ (g : Geometry). b < block_count g) begins.geometry inside) (λ bytes now right was. (right, was)) answer
       (point p.is.member y.told) refl refl
       (outcome before p.was.rebuild p.was.stopped begins.words s.content b answer (point p.was.member x.told) (point p.is.member y.told) p.does of_kept
-      serves honest (calm_to y.told.history calm)) (calm_to y.told.history calm)
+      serves honest (calm_for begins y.told.history calm)) (calm_for begins y.told.history calm)
 
   pub cuts : (c : List Happening) → IsMoment x.told.history c y.told.history → IsCalm NoneReturns s.geometry (is_open x.session) before c
       → EachImage (IsLeftBy NoneReturns (ReadBlock b) p.was.member before c s) c

@@ -20,7 +20,7 @@ use Rattle.stair_session.specs.Session.{IsOpenWith, seats_in}
 use Rattle.stair_array.specs.Machine.{Answer, EpochsSpent, HoldsAfter, Progress, RebuildNext, Recover, Refusal, Row, SeatsAfter, SeatsRebuilt}
 use Rattle.stair_array.specs.Promise.{CanBeDone, IsInState, IsLed, IsLeftBy, IsOpenFor, Keeps, KeepsRebuild, Performs, Seen, is_open}
 use Rattle.stair_array.proofs.DrawsLemmas.{done_with_room}
-use Rattle.stair_array.proofs.OpenStepLemmas.{calm_here, goes_on_as, kept_fault, of_state, open_first, serves_first, serves_now, stops_as}
+use Rattle.stair_array.proofs.OpenStepLemmas.{calm_for, goes_on_as, kept_fault, of_state, open_first, serves_first, serves_now, stops_as}
 use Rattle.stair_array.proofs.RebuildCourseLemmas.{NextIsRebuilt, next_rebuilt}
 use Rattle.stair_array.proofs.RebuildOutcomeLemmas.{moments, outcome}
 use Rattle.stair_array.proofs.RebuildSeatLemmas.{Goes, MayMove, MovesAt, Outcome, Spent}
@@ -45,9 +45,6 @@ module _ (answer : Answer RebuildNext) (events : List Event) (x y : Seen) (p : P
 
   pub serves : IsServing before p.was begins.words x.told.history
   serves = serves_first RebuildNext no_opening answer events x y p before s state
-
-  pub calm_to : (h : List Happening) → IsCalm NoneReturns s.geometry (is_open x.session) before h → IsCalmTo m.array.geometry before h
-  calm_to = calm_here RebuildNext no_opening answer events x y p before s state
 
   next : NextIsRebuilt p.was (point m x.told)
   next = next_rebuilt p.was x.told serves.is_open.array
@@ -132,10 +129,10 @@ module _ (answer : Answer RebuildNext) (events : List Event) (x y : Seen) (p : P
 
     comes : Outcome before p.was begins.words s.content m answer ends
     comes =
-        outcome before p.was begins.words s.content answer (point m x.told) ends p.does refl of_kept serves next honest (calm_to y.told.history calm)
+        outcome before p.was begins.words s.content answer (point m x.told) ends p.does refl of_kept serves next honest (calm_for begins y.told.history calm)
 
     pub leads : IsLed NoneReturns m before s RebuildNext answer y
-    leads = led answer ends refl refl comes (calm_to y.told.history calm)
+    leads = led answer ends refl refl comes (calm_for begins y.told.history calm)
 
     -- so that it isn't refused, unless no epoch is left
     pub only_spent : (refusal : Refusal) → answer ≡ Err refusal → refusal ≡ EpochsSpent
@@ -153,7 +150,7 @@ module _ (answer : Answer RebuildNext) (events : List Event) (x y : Seen) (p : P
   cuts c at calm image left =
       let is =
       at_moment {P = MovesAt before s.content m}
-      (moments before p.was begins.words s.content answer (point m x.told) (point last y.told) p.does of_kept serves next honest) at (calm_to c calm)
+      (moments before p.was begins.words s.content answer (point m x.told) (point last y.told) p.does of_kept serves next honest) at (calm_for begins c calm)
       image left in
       record {
         state = state_with m s.content None is.0;

@@ -42,7 +42,7 @@ use Rattle.stair_array.proofs.RecoveredMoments.{StandsHere, recover_moments}
 
 -- THE SEATS THAT WERE FOUND
 
-looks_write_none : (j : ℕ) (c : SlotCall) → LeavesSectors j c → every_slot j → IsNoWrite c
+pub looks_write_none : (j : ℕ) (c : SlotCall) → LeavesSectors j c → every_slot j → IsNoWrite c
 looks_write_none j (Attach answer) may on = tt
 looks_write_none j (Sectors size) may on = tt
 looks_write_none j (Read k answer) may on = tt

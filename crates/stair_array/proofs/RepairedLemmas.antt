@@ -37,7 +37,7 @@ use Rattle.stair_session.proofs.LeftOutLemmas.{start_geometry}
 use Rattle.stair_array.specs.Calls.{answer_of}
 use Rattle.stair_array.specs.Machine.{Refusal}
 use Rattle.stair_array.specs.Mends.{AreOnLive, Scrubs}
-use Rattle.stair_array.specs.Promise.{AreRepaired, IsQuiet, WasBad}
+use Rattle.stair_array.specs.Promise.{AreRepaired, WasBad}
 use Rattle.stair_array.proofs.AnsweredLemmas.{honest_before}
 use Rattle.stair_array.proofs.CauseLemmas.{fence_array}
 use Rattle.stair_array.proofs.CourseLemmas.{gathers_after, load_part}
@@ -208,11 +208,11 @@ sound_repaired t gathered was read x y loads sound honest = record {
   formed = IsCellSet-none no_slots refl;
   number = count_none;
   each = λ i j has. absurd (has_none i j has);
-  all = λ quiet before i j live row held online full bad.
+  all = λ before i j unpulled live row held online full bad.
       let in_use = used before x.told.history j held online in
       absurd
-      (sound i j (bad_erased t gathered was read x y loads honest i j live in_use (quiet.unpulled j) row bad)
-      (stays_live t gathered was read x y loads honest i j live in_use (quiet.unpulled j) full));
+      (sound i j (bad_erased t gathered was read x y loads honest i j live in_use unpulled row bad)
+      (stays_live t gathered was read x y loads honest i j live in_use unpulled full));
 }
 
 -- those of the redo
@@ -238,8 +238,8 @@ module _ (t : ℕ) (gathered : Gathered) (was read into : Stripe) (redo : Redo) 
       (was_read_found {Q = λ (c : Cell). is_good c ≡ false}
       ((read_bad t gathered was read x y loads rules i j both.0 both.1).1 honest_y))
 
-  unpulled : IsQuiet x.told.history z.told.history → (j : ℕ) → ¬ WasPulled x.told.history y.told.history j
-  unpulled quiet j pulled = quiet.unpulled j (WasPulled-later {allowed = any_call} x.told.history j (after.later.ran honest) pulled)
+  unpulled_first : (j : ℕ) → ¬ WasPulled x.told.history z.told.history j → ¬ WasPulled x.told.history y.told.history j
+  unpulled_first j unpulled pulled = unpulled (WasPulled-later {allowed = any_call} x.told.history j (after.later.ran honest) pulled)
 
   redo_repaired : AreRepaired x.member t (cell_count redo.cells) x.told z.told
   redo_repaired = record {
@@ -247,11 +247,11 @@ module _ (t : ℕ) (gathered : Gathered) (was read into : Stripe) (redo : Redo) 
     formed = formed.formed;
     number = refl;
     each = λ i j has. (live_back 0 x y first j ((on_live i j).0 has).1, (formed.inside i j has).0, was_bad i j has);
-    all = λ quiet before i j live row held online full bad.
+    all = λ before i j unpulled live row held online full bad.
         let in_use = used before x.told.history j held online in
         (on_live i j).1 (
-          bad_erased t gathered was read x y loads honest_y i j live in_use (unpulled quiet j) row bad,
-          stays_live t gathered was read x y loads honest_y i j live in_use (unpulled quiet j) full,
+          bad_erased t gathered was read x y loads honest_y i j live in_use (unpulled_first j unpulled) row bad,
+          stays_live t gathered was read x y loads honest_y i j live in_use (unpulled_first j unpulled) full,
         );
   }
 

@@ -32,8 +32,9 @@ use Rattle.stair_array.specs.Mends.{Admitted, Busy, IsSecondLook, OutOf, Prepare
 use Rattle.stair_array.specs.Promise.{CanBeDone, IsInState, LeadsStep, Performs, Seen, is_open}
 use Rattle.stair_array.proofs.CreateLemmas.{size_kept}
 use Rattle.stair_array.proofs.DrawsLemmas.{never_spent}
+use Rattle.stair_array.proofs.OpenStepLemmas.{calm_for}
 use Rattle.stair_array.proofs.PreparedSlotLemmas.{HeldThen, held_then, looks_unwritten}
-use Rattle.stair_array.proofs.ReplaceStepLemmas.{admission_enough, begins, calm_to, cuts, leads, serves, unprepared_goes_on}
+use Rattle.stair_array.proofs.ReplaceStepLemmas.{admission_enough, begins, cuts, leads, serves, unprepared_goes_on}
 
 module _ (slot : ℕ) (answer : Answer (ReplaceSlot slot)) (events : List Event) (x y : Seen) (p : Performs (ReplaceSlot slot) answer events x y)
     (honest : IsTrue y.told.honest) (before : List Happening) (s : State) (state : IsInState NoneReturns before s x)
@@ -133,7 +134,7 @@ module _ (slot : ℕ) (answer : Answer (ReplaceSlot slot)) (events : List Event)
       by (Err (admit.Gone k)) same never = absurd (cc)
       by (Err (admit.TooFew other)) same never =
           admission_enough slot answer events x y p honest before s state joined u z v free prepares joins at_u at_v
-          (calm_to slot answer events x y p honest before s state y.told.history calm) (fence.TooFew other) (ap refusal_in same) other refl
+          (calm_for (begins slot answer events x y p honest before s state) y.told.history calm) (fence.TooFew other) (ap refusal_in same) other refl
 
   -- AND A DRAW is
 

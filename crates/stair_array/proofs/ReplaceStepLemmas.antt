@@ -42,7 +42,7 @@ use Rattle.stair_array.specs.Promise.{IsInState, IsLed, IsLeftBy, IsOpenFor, Kee
 use Rattle.stair_array.proofs.BesideServingLemmas.{beside_serves, beside_stands}
 use Rattle.stair_array.proofs.EpochServingLemmas.{epoch_content, epoch_represents, epoch_seats, epoch_serves, epoch_stands, never_few, not_raised}
 use Rattle.stair_array.proofs.LeftServingLemmas.{StandsAt}
-use Rattle.stair_array.proofs.OpenStepLemmas.{calm_here, calm_over, goes_on_as, kept_fault, of_state, open_first, serves_first, serves_over, stops_as}
+use Rattle.stair_array.proofs.OpenStepLemmas.{calm_for, calm_over, goes_on_as, kept_fault, of_state, open_first, serves_first, serves_over, stops_as}
 use Rattle.stair_array.proofs.PartsLemmas.{epoch_after}
 use Rattle.stair_array.proofs.PreparedLemmas.{down_out, looks_at, prepared_held, prepared_ready, prepared_serves, prepares_ran, preparing_beside, unprepared_member}
 use Rattle.stair_array.proofs.PreparedSlotLemmas.{IsReady, ready_of}
@@ -78,9 +78,6 @@ module _ (slot : ℕ) (answer : Answer (ReplaceSlot slot)) (events : List Event)
 
   pub serves : IsServing before p.was begins.words x.told.history
   serves = serves_first (ReplaceSlot slot) no_opening answer events x y p before s state
-
-  pub calm_to : (h : List Happening) → IsCalm NoneReturns s.geometry (is_open x.session) before h → IsCalmTo m.array.geometry before h
-  calm_to = calm_here (ReplaceSlot slot) no_opening answer events x y p before s state
 
   ran : Ran any_call x.told.history y.told.history
   ran = p.later.ran honest
@@ -515,9 +512,9 @@ module _ (slot : ℕ) (answer : Answer (ReplaceSlot slot)) (events : List Event)
   leaves_by _ _ _ (Admitted joined u z v free prepares joins) at_u at_v = admission_leaves joined u z v free prepares joins at_u at_v
 
   pub leads : IsCalm NoneReturns s.geometry (is_open x.session) before y.told.history → IsLed NoneReturns m before s (ReplaceSlot slot) answer y
-  leads calm = leads_by answer (point m x.told) (point last y.told) p.does refl refl refl (calm_to y.told.history calm)
+  leads calm = leads_by answer (point m x.told) (point last y.told) p.does refl refl refl (calm_for begins y.told.history calm)
 
   pub cuts : (c : List Happening) → IsMoment x.told.history c y.told.history → IsCalm NoneReturns s.geometry (is_open x.session) before c
       → EachImage (IsLeftBy NoneReturns (ReplaceSlot slot) m before c s) c
   cuts c at calm =
-      at_moment {P = LeavesAt} (leaves_by answer (point m x.told) (point last y.told) p.does refl refl) at (calm_to c calm)
+      at_moment {P = LeavesAt} (leaves_by answer (point m x.told) (point last y.told) p.does refl refl) at (calm_for begins c calm)

@@ -20,11 +20,12 @@ use Rattle.stair_array.specs.Mends.{Scrubs}
 use Rattle.stair_array.specs.Promise.{CanBeDone, IsInState, LeadsStep, Performs, Seen, is_open}
 use Rattle.stair_array.proofs.DrawsLemmas.{done_with_room}
 use Rattle.stair_array.proofs.LoadingLemmas.{CalmIn, Serves}
+use Rattle.stair_array.proofs.OpenStepLemmas.{calm_for}
 use Rattle.stair_array.proofs.ReadDoneLemmas.{stripe_refused}
 use Rattle.stair_array.proofs.ReadPartLemmas.{none_asked}
 use Rattle.stair_array.proofs.RedoDoubtLemmas as redo_doubt
 use Rattle.stair_array.proofs.ScrubPartLemmas as part
-use Rattle.stair_array.proofs.ScrubStepLemmas.{begins, calm_to, cuts, leads, of_kept, serves}
+use Rattle.stair_array.proofs.ScrubStepLemmas.{begins, cuts, leads, of_kept, serves}
 
 -- NOTHING IS REFUSED but an epoch of which no number is left to draw
 
@@ -74,7 +75,7 @@ module _ (t : ℕ) (answer : Answer (ScrubStripe t)) (events : List Event) (x y 
   none_refused below refusal same =
       only_spent before p.was.rebuild p.was.stopped (begins t answer events x y p honest before s state).words s.content t answer
       (point p.was.member x.told) (point p.is.member y.told) p.does (of_kept t answer events x y p honest before s state)
-      (serves t answer events x y p honest before s state) honest (calm_to t answer events x y p honest before s state y.told.history calm)
+      (serves t answer events x y p honest before s state) honest (calm_for (begins t answer events x y p honest before s state) y.told.history calm)
       (subst (λ (g : Geometry). t < g.stripes) (sym (begins t answer events x y p honest before s state).geometry) below) refusal same
 
   -- so it is done

@@ -27,7 +27,7 @@ use Rattle.stair_array.specs.Promise.{EndsIn, IsInState, IsLed, IsLeftBy, IsOpen
 use Rattle.stair_array.proofs.AnsweredLemmas.{never_answered}
 use Rattle.stair_array.proofs.GoesOnLemmas.{draws_few, member_goes_on}
 use Rattle.stair_array.proofs.LeftServingLemmas.{represents_serving}
-use Rattle.stair_array.proofs.OpenStepLemmas.{calm_here, of_state, open_first, serves_first, serves_over}
+use Rattle.stair_array.proofs.OpenStepLemmas.{calm_for, of_state, open_first, serves_first, serves_over}
 use Rattle.stair_array.proofs.PartsLemmas.{IsPart, part_none}
 use Rattle.stair_array.proofs.ServingLemmas.{IsCalmTo, IsServing}
 
@@ -84,9 +84,6 @@ module _ (answer : Answer LookAtSeats) (events : List Event) (x y : Seen) (p : P
   serves : IsServing before p.was begins.words x.told.history
   serves = serves_first LookAtSeats no_opening answer events x y p before s state
 
-  calm_to : (h : List Happening) → IsCalm NoneReturns s.geometry (is_open x.session) before h → IsCalmTo m.array.geometry before h
-  calm_to = calm_here LookAtSeats no_opening answer events x y p before s state
-
   -- nothing was called, and nothing is changed
   same_member : last ≡ m
   same_member = ap (λ (u : Point). u.member) p.does
@@ -131,7 +128,7 @@ module _ (answer : Answer LookAtSeats) (events : List Event) (x y : Seen) (p : P
         (subst (λ (k : Membership). IsOfContent k begins.words s.content) (sym same_member) of_kept)
         (subst (λ (k : Membership). IsServing before (led_to p.was k) begins.words y.told.history) (sym same_member)
         (record { is_open = stays_open before p.was begins.words y.told.history here.is_open; begun = here.begun })) p.rebuild
-        (calm_to y.told.history calm);
+        (calm_for begins y.told.history calm);
   }
     where
       here : IsServing before p.was begins.words y.told.history
@@ -159,7 +156,7 @@ module _ (answer : Answer LookAtSeats) (events : List Event) (x y : Seen) (p : P
   cuts c at calm =
       at_moment {P = LeavesAt}
       (subst (λ (t : Telling). AtEveryMoment LeavesAt x.told.history t.history) (sym same_told) (at_every_none {P = LeavesAt} x.told.history at_once)) at
-      (calm_to c calm)
+      (calm_for begins c calm)
 
 -- So it is what is promised of a step.
 pub promise : (answer : Answer LookAtSeats) (events : List Event) (x y : Seen) (p : Performs LookAtSeats answer events x y)

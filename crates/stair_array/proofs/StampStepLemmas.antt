@@ -39,7 +39,7 @@ use Rattle.stair_array.specs.Mends.{Stamped, StampsAs}
 use Rattle.stair_array.specs.Promise.{BeginsWith, CanBeDone, Does, IsInState, IsLed, IsLeftBy, IsOpenFor, Keeps, KeepsProgress, KeepsRebuild, LeadsStep, Performs, Seen, is_open}
 use Rattle.stair_array.proofs.DrawsLemmas.{draws_on, never_spent}
 use Rattle.stair_array.proofs.EpochServingLemmas.{epoch_represents, epoch_seats, epoch_serves, epoch_stands, never_few, none_raised}
-use Rattle.stair_array.proofs.OpenStepLemmas.{calm_here, goes_on_as, kept_fault, of_state, open_first, serves_first, serves_over, stops_as}
+use Rattle.stair_array.proofs.OpenStepLemmas.{calm_for, goes_on_as, kept_fault, of_state, open_first, serves_first, serves_over, stops_as}
 use Rattle.stair_array.proofs.PerformsLemmas.{final_refused}
 use Rattle.stair_array.proofs.ServingLemmas.{IsCalmTo, IsGoing, IsServing, calm_going, calm_sooner, goes_on}
 
@@ -88,9 +88,6 @@ module _ (step : Step) (change : Change) (aim : Membership → Aim) (of_step : S
 
   serves : IsServing before p.was begins.words x.told.history
   serves = serves_first step of_step.no_opening answer events x y p before s state
-
-  calm_to : (h : List Happening) → IsCalm NoneReturns s.geometry (is_open x.session) before h → IsCalmTo m.array.geometry before h
-  calm_to = calm_here step of_step.no_opening answer events x y p before s state
 
   ran : Ran any_call x.told.history y.told.history
   ran = p.later.ran honest
@@ -246,8 +243,8 @@ module _ (step : Step) (change : Change) (aim : Membership → Aim) (of_step : S
     where
       by : (given : Answer step) → answer ≡ given → IsStamped (aim m) (point m x.told) (point last y.told) given
           → IsLed NoneReturns m before s step answer y
-      by _ same (Stood given e) = stood None e given same refl (calm_to y.told.history calm)
-      by _ same (Failed fault e) = failed (Some fault) e fault same (calm_to y.told.history calm)
+      by _ same (Stood given e) = stood None e given same refl (calm_for begins y.told.history calm)
+      by _ same (Failed fault e) = failed (Some fault) e fault same (calm_for begins y.told.history calm)
 
   cuts : (c : List Happening) → IsMoment x.told.history c y.told.history → IsCalm NoneReturns s.geometry (is_open x.session) before c
       → EachImage (IsLeftBy NoneReturns step m before c s) c
@@ -255,15 +252,15 @@ module _ (step : Step) (change : Change) (aim : Membership → Aim) (of_step : S
     where
       by : (given : Answer step) → IsStamped (aim m) (point m x.told) (point last y.told) given
           → EachImage (IsLeftBy NoneReturns step m before c s) c
-      by _ (Stood given e) = cut_at None e c at (calm_to c calm)
-      by _ (Failed fault e) = cut_at (Some fault) e c at (calm_to c calm)
+      by _ (Stood given e) = cut_at None e c at (calm_for begins c calm)
+      by _ (Failed fault e) = cut_at (Some fault) e c at (calm_for begins c calm)
 
   pub only_spent : IsCalm NoneReturns s.geometry (is_open x.session) before y.told.history → (refusal : Refusal) → answer ≡ Err refusal
       → refusal ≡ EpochsSpent
   only_spent calm refusal same = by answer same did
     where
       spent : (fault : FenceFault) → Establishes (aim m) m last (Some fault) x.told y.told → refusal ≡ refused fault → refusal ≡ EpochsSpent
-      spent (fence.TooFew whys) e is = absurd (enough (Some (fence.TooFew whys)) e (fence.TooFew whys) refl (calm_to y.told.history calm) whys refl)
+      spent (fence.TooFew whys) e is = absurd (enough (Some (fence.TooFew whys)) e (fence.TooFew whys) refl (calm_for begins y.told.history calm) whys refl)
       spent fence.EpochsSpent e is = is
 
       by : (given : Answer step) → given ≡ Err refusal → IsStamped (aim m) (point m x.told) (point last y.told) given → refusal ≡ EpochsSpent

@@ -19,11 +19,12 @@ use Rattle.stair_array.specs.Machine.{Answer, Refusal, WriteBlocks}
 use Rattle.stair_array.specs.Promise.{CanBeDone, IsInState, LeadsStep, Performs, Seen, is_open}
 use Rattle.stair_array.proofs.DrawsLemmas.{done_with_room}
 use Rattle.stair_array.proofs.LoadingLemmas.{CalmIn, Serves}
+use Rattle.stair_array.proofs.OpenStepLemmas.{calm_for}
 use Rattle.stair_array.proofs.ServingLemmas.{calm_going}
 use Rattle.stair_array.proofs.WriteDoubtLemmas.{IsReady, enough, inside, stripe_in}
 use Rattle.stair_array.proofs.WriteOutcomeLemmas.{all_ran, is_ready, to_end}
 use Rattle.stair_array.proofs.WritePartLemmas.{prepares_refused}
-use Rattle.stair_array.proofs.WriteStepLemmas.{begins, calm_to, cuts, leads, of_kept, serves}
+use Rattle.stair_array.proofs.WriteStepLemmas.{begins, cuts, leads, of_kept, serves}
 
 -- NOTHING IS REFUSED but an epoch of which no number is left to draw
 
@@ -70,7 +71,7 @@ module _ (first : ℕ) (contents : List (List ℕ)) (answer : Answer (WriteBlock
       only_spent before p.was.rebuild p.was.stopped (begins first contents answer events x y p honest before s state).words s.content first contents answer
       (point p.was.member x.told) (point p.is.member y.told) p.does (of_kept first contents answer events x y p honest before s state)
       (serves first contents answer events x y p honest before s state) honest
-      (calm_to first contents answer events x y p honest before s state y.told.history calm)
+      (calm_for (begins first contents answer events x y p honest before s state) y.told.history calm)
       (subst (λ (g : Geometry). first < block_count g) (sym (begins first contents answer events x y p honest before s state).geometry) below)
       ((begins first contents answer events x y p honest before s state).frozen ∙ thawed) refusal same
 

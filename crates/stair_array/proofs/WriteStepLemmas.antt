@@ -27,7 +27,7 @@ use Rattle.stair_array.specs.Calls.{refused}
 use Rattle.stair_array.specs.Machine.{Answer, CutWithin, Gone, HoldsAfter, InDoubt, IsAsItWas, IsFinal, PassesTests, Recover, Refusal, Row, TooFew, WasBegun, WriteBlocks}
 use Rattle.stair_array.specs.Promise.{IsInState, IsLed, IsLeftBy, IsOpenFor, Keeps, Performs, Seen, is_open}
 use Rattle.stair_array.proofs.LedOnLemmas.{still_of}
-use Rattle.stair_array.proofs.OpenStepLemmas.{calm_here, goes_on_as, kept_fault, of_state, open_first, serves_as, serves_first, stops_as}
+use Rattle.stair_array.proofs.OpenStepLemmas.{calm_for, goes_on_as, kept_fault, of_state, open_first, serves_as, serves_first, stops_as}
 use Rattle.stair_array.proofs.ServingLemmas.{IsCalmTo, IsServing}
 use Rattle.stair_array.proofs.WriteDoubtLemmas.{Certain, Doubtful, MayDoubt, MayWrite}
 use Rattle.stair_array.proofs.WriteOutcomeLemmas.{Outcome, Refused, StandsWith, Stopped, Written, moments, outcome}
@@ -51,9 +51,6 @@ module _ (first : ℕ) (contents : List (List ℕ)) (answer : Answer (WriteBlock
 
   pub serves : IsServing before p.was begins.words x.told.history
   serves = serves_first (WriteBlocks first contents) no_opening answer events x y p before s state
-
-  pub calm_to : (h : List Happening) → IsCalm NoneReturns s.geometry (is_open x.session) before h → IsCalmTo p.was.member.array.geometry before h
-  calm_to = calm_here (WriteBlocks first contents) no_opening answer events x y p before s state
 
   -- by the tests of an array that may be written
   passes : (seats : Seats) → MayWrite first contents p.was.member
@@ -165,7 +162,7 @@ module _ (first : ℕ) (contents : List (List ℕ)) (answer : Answer (WriteBlock
   pub leads : IsCalm NoneReturns s.geometry (is_open x.session) before y.told.history
       → IsLed NoneReturns p.was.member before s (WriteBlocks first contents) answer y
   leads calm =
-      let here = calm_to y.told.history calm in
+      let here = calm_for begins y.told.history calm in
       led answer (point p.is.member y.told) refl refl
       (outcome before p.was.rebuild p.was.stopped begins.words s.content first contents answer (point p.was.member x.told) (point p.is.member y.told)
       p.does of_kept serves honest here) here
@@ -192,7 +189,7 @@ module _ (first : ℕ) (contents : List (List ℕ)) (answer : Answer (WriteBlock
       let is =
       at_moment {P = StandsWith before p.was.rebuild p.was.stopped begins.words s.content first contents (point p.was.member x.told) of_kept}
       (moments before p.was.rebuild p.was.stopped begins.words s.content first contents answer (point p.was.member x.told) (point p.is.member y.told)
-      p.does of_kept serves honest) at (calm_to c calm) image left in
+      p.does of_kept serves honest) at (calm_for begins c calm) image left in
       record {
         state = state_with p.was.member s.content is.doubt is.array;
         cut = record {

@@ -10,7 +10,7 @@ use Rattle.stair_rack.specs.Media.{Image, has_sector}
 use Rattle.stair_rack.specs.Moments.{AtEveryMoment, AtSomeMoment, IsMoment}
 use Rattle.stair_rack.specs.Offline.{IsHeld, IsOffline, WasPulled}
 use Rattle.stair_rack.specs.Sector.{content}
-use Rattle.stair_rack.specs.Stretch.{NoneWritten, NothingDamaged, NothingWritten, WasAnswered}
+use Rattle.stair_rack.specs.Stretch.{NoneWritten, NothingWritten, WasAnswered}
 use Rattle.stair_rack.specs.Telling.{IsLater, Telling}
 use Rattle.stair_rack.specs.declared.rack.Got.TheVariants as got
 use Rattle.stair_rack.specs.declared.rack.Reply.TheVariants as reply
@@ -284,21 +284,16 @@ HasMade RebuildNext (Ok (Promoted j)) was last old new = (t i : ℕ) → IsNextC
     → WasSound j (cell_sector last.array.geometry t i) old new
 HasMade _ _ was last old new = ⊤
 
--- the outside pulled no medium and damaged no sector
-pub record IsQuiet (old new : List Happening) : Type 0 where
-  pub undamaged : NothingDamaged old new
-  pub unpulled : (j : ℕ) → ¬ WasPulled old new j
-
 -- So many cells of stripe t were repaired: each lay on a slot that was live when the step began, and was bad at a moment of
--- it. Where the outside pulled and damaged nothing meanwhile they are all that were bad then, on slots that weren't offline and
--- whose media have both superblock places.
+-- it. Those of a slot are all that were bad then, where it wasn't offline, its medium has both superblock places and the outside
+-- didn't pull it meanwhile.
 pub record AreRepaired (m : Membership) (t count : ℕ) (old new : Telling) : Type 0 where
   pub cells : CellSet
   pub formed : IsCellSet cells
   pub number : cell_count cells ≡ count
   pub each : (i j : ℕ) → HasCell cells i j → IsLiveIn m j × (i < m.array.geometry.r)
       × WasBad j (cell_sector m.array.geometry t i) old new
-  pub all : IsQuiet old.history new.history → (before : List Happening) (i j : ℕ)
+  pub all : (before : List Happening) (i j : ℕ) → ¬ WasPulled old.history new.history j
       → IsLiveIn m j → i < m.array.geometry.r → IsHeld before old.history j
       → ¬ IsOffline before old.history j
       → IsTrue (has_sector (slot_state old.history j).size 1)

@@ -18,8 +18,18 @@ pub(crate) fn access_of(job: &Job) -> Access {
         | Job::Rebuild
         | Job::Freeze
         | Job::Thaw
-        | Job::Label { .. } => Access::Writing,
+        | Job::Label { .. }
+        | Job::Run
+        | Job::Exercise { .. } => Access::Writing,
         Job::Show | Job::OneStripe { .. } => Access::Reading,
+    }
+}
+
+/// How many bytes of its input may be read ahead. A script is taken byte by byte; of what another command doesn't take nothing is read.
+pub(crate) fn ahead_of(job: &Job) -> usize {
+    match job {
+        Job::Run => 64 * 1024,
+        _ => 0,
     }
 }
 
@@ -34,7 +44,9 @@ pub(crate) fn measure_of(job: &Job) -> Measure {
         | Job::Write { .. }
         | Job::Freeze
         | Job::Thaw
-        | Job::Label { .. } => Measure::Sectors,
+        | Job::Label { .. }
+        | Job::Run
+        | Job::Exercise { .. } => Measure::Sectors,
     }
 }
 

@@ -7,18 +7,21 @@ mod devices;
 mod hearing;
 mod progress;
 
-use crate::devices::{InUse, access_of, lock_folder, measure_of, tell_reason, tell_reasons};
+use crate::devices::{
+    InUse, access_of, ahead_of, lock_folder, measure_of, tell_reason, tell_reasons,
+};
 use crate::hearing::Hearing;
 use crate::progress::{Cleared, Measure, Screen, Showing};
+use stair_conf::{Job, WordsFault};
 use stair_engine::{Status, stair};
 use stair_filerack::{Access, FileRack};
 use stair_gf::Steps;
-use stair_rack::{FromRead, FromWrite};
+use stair_rack::{Counts, FromRead, FromWrite};
 use stair_watch::{Printer, Tally, add};
 use std::alloc::AllocError;
 use std::cell::Cell;
 use std::fs::File;
-use std::io::IsTerminal;
+use std::io::{BufReader, IsTerminal};
 use std::marker::Brand;
 use std::process::ExitCode;
 use std::rc::Rc;
@@ -79,23 +82,63 @@ fn read_words(rt: &HostRuntime) -> Result<Words, Status> {
     }
 }
 
-/// Does what the words say, with a counter on this ledger. A command that writes has the folder for itself, and is begun only
-/// where no device of the folder is refused for a reason of the caller's: what is gone in a call is down from then on.
-fn run<L: Ledger>(rt: &HostRuntime, blank: Blank) -> Result<Status, Refusal>
+/// What became of a command.
+#[derive(Debug, Drop)]
+struct Outcome {
+    ended: Result<Status, Refusal>,
+    /// How many events of each kind were told, of a command whose events are counted on standard error.
+    events: Option<Counts>,
+}
+
+/// Does what the words say, with a counter on this ledger.
+fn run<L: Ledger>(rt: &HostRuntime, blank: Blank) -> Outcome
     requires name { blank.name ≡ L.name }
     requires parts { blank.parts ≡ L.parts }
     requires some { 0 < L.parts }
 {
-    let Words { folder, command } = read_words(rt)?;
-    let job = stair_conf::read_words(rt.alloc(), &command);
+    let words = match read_words(rt) {
+        Ok(words) => words,
+        Err(status) => {
+            return Outcome {
+                ended: Err(Refusal::Status(status)),
+                events: None,
+            };
+        }
+    };
+    let job = stair_conf::read_words(rt.alloc(), &words.command);
+    let mut told = Counts {
+        fenced: 0,
+        repaired: 0,
+        admitted: 0,
+        promoted: 0,
+    };
+    let ended = run_words::<L>(rt, &words, &job, blank, &mut told);
+    let events = matches!(job, Ok(Job::Run)).then_some(told);
+    Outcome { ended, events }
+}
+
+/// Does what these words say. A command that writes has the folder for itself, and is begun only where no device of the folder is
+/// refused for a reason of the caller's: what is gone in a call is down from then on.
+fn run_words<L: Ledger>(
+    rt: &HostRuntime,
+    words: &Words,
+    job: &Result<Job, WordsFault>,
+    blank: Blank,
+    told: &mut Counts,
+) -> Result<Status, Refusal>
+    requires name { blank.name ≡ L.name }
+    requires parts { blank.parts ≡ L.parts }
+    requires some { 0 < L.parts }
+{
     let access = job.as_ref().map_or(Access::Reading, access_of);
     let measure = job.as_ref().map_or(Measure::Sectors, measure_of);
     let measure = rt.stderr().is_terminal().then_some(measure);
+    let ahead = job.as_ref().map_or(0, ahead_of);
     let _lock = match access {
-        Access::Writing => lock_folder(rt, folder.as_str())?,
+        Access::Writing => lock_folder(rt, words.folder.as_str())?,
         Access::Reading => None,
     };
-    let Ok(mut rack) = FileRack::at(rt, rt.alloc(), folder.as_str(), access) else {
+    let Ok(mut rack) = FileRack::at(rt, rt.alloc(), words.folder.as_str(), access) else {
         return Ok(Status::OutOfMemory);
     };
     if access == Access::Writing
@@ -104,18 +147,21 @@ fn run<L: Ledger>(rt: &HostRuntime, blank: Blank) -> Result<Status, Refusal>
         tell_reason(rt, &refused);
         return Ok(Status::Gone(refused.slot));
     }
-    let called = call::<L>(rt, rack, measure, &command, blank);
+    let called = call::<L>(rt, rack, measure, ahead, &words.command, blank, told);
     Ok(called.unwrap_or(Status::OutOfMemory))
 }
 
 /// Makes the call, and tells of the devices that were gone why. What happens to an array is printed on standard error as it
-/// comes, and counted, and while the call works how far it is. The only error is want of memory before the call.
+/// comes, and counted, and while the call works how far it is. So many bytes of the input may be read ahead. The only error is want
+/// of memory before the call.
 fn call<L: Ledger>(
     rt: &HostRuntime,
     rack: FileRack<&HostRuntime>,
     measure: Option<Measure>,
+    ahead: usize,
     command: &[String],
     blank: Blank,
+    told: &mut Counts,
 ) -> Result<Status, AllocError>
     requires name { blank.name ≡ L.name }
     requires parts { blank.parts ≡ L.parts }
@@ -124,7 +170,10 @@ fn call<L: Ledger>(
     let screen = Rc::new(rt.alloc(), Screen::new(rt.stderr()))?;
     let geometry = Cell::new(None);
     let mut rack = Showing::new(rack, rt, screen.clone()?, &geometry, measure);
-    let input = FromRead::new(rt.stdin());
+    let Ok(input) = BufReader::with_capacity(rt.alloc(), ahead, rt.stdin()) else {
+        return Ok(Status::OutOfMemory);
+    };
+    let input = FromRead::new(input);
     let mut input = match measure {
         Some(Measure::StripesWritten) => Hearing::new(input, rt.alloc(), &geometry),
         Some(Measure::Sectors | Measure::StripesRead) | None => Hearing::deaf(input),
@@ -153,6 +202,10 @@ fn call<L: Ledger>(
     );
     screen.clear();
     tell_reasons(rt, &rack.into_inner());
+    // the last one that is left counts them all
+    for watcher in &watchers {
+        *told = watcher.counts();
+    }
     Ok(status)
 }
 
@@ -165,15 +218,33 @@ fn end(rt: &HostRuntime, status: Status) -> ExitCode {
     ExitCode::from(status.code())
 }
 
+/// Tells how many events of each kind there were.
+fn tell_counts(rt: &HostRuntime, events: Counts) {
+    let Counts {
+        fenced,
+        repaired,
+        admitted,
+        promoted,
+    } = events;
+    let _ = eprintln!(rt;
+        "events: fenced {fenced} repaired {repaired} admitted {admitted} promoted {promoted}"
+    );
+}
+
 fn main(rt: HostRuntime) -> ExitCode {
     // They are held until the end. Where the directory can't be opened nothing is done, as where the input failed.
     let streams = hold_streams(&rt);
     if streams.is_err() {
         return end(&rt, Status::InputFault);
     }
-    match run::<Brand>(&rt, Blank::new(1)) {
+    let Outcome { ended, events } = run::<Brand>(&rt, Blank::new(1));
+    let code = match ended {
         Ok(status) | Err(Refusal::Status(status)) => end(&rt, status),
         // Where another program has the folder, as where a device is gone.
         Err(Refusal::InUse) => ExitCode::from(Status::Gone(0).code()),
+    };
+    if let Some(events) = events {
+        tell_counts(&rt, events);
     }
+    code
 }

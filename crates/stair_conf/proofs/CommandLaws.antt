@@ -18,10 +18,10 @@ use Rattle.clap.specs.declared.builder.value_parser.ValueParser.TheVariants as v
 use Rattle.clap.specs.declared.parser.matches.ValueSource.TheVariants.{CommandLine}
 use Rattle.clap.specs.declared.parser.matches.ArgMatches.{ArgMatches}
 use Rattle.stair_conf.specs.declared.job.Method.{Method}
-use Rattle.stair_conf.specs.Commands.{HasNoOption, IsPlainWord, blocks_app, geometry_app, slot_app, stripe_app, text_app}
-use Rattle.stair_conf.specs.Rows.{HasBlocks, HasGeometry, HasMethodWord, HasNumberWord, HasTextWord}
-use Rattle.stair_conf.specs.Words.{SpellsBlocks, SpellsGeometry, SpellsSlot, SpellsText, method_word}
-use Rattle.stair_conf.proofs.RowLemmas.{HoldsBlocks, HoldsGeometry, blocks_held, blocks_spelled, geometry_held, geometry_spelled}
+use Rattle.stair_conf.specs.Commands.{HasNoOption, IsPlainWord, counted_app, geometry_app, slot_app, stripe_app, text_app}
+use Rattle.stair_conf.specs.Rows.{HasCounted, HasGeometry, HasMethodWord, HasNumberWord, HasTextWord}
+use Rattle.stair_conf.specs.Words.{SpellsCounted, SpellsGeometry, SpellsSlot, SpellsText, method_word}
+use Rattle.stair_conf.proofs.RowLemmas.{HoldsCounted, HoldsGeometry, counted_held, counted_spelled, geometry_held, geometry_spelled}
 use Rattle.stair_conf.proofs.WordsLemmas.{behind, in_front}
 use Rattle.stair_conf.proofs.WalkLaws.{IsPlainWalk, all_placed, all_placed-last, at_last, has_no_tail, neither_fails, places_pass, places_pass-last, walk-placed, walk_fault-places, walk_passes-placed}
 
@@ -112,13 +112,13 @@ stripe_holds method a b c d rest none =
       },
     )
 
-abbrev blocks_rules : List Rule
-blocks_rules = (built blocks_app).top.rules
+abbrev counted_rules : List Rule
+counted_rules = (built counted_app).top.rules
 
-blocks_holds : (a b : Text) → HasNoOption (a ∷ b ∷ []) → HoldsBlocks (rows_after blocks_rules [] (a ∷ b ∷ [])) a b
-blocks_holds a b none =
-    let rows = rows_after-placed blocks_rules refl (a ∷ b ∷ []) none in
-    record { block_row = ap (first_of (codes "BLOCK")) rows; count_row = ap (first_of (codes "COUNT")) rows }
+counted_holds : (a b : Text) → HasNoOption (a ∷ b ∷ []) → HoldsCounted (rows_after counted_rules [] (a ∷ b ∷ [])) a b
+counted_holds a b none =
+    let rows = rows_after-placed counted_rules refl (a ∷ b ∷ []) none in
+    record { number_row = ap (first_of (codes "NUMBER")) rows; count_row = ap (first_of (codes "COUNT")) rows }
 
 abbrev slot_rules : List Rule
 slot_rules = (built slot_app).top.rules
@@ -222,37 +222,37 @@ pub stripe_taken : (words : List Text) → HasNoOption words → length words �
 stripe_taken (w ∷ a ∷ b ∷ c ∷ d ∷ rest) none few method n m r e spells = stripe_takes w a b c d rest none (omega arith)
 stripe_taken words none few method n m r e spells = absurd (omega (arith, enough (method_word method ∷ []) words n m r e spells))
 
--- words that are a block and a count are two
-two_words : (words : List Text) (block count : ℕ) → SpellsBlocks [] words block count → length words ≡ 2
-two_words words block count spells = ap length spells.spelled
+-- words that are a number and a count are two
+two_words : (words : List Text) (number count : ℕ) → SpellsCounted [] words number count → length words ≡ 2
+two_words words number count spells = ap length spells.spelled
 
--- where no row COUNT stands no blocks are told
-no_count_row : (rows placed : List Row) (block count : ℕ) → rows ≡ placed → first_of (codes "COUNT") placed ≡ None → HasBlocks rows block count → ⊥
-no_count_row rows placed block count same none has = let word = has.count_word.first in let rows_none = ap (first_of (codes "COUNT")) same in cc
+-- where no row COUNT stands no count is told
+no_count_row : (rows placed : List Row) (number count : ℕ) → rows ≡ placed → first_of (codes "COUNT") placed ≡ None → HasCounted rows number count → ⊥
+no_count_row rows placed number count same none has = let word = has.count_word.first in let rows_none = ap (first_of (codes "COUNT")) same in cc
 
 -- clap refuses more than two words
-blocks_refused : (a b c : Text) (rest : List Text) → HasNoOption (a ∷ b ∷ c ∷ rest)
-    → built_fault (built blocks_app) nothing_held (a ∷ b ∷ c ∷ rest) ≡ [] → ⊥
-blocks_refused a b c rest none free =
-    let no_stray = walk_fault-places (built blocks_app).top refl (a ∷ b ∷ c ∷ rest) none start start_plain (neither_fails _ _ free).0 in
+counted_refused : (a b c : Text) (rest : List Text) → HasNoOption (a ∷ b ∷ c ∷ rest)
+    → built_fault (built counted_app) nothing_held (a ∷ b ∷ c ∷ rest) ≡ [] → ⊥
+counted_refused a b c rest none free =
+    let no_stray = walk_fault-places (built counted_app).top refl (a ∷ b ∷ c ∷ rest) none start start_plain (neither_fails _ _ free).0 in
     cc
 
-pub blocks_told : (words : List Text) → HasNoOption words → built_fault (built blocks_app) nothing_held words ≡ [] → (block count : ℕ)
-    → HasBlocks (rows_after blocks_rules [] words) block count → SpellsBlocks [] words block count
-blocks_told [] none free block count has = absurd (no_count_row _ _ block count (rows_after-placed blocks_rules refl [] none) refl has)
-blocks_told (a ∷ []) none free block count has = absurd (no_count_row _ _ block count (rows_after-placed blocks_rules refl (a ∷ []) none) refl has)
-blocks_told (a ∷ b ∷ []) none free block count has = blocks_spelled _ a b block count (blocks_holds a b none) has
-blocks_told (a ∷ b ∷ c ∷ rest) none free block count has = absurd (blocks_refused a b c rest none free)
+pub counted_told : (words : List Text) → HasNoOption words → built_fault (built counted_app) nothing_held words ≡ [] → (number count : ℕ)
+    → HasCounted (rows_after counted_rules [] words) number count → SpellsCounted [] words number count
+counted_told [] none free number count has = absurd (no_count_row _ _ number count (rows_after-placed counted_rules refl [] none) refl has)
+counted_told (a ∷ []) none free number count has = absurd (no_count_row _ _ number count (rows_after-placed counted_rules refl (a ∷ []) none) refl has)
+counted_told (a ∷ b ∷ []) none free number count has = counted_spelled _ a b number count (counted_holds a b none) has
+counted_told (a ∷ b ∷ c ∷ rest) none free number count has = absurd (counted_refused a b c rest none free)
 
-pub blocks_tells : (words : List Text) → HasNoOption words → (block count : ℕ)
-    → SpellsBlocks [] words block count → HasBlocks (rows_after blocks_rules [] words) block count
-blocks_tells (a ∷ b ∷ []) none block count spells = blocks_held _ a b block count (blocks_holds a b none) spells
-blocks_tells words none block count spells = absurd (omega (arith, two_words words block count spells))
+pub counted_tells : (words : List Text) → HasNoOption words → (number count : ℕ)
+    → SpellsCounted [] words number count → HasCounted (rows_after counted_rules [] words) number count
+counted_tells (a ∷ b ∷ []) none number count spells = counted_held _ a b number count (counted_holds a b none) spells
+counted_tells words none number count spells = absurd (omega (arith, two_words words number count spells))
 
-pub blocks_taken : (words : List Text) → HasNoOption words → (block count : ℕ)
-    → SpellsBlocks [] words block count → built_takes (built blocks_app) nothing_held words ≡ true
-blocks_taken (a ∷ b ∷ []) none block count spells = built_takes-placed (built blocks_app).top refl (a ∷ b ∷ []) none
-blocks_taken words none block count spells = absurd (omega (arith, two_words words block count spells))
+pub counted_taken : (words : List Text) → HasNoOption words → (number count : ℕ)
+    → SpellsCounted [] words number count → built_takes (built counted_app) nothing_held words ≡ true
+counted_taken (a ∷ b ∷ []) none number count spells = built_takes-placed (built counted_app).top refl (a ∷ b ∷ []) none
+counted_taken words none number count spells = absurd (omega (arith, two_words words number count spells))
 
 -- an id without a row has no first word
 no_first : (id : Text) (rows placed : List Row) (word : Text) → rows ≡ placed → first_of id placed ≡ None → first_of id rows ≡ Some word → ⊥

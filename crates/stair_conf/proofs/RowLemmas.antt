@@ -8,8 +8,8 @@ use Rattle.clap.specs.Words.{Text, Row, all_of, first_of, first_value, matched_o
 use Rattle.clap.specs.declared.parser.matches.Found.{Found}
 use Rattle.clap.proofs.WalkLemmas.{first_value-rows, raw_values-rows}
 use Rattle.stair_conf.specs.declared.job.Method.{Method}
-use Rattle.stair_conf.specs.Rows.{HasBlocks, HasGeometry, HasMethodWord, HasNumberWord, HasTextWord}
-use Rattle.stair_conf.specs.Words.{IsNumber, IsText, SpellsBlocks, SpellsGeometry, method_word}
+use Rattle.stair_conf.specs.Rows.{HasCounted, HasGeometry, HasMethodWord, HasNumberWord, HasTextWord}
+use Rattle.stair_conf.specs.Words.{IsNumber, IsText, SpellsCounted, SpellsGeometry, method_word}
 
 -- ---- what the getters tell
 
@@ -112,27 +112,27 @@ geometry_held rows a b c d n m r e holds spells =
       e_words = record { all = holds.e_row ∙ ap Some e_are; fit = spells.e_fit };
     }
 
--- ---- the words that name blocks
+-- ---- a number and a count
 
--- these words stand in the rows of a block and a count
-pub record HoldsBlocks (rows : List Row) (a b : Text) : Type 0 where
-  pub block_row : first_of (codes "BLOCK") rows ≡ Some a
+-- these words stand in the rows of a number and a count
+pub record HoldsCounted (rows : List Row) (a b : Text) : Type 0 where
+  pub number_row : first_of (codes "NUMBER") rows ≡ Some a
   pub count_row : first_of (codes "COUNT") rows ≡ Some b
 
-pub blocks_spelled : (rows : List Row) (a b : Text) (block count : ℕ) → HoldsBlocks rows a b → HasBlocks rows block count
-    → SpellsBlocks [] (a ∷ b ∷ []) block count
-blocks_spelled rows a b block count holds has =
-    let block_is : Some a ≡ Some (decimal block) = sym holds.block_row ∙ has.block_word.first in
+pub counted_spelled : (rows : List Row) (a b : Text) (number count : ℕ) → HoldsCounted rows a b → HasCounted rows number count
+    → SpellsCounted [] (a ∷ b ∷ []) number count
+counted_spelled rows a b number count holds has =
+    let number_is : Some a ≡ Some (decimal number) = sym holds.number_row ∙ has.number_word.first in
     let count_is : Some b ≡ Some (decimal count) = sym holds.count_row ∙ has.count_word.first in
-    record { spelled = cc; block_fits = has.block_word.fits; count_fits = has.count_word.fits }
+    record { spelled = cc; number_fits = has.number_word.fits; count_fits = has.count_word.fits }
 
-pub blocks_held : (rows : List Row) (a b : Text) (block count : ℕ) → HoldsBlocks rows a b → SpellsBlocks [] (a ∷ b ∷ []) block count
-    → HasBlocks rows block count
-blocks_held rows a b block count holds spells =
+pub counted_held : (rows : List Row) (a b : Text) (number count : ℕ) → HoldsCounted rows a b → SpellsCounted [] (a ∷ b ∷ []) number count
+    → HasCounted rows number count
+counted_held rows a b number count holds spells =
     let words = spells.spelled in
-    let block_is : a ≡ decimal block = cc in
+    let number_is : a ≡ decimal number = cc in
     let count_is : b ≡ decimal count = cc in
     record {
-      block_word = record { first = holds.block_row ∙ ap Some block_is; fits = spells.block_fits };
+      number_word = record { first = holds.number_row ∙ ap Some number_is; fits = spells.number_fits };
       count_word = record { first = holds.count_row ∙ ap Some count_is; fits = spells.count_fits };
     }

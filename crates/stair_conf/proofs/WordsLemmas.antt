@@ -11,11 +11,11 @@ use Rattle.std.proofs.lemmas.Slice.Eq.{bytes_eq-Decides}
 use Rattle.stair_conf.specs.declared.job.Method.{Method}
 use Rattle.stair_conf.specs.declared.job.Method.TheVariants.{Standard, Up, Down, Fewest}
 use Rattle.stair_conf.specs.declared.job.Job.{Job}
-use Rattle.stair_conf.specs.declared.job.Job.TheVariants.{OneStripe, Create, Show, Read, Write, Scrub, Replace, Rebuild, Freeze, Thaw, Label}
+use Rattle.stair_conf.specs.declared.job.Job.TheVariants.{OneStripe, Create, Show, Read, Write, Scrub, Replace, Rebuild, Freeze, Thaw, Label, Run, Exercise}
 use Rattle.stair_conf.specs.declared.job.StripeCommand.{StripeCommand}
 use Rattle.stair_conf.specs.declared.job.StripeCommand.TheVariants.{Check, Encode, Restore}
 use Rattle.stair_conf.specs.Commands.{HasNoOption, IsPlainWord}
-use Rattle.stair_conf.specs.Words.{IsCommandLine, IsCommandWord, Spells, SpellsBlocks, SpellsGeometry, SpellsSlot, SpellsText, command_words, method_word}
+use Rattle.stair_conf.specs.Words.{IsCommandLine, IsCommandWord, Spells, SpellsCounted, SpellsGeometry, SpellsSlot, SpellsText, command_words, method_word}
 use Rattle.stair_conf.proofs.NumberLemmas.{begins-decimal, map_decimal_injective}
 
 -- ---- the first words
@@ -59,6 +59,8 @@ word_of Rebuild = codes "rebuild"
 word_of Freeze = codes "freeze"
 word_of Thaw = codes "thaw"
 word_of (Label text) = codes "label"
+word_of Run = codes "run"
+word_of (Exercise number count) = codes "exercise"
 
 -- the words of a job begin with the command's
 pub first_word : (words : List (List ℕ)) (job : Job) → Spells words job → get_or words 0 [] ≡ word_of job
@@ -75,6 +77,8 @@ first_word words Rebuild spells = ap (λ ws. get_or ws 0 []) spells
 first_word words Freeze spells = ap (λ ws. get_or ws 0 []) spells
 first_word words Thaw spells = ap (λ ws. get_or ws 0 []) spells
 first_word words (Label text) spells = ap (λ ws. get_or ws 0 []) spells.spelled
+first_word words Run spells = ap (λ ws. get_or ws 0 []) spells
+first_word words (Exercise number count) spells = ap (λ ws. get_or ws 0 []) spells.spelled
 
 -- ---- no word of a job begins with a hyphen
 
@@ -92,11 +96,11 @@ geometry_plain before words n m r e plain spells =
     All-cons IsPlainWord (decimal n) (decimal m ∷ decimal r ∷ map decimal e) (decimal_plain n spells.n_fits) m_on in
     rw spells.spelled (All-append IsPlainWord before (decimal n ∷ decimal m ∷ decimal r ∷ map decimal e) plain n_on)
 
-blocks_plain : (before words : List (List ℕ)) (block count : ℕ) → HasNoOption before → SpellsBlocks before words block count → HasNoOption words
-blocks_plain before words block count plain spells =
-    let behind_block = All-cons IsPlainWord (decimal count) [] (decimal_plain count spells.count_fits) (All-nil IsPlainWord) in
-    rw spells.spelled (All-append IsPlainWord before (decimal block ∷ decimal count ∷ []) plain
-    (All-cons IsPlainWord (decimal block) (decimal count ∷ []) (decimal_plain block spells.block_fits) behind_block))
+counted_plain : (before words : List (List ℕ)) (number count : ℕ) → HasNoOption before → SpellsCounted before words number count → HasNoOption words
+counted_plain before words number count plain spells =
+    let behind_number = All-cons IsPlainWord (decimal count) [] (decimal_plain count spells.count_fits) (All-nil IsPlainWord) in
+    rw spells.spelled (All-append IsPlainWord before (decimal number ∷ decimal count ∷ []) plain
+    (All-cons IsPlainWord (decimal number) (decimal count ∷ []) (decimal_plain number spells.number_fits) behind_number))
 
 method_plain : (method : Method) → IsPlainWord (method_word method)
 method_plain Standard = omega arith
@@ -123,14 +127,16 @@ job_plain words (OneStripe (Encode method) n m r e) spells =
 job_plain words (OneStripe Restore n m r e) spells = geometry_plain _ words n m r e (one_plain (codes "restore") (omega arith)) spells
 job_plain words Create spells = rw spells (one_plain (codes "create") (omega arith))
 job_plain words Show spells = rw spells (one_plain (codes "show") (omega arith))
-job_plain words (Read block count) spells = blocks_plain _ words block count (one_plain (codes "read") (omega arith)) spells
-job_plain words (Write block count) spells = blocks_plain _ words block count (one_plain (codes "write") (omega arith)) spells
+job_plain words (Read block count) spells = counted_plain _ words block count (one_plain (codes "read") (omega arith)) spells
+job_plain words (Write block count) spells = counted_plain _ words block count (one_plain (codes "write") (omega arith)) spells
 job_plain words Scrub spells = rw spells (one_plain (codes "scrub") (omega arith))
 job_plain words (Replace slot) spells = slot_plain _ words slot (one_plain (codes "replace") (omega arith)) spells
 job_plain words Rebuild spells = rw spells (one_plain (codes "rebuild") (omega arith))
 job_plain words Freeze spells = rw spells (one_plain (codes "freeze") (omega arith))
 job_plain words Thaw spells = rw spells (one_plain (codes "thaw") (omega arith))
 job_plain words (Label text) spells = text_plain _ words text (one_plain (codes "label") (omega arith)) spells
+job_plain words Run spells = rw spells (one_plain (codes "run") (omega arith))
+job_plain words (Exercise number count) spells = counted_plain _ words number count (one_plain (codes "exercise") (omega arith)) spells
 
 command_word : (words : List (List ℕ)) (job : Job) → Spells words job → IsCommandWord (get_or words 0 [])
 command_word words (OneStripe Check n m r e) spells = inl (ap (λ ws. get_or ws 0 []) spells.spelled)
@@ -145,7 +151,9 @@ command_word words (Replace slot) spells = inr (inr (inr (inr (inr (inr (inr (in
 command_word words Rebuild spells = inr (inr (inr (inr (inr (inr (inr (inr (inr (inl (ap (λ ws. get_or ws 0 []) spells))))))))))
 command_word words Freeze spells = inr (inr (inr (inr (inr (inr (inr (inr (inr (inr (inl (ap (λ ws. get_or ws 0 []) spells)))))))))))
 command_word words Thaw spells = inr (inr (inr (inr (inr (inr (inr (inr (inr (inr (inr (inl (ap (λ ws. get_or ws 0 []) spells))))))))))))
-command_word words (Label text) spells = inr (inr (inr (inr (inr (inr (inr (inr (inr (inr (inr (inr (ap (λ ws. get_or ws 0 []) spells.spelled))))))))))))
+command_word words (Label text) spells = inr (inr (inr (inr (inr (inr (inr (inr (inr (inr (inr (inr (inl (ap (λ ws. get_or ws 0 []) spells.spelled)))))))))))))
+command_word words Run spells = inr (inr (inr (inr (inr (inr (inr (inr (inr (inr (inr (inr (inr (inl (ap (λ ws. get_or ws 0 []) spells))))))))))))))
+command_word words (Exercise number count) spells = inr (inr (inr (inr (inr (inr (inr (inr (inr (inr (inr (inr (inr (inr (ap (λ ws. get_or ws 0 []) spells.spelled))))))))))))))
 
 -- the words of a job are a command line
 pub job_line : (words : List (List ℕ)) (job : Job) → Spells words job → IsCommandLine words
@@ -197,14 +205,14 @@ one_stripe_once words a b n m r e n' m' r' e' one two =
     let first = sym (first_word words (OneStripe a n m r e) one) ∙ first_word words (OneStripe b n' m' r' e') two in
     cc
 
--- words with the same words before spell one block and one count
-blocks_once : (before words : List (List ℕ)) (block count block' count' : ℕ)
-    → SpellsBlocks before words block count → SpellsBlocks before words block' count' → (block ≡ block') × (count ≡ count')
-blocks_once before words block count block' count' one two =
+-- words with the same words before spell one number and one count
+counted_once : (before words : List (List ℕ)) (number count number' count' : ℕ)
+    → SpellsCounted before words number count → SpellsCounted before words number' count' → (number ≡ number') × (count ≡ count')
+counted_once before words number count number' count' one two =
     let same = append_cancel_left before _ _ (sym one.spelled ∙ two.spelled) in
-    let block_texts : decimal block ≡ decimal block' = cc in
+    let number_texts : decimal number ≡ decimal number' = cc in
     let count_texts : decimal count ≡ decimal count' = cc in (
-      decimal_injective block block' one.block_fits two.block_fits block_texts,
+      decimal_injective number number' one.number_fits two.number_fits number_texts,
       decimal_injective count count' one.count_fits two.count_fits count_texts,
     )
 
@@ -232,10 +240,10 @@ spells_once words (OneStripe a n m r e) (OneStripe b n' m' r' e') one two = one_
 spells_once words Create Create one two = refl
 spells_once words Show Show one two = refl
 spells_once words (Read block count) (Read block' count') one two =
-    let same = blocks_once (codes "read" ∷ []) words block count block' count' one two in
+    let same = counted_once (codes "read" ∷ []) words block count block' count' one two in
     λ i. Read (same.0 i) (same.1 i)
 spells_once words (Write block count) (Write block' count') one two =
-    let same = blocks_once (codes "write" ∷ []) words block count block' count' one two in
+    let same = counted_once (codes "write" ∷ []) words block count block' count' one two in
     λ i. Write (same.0 i) (same.1 i)
 spells_once words Scrub Scrub one two = refl
 spells_once words (Replace slot) (Replace slot') one two = ap Replace (slot_once (codes "replace" ∷ []) words slot slot' one two)
@@ -243,6 +251,10 @@ spells_once words Rebuild Rebuild one two = refl
 spells_once words Freeze Freeze one two = refl
 spells_once words Thaw Thaw one two = refl
 spells_once words (Label text) (Label text') one two = ap Label (text_once (codes "label" ∷ []) words text text' one two)
+spells_once words Run Run one two = refl
+spells_once words (Exercise number count) (Exercise number' count') one two =
+    let same = counted_once (codes "exercise" ∷ []) words number count number' count' one two in
+    λ i. Exercise (same.0 i) (same.1 i)
 spells_once words (OneStripe Check n m r e) b one two = absurd (no_other_job words (OneStripe Check n m r e) b one two refl)
 spells_once words (OneStripe (Encode method) n m r e) b one two = absurd (no_other_job words (OneStripe (Encode method) n m r e) b one two refl)
 spells_once words (OneStripe Restore n m r e) b one two = absurd (no_other_job words (OneStripe Restore n m r e) b one two refl)

@@ -47,10 +47,10 @@ geometry_app = with_geometry (bare_app (codes "stair"))
 abbrev pub stripe_app : App
 stripe_app = with_geometry (with_rule (bare_app (codes "stair")) (one_word (codes "METHOD")))
 
--- `BLOCK COUNT`
-abbrev pub blocks_app : App
-blocks_app =
-    with_rule (with_rule (bare_app (codes "stair")) (one_word (codes "BLOCK")))
+-- `NUMBER COUNT`
+abbrev pub counted_app : App
+counted_app =
+    with_rule (with_rule (bare_app (codes "stair")) (one_word (codes "NUMBER")))
     (one_word (codes "COUNT"))
 
 -- `SLOT`

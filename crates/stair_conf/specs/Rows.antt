@@ -37,7 +37,7 @@ pub record HasThreeNumbers (rows : List Row) : Type 0 where
   pub m_word : (m : ℕ) × HasNumberWord rows (codes "M") m
   pub r_word : (r : ℕ) × HasNumberWord rows (codes "R") r
 
--- the rows BLOCK and COUNT have these numbers
-pub record HasBlocks (rows : List Row) (block count : ℕ) : Type 0 where
-  pub block_word : HasNumberWord rows (codes "BLOCK") block
+-- the rows NUMBER and COUNT have these numbers
+pub record HasCounted (rows : List Row) (number count : ℕ) : Type 0 where
+  pub number_word : HasNumberWord rows (codes "NUMBER") number
   pub count_word : HasNumberWord rows (codes "COUNT") count

@@ -6,7 +6,7 @@ use Rattle.stair_conf.specs.Commands.{HasNoOption, IsPlainWord}
 use Rattle.stair_conf.specs.declared.job.Method.{Method}
 use Rattle.stair_conf.specs.declared.job.Method.TheVariants.{Standard, Up, Down, Fewest}
 use Rattle.stair_conf.specs.declared.job.Job.{Job}
-use Rattle.stair_conf.specs.declared.job.Job.TheVariants.{OneStripe, Create, Show, Read, Write, Scrub, Replace, Rebuild, Freeze, Thaw, Label}
+use Rattle.stair_conf.specs.declared.job.Job.TheVariants.{OneStripe, Create, Show, Read, Write, Scrub, Replace, Rebuild, Freeze, Thaw, Label, Run, Exercise}
 use Rattle.stair_conf.specs.declared.job.StripeCommand.{StripeCommand}
 use Rattle.stair_conf.specs.declared.job.StripeCommand.TheVariants.{Check, Encode, Restore}
 use Rattle.stair_super.specs.Label.{IsLabel}
@@ -47,10 +47,10 @@ pub record SpellsGeometry (before words : List (List ℕ)) (n m r : ℕ) (e : Li
   pub r_fits : r < 2 ^ 64
   pub e_fit : All (λ x. x < 2 ^ 64) e
 
--- the words are those before, and then the decimal texts of the number of a block and of a count
-pub record SpellsBlocks (before words : List (List ℕ)) (block count : ℕ) : Type 0 where
-  pub spelled : words ≡ before ++ decimal block ∷ decimal count ∷ []
-  pub block_fits : block < 2 ^ 64
+-- the words are those before, and then the decimal texts of a number and of a count
+pub record SpellsCounted (before words : List (List ℕ)) (number count : ℕ) : Type 0 where
+  pub spelled : words ≡ before ++ decimal number ∷ decimal count ∷ []
+  pub number_fits : number < 2 ^ 64
   pub count_fits : count < 2 ^ 64
 
 -- the words are those before, and then the decimal text of the number of a slot
@@ -75,14 +75,16 @@ abbrev pub Spells : List (List ℕ) → Job → Type 0
 Spells words (OneStripe command n m r e) = SpellsGeometry (command_words command) words n m r e
 Spells words Create = words ≡ codes "create" ∷ []
 Spells words Show = words ≡ codes "show" ∷ []
-Spells words (Read block count) = SpellsBlocks (codes "read" ∷ []) words block count
-Spells words (Write block count) = SpellsBlocks (codes "write" ∷ []) words block count
+Spells words (Read block count) = SpellsCounted (codes "read" ∷ []) words block count
+Spells words (Write block count) = SpellsCounted (codes "write" ∷ []) words block count
 Spells words Scrub = words ≡ codes "scrub" ∷ []
 Spells words (Replace slot) = SpellsSlot (codes "replace" ∷ []) words slot
 Spells words Rebuild = words ≡ codes "rebuild" ∷ []
 Spells words Freeze = words ≡ codes "freeze" ∷ []
 Spells words Thaw = words ≡ codes "thaw" ∷ []
 Spells words (Label text) = SpellsText (codes "label" ∷ []) words text
+Spells words Run = words ≡ codes "run" ∷ []
+Spells words (Exercise number count) = SpellsCounted (codes "exercise" ∷ []) words number count
 
 -- the words spell a job
 abbrev pub IsSpelled : List (List ℕ) → Type 0
@@ -94,7 +96,8 @@ IsCommandWord word = (word ≡ codes "check") ⊎ (word ≡ codes "stripe")
     ⊎ (word ≡ codes "restore") ⊎ (word ≡ codes "create") ⊎ (word ≡ codes "show")
     ⊎ (word ≡ codes "read") ⊎ (word ≡ codes "write") ⊎ (word ≡ codes "scrub")
     ⊎ (word ≡ codes "replace") ⊎ (word ≡ codes "rebuild") ⊎ (word ≡ codes "freeze")
-    ⊎ (word ≡ codes "thaw") ⊎ (word ≡ codes "label")
+    ⊎ (word ≡ codes "thaw") ⊎ (word ≡ codes "label") ⊎ (word ≡ codes "run")
+    ⊎ (word ≡ codes "exercise")
 
 -- a command's word comes first, and no word begins with a hyphen: memory is taken for such words alone
 pub record IsCommandLine (words : List (List ℕ)) : Type 0 where

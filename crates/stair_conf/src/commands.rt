@@ -4,12 +4,12 @@
 
 ghost use Rattle.std.specs.Prelude.{◌≡◌, ℕ, ◌∷◌, [], List, codes, drop, false, true, map, string_bytes, IfOk};
 ghost use Rattle.clap.specs.Words.{HasMatchesOf, app_of, fault_of, is_simple_and_free, rule_of, takes};
-ghost use Rattle.stair_conf.specs.Commands.{HasNoOption, bare_app, blocks_app, geometry_app, one_word, slot_app, stripe_app, text_app, with_geometry};
-ghost use Rattle.stair_conf.specs.Words.{SpellsBlocks, SpellsGeometry, SpellsSlot, SpellsText, method_word};
+ghost use Rattle.stair_conf.specs.Commands.{HasNoOption, bare_app, counted_app, geometry_app, one_word, slot_app, stripe_app, text_app, with_geometry};
+ghost use Rattle.stair_conf.specs.Words.{SpellsCounted, SpellsGeometry, SpellsSlot, SpellsText, method_word};
 ghost use Rattle.stair_conf.specs.declared.job.Method.{Method};
 
 use crate::matches::{
-    BlockNumbers, GeometryNumbers, blocks_of, geometry_of, method_of, number_of, text_of,
+    Counted, GeometryNumbers, counted_of, geometry_of, method_of, number_of, text_of,
 };
 use crate::{Method, WordsFault};
 use clap::{Arg, ArgMatches, Command};
@@ -46,16 +46,16 @@ pub(crate) fn read_stripe(
     Ok((method, geometry_of(alloc, &matches)?))
 }
 
-// Reads `BLOCK COUNT` behind the first word.
-pub(crate) fn read_blocks(alloc: Global, words: &[String]) -> Result<BlockNumbers, WordsFault>
+// Reads `NUMBER COUNT` behind the first word.
+pub(crate) fn read_counted(alloc: Global, words: &[String]) -> Result<Counted, WordsFault>
     requires { HasNoOption (map string_bytes words.now) }
-    ensures ok { IfOk result (λ b. SpellsBlocks []
-        (drop 1 (map string_bytes words.now)) b.block b.count) }
-    ensures usage { result ≡ Err WordsFault.Usage → (block count : ℕ)
-        → SpellsBlocks [] (drop 1 (map string_bytes words.now)) block count → ⊥ }
+    ensures ok { IfOk result (λ read. SpellsCounted []
+        (drop 1 (map string_bytes words.now)) read.number read.count) }
+    ensures usage { result ≡ Err WordsFault.Usage → (number count : ℕ)
+        → SpellsCounted [] (drop 1 (map string_bytes words.now)) number count → ⊥ }
 {
-    let matches = parse(blocks_command(alloc)?, words)?;
-    blocks_of(&matches)
+    let matches = parse(counted_command(alloc)?, words)?;
+    counted_of(&matches)
 }
 
 // Reads `SLOT` behind the first word.
@@ -106,12 +106,12 @@ fn stripe_command<'a>(alloc: Global) -> Result<Command<'a>, AllocError>
     with_geometry(alloc, bare(alloc).arg(one_word(alloc, "METHOD"))?)
 }
 
-// `BLOCK COUNT`
-fn blocks_command<'a>(alloc: Global) -> Result<Command<'a>, AllocError>
-    ensures { IfOk result (λ command. app_of command ≡ blocks_app) }
+// `NUMBER COUNT`
+fn counted_command<'a>(alloc: Global) -> Result<Command<'a>, AllocError>
+    ensures { IfOk result (λ command. app_of command ≡ counted_app) }
 {
     bare(alloc)
-        .arg(one_word(alloc, "BLOCK"))?
+        .arg(one_word(alloc, "NUMBER"))?
         .arg(one_word(alloc, "COUNT"))
 }
 

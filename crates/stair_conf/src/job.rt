@@ -81,4 +81,13 @@ pub enum Job {
         /// The label, which isn't empty and doesn't begin with a hyphen.
         text: Label,
     },
+    /// `run`: the lines of a script are done.
+    Run,
+    /// `exercise NUMBER COUNT`: steps that a number gives.
+    Exercise {
+        /// The number that they begin with.
+        number: u64,
+        /// How many steps.
+        count: u64,
+    },
 }

@@ -2,7 +2,7 @@
 
 ghost use Rattle.std.specs.Prelude.{◌≡◌, ◌≢◌, ℕ, ◌↔◌, List, [], map, slice_index_or, IfOk, IsTrue, Some};
 ghost use Rattle.clap.specs.Words.{found_of, rows_of};
-ghost use Rattle.stair_conf.specs.Rows.{HasBlocks, HasGeometry, HasThreeNumbers, HasMethodWord, HasNumberWord, HasNumberWords, HasTextWord};
+ghost use Rattle.stair_conf.specs.Rows.{HasCounted, HasGeometry, HasThreeNumbers, HasMethodWord, HasNumberWord, HasNumberWords, HasTextWord};
 ghost use Rattle.stair_conf.specs.Words.{AreNumbers, BeginsNumber, IsNumber, IsText, method_word};
 ghost use Rattle.stair_conf.specs.declared.job.Method.{Method};
 
@@ -20,10 +20,10 @@ pub(crate) struct GeometryNumbers {
     pub(crate) e: Numbers,
 }
 
-// The numbers of words that name blocks.
+// A number, and a count.
 #[derive(Clone, Copy)]
-pub(crate) struct BlockNumbers {
-    pub(crate) block: u64,
+pub(crate) struct Counted {
+    pub(crate) number: u64,
     pub(crate) count: u64,
 }
 
@@ -46,15 +46,15 @@ pub(crate) fn geometry_of(
     })
 }
 
-// Reads the numbers BLOCK and COUNT. It takes no memory.
-pub(crate) fn blocks_of(matches: &ArgMatches<'_>) -> Result<BlockNumbers, WordsFault>
-    ensures ok { IfOk result (λ b. HasBlocks (rows_of (found_of matches.now)) b.block b.count) }
-    ensures usage { result ≡ Err WordsFault.Usage → (block count : ℕ)
-        → HasBlocks (rows_of (found_of matches.now)) block count → ⊥ }
+// Reads the numbers NUMBER and COUNT. It takes no memory.
+pub(crate) fn counted_of(matches: &ArgMatches<'_>) -> Result<Counted, WordsFault>
+    ensures ok { IfOk result (λ read. HasCounted (rows_of (found_of matches.now)) read.number read.count) }
+    ensures usage { result ≡ Err WordsFault.Usage → (number count : ℕ)
+        → HasCounted (rows_of (found_of matches.now)) number count → ⊥ }
     ensures memory { result ≢ Err WordsFault.Memory }
 {
-    Ok(BlockNumbers {
-        block: number_of(matches, "BLOCK").ok_or(WordsFault::Usage)?,
+    Ok(Counted {
+        number: number_of(matches, "NUMBER").ok_or(WordsFault::Usage)?,
         count: number_of(matches, "COUNT").ok_or(WordsFault::Usage)?,
     })
 }

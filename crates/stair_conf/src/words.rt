@@ -4,14 +4,14 @@ ghost use Rattle.stair_conf.specs.Words.{Spells, IsCommandLine};
 ghost use Rattle.stair_conf.specs.declared.job.Job.{Job};
 ghost use Rattle.stair_conf.specs.declared.job.Job.TheVariants.{OneStripe};
 
-use crate::commands::{read_blocks, read_geometry, read_label, read_slot, read_stripe};
-use crate::matches::{BlockNumbers, GeometryNumbers};
+use crate::commands::{read_counted, read_geometry, read_label, read_slot, read_stripe};
+use crate::matches::{Counted, GeometryNumbers};
 use crate::{Job, StripeCommand, WordsFault};
 use std::alloc::Global;
 
 /// Reads the words of a command: `check N M R E..`, `stripe METHOD N M R E..` or `restore N M R E..`, with at least one E,
-/// `read BLOCK COUNT`, `write BLOCK COUNT`, `replace SLOT` or `label TEXT`, or `create`, `show`, `scrub`, `rebuild`, `freeze`
-/// or `thaw` alone.
+/// `read BLOCK COUNT`, `write BLOCK COUNT`, `replace SLOT`, `label TEXT` or `exercise NUMBER COUNT`, or `create`, `show`, `scrub`,
+/// `rebuild`, `freeze`, `thaw` or `run` alone.
 ///
 /// METHOD is `standard`, `up`, `down` or `fewest`. A number is decimal digits with no sign and no leading zero, below 2^64.
 /// TEXT is 1 to 64 bytes of printable ASCII, the first of which isn't a hyphen. All other words are `Usage`, unless memory runs
@@ -38,12 +38,18 @@ pub fn read_words(alloc: Global, words: &[String]) -> Result<Job, WordsFault>
         "create" => alone(words, Job::Create),
         "show" => alone(words, Job::Show),
         "read" => {
-            let BlockNumbers { block, count } = read_blocks(alloc, words)?;
-            Ok(Job::Read { block, count })
+            let Counted { number, count } = read_counted(alloc, words)?;
+            Ok(Job::Read {
+                block: number,
+                count,
+            })
         }
         "write" => {
-            let BlockNumbers { block, count } = read_blocks(alloc, words)?;
-            Ok(Job::Write { block, count })
+            let Counted { number, count } = read_counted(alloc, words)?;
+            Ok(Job::Write {
+                block: number,
+                count,
+            })
         }
         "scrub" => alone(words, Job::Scrub),
         "replace" => Ok(Job::Replace {
@@ -55,6 +61,11 @@ pub fn read_words(alloc: Global, words: &[String]) -> Result<Job, WordsFault>
         "label" => Ok(Job::Label {
             text: read_label(alloc, words)?,
         }),
+        "run" => alone(words, Job::Run),
+        "exercise" => {
+            let Counted { number, count } = read_counted(alloc, words)?;
+            Ok(Job::Exercise { number, count })
+        }
         _ => Err(WordsFault::Usage),
     }
 }

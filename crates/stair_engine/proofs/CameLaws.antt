@@ -24,7 +24,7 @@ use Rattle.stair_story.specs.declared.status.Status.{Status}
 use Rattle.stair_story.specs.declared.status.Status.TheVariants.{Done, Input, InputFault, OutOfMemory, OutputFault}
 use Rattle.stair_story.proofs.EndLaws.{no_move}
 use Rattle.stair_story.proofs.EndingLaws.{ends_so}
-use Rattle.stair_engine.specs.Blocks.{if_in_range, if_left, is_in_range, part_of, piece_blocks, whole_of, within_range, write_plan, writes, wrote, wrote_line}
+use Rattle.stair_engine.specs.Blocks.{if_in_range, if_so, is_in_range, part_of, piece_blocks, whole_of, within_range, write_plan, writes, wrote, wrote_line}
 use Rattle.stair_engine.specs.Came.{AreWritten, IsUnrefused, taken_in}
 use Rattle.stair_engine.specs.Laws.{WholeBlocksStand}
 use Rattle.stair_engine.specs.Plans.{if_spelled, job_plan, plan_of}
@@ -180,7 +180,7 @@ module _ (status : Status) (unrefused : IsUnrefused status) where
             (omega (arith, length-take (SECTOR * (all - done)) (held ++ (bytes ++ [])), length-append held (bytes ++ []), length-append bytes [], few, part)))
 
         by : (left : Bool) → nat_lt done all ≡ left → (story : List Deed)
-            → Leads Moves story (if_left left (turn g first all turns done held) (wrote all)) (Over status)
+            → Leads Moves story (if_so left (turn g first all turns done held) (wrote all)) (Over status)
             → ((bytes : List ℕ) (rest : List Deed) → (all ≤ done + length (held ++ bytes) / SECTOR + turns) × (done + length (held ++ bytes) / SECTOR ≤ all)
             → Leads Moves rest (writes g first all turns (done + length (held ++ bytes) / SECTOR) (part_of (held ++ bytes))) (Over status)
             → Writes first all (done + length (held ++ bytes) / SECTOR) (part_of (held ++ bytes)) rest)

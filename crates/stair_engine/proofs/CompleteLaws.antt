@@ -19,11 +19,11 @@ use Rattle.stair_state.specs.Blocks.{AreOfOneStripe}
 use Rattle.stair_state.specs.State.{Content, State, without_seats}
 use Rattle.stair_array.specs.Arrays.{blocks_of}
 use Rattle.stair_member.specs.Seats.{Seat, Seats}
-use Rattle.stair_array.specs.Machine.{IsDecided, PassesTests, SetFrozen, SetLabel, Step, WriteBlocks}
+use Rattle.stair_array.specs.Machine.{PassesTests, SetFrozen, SetLabel, Step, WriteBlocks}
 use Rattle.stair_conf.specs.Config.{TextReadsAs}
 use Rattle.stair_conf.specs.declared.fault.ConfigFault.{ConfigFault}
 use Rattle.stair_conf.specs.declared.job.Job.{Job}
-use Rattle.stair_conf.specs.declared.job.Job.TheVariants.{OneStripe, Create, Freeze, Label, Read, Rebuild, Replace, Scrub, Show, Thaw, Write}
+use Rattle.stair_conf.specs.declared.job.Job.TheVariants.{OneStripe, Create, Exercise, Freeze, Label, Read, Rebuild, Replace, Run, Scrub, Show, Thaw, Write}
 use Rattle.stair_conf.specs.declared.job.StripeCommand.{StripeCommand}
 use Rattle.stair_conf.specs.declared.job.StripeCommand.TheVariants.{Check, Encode, Restore}
 use Rattle.stair_conf.specs.Words.{Spells}
@@ -32,9 +32,10 @@ use Rattle.stair_conf.proofs.WordsLemmas.{spells_once}
 use Rattle.stair_story.specs.Answer.{HasBytes, Judges}
 use Rattle.stair_engine.specs.Cause.{HasCause}
 use Rattle.stair_engine.specs.Complete.{IsComplete, IsThawed, IsValidInput}
-use Rattle.stair_engine.specs.Laws.{AllIsComplete, ReplacementIsDone}
+use Rattle.stair_engine.specs.Laws.{AllIsComplete, ReplacementIsDone, ScriptIsDone}
 use Rattle.stair_story.specs.Outside.{Outside, Views, outside}
-use Rattle.stair_engine.specs.Plans.{create_plan, job_plan, making_plan, plan_of}
+use Rattle.stair_engine.specs.Plans.{create_plan, if_spelled, job_plan, making_plan, plan_of}
+use Rattle.stair_engine.specs.Scripts.{run_plan}
 use Rattle.stair_engine.specs.Show.{show_text}
 use Rattle.stair_story.specs.Rack.{MeansOver, RackView, Works, told_of}
 use Rattle.stair_story.specs.Restore.{HoldsCells, IsErasedBy}
@@ -42,7 +43,8 @@ use Rattle.stair_engine.specs.Task.{one_stripe}
 use Rattle.stair_story.specs.declared.status.Status.{Status}
 use Rattle.stair_story.specs.declared.status.Status.TheVariants.{Done, NotCodeword, NoCodeword, Limit, Input, InputFault, OutputFault, Lost, OutOfMemory}
 use Rattle.stair_engine.proofs.MeaningLaws.{told_more, words_are_done}
-use Rattle.stair_engine.specs.Blocks.{IsInRange, if_in_range, if_left, opens_array, part_of, piece_blocks, read_plan, reads, whole_of, within_range, write_plan, writes, wrote}
+use Rattle.stair_engine.specs.Blocks.{IsInRange, if_in_range, if_so, part_of, piece_blocks, read_plan, reads, whole_of, within_range, write_plan, writes, wrote}
+use Rattle.stair_engine.specs.Jobs.{MayAdmit}
 use Rattle.stair_engine.specs.Mending.{if_live, if_slot, rebuild_plan, rebuilt_line, replace_plan, replaces, scrub_plan, scrubs, stamps}
 use Rattle.stair_array.specs.Promise.{Begun}
 use Rattle.stair_session.specs.SeatSteps.{MayDrop}
@@ -56,11 +58,17 @@ use Rattle.stair_engine.proofs.JobLaws.{job_admits_none, job_allowed, words_tell
 use Rattle.stair_engine.proofs.RangeLaws.{in_range_is}
 use Rattle.stair_engine.proofs.TurnLaws.{blocks_count, few_whole, part_long, part_short, piece_left, piece_some, piece_together, some_whole}
 use Rattle.stair_engine.proofs.WordLaws.{over_spelled}
+use Rattle.stair_story.specs.Question.{IsReply, Words}
 use Rattle.stair_story.specs.Sure.{EachCanReplace, HasNoFault, IsDone, IsSure, IsRebuiltFrom, Last, More, ServesThroughout, most_allowed}
-use Rattle.stair_story.proofs.PlannedSureLaws.{none_replaced, planned_sure}
+use Rattle.stair_story.specs.Run.{history_of}
+use Rattle.stair_story.proofs.PlannedLaws.{EachStepOf, steps_of}
+use Rattle.stair_story.proofs.PlannedSureLaws.{none_replaced, none_replaced_in, planned_sure}
 use Rattle.stair_story.proofs.SureDeviceLaws.{devices_replace}
 use Rattle.stair_engine.proofs.MendLaws.{replaces_once}
 use Rattle.stair_engine.proofs.OpenLaws.{opening_once}
+use Rattle.stair_engine.proofs.ExerciseSureLaws.{exercise_sure}
+use Rattle.stair_engine.proofs.ScriptSureLaws.{run_admits_none, run_sure}
+use Rattle.stair_engine.proofs.SureLaws.{opens_sure, serves_limits, still_thawed}
 use Rattle.stair_story.proofs.AllEnds.{AllEnd}
 use Rattle.stair_story.proofs.SureLaws.{look_sure, stepless_done}
 
@@ -202,16 +210,6 @@ within_sure : (g : Geometry) (first count : ℕ) (plan : Plan) (s : State) (left
 within_sure g first count plan s left within sure =
     subst (λ (is : Bool). IsSure [] (if_in_range g first is plan) s left) (sym (in_range_is g first count within)) sure
 
--- a session whose command is sure is sure
-opens_sure : (k : Geometry → Plan) (s : State) (left : Option (List ℕ))
-    → ((later : State) → IsDecided s later → later.geometry ≡ s.geometry → IsSure [] (k s.geometry) later left)
-    → IsSure [] (opens_array k) s left
-opens_sure k s left sure = λ member same. (
-  λ seats is free. tt,
-  λ g gone later done.
-      subst (λ (h : Geometry). IsSure [] (k h) later left) (sym done.row.holds.0) (sure later done.row.holds.1 done.row.geometry),
-)
-
 read_sure : (first count : ℕ) (s : State) (left : Option (List ℕ)) → IsInRange s.geometry first count
     → IsSure [] (read_plan first count) s left
 read_sure first count s left within =
@@ -328,7 +326,7 @@ module _ (g : Geometry) (first all : ℕ) (within : first + all ≤ block_count 
           → all ≤ done + length (held ++ bytes) / SECTOR + turns
           → IsSure [] (writes g first all turns (done + length (held ++ bytes) / SECTOR) (part_of (held ++ bytes))) later (Some rest))
           → IsSure []
-          (if_left left
+          (if_so left
           (Take (SECTOR - length held) (SECTOR * piece_blocks g (first + done) (all - done) - length held)
           (λ bytes. take_step g.n (WriteBlocks (first + done) (blocks_of (whole_of (held ++ bytes))))
           (λ ok. writes g first all turns (done + length (held ++ bytes) / SECTOR) (part_of (held ++ bytes))))
@@ -369,12 +367,8 @@ write_sure first count s told within long thawed =
     opens_sure (λ g. within_range g first count (writes g first count count 0 [])) s (Some told)
     (λ later decided same.
     within_sure s.geometry first count (writes s.geometry first count count 0 []) later (Some told) within
-    (by count s.geometry later same within long (λ some. still later decided (thawed some))))
+    (by count s.geometry later same within long (λ some. still_thawed s later decided (thawed some))))
   where
-    still : (later : State) → IsDecided s later → IsThawed s → later.content.frozen ≡ false
-    still later (inl kept) is = ap (λ (c : Content). c.frozen) kept.content ∙ is.0
-    still later (inr made) is = ap (λ (c : Content). c.frozen) made.content ∙ is.1
-
     by : (count : ℕ) (g : Geometry) (later : State) → later.geometry ≡ g → IsInRange g first count → length told ≡ SECTOR * count
         → (0 < count → later.content.frozen ≡ false) → IsSure [] (writes g first count count 0 []) later (Some told)
     by zero g later same within long thawed =
@@ -383,30 +377,11 @@ write_sure first count s told within long thawed =
         writes_sure g first (suc count) (within (omega arith)) (suc count) 0 [] later told (omega arith) (omega arith) (omega (arith, long)) (omega arith)
         same (thawed (omega arith))
 
--- so is a call of the words of a sure command
-words_sure : (words : List (List ℕ)) (of : Job) (s : State) (left : Option (List ℕ)) → Spells words of → IsSure [] (job_plan of) s left
-    → IsSure [] (plan_of words) s left
-words_sure words of s left spells sure None not = absurd (not (of, spells))
-words_sure words of s left spells sure (Some job) read =
-    subst (λ (j : Job). IsSure [] (job_plan j) s left) (spells_once words of job spells read) sure
-
--- so are no other steps than those of its plan
-words_admit_none : (words : List (List ℕ)) (of : Job) → Spells words of → ((slot : ℕ) → of ≡ Replace slot → ⊥) → EachStep AdmitsNone (plan_of words)
-words_admit_none words of spells other None is = tt
-words_admit_none words of spells other (Some job) read =
-    subst (λ (j : Job). EachStep AdmitsNone (job_plan j)) (spells_once words of job spells read) (job_admits_none of other)
-
-words_allowed : (words : List (List ℕ)) (of : Job) → Spells words of → AllowsAtMost most_allowed (plan_of words)
-words_allowed words of spells None is = tt
-words_allowed words of spells (Some job) read =
-    subst (λ (j : Job). AllowsAtMost most_allowed (job_plan j)) (spells_once words of job spells read) (job_allowed of)
-
--- and `replace` admits a medium to its slot, once
-words_once : (words : List (List ℕ)) (slot : ℕ) → Spells words (Replace slot) → AdmitsOnce slot (plan_of words)
-words_once words slot spells None is = tt
-words_once words slot spells (Some job) read =
-    subst (λ (j : Job). AdmitsOnce slot (job_plan j)) (spells_once words (Replace slot) job spells read)
-    (λ member. opening_once slot member.array.geometry.n _ (λ g. replaces_once g slot))
+-- what is so of a command's plan is so of what is done for words that spell it
+spelled_so : (IsSo : Plan → Type 0) (words : List (List ℕ)) (of : Job) → Spells words of → IsSo (job_plan of) → (reply : Option Job)
+    → IsReply (Words words) reply → IsSo (if_spelled reply)
+spelled_so IsSo words of spells so None not = absurd (not (of, spells))
+spelled_so IsSo words of spells so (Some job) read = subst (λ (j : Job). IsSo (job_plan j)) (spells_once words of job spells read) so
 
 module _ {R S K : Type 0} (rack : RackView R) (view : Views S K) where
   show_done : (words : List (List ℕ)) (status : Status) (a b : Outside S K) (x y : R) → Spells words Show
@@ -415,7 +390,7 @@ module _ {R S K : Type 0} (rack : RackView R) (view : Views S K) where
       let since = can.1 in
       stepless_done rack can.0 since.before view (plan_of words) status since.state a b x y over since.since since.represents
       since.tolerated since.returned none
-      (words_sure words Show (without_seats since.state) (view.source.left a.source) spells
+      (spelled_so (λ plan. IsSure [] plan (without_seats since.state) (view.source.left a.source)) words Show spells
       (look_sure [] show_text (without_seats since.state) (view.source.left a.source)))
 
 -- a call of the words of a sure command, on an array that serves
@@ -427,17 +402,31 @@ module _ {R W S K : Type 0} (devices : DeviceView R W) (view : Views S K) (words
         → EachCanReplace devices s.geometry whole.with.means.story (at x Begun watchers) (at y whole.session left) whole.with.works
         → IsSure [] (job_plan of) (without_seats s) (view.source.left a.source) → IsDone status
     served_where status a b x y watchers left whole none s serves can sure =
-        planned_sure devices view (plan_of words) status s a b x y watchers left whole (words_allowed words of spells) serves none can
-        (words_sure words of (without_seats s) (view.source.left a.source) spells sure)
+        planned_sure devices view (plan_of words) status s a b x y watchers left whole
+        (spelled_so (AllowsAtMost most_allowed) words of spells (job_allowed of)) serves none can
+        (spelled_so (λ plan. IsSure [] plan (without_seats s) (view.source.left a.source)) words of spells sure)
 
     -- which admits no medium
-    served : ((slot : ℕ) → of ≡ Replace slot → ⊥) → (status : Status) (a b : Outside S K) (x y : R) (watchers left : List W)
+    served : ¬ MayAdmit of → (status : Status) (a b : Outside S K) (x y : R) (watchers left : List W)
         → MeansWhole devices view (plan_of words) (Over status) a b x y watchers left → HasNoFault view a b → (s : State)
         → ServesThroughout devices.rack s x y → IsSure [] (job_plan of) (without_seats s) (view.source.left a.source) → IsDone status
     served other status a b x y watchers left whole none s serves sure =
         served_where status a b x y watchers left whole none s serves
         (none_replaced devices view (plan_of words) (Over status) s.geometry a b (at x Begun watchers) (at y whole.session left) whole.with
-        (words_admit_none words of spells other)) sure
+        (spelled_so (EachStep AdmitsNone) words of spells (job_admits_none of other))) sure
+
+    -- or admits none of the source's input
+    served_none : (status : Status) (a b : Outside S K) (x y : R) (watchers left : List W)
+        → MeansWhole devices view (plan_of words) (Over status) a b x y watchers left → HasNoFault view a b → (s : State)
+        → ServesThroughout devices.rack s x y → EachStepOf AdmitsNone (job_plan of) (view.source.left a.source)
+        → IsSure [] (job_plan of) (without_seats s) (view.source.left a.source) → IsDone status
+    served_none status a b x y watchers left whole none s serves admits sure =
+        let last = at y whole.session left in
+        served_where status a b x y watchers left whole none s serves
+        (none_replaced_in devices s.geometry (history_of devices last) whole.with.means.story (at x Begun watchers) last whole.with.works
+        (steps_of AdmitsNone view.source whole.with.means.story (plan_of words) (Over status) a.source b.source
+        (spelled_so (λ plan. EachStepOf AdmitsNone plan (view.source.left a.source)) words of spells admits)
+        whole.with.means.follows whole.with.means.bears.gives)) sure
 
 pub all_is_complete : (R W S K : Type 0) → AllIsComplete R W S K
 all_is_complete R W S K devices view words (OneStripe command n m r e) status a b x y watchers left spells whole none can =
@@ -455,33 +444,50 @@ all_is_complete R W S K devices view words Show status a b x y watchers left spe
     show_done devices.rack view words status a b x y spells
     (stepless devices view words status a b x y watchers left whole (none_opened words Show spells (λ no. no))) none can
 all_is_complete R W S K devices view words (Read first count) status a b x y watchers left spells whole none can =
-    served devices view words (Read first count) spells (λ slot is. cc) status a b x y watchers left whole none can.0 can.1
+    served devices view words (Read first count) spells (λ no. no) status a b x y watchers left whole none can.0 can.1
     (read_sure first count (without_seats can.0) (view.source.left a.source) can.2)
 all_is_complete R W S K devices view words (Write first count) status a b x y watchers left spells whole none can =
     let is = can.2 in
-    served devices view words (Write first count) spells (λ slot other. cc) status a b x y watchers left whole none is.0 is.1
+    served devices view words (Write first count) spells (λ no. no) status a b x y watchers left whole none is.0 is.1
     (subst (λ (told : Option (List ℕ)). IsSure [] (write_plan first count) (without_seats is.0) told) (sym can.1)
     (write_sure first count (without_seats is.0) can.0 is.2 is.3 is.4))
 all_is_complete R W S K devices view words Scrub status a b x y watchers left spells whole none can =
-    served devices view words Scrub spells (λ slot is. cc) status a b x y watchers left whole none can.0 can.1
+    served devices view words Scrub spells (λ no. no) status a b x y watchers left whole none can.0 can.1
     (scrub_sure (without_seats can.0) (view.source.left a.source))
 all_is_complete R W S K devices view words (Replace slot) status a b x y watchers left spells whole none can =
     let device = can.2 in
     served_where devices view words (Replace slot) spells status a b x y watchers left whole none can.0 can.1
-    (devices_replace devices view (plan_of words) (Over status) can.0 slot a b x y watchers left whole (words_once words slot spells) can.1 device)
+    (devices_replace devices view (plan_of words) (Over status) can.0 slot a b x y watchers left whole
+    (spelled_so (AdmitsOnce slot) words (Replace slot) spells
+    (λ member. opening_once slot member.array.geometry.n _ (λ g. replaces_once g slot))) can.1 device)
     (replace_sure slot (without_seats can.0) (view.source.left a.source) device.stays.below)
 all_is_complete R W S K devices view words Rebuild status a b x y watchers left spells whole none can =
-    served devices view words Rebuild spells (λ slot is. cc) status a b x y watchers left whole none can.0 can.1
+    served devices view words Rebuild spells (λ no. no) status a b x y watchers left whole none can.0 can.1
     (rebuild_sure (without_seats can.0) (view.source.left a.source))
 all_is_complete R W S K devices view words Freeze status a b x y watchers left spells whole none can =
-    served devices view words Freeze spells (λ slot is. cc) status a b x y watchers left whole none can.0 can.1
+    served devices view words Freeze spells (λ no. no) status a b x y watchers left whole none can.0 can.1
     (stamps_sure (SetFrozen true) (codes "frozen" ++ 10 ∷ []) (λ s seats is. tt) (without_seats can.0) (view.source.left a.source))
 all_is_complete R W S K devices view words Thaw status a b x y watchers left spells whole none can =
-    served devices view words Thaw spells (λ slot is. cc) status a b x y watchers left whole none can.0 can.1
+    served devices view words Thaw spells (λ no. no) status a b x y watchers left whole none can.0 can.1
     (stamps_sure (SetFrozen false) (codes "thawed" ++ 10 ∷ []) (λ s seats is. tt) (without_seats can.0) (view.source.left a.source))
 all_is_complete R W S K devices view words (Label text) status a b x y watchers left spells whole none can =
-    served devices view words (Label text) spells (λ slot is. cc) status a b x y watchers left whole none can.0 can.1
+    served devices view words (Label text) spells (λ no. no) status a b x y watchers left whole none can.0 can.1
     (stamps_sure (SetLabel text) (codes "labelled" ++ 10 ∷ []) (λ s seats is. tt) (without_seats can.0) (view.source.left a.source))
+all_is_complete R W S K devices view words (Exercise number count) status a b x y watchers left spells whole none can =
+    served devices view words (Exercise number count) spells (λ no. no) status a b x y watchers left whole none can.0 can.1
+    (exercise_sure number count (without_seats can.0) (view.source.left a.source) (serves_limits devices.rack can.0 x y can.1) can.2 can.3)
+all_is_complete R W S K devices view words Run status a b x y watchers left spells whole none can =
+    let is = can.2 in
+    let script = is.2 in
+    served_none devices view words Run spells status a b x y watchers left whole none is.0 is.1
+    (subst (λ (told : Option (List ℕ)). EachStepOf AdmitsNone run_plan told) (sym can.1)
+    (run_admits_none script.0 can.0 script.1.few script.1.script script.2))
+    (subst (λ (told : Option (List ℕ)). IsSure [] run_plan (without_seats is.0) told) (sym can.1) (run_sure is.0 script.0 can.0 script.1))
+
+pub script_is_done : (R W S K : Type 0) → ScriptIsDone R W S K
+script_is_done R W S K devices view words script input status s a b x y watchers left spells whole none serves told is can =
+    served_where devices view words Run spells status a b x y watchers left whole none s serves can
+    (subst (λ (left : Option (List ℕ)). IsSure [] run_plan (without_seats s) left) (sym told) (run_sure s script input is))
 
 pub replacement_is_done : (R W S K : Type 0) → ReplacementIsDone R W S K
 replacement_is_done R W S K devices view words slot status s a b x y watchers left spells whole none serves below can =

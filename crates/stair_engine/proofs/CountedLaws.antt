@@ -1,6 +1,6 @@
 -- The number that a scrub tells is that of the cells that couldn't be read at first: no stripe is written before it is scrubbed, and
 -- nothing of the outside comes between.
-use Rattle.std.proofs.Common.{◌≡◌, ◌∙◌, ◌+◌, ◌<◌, ◌≤◌, ℕ, zero, suc, List, [], ◌∷◌, length, None, Option, Some, Ok, inl, inr, refl, sym, ap, subst, false, arith}
+use Rattle.std.proofs.Common.{◌≡◌, ◌∙◌, ◌+◌, ◌<◌, ◌≤◌, ℕ, zero, suc, List, [], ◌∷◌, length, None, Some, Ok, inl, inr, refl, sym, ap, subst, false, arith}
 use Rattle.std.proofs.lemmas.Bool.{cases_Bool, false≢true}
 use Rattle.std.specs.Prelude.{Bool, IsSome, IsTrue}
 use Rattle.std.specs.Io.KnownBytes.{Appends}
@@ -10,12 +10,12 @@ use Rattle.stair_model.specs.Geometry.{Geometry}
 use Rattle.stair_model.specs.Slots.{HasSlot}
 use Rattle.stair_rack.specs.Answers.{Ran, any_call, is_good}
 use Rattle.stair_rack.specs.Crash.{image_now}
-use Rattle.stair_rack.specs.History.{Attach, Happening, Read, Sectors, SlotCall, Sync, Write, slot_state, stopped}
+use Rattle.stair_rack.specs.History.{Happening, slot_state, stopped}
 use Rattle.stair_rack.specs.Media.{has_sector}
 use Rattle.stair_rack.specs.Moments.{AtSomeMoment, IsMoment}
 use Rattle.stair_rack.specs.Offline.{IsHeld, IsOffline, WasPulled}
 use Rattle.stair_rack.specs.Sector.{Good, content}
-use Rattle.stair_rack.specs.Stretch.{IsNoWrite, NothingDamaged, NothingWritten, every_slot}
+use Rattle.stair_rack.specs.Stretch.{NothingDamaged, NothingWritten, every_slot}
 use Rattle.stair_rack.specs.declared.watcher.Event.{Event}
 use Rattle.stair_rack.proofs.CrashLemmas.{CrashMayLeave-now}
 use Rattle.stair_rack.proofs.KeptLemmas.{not_none}
@@ -36,16 +36,19 @@ use Rattle.stair_journal.specs.Gate.{closed_gate, open_gate}
 use Rattle.stair_journal.specs.declared.redo.Redo.{Redo}
 use Rattle.stair_state.specs.Surveyed.{FindsArray}
 use Rattle.stair_state.specs.Tolerance.{IsWithinTolerance}
+use Rattle.stair_state.proofs.RedoPhaseLemmas.{large_some}
 use Rattle.stair_state.proofs.SurveyedLemmas.{finds_array}
 use Rattle.stair_session.specs.Courses.{point}
 use Rattle.stair_session.specs.Session.{ArrayState, IsLiveIn}
 use Rattle.stair_session.proofs.OpenLaws.{goes_on_within}
 use Rattle.stair_array.specs.Causes.{WasGoneTo, WhyGoesOn}
-use Rattle.stair_array.specs.Machine.{GivenBy, Recover, ScrubStripe, Step}
+use Rattle.stair_array.specs.Machine.{Recover, ScrubStripe}
 use Rattle.stair_array.specs.Openings.{Recovers}
-use Rattle.stair_array.specs.Promise.{AnswersStopped, AreRepaired, Begun, EndsIn, Ends, GoesOn, IsQuiet, Found, Opened, Performs, Session, StartsFrom, unopened}
+use Rattle.stair_array.specs.Promise.{AnswersStopped, AreRepaired, Begun, Found, Opened, Performs, Session, StartsFrom, unopened}
+use Rattle.stair_array.proofs.OpenStepLemmas.{IsOpened, starts_open}
 use Rattle.stair_array.proofs.PartsLemmas.{IsPart, live_back}
 use Rattle.stair_array.proofs.PerformsLemmas.{recovered_part}
+use Rattle.stair_array.proofs.RecoverLemmas.{looks_write_none}
 use Rattle.stair_conf.specs.declared.job.Job.TheVariants.{Scrub}
 use Rattle.stair_story.specs.Devices.{DeviceView, Devices, KeepsRules, WorksAll, devices, seen_of}
 use Rattle.stair_story.specs.Rack.{told_of}
@@ -60,9 +63,9 @@ use Rattle.stair_story.specs.Story.{Deed, HasPut, PutFailed, Stepped, Leads, Mov
 use Rattle.stair_story.specs.Sure.{IsThere}
 use Rattle.stair_story.proofs.RunLaws.{one_ran, works_ran}
 use Rattle.stair_story.proofs.SureSlotLaws.{not_gone}
-use Rattle.stair_story.proofs.SureStepLaws.{IsOpened, starts_open}
+use Rattle.stair_story.proofs.SureStepLaws.{ends_open}
 use Rattle.stair_story.specs.declared.status.Status.TheVariants.{Done}
-use Rattle.stair_engine.specs.Counted.{AreBad, AreBadFrom, IsExact, IsUndisturbed, PutsAlone, cells_in}
+use Rattle.stair_engine.specs.Counted.{AreBad, AreBadFrom, IsExact, IsQuiet, IsUndisturbed, PutsAlone, cells_in}
 use Rattle.stair_engine.specs.Laws.{ScrubsAreCounted}
 use Rattle.stair_engine.specs.Mending.{scrubbed_line, scrubs}
 use Rattle.stair_engine.specs.Plans.{plan_of}
@@ -72,25 +75,18 @@ use Rattle.stair_engine.proofs.SparedLaws.{Spared, gate_none, held_before, spare
 
 -- ---- slots of a rack that is left alone
 
--- a medium that is large enough is one
-large_some : (g : Geometry) (size : Option ℕ) → IsLargeEnough g size → IsSome size
-large_some g None large = absurd (false≢true (large 0 (omega arith)))
-large_some g (Some size) large = refl
-
 module _ (g : Geometry) (before last : List Happening) (all : Ran any_call before last) (quiet : IsQuiet before last) where
-  -- no medium is pulled between two moments
-  unpulled : {a b : List Happening} → Ran any_call before a → Ran any_call b last → (j : ℕ) → ¬ WasPulled a b j
-  unpulled first later j pulled =
+  -- no medium that was there is pulled between two moments
+  unpulled : {a b : List Happening} → Ran any_call before a → Ran any_call b last → (j : ℕ) → IsSome (slot_state before j).size
+      → ¬ WasPulled a b j
+  unpulled first later j some pulled =
       let start = pulls_on {allowed = any_call} j first in
       let rest = pulls_on {allowed = any_call} j later in
-      quiet.unpulled j (omega (arith, start, pulled, rest))
+      quiet.unpulled j some (omega (arith, start, pulled, rest))
 
   -- none becomes damaged
   undamaged : {a b : List Happening} → Ran any_call before a → Ran any_call a b → Ran any_call b last → NothingDamaged a b
   undamaged first mid later = each_before (each_after quiet.undamaged (moment_between first (ran_join mid later))) (moment_between mid later)
-
-  quiet_between : {a b : List Happening} → Ran any_call before a → Ran any_call a b → Ran any_call b last → IsQuiet a b
-  quiet_between first mid later = record { undamaged = undamaged first mid later; unpulled = unpulled first later }
 
   module _ (j : ℕ) (large : IsLargeEnough g (slot_state before j).size) where
     some : IsSome (slot_state before j).size
@@ -100,7 +96,7 @@ module _ (g : Geometry) (before last : List Happening) (all : Ran any_call befor
     same_size {h} first later =
         elim (size_on {allowed = any_call} (slot_state before j).pulls (slot_state before j).size j some first (HasSize.Same refl refl)) [
           | HasSize.Same pulls is ↦ is
-          | HasSize.Other less ↦ absurd (unpulled (ran_none before) later j less)
+          | HasSize.Other less ↦ absurd (unpulled (ran_none before) later j some less)
         ]
 
     -- it is there at every moment
@@ -112,7 +108,7 @@ module _ (g : Geometry) (before last : List Happening) (all : Ran any_call befor
       where
         never : (h : List Happening) → IsMoment before h last → IsOffline before h j → ⊥
         never h at (IsOffline.NoMedium none) = not_none (slot_state before j).size (sym (same_size (ran_before all at) (ran_after all at)) ∙ none) some
-        never h at (IsOffline.Unattached apart pulled) = unpulled (ran_none before) (ran_after all at) j pulled
+        never h at (IsOffline.Unattached apart pulled) = unpulled (ran_none before) (ran_after all at) j some pulled
         never h at (IsOffline.RackStopped stops) = going h at stops
 
     -- where a cell can't be read later it couldn't be at first
@@ -121,7 +117,7 @@ module _ (g : Geometry) (before last : List Happening) (all : Ran any_call befor
     bad_before {h} k first later bad =
         elim (cases_Bool (is_good (content ((slot_state before j).sector k)))) [
           | inl good ↦
-              let still = stays_good j k some (unpulled (ran_none before) later j) (undamaged (ran_none before) first later) first good in
+              let still = stays_good j k some (unpulled (ran_none before) later j some) (undamaged (ran_none before) first later) first good in
               absurd (false≢true (sym bad ∙ still))
           | inr same ↦ same
         ]
@@ -129,13 +125,9 @@ module _ (g : Geometry) (before last : List Happening) (all : Ran any_call befor
     -- and where it isn't written it can't be read later
     bad_then : {h : List Happening} (k : ℕ) → Spared j k before h → Ran any_call h last → is_good (content ((slot_state before j).sector k)) ≡ false
         → is_good (content ((slot_state h j).sector k)) ≡ false
-    bad_then k spared later bad = stays_bad j k some (unpulled (ran_none before) later j) spared bad
+    bad_then k spared later bad = stays_bad j k some (unpulled (ran_none before) later j some) spared bad
 
 -- ---- scrubs
-
-ends_open : (step : Step) (given : GivenBy step) (is : ArrayState) (session : Session) → EndsIn step (Ok given) is session → IsOpened is session
-ends_open step given is session (Ends opens err same) = absurd (false≢true err)
-ends_open step given is session (GoesOn opens keeps same) = record { is_open = same; unstopped = keeps }
 
 -- the line is put out, and nothing else
 put_alone : (line : List ℕ) (story : List Deed) → IsDoneBy (Put line (Over Done)) story → PutsAlone line story
@@ -202,8 +194,10 @@ module _ {R W : Type 0} (view : DeviceView R W) (honest : IsTrue view.rack.hones
             let inside : i < ready.array.member.array.geometry.r = subst (λ (q : Geometry). i < q.r) (sym ready.geometry) is.0 in
             let bad = bad_then g (view.rack.history first.rack) (view.rack.history last.rack) all quiet j (lives j live).1 (cell_sector g t i)
             (ready.spared t i j (omega arith) is.0) ready.later is.2 in
-            repaired.all (quiet_between g (view.rack.history first.rack) (view.rack.history last.rack) all quiet ready.since ran rest)
-            (view.rack.history first.rack) i j (ready.on j live) inside (ready.held j live)
+            let some = large_some g (slot_state (view.rack.history first.rack) j).size (lives j live).1 in
+            repaired.all (view.rack.history first.rack) i j
+            (unpulled g (view.rack.history first.rack) (view.rack.history last.rack) all quiet ready.since rest j some) (ready.on j live) inside
+            (ready.held j live)
             ((is_there j live).online (h_of x) (moment_between ready.since ready.later)) (has_places j live)
             (subst (λ (q : Geometry). is_good (content ((slot_state (h_of x) j).sector (cell_sector q t i))) ≡ false) (sym ready.geometry) bad),
       );
@@ -325,10 +319,9 @@ module _ {R W : Type 0} (view : DeviceView R W) (honest : IsTrue view.rack.hones
             where
               started : (does : Performs (ScrubStripe t) (Ok step.given) step.events (seen_of view x) (seen_of view works.0)) → does.was ≡ ready.array
               started does =
-                  elim (starts_open (ScrubStripe t) does.was x.session does.starts) [
-                    | inl opening ↦ let never : ScrubStripe t ≡ Recover = opening in absurd cc
-                    | inr began ↦ let both : Opened does.was ≡ Opened ready.array = sym began.is_open ∙ ready.opened in cc
-                  ]
+                  let began = starts_open (ScrubStripe t) (λ is. cc) does.was x.session does.starts in
+                  let both : Opened does.was ≡ Opened ready.array = sym began.is_open ∙ ready.opened in
+                  cc
 
               never_stopped : AnswersStopped (ScrubStripe t) (Ok step.given) step.events (seen_of view x) (seen_of view works.0) → ⊥
               never_stopped stopped =
@@ -469,7 +462,8 @@ module _ {R W : Type 0} (view : DeviceView R W) (honest : IsTrue view.rack.hones
         rack.gates j redo live_first
         (subst (λ (q : Geometry). content ((slot_state (h_at x) j).sector gate_sector) ≡ Good (open_gate q redo)) geometry
         (held_before j gate_sector (large_some s.geometry (slot_state (h_at x) j).size large)
-        (unpulled s.geometry (h_at x) (h_at y) all_ran rack.quiet (ran_none (h_at x)) (ran_join later rest_ran) j)
+        (unpulled s.geometry (h_at x) (h_at y) all_ran rack.quiet (ran_none (h_at x)) (ran_join later rest_ran) j
+        (large_some s.geometry (slot_state (h_at x) j).size large))
         (open_gate m.array.geometry redo) (ran_join (spared_asked j gate_sector asked) spared) is_open))
 
   lives : (j : ℕ) → IsLiveIn performs.is.member j → (j < s.geometry.n) × IsLargeEnough s.geometry (slot_state (h_at x) j).size
@@ -505,14 +499,7 @@ module _ {R W : Type 0} (view : DeviceView R W) (honest : IsTrue view.rack.hones
   -- a slot that was live and stays whole is live then
   module _ (j : ℕ) (stays : StaysWhole s.geometry (h_at x) (h_at x) (h_at y) j) (unwritten : IsLiveUnwritten s.geometry (h_at x) (h_at y) j) where
     none_written_yet : NothingWritten (h_at x) (h_at mid)
-    none_written_yet = none_written {allowed = LeavesSectors} {slots = every_slot} leaves asked
-      where
-        leaves : (i : ℕ) (call : SlotCall) → LeavesSectors i call → every_slot i → IsNoWrite call
-        leaves i (Attach answer) is on = tt
-        leaves i (Sectors size) is on = tt
-        leaves i (Read k answer) is on = tt
-        leaves i (Write k bytes answer) is on = absurd is
-        leaves i (Sync answer) is on = tt
+    none_written_yet = none_written {allowed = LeavesSectors} {slots = every_slot} looks_write_none asked
 
     within : IsWithinTolerance (IsOffline (h_at x) (h_at mid)) s.geometry (image_now (h_at mid))
     within = rack.tolerated (h_at mid) until (image_now (h_at mid)) (CrashMayLeave-now (h_at mid))

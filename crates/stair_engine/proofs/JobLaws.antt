@@ -27,11 +27,15 @@ use Rattle.stair_story.proofs.DeviceLaws.{ActsOnce, calls_once, once_no_step}
 use Rattle.stair_story.proofs.EndingLaws.{nothing_put, tells_faults, weaker}
 use Rattle.stair_story.proofs.LookLaws.{calls_look, first_unwritten}
 use Rattle.stair_story.proofs.PlannedLaws.{none_allows, none_each}
+use Rattle.stair_engine.proofs.ExerciseLaws.{exercise_admits_none, exercise_allowed, exercise_last, exercise_none, exercise_own, exercise_untaken}
+use Rattle.stair_engine.proofs.LineLaws.{lines_allowed, lines_none, lines_own}
 use Rattle.stair_engine.proofs.MendLaws.{done_own, replaces_allowed, replaces_last, replaces_none, replaces_own, replaces_untaken, scrubs_admit_none, scrubs_allowed, scrubs_last, scrubs_none, scrubs_own, scrubs_untaken}
 use Rattle.stair_engine.proofs.OpenLaws.{IsOfJob, opening_admits_none, opening_allowed, read_admits_none, read_allowed, read_none, read_own, read_untaken, refusal_own, unless_so, write_admits_none, write_allowed, write_last, write_none, write_own}
 use Rattle.stair_engine.specs.Blocks.{opens_array}
+use Rattle.stair_engine.specs.Exercise.{exercise_steps}
 use Rattle.stair_engine.specs.Mending.{scrubs, stamps}
-use Rattle.stair_engine.specs.Jobs.{IsReading, MayWrite, NotSpelled, OpensArray, TakesInput}
+use Rattle.stair_engine.specs.Scripts.{all_lines}
+use Rattle.stair_engine.specs.Jobs.{MayAdmit, MayWrite, NotSpelled, OpensArray, PutsOnTheWay, TakesInput}
 use Rattle.stair_engine.proofs.StripeLaws.{stripe_calls_none}
 use Rattle.stair_engine.specs.Plans.{create_plan, job_plan, making_plan, plan_of, show_plan, stripe_plan, tested_plan, within_limits}
 use Rattle.stair_engine.specs.Task.{one_stripe}
@@ -98,6 +102,8 @@ job_own job.Rebuild = opens_own _ (λ g. (λ steps. done_own, λ refusal. (refus
 job_own job.Freeze = stamps_own (SetFrozen true) _
 job_own job.Thaw = stamps_own (SetFrozen false) _
 job_own (job.Label text) = stamps_own (SetLabel text) _
+job_own job.Run = opens_own all_lines lines_own
+job_own (job.Exercise number count) = opens_own (exercise_steps number count) (exercise_own number count)
 
 -- ---- what is put out is put out last
 
@@ -119,7 +125,7 @@ opens_last k last = λ member. unless_so PutsLast member.array.geometry.n (λ g 
 stamps_last : (step : Step) (line : List ℕ) → PutsLast (stamps step line)
 stamps_last step line = opens_last _ (λ g. unless_so PutsLast g.n _ (λ given left. refl) (λ refusal. tt))
 
-job_last : (of : Job) → ¬ IsReading of → PutsLast (job_plan of)
+job_last : (of : Job) → ¬ PutsOnTheWay of → PutsLast (job_plan of)
 job_last (job.OneStripe command n m r e) other = λ reply is. stripe_last command _ reply
 job_last job.Create other = (λ more. tt, λ text reply is. making_last reply)
 job_last job.Show other = λ member. refl
@@ -131,6 +137,8 @@ job_last job.Rebuild other = opens_last _ (λ g steps. refl)
 job_last job.Freeze other = stamps_last (SetFrozen true) _
 job_last job.Thaw other = stamps_last (SetFrozen false) _
 job_last (job.Label text) other = stamps_last (SetLabel text) _
+job_last job.Run other = absurd (other tt)
+job_last (job.Exercise number count) other = opens_last (exercise_steps number count) (exercise_last number count)
 
 -- ---- memory is asked for before anything is done to an array, or before it is written
 
@@ -172,6 +180,8 @@ job_unwritten job.Rebuild = opens_none _ (λ g steps is. cc)
 job_unwritten job.Freeze = stamps_none (SetFrozen true) _
 job_unwritten job.Thaw = stamps_none (SetFrozen false) _
 job_unwritten (job.Label text) = stamps_none (SetLabel text) _
+job_unwritten job.Run = opens_none all_lines lines_none
+job_unwritten (job.Exercise number count) = opens_none (exercise_steps number count) (exercise_none number count)
 job_unwritten (job.OneStripe command n m r e) = first_unwritten (job_plan (job.OneStripe command n m r e)) (job_first (job.OneStripe command n m r e) (λ no. no))
 job_unwritten job.Create = first_unwritten create_plan (job_first job.Create (λ no. no))
 job_unwritten job.Show = first_unwritten show_plan (job_first job.Show (λ no. no))
@@ -202,9 +212,9 @@ pub words_no_step : (words : List (List ℕ)) → NotSpelled OpensArray words �
 words_no_step words other None is = tt
 words_no_step words other (Some of) spells = job_no_step of (other of spells)
 
--- ---- no medium is admitted but by `replace`, and few numbers are drawn
+-- ---- no medium is admitted but by `replace` and `run`, and few numbers are drawn
 
-pub job_admits_none : (of : Job) → ((slot : ℕ) → of ≡ job.Replace slot → ⊥) → EachStep AdmitsNone (job_plan of)
+pub job_admits_none : (of : Job) → ¬ MayAdmit of → EachStep AdmitsNone (job_plan of)
 job_admits_none (job.OneStripe command n m r e) other =
     none_each AdmitsNone (job_plan (job.OneStripe command n m r e)) (job_no_step (job.OneStripe command n m r e) (λ no. no))
 job_admits_none job.Create other = none_each AdmitsNone create_plan (job_no_step job.Create (λ no. no))
@@ -212,7 +222,7 @@ job_admits_none job.Show other = none_each AdmitsNone show_plan (job_no_step job
 job_admits_none (job.Read first count) other = λ member. opening_admits_none member.array.geometry.n _ (read_admits_none first count)
 job_admits_none (job.Write first count) other = λ member. opening_admits_none member.array.geometry.n _ (write_admits_none first count)
 job_admits_none job.Scrub other = λ member. opening_admits_none member.array.geometry.n _ (λ g. scrubs_admit_none g 0 g.stripes 0)
-job_admits_none (job.Replace slot) other = absurd (other slot refl)
+job_admits_none (job.Replace slot) other = absurd (other tt)
 job_admits_none job.Rebuild other = λ member. opening_admits_none member.array.geometry.n _ (λ g. (tt, λ steps. tt))
 job_admits_none job.Freeze other =
     λ member. opening_admits_none member.array.geometry.n _ (λ g. (tt, unless_so (EachStep AdmitsNone) g.n _ (λ given left. tt) (λ refusal. tt)))
@@ -220,6 +230,9 @@ job_admits_none job.Thaw other =
     λ member. opening_admits_none member.array.geometry.n _ (λ g. (tt, unless_so (EachStep AdmitsNone) g.n _ (λ given left. tt) (λ refusal. tt)))
 job_admits_none (job.Label text) other =
     λ member. opening_admits_none member.array.geometry.n _ (λ g. (tt, unless_so (EachStep AdmitsNone) g.n _ (λ given left. tt) (λ refusal. tt)))
+job_admits_none job.Run other = absurd (other tt)
+job_admits_none (job.Exercise number count) other =
+    λ member. opening_admits_none member.array.geometry.n (exercise_steps number count) (exercise_admits_none number count)
 
 stamps_allowed : (step : Step) (line : List ℕ) → allowance step ≤ 3 → AllowsAtMost most_allowed (stamps step line)
 stamps_allowed step line few = λ member.
@@ -238,6 +251,9 @@ job_allowed job.Rebuild = λ member. opening_allowed member.array.geometry.n _ (
 job_allowed job.Freeze = stamps_allowed (SetFrozen true) _ (omega arith)
 job_allowed job.Thaw = stamps_allowed (SetFrozen false) _ (omega arith)
 job_allowed (job.Label text) = stamps_allowed (SetLabel text) _ (omega arith)
+job_allowed job.Run = λ member. lines_allowed member.array.geometry.n
+job_allowed (job.Exercise number count) =
+    λ member. opening_allowed member.array.geometry.n (exercise_steps number count) (exercise_allowed 3 number count)
 
 -- ---- what takes no input takes nothing
 
@@ -259,6 +275,7 @@ job_untaken job.Rebuild other = opens_untaken _ (λ g steps is. cc)
 job_untaken job.Freeze other = stamps_untaken (SetFrozen true) _
 job_untaken job.Thaw other = stamps_untaken (SetFrozen false) _
 job_untaken (job.Label text) other = stamps_untaken (SetLabel text) _
+job_untaken (job.Exercise number count) other = opens_untaken (exercise_steps number count) (exercise_untaken number count)
 job_untaken _ other = absurd (other tt)
 
 pub words_untaken : (words : List (List ℕ)) → NotSpelled TakesInput words → TakesNothing (plan_of words)
@@ -286,9 +303,9 @@ module _ {S K : Type 0} (view : Views S K) where
       own words (Some job) spells = weaker IsOfJob IsNoFault (λ end is. is.0) (job_plan job) (job_own job)
 
   pub words_put : (words : List (List ℕ)) (status : Status) (a b : Outside S K) → Means view (plan_of words) (Over status) a b
-      → NotSpelled IsReading words → IfNothingIsPutOut status (b.sink ≡ a.sink)
+      → NotSpelled PutsOnTheWay words → IfNothingIsPutOut status (b.sink ≡ a.sink)
   words_put words status a b means other = nothing_put view (plan_of words) status a b (last words other) means
     where
-      last : (words : List (List ℕ)) → NotSpelled IsReading words → PutsLast (plan_of words)
+      last : (words : List (List ℕ)) → NotSpelled PutsOnTheWay words → PutsLast (plan_of words)
       last words other None is = tt
       last words other (Some of) spells = job_last of (other of spells)

@@ -22,6 +22,10 @@ mod CompleteLaws
 mod StepLaws
 mod ArmLaws
 mod MendLaws
+mod LineLaws
+mod LineStepLaws
+mod LineAnswerLaws
+mod ExerciseLaws
 pub mod RebuildLaws
 pub mod ScrubLaws
 mod StampLaws
@@ -32,3 +36,7 @@ mod MendedLaws
 mod SparedLaws
 mod OpeningLaws
 mod CountedLaws
+mod ExercisedLaws
+mod SureLaws
+mod ExerciseSureLaws
+mod ScriptSureLaws

@@ -27,7 +27,7 @@ live_own slot Live = done_own
 live_own slot Rebuilding = gone_own slot
 live_own slot Down = gone_own slot
 
-slot_so : (IsSo : Plan → Type 0) (g : Geometry) (slot : ℕ) (plan : Plan) → IsSo plan → IsSo (Over (OutOfRange slot g.n)) → (has : Bool)
+pub slot_so : (IsSo : Plan → Type 0) (g : Geometry) (slot : ℕ) (plan : Plan) → IsSo plan → IsSo (Over (OutOfRange slot g.n)) → (has : Bool)
     → IsSo (if_slot g slot has plan)
 slot_so IsSo g slot plan has past true = has
 slot_so IsSo g slot plan has past false = past

@@ -27,6 +27,7 @@ use Rattle.stair_session.specs.Session.{ArrayState, IsArray, IsLiveIn, IsRebuilt
 use Rattle.stair_array.specs.Machine.{Answer, LookAtSeats, Nothing, RebuildNext, Recover, ReplaceSlot, Step}
 use Rattle.stair_array.specs.Causes.{IsAdmitted, IsPromoted, Stays, Went}
 use Rattle.stair_array.specs.Promise.{AreFound, Begun, Ends, EndsIn, GoesOn, IsInState, IsOpenFor, Opened, Performs, ServesState, Session}
+use Rattle.stair_array.proofs.OpenStepLemmas.{starts_open}
 use Rattle.stair_conf.specs.Words.{Spells}
 use Rattle.stair_conf.specs.declared.job.Job.{Job}
 use Rattle.stair_conf.specs.declared.job.Job.TheVariants as job
@@ -45,7 +46,6 @@ use Rattle.stair_story.specs.declared.status.Status.TheVariants.{Done}
 use Rattle.stair_story.proofs.PerformedLaws.{borne_whole}
 use Rattle.stair_story.proofs.KeptLaws.{known_once}
 use Rattle.stair_story.proofs.PromotedLaws.{geometry_stays, was_promoted}
-use Rattle.stair_story.proofs.RebuiltLaws.{starts_open}
 use Rattle.stair_story.proofs.SessionLaws.{life_geometry, runs_are_lived}
 use Rattle.stair_story.proofs.SoundLaws.{promoted_sound, replaced_sound, scrubbed_sound}
 use Rattle.stair_story.specs.Sessions.{turns_of}
@@ -173,8 +173,8 @@ module _ {R W : Type 0} (view : DeviceView R W) where
     where
       dead : (does : Performs (ReplaceSlot slot) (Ok tt) events (seen_of view x) (seen_of view works.0)) → ¬ IsLiveIn does.is.member slot
       dead does on =
-          let open_at = starts_open (ReplaceSlot slot) does.was x.session (λ is. cc) does.starts in
-          let both : Opened does.was ≡ Opened was.last = sym open_at.0 ∙ was.opened in
+          let open_at = starts_open (ReplaceSlot slot) (λ is. cc) does.was x.session does.starts in
+          let both : Opened does.was ≡ Opened was.last = sym open_at.is_open ∙ was.opened in
           let same : does.was ≡ was.last = cc in
           let marks : mark_in does.was.member.array slot ≡ mark_for (why_of does.was.member slot) =
           (subst IsArray (sym same) was.array).marks slot does.allowed.0 in

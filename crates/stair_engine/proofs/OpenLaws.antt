@@ -9,7 +9,7 @@ use Rattle.stair_story.specs.Ending.{AdmitsNone, AdmitsOnce, AllowsAtMost, AsksF
 use Rattle.stair_story.specs.Plan.{Plan, Over, take_step, unless_refused}
 use Rattle.stair_story.specs.Refused.{status_of_refusal}
 use Rattle.stair_story.specs.declared.status.Status.TheVariants.{OutOfRange}
-use Rattle.stair_engine.specs.Blocks.{if_in_range, if_left, is_in_range, part_of, reads, within_range, writes, wrote}
+use Rattle.stair_engine.specs.Blocks.{if_in_range, if_so, is_in_range, part_of, reads, within_range, writes, wrote}
 use Rattle.stair_story.specs.Sure.{most_allowed}
 use Rattle.std.specs.Prelude.{max}
 
@@ -47,7 +47,7 @@ module _ (IsSo : Plan → Type 0) where
       by true = inside
       by false = past
 
-  left_so : (more end : Plan) → IsSo more → IsSo end → (left : Bool) → IsSo (if_left left more end)
+  pub left_so : (more end : Plan) → IsSo more → IsSo end → (left : Bool) → IsSo (if_so left more end)
   left_so more end of_more of_end true = of_more
   left_so more end of_more of_end false = of_end
 

@@ -27,7 +27,7 @@ use Rattle.stair_story.proofs.DeviceLaws.{with_none, with_one, with_part, with_p
 use Rattle.stair_story.proofs.IntakeLaws.{are_all}
 use Rattle.stair_story.proofs.TakenLaws.{taken_geometry}
 use Rattle.stair_watch.specs.WatcherList.{AllStay}
-use Rattle.stair_engine.specs.Blocks.{if_left, part_of, piece_blocks, whole_of, writes, wrote, wrote_line}
+use Rattle.stair_engine.specs.Blocks.{if_so, part_of, piece_blocks, whole_of, writes, wrote, wrote_line}
 use Rattle.stair_engine.specs.Piece.{Held, TakesPiece}
 use Rattle.stair_engine.proofs.TurnLaws.{all_within, few_whole, part_long, part_short, some_whole, whole_long}
 
@@ -45,12 +45,12 @@ turn g first all turns done held =
 pub writes_next : (g : Geometry) (first all turns done : ℕ) (held : List ℕ) → done < all
     → writes g first all (suc turns) done held ≡ turn g first all turns done held
 writes_next g first all turns done held left =
-    ap (λ (is : Bool). if_left is (turn g first all turns done held) (wrote all)) (lt-ltb done all left)
+    ap (λ (is : Bool). if_so is (turn g first all turns done held) (wrote all)) (lt-ltb done all left)
 
 pub writes_done : (g : Geometry) (first all turns done : ℕ) (held : List ℕ) → all ≤ done → writes g first all turns done held ≡ wrote all
 writes_done g first all zero done held past = refl
 writes_done g first all (suc turns) done held past =
-    ap (λ (is : Bool). if_left is (turn g first all turns done held) (wrote all)) (le-ltb done all past)
+    ap (λ (is : Bool). if_so is (turn g first all turns done held) (wrote all)) (le-ltb done all past)
 
 -- the bytes that were counted
 abbrev counted : (all done : ℕ) → List ℕ → Intake

@@ -105,16 +105,17 @@ abbrev pub wrote : ℕ → Plan
 wrote all = take_exactly 1 (λ more. Over (Input (SECTOR * all) (SECTOR * all + 1)))
     (λ none. Put (wrote_line all) (Over Done))
 
-abbrev pub if_left : Bool → Plan → Plan → Plan
-if_left true more end = more
-if_left false more end = end
+-- the one plan where this is so, and else the other
+abbrev pub if_so : Bool → Plan → Plan → Plan
+if_so true this that = this
+if_so false this that = that
 
 -- What is left of a write of `all` blocks from `first` on, of which so many are done, behind bytes that were taken and are less
 -- than a block. A piece has one whole block at least, and is within a stripe; its whole blocks are written as one step. So there
 -- are no more turns than blocks.
 abbrev pub writes : Geometry → (first all turns done : ℕ) → List ℕ → Plan
 writes g first all zero done held = wrote all
-writes g first all (suc turns) done held = if_left (nat_lt done all)
+writes g first all (suc turns) done held = if_so (nat_lt done all)
     (Take (SECTOR - length held)
     (SECTOR * piece_blocks g (first + done) (all - done) - length held)
     (λ bytes. take_step g.n (WriteBlocks (first + done) (blocks_of (whole_of (held ++ bytes))))

@@ -1,9 +1,9 @@
 -- When a command is sure to be done.
-use Rattle.std.specs.Prelude.{◌≡◌, ◌*◌, ◌<◌, ◌≤◌, ℕ, false, IsTrue, List, length, drop, take, Option, Some, Ok}
+use Rattle.std.specs.Prelude.{◌≡◌, ◌⊎◌, ◌*◌, ◌<◌, ◌≤◌, ℕ, false, IsTrue, List, [], ◌∷◌, ◌++◌, All, length, drop, take, Option, Some, Ok, ⊤}
 use Rattle.stair_model.specs.CellSet.{CellSet}
 use Rattle.stair_model.specs.Codeword.{IsCodeword}
 use Rattle.stair_model.specs.Coverage.{IsCovered}
-use Rattle.stair_model.specs.Geometry.{Geometry, IsWithinLimits}
+use Rattle.stair_model.specs.Geometry.{Geometry, IsWithinLimits, block_count}
 use Rattle.stair_model.specs.Stripe.{SECTOR, Stripe}
 use Rattle.stair_state.specs.State.{State, changed_if}
 use Rattle.stair_array.specs.Creates.{CanBeMade}
@@ -12,10 +12,16 @@ use Rattle.stair_conf.specs.declared.job.Job.{Job}
 use Rattle.stair_conf.specs.declared.job.Job.TheVariants as job
 use Rattle.stair_conf.specs.declared.job.StripeCommand.{StripeCommand}
 use Rattle.stair_conf.specs.declared.job.StripeCommand.TheVariants.{Check, Encode, Restore}
+use Rattle.stair_script.specs.Line.{SpellsLine}
+use Rattle.stair_script.specs.declared.line.Line.{Line}
+use Rattle.stair_script.specs.declared.line.Line.TheVariants as line
+use Rattle.stair_script.specs.declared.line.Line.TheVariants.{Blank}
 use Rattle.stair_story.specs.Answer.{HasBytes, bytes_needed, map_bytes}
 use Rattle.stair_story.specs.Outside.{Outside, Views}
 use Rattle.stair_engine.specs.Blocks.{IsInRange}
+use Rattle.stair_engine.specs.Exercise.{most_steps}
 use Rattle.stair_engine.specs.Plans.{TEXT_LIMIT}
+use Rattle.stair_engine.specs.Scripts.{SCRIPT_LIMIT}
 use Rattle.stair_story.specs.Rack.{RackView}
 use Rattle.stair_story.specs.Restore.{HoldsCells, IsErasedBy}
 use Rattle.stair_story.specs.Sure.{HasDevice, HasNoFault, IsDone, ServesThroughout}
@@ -49,8 +55,38 @@ abbrev pub IsThawed : State → Type 0
 IsThawed s =
     (s.content.frozen ≡ false) × ((changed_if s.in_doubt s.content).frozen ≡ false)
 
+-- SCRIPTS
+
+-- The lines of these bytes, in order: each but the last has its end (10). The last may have none, unless it is blank.
+abbrev pub IsScript : List Line → List ℕ → Type 0
+IsScript [] bytes = bytes ≡ []
+IsScript (said ∷ lines) bytes =
+    ((lines ≡ []) × SpellsLine bytes said × (0 < length bytes))
+    ⊎ ((text rest : List ℕ) × SpellsLine text said × (bytes ≡ text ++ 10 ∷ rest)
+    × IsScript lines rest)
+
+-- an array in this state has the block, the stripe or the slot of a line, and isn't frozen where a block is written
+abbrev pub IsLineOf : State → Line → Type 0
+IsLineOf s Blank = ⊤
+IsLineOf s (line.Read block) = block < block_count s.geometry
+IsLineOf s (line.Write block contents) = (block < block_count s.geometry) × IsThawed s
+IsLineOf s (line.Scrub stripe) = stripe < s.geometry.stripes
+IsLineOf s (line.Replace slot) = slot < s.geometry.n
+IsLineOf s (line.Rebuild steps) = ⊤
+
+-- no device is put in
+abbrev pub PutsNoneIn : Line → Type 0
+PutsNoneIn (line.Replace slot) = ⊥
+PutsNoneIn _ = ⊤
+
+-- an input is a script of such lines, and is not too long
+pub record IsScriptOf (s : State) (lines : List Line) (input : List ℕ) : Type 0 where
+  pub few : length input ≤ SCRIPT_LIMIT
+  pub script : IsScript lines input
+  pub each : All (IsLineOf s) lines
+
 -- What is told and the rack are such that the job can be done. A replacement can be where the slot takes no part before
--- anything is written, and has a device that can be admitted.
+-- anything is written, and has a device that can be admitted. Of a script in which a device is put in, a law tells.
 abbrev pub CanBeDone : {R : Type 0} → RackView R → Job → Option (List ℕ) → R → R → Type 0
 CanBeDone rack (job.OneStripe command n m r e) told first last =
     TellsInput told (IsValidInput command (one_stripe n m r e))
@@ -67,6 +103,11 @@ CanBeDone rack (job.Write block count) told first last = TellsInput told (λ inp
 CanBeDone rack (job.Replace slot) told first last = (s : State)
     × ServesThroughout rack s first last
     × HasDevice s.geometry (rack.history first) (rack.history last) slot
+CanBeDone rack (job.Exercise number count) told first last = (s : State)
+    × ServesThroughout rack s first last × (count ≤ most_steps) × (0 < count → IsThawed s)
+CanBeDone rack job.Run told first last = TellsInput told (λ input. (s : State)
+    × ServesThroughout rack s first last
+    × ((lines : List Line) × IsScriptOf s lines input × All PutsNoneIn lines))
 CanBeDone rack job told first last = (s : State) × ServesThroughout rack s first last
 
 -- The job is done, if there was memory, where it can be and neither source nor sink failed.

@@ -1,13 +1,14 @@
 -- How many cells a scrub writes anew, where the outside does nothing meanwhile.
-use Rattle.std.specs.Prelude.{◌≡◌, ◌↔◌, ◌+◌, ◌<◌, ℕ, false, List, [], ◌∷◌, length, ⊤}
+use Rattle.std.specs.Prelude.{◌≡◌, ◌↔◌, ◌+◌, ◌<◌, ℕ, false, IsSome, List, [], ◌∷◌, length, ⊤}
 use Rattle.std.specs.Io.KnownBytes.{Appends}
 use Rattle.stair_model.specs.CellSet.{CellSet, HasCell, IsCellSet, cell_count}
 use Rattle.stair_model.specs.Device.{cell_sector, gate_sector}
 use Rattle.stair_model.specs.Geometry.{Geometry}
 use Rattle.stair_rack.specs.Answers.{IsHistory, is_good}
 use Rattle.stair_rack.specs.History.{Happening, slot_state}
+use Rattle.stair_rack.specs.Offline.{WasPulled}
 use Rattle.stair_rack.specs.Sector.{Good, content}
-use Rattle.stair_rack.specs.Stretch.{NothingReturned}
+use Rattle.stair_rack.specs.Stretch.{NothingDamaged, NothingReturned}
 use Rattle.stair_member.specs.Membership.{Membership}
 use Rattle.stair_journal.specs.Gate.{open_gate}
 use Rattle.stair_journal.specs.declared.redo.Redo.{Redo}
@@ -16,7 +17,6 @@ use Rattle.stair_state.specs.State.{State}
 use Rattle.stair_state.specs.Tolerance.{ToleratedSince}
 use Rattle.stair_session.specs.Session.{IsLiveIn}
 use Rattle.stair_array.specs.Looking.{cells_at}
-use Rattle.stair_array.specs.Promise.{IsQuiet}
 use Rattle.stair_story.specs.Living.{IsLiveAt, IsLiveUnwritten, StaysWhole}
 use Rattle.stair_story.specs.Outside.{SinkView}
 use Rattle.stair_story.specs.Story.{Deed, HasPut, PutFailed}
@@ -57,8 +57,13 @@ pub record IsExact (g : Geometry) (first last : List Happening) (count : ℕ) : 
   pub are : AreBadFrom g member first 0 bad
   pub sum : count ≡ cells_in bad
 
--- What is asked of the rack: it was an array in a state, within tolerance to the end, no medium came back, the outside pulled no
--- medium and damaged no sector, and no redo was to be done again.
+-- the outside damaged no sector, and pulled no medium of a slot that held one at first
+pub record IsQuiet (first last : List Happening) : Type 0 where
+  pub undamaged : NothingDamaged first last
+  pub unpulled : (j : ℕ) → IsSome (slot_state first j).size → ¬ WasPulled first last j
+
+-- What is asked of the rack: it was an array in a state, within tolerance to the end, no medium came back, the outside left the media
+-- that were there alone, and no redo was to be done again.
 pub record IsUndisturbed (s : State) (first last : List Happening) : Type 0 where
   pub history : IsHistory first
   pub represents : Represents s first

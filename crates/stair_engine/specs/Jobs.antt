@@ -2,12 +2,13 @@
 use Rattle.std.specs.Prelude.{ℕ, List, ⊤}
 use Rattle.stair_conf.specs.Words.{Spells}
 use Rattle.stair_conf.specs.declared.job.Job.{Job}
-use Rattle.stair_conf.specs.declared.job.Job.TheVariants.{Create, Freeze, Label, OneStripe, Read, Rebuild, Replace, Scrub, Show, Thaw, Write}
+use Rattle.stair_conf.specs.declared.job.Job.TheVariants.{Create, Exercise, Freeze, Label, OneStripe, Read, Rebuild, Replace, Run, Scrub, Show, Thaw, Write}
 
--- blocks of an array are put out
-abbrev pub IsReading : Job → Type 0
-IsReading (Read block count) = ⊤
-IsReading _ = ⊥
+-- blocks of an array, or the replies to lines, are put out before all is done
+abbrev pub PutsOnTheWay : Job → Type 0
+PutsOnTheWay (Read block count) = ⊤
+PutsOnTheWay Run = ⊤
+PutsOnTheWay _ = ⊥
 
 -- an array that is there is opened
 abbrev pub OpensArray : Job → Type 0
@@ -19,13 +20,22 @@ OpensArray Rebuild = ⊤
 OpensArray Freeze = ⊤
 OpensArray Thaw = ⊤
 OpensArray (Label text) = ⊤
+OpensArray Run = ⊤
+OpensArray (Exercise number count) = ⊤
 OpensArray _ = ⊥
+
+-- a medium may be admitted
+abbrev pub MayAdmit : Job → Type 0
+MayAdmit (Replace slot) = ⊤
+MayAdmit Run = ⊤
+MayAdmit _ = ⊥
 
 -- an input is taken
 abbrev pub TakesInput : Job → Type 0
 TakesInput (OneStripe command n m r e) = ⊤
 TakesInput Create = ⊤
 TakesInput (Write block count) = ⊤
+TakesInput Run = ⊤
 TakesInput _ = ⊥
 
 -- devices may be written: an array is made, or opened

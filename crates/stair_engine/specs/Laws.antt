@@ -1,5 +1,5 @@
 -- What the laws say of a call that means what its words say.
-use Rattle.std.specs.Prelude.{◌≡◌, ◌≢◌, ℕ, ◌+◌, ◌*◌, ◌<◌, ◌↔◌, List, length, drop, take, slice_index, All, IfSome, IsTrue}
+use Rattle.std.specs.Prelude.{◌≡◌, ◌≢◌, ℕ, ◌+◌, ◌*◌, ◌<◌, ◌↔◌, List, Some, length, drop, take, slice_index, All, IfSome, IsTrue}
 use Rattle.stair_model.specs.Geometry.{Geometry}
 use Rattle.stair_model.specs.Stripe.{SECTOR}
 use Rattle.stair_rack.specs.Answers.{Ran}
@@ -7,13 +7,14 @@ use Rattle.stair_rack.specs.Count.{Rose}
 use Rattle.stair_member.specs.Asked.{LeavesSectors}
 use Rattle.stair_conf.specs.Words.{IsSpelled, Spells}
 use Rattle.stair_conf.specs.declared.job.Job.{Job}
-use Rattle.stair_conf.specs.declared.job.Job.TheVariants.{OneStripe, Create, Replace, Scrub, Show, Write}
+use Rattle.stair_conf.specs.declared.job.Job.TheVariants.{OneStripe, Create, Replace, Run, Scrub, Show, Write}
 use Rattle.stair_conf.specs.declared.job.StripeCommand.{StripeCommand}
+use Rattle.stair_script.specs.declared.line.Line.{Line}
 use Rattle.stair_story.specs.declared.status.Status.{Status}
 use Rattle.stair_story.specs.declared.status.Status.TheVariants.{Done, Usage, InputFault, OutOfMemory}
 use Rattle.stair_story.specs.Answer.{map_bytes}
 use Rattle.stair_engine.specs.Cause.{Answers, IfRefusedAtOnce}
-use Rattle.stair_engine.specs.Complete.{IsComplete}
+use Rattle.stair_engine.specs.Complete.{IsComplete, IsScriptOf}
 use Rattle.stair_engine.specs.Counted.{TellsCount}
 use Rattle.stair_engine.specs.Create.{IsOnceMade, MakesArray, SparesArrays}
 use Rattle.stair_engine.specs.Does.{Does}
@@ -22,7 +23,7 @@ use Rattle.stair_array.specs.Promise.{Begun}
 use Rattle.stair_state.specs.State.{State}
 use Rattle.stair_engine.specs.Blocks.{whole_of}
 use Rattle.stair_engine.specs.Came.{AreWritten, IsUnrefused, taken_in}
-use Rattle.stair_engine.specs.Jobs.{IsReading, MakesCalls, MayWrite, NotSpelled, OpensArray, TakesInput}
+use Rattle.stair_engine.specs.Jobs.{PutsOnTheWay, MakesCalls, MayWrite, NotSpelled, OpensArray, TakesInput}
 use Rattle.stair_story.specs.Devices.{DeviceView, MeansWhole, devices}
 use Rattle.stair_story.specs.Ending.{IfNothingIsPutOut, TellsFaults}
 use Rattle.stair_story.specs.Means.{Means}
@@ -77,13 +78,13 @@ BytesAreAnswered {S} {K} view =
     IfSome (view.source.left old.source) (λ bytes. Answers command (one_stripe n m r e) bytes
     (view.sink.held old.sink) (view.sink.held new.sink) status)
 
--- A fault comes only where its count rose, and no count falls, whatever the words are. No command but `read` puts anything out that
--- isn't done.
+-- A fault comes only where its count rose, and no count falls, whatever the words are. No command but `read` and `run` puts
+-- anything out that isn't done.
 abbrev pub AllIsKept : (S K : Type 0) → Type 0
 AllIsKept S K = (view : Views S K) (words : List (List ℕ)) (status : Status)
     (old new : Outside S K) → Means view (plan_of words) (Over status) old new
     → TellsFaults view status old new
-    × (NotSpelled IsReading words → IfNothingIsPutOut status (new.sink ≡ old.sink))
+    × (NotSpelled PutsOnTheWay words → IfNothingIsPutOut status (new.sink ≡ old.sink))
 
 -- Only `create`, `show` and what opens an array make calls on the devices; and what another command refuses before the input
 -- leaves source, sink and counter.
@@ -195,5 +196,17 @@ ReplacementIsDone R W S K = (view : DeviceView R W) (streams : Views S K) (words
     (watchers left : List W) → Spells words (Replace slot)
     → (whole : MeansWhole view streams (plan_of words) (Over status) old new first last watchers left)
     → HasNoFault streams old new → ServesThroughout view.rack s first last → slot < s.geometry.n
+    → EachCanReplace view s.geometry whole.with.means.story (devices first Begun watchers)
+    (devices last whole.session left) whole.with.works → IsDone status
+
+-- A script is done, if there was memory, where each of its lines can be: the array serves throughout, no fault is counted, and each slot
+-- that is to be replaced can be as that step begins.
+abbrev pub ScriptIsDone : (R W S K : Type 0) → Type 0
+ScriptIsDone R W S K = (view : DeviceView R W) (streams : Views S K) (words : List (List ℕ))
+    (lines : List Line) (input : List ℕ) (status : Status) (s : State) (old new : Outside S K)
+    (first last : R) (watchers left : List W) → Spells words Run
+    → (whole : MeansWhole view streams (plan_of words) (Over status) old new first last watchers left)
+    → HasNoFault streams old new → ServesThroughout view.rack s first last
+    → streams.source.left old.source ≡ Some input → IsScriptOf s lines input
     → EachCanReplace view s.geometry whole.with.means.story (devices first Begun watchers)
     (devices last whole.session left) whole.with.works → IsDone status

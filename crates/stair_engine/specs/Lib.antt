@@ -3,6 +3,8 @@ pub mod Jobs
 pub mod Task
 pub mod Blocks
 pub mod Mending
+pub mod Scripts
+pub mod Exercise
 pub mod Piece
 pub mod Came
 pub mod Plans

@@ -15,6 +15,7 @@ ghost use Rattle.stair_engine.specs.Laws.{
   MemoryComesFirst,
   RackIsLeft,
   ReplacementIsDone,
+  ScriptIsDone,
   ScrubsAreCounted,
   SessionIsMended,
   ShowOnlyLooks,
@@ -61,6 +62,8 @@ pub fn plan_laws<R, W, S: Source, K: Sink>()
     ensures complete { AllIsComplete R W S K }
     // and so is a replacement by any medium, where its slot is Down and the medium fit as that step begins
     ensures replaced { ReplacementIsDone R W S K }
+    // and so is a script, where each of its lines can be done
+    ensures scripted { ScriptIsDone R W S K }
     // what a scrub, a replacement and a rebuild leave good
     ensures mended { ArrayIsMended R W S K }
     // and to the session, whatever the rack was before

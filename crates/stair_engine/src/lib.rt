@@ -6,8 +6,10 @@ mod cells;
 mod check;
 mod create;
 mod encode;
+mod exercise;
 pub mod laws;
 mod line;
+mod lines;
 mod map;
 mod open;
 mod piece;
@@ -15,6 +17,7 @@ mod read;
 mod rebuild;
 mod replace;
 mod restore;
+mod script;
 mod scrub;
 mod show;
 mod stamp;
@@ -45,10 +48,12 @@ ghost use Rattle.stair_watch.specs.WatcherList.{AllStay};
 use check::check;
 use create::create;
 use encode::encode;
+use exercise::exercise;
 use read::read;
 use rebuild::rebuild;
 use replace::replace;
 use restore::restore;
+use script::run_script;
 use scrub::scrub;
 use show::show;
 use stair_base::Geometry;
@@ -74,12 +79,15 @@ use write::write;
 /// for an array and open it too, and look after it by steps of `stair_mend`: all stripes are scrubbed, a device is admitted and
 /// rebuilt, or what is rebuilt is rebuilt to its end; or an epoch has another frozen mark or label. They take nothing, and put out
 /// a line once all is done.
+/// `run` opens the array and does the lines of a script ([`stair_script::read_line`]), one after the other: each once its end came,
+/// or that of the input, and its reply is put out before more is taken. `exercise` opens it and takes the steps that a number gives;
+/// it takes nothing, and puts out a line once all is done.
 ///
 /// The words are tested first, then the limits of the geometry of a stripe, then the input: what is refused before the input
 /// is taken leaves input, output and counter as they were, and nothing is put out before the answer is known. `InputFault`
 /// leaves the output as it was, and after `OutputFault` a part of the output stands; after that of `create` there is an array.
-/// What `read` put out before a refusal stands, and so does each block that `write` wrote before one, or before an input that
-/// ends or fails, and each step of the others that came before one. Where a step is refused with `TooFew` or `EpochsSpent` its blocks are old, new, or in doubt.
+/// What `read` and `run` put out before a refusal stands, and so does each block that `write` wrote before one, or before an input
+/// that ends or fails, and each step of the others that came before one. Where a step is refused with `TooFew` or `EpochsSpent` its blocks are old, new, or in doubt.
 ///
 /// The counter rises by exactly the steps of the encoder that METHOD of `stripe` chooses. No other command counts.
 ///
@@ -207,6 +215,14 @@ fn work<R: Rack, S: Source, K: Sink, L: Ledger>(
         Job::Thaw => thaw(alloc, rack, output, watchers).unwrap_or_else(Status::from),
         Job::Label { text } => {
             let done = label(alloc, text, rack, output, watchers);
+            done.unwrap_or_else(Status::from)
+        }
+        Job::Run => {
+            let done = run_script(alloc, rack, input, output, watchers);
+            done.unwrap_or_else(Status::from)
+        }
+        Job::Exercise { number, count } => {
+            let done = exercise(alloc, number, count, rack, output, watchers);
             done.unwrap_or_else(Status::from)
         }
     }

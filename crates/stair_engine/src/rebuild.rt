@@ -75,8 +75,8 @@ pub(crate) fn rebuild_all<C: StripeCode, R: Rack>(
     }
 }
 
-// The line for so many steps.
-fn rebuilt_line(steps: u64) -> Line
+/// The line for so many steps.
+pub(crate) fn rebuilt_line(steps: u64) -> Line
     ensures { result ≡ line_of_rebuilt steps }
 {
     let mut line = Line::new();

@@ -301,6 +301,19 @@ pub(crate) fn with_blocks(alloc: Global, acts: &[Act]) -> Result<MemRack, AllocE
     restarted(alloc, rack, acts)
 }
 
+// The same, with two bad cells of stripe 0.
+pub(crate) fn with_bad_cells(alloc: Global) -> Result<MemRack, AllocError> {
+    let first = What::Damage {
+        slot: 0,
+        sector: 11,
+    };
+    let second = What::Damage {
+        slot: 1,
+        sector: 12,
+    };
+    with_blocks(alloc, &[act(0, first), act(0, second)])
+}
+
 // What a sector reads as, where it does.
 pub(crate) fn sector(rack: &mut MemRack, slot: u8, number: u32) -> Option<[u8; 512]> {
     let slot = slot.min(31);

@@ -16,6 +16,8 @@ mod refusals;
 #[cfg(test)]
 mod rows;
 #[cfg(test)]
+mod scripts;
+#[cfg(test)]
 mod told;
 #[cfg(test)]
 mod versions;

@@ -1,7 +1,7 @@
 // Devices that are scrubbed, replaced and rebuilt, and arrays that are frozen.
 use crate::calls::{
     EIGHT, Ends, FOUR, NOTHING_TOLD, Told, WHOLE, act, call, created, fenced, gives, is_refused,
-    is_shown, restarted, says, with_array, with_blocks, writes,
+    is_shown, restarted, says, with_array, with_bad_cells, with_blocks, writes,
 };
 use stair_engine::Status;
 use stair_memrack::{Act, MemRack, What};
@@ -26,15 +26,7 @@ fn renewed(slot: u8) -> Told {
 #[test]
 fn bad_cells_are_written_anew(rt: HostRuntime) -> Result<(), Fail> {
     let alloc = rt.alloc();
-    let first = What::Damage {
-        slot: 0,
-        sector: 11,
-    };
-    let second = What::Damage {
-        slot: 1,
-        sector: 12,
-    };
-    let mut rack = with_blocks(alloc, &[act(0, first), act(0, second)])?;
+    let mut rack = with_bad_cells(alloc)?;
     let repaired = Event::Repaired {
         stripe: 0,
         cells: 2,

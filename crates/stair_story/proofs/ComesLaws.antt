@@ -6,15 +6,17 @@ use Rattle.stair_story.specs.Devices.{DeviceView, Devices, MeansWith, WorksAll}
 use Rattle.stair_story.specs.Means.{Counts, Gives, Holds}
 use Rattle.stair_story.specs.Outside.{Outside, SinkView, SourceView, Views}
 use Rattle.stair_story.specs.Plan.{Plan, Over, take_step}
+use Rattle.stair_story.specs.Question.{Judgement, Limits, ScriptLine, Text, Words}
 use Rattle.stair_story.specs.Refused.{status_of_refusal}
 use Rattle.stair_story.specs.Steps.{Takes}
-use Rattle.stair_story.specs.Story.{Deed, Did, Grew, Leads, Moves, RanOut, Stepped}
+use Rattle.stair_story.specs.Story.{Deed, Did, Found, Grew, Leads, Moves, RanOut, Stepped}
 use Rattle.stair_story.proofs.PlanLaws.{leads_then}
 
 -- ---- streams are as they were
 
 module _ {S : Type 0} (view : SourceView S) (s : S) where
   source_same : (deed : Deed) → IsApart deed → Gives view deed s s
+  source_same (Found question) apart = refl
   source_same (Did action outcome) apart = refl
   source_same (Stepped step answer events left) apart = refl
   source_same Grew apart = refl
@@ -27,6 +29,7 @@ module _ {S : Type 0} (view : SourceView S) (s : S) where
 
 module _ {K : Type 0} (view : SinkView K) (s : K) where
   sink_same : (deed : Deed) → IsApart deed → Holds view deed s s
+  sink_same (Found question) apart = refl
   sink_same (Did action outcome) apart = refl
   sink_same (Stepped step answer events left) apart = refl
   sink_same Grew apart = refl
@@ -38,6 +41,11 @@ module _ {K : Type 0} (view : SinkView K) (s : K) where
   sink_still (deed ∷ story) apart = (s, sink_same deed apart.0, sink_still story apart.1)
 
 counter_same : (deed : Deed) (n : ℕ) → IsApart deed → Counts deed n n
+counter_same (Found (Words words)) n apart = refl
+counter_same (Found (Limits g)) n apart = refl
+counter_same (Found (Text text)) n apart = refl
+counter_same (Found (ScriptLine bytes)) n apart = refl
+counter_same (Found (Judgement command g input)) n apart = absurd apart
 counter_same (Did action outcome) n apart = refl
 counter_same (Stepped step answer events left) n apart = refl
 counter_same Grew n apart = refl

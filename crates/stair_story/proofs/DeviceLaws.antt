@@ -288,26 +288,29 @@ module _ {R W S K : Type 0} (view : DeviceView R W) (streams : Views S K) where
     with = with_hands_on view streams plan a b _ _ result fault is whole.with;
   }
 
--- A call of a plan that takes nothing is one over each source.
+-- What follows a plan that takes nothing does so over each source, and so does a whole call.
 module _ {R W S K : Type 0} (view : DeviceView R W) (source : SourceView S) (sink : SinkView K) where
+  pub with_source : (plan rest : Plan) (held later : K) (n n' : ℕ) (x y : Devices R W) → TakesNothing plan
+      → MeansWith view (record { source = no_source; sink = sink }) plan rest (outside tt held n) (outside tt later n') x y
+      → (s : S) → MeansWith view (record { source = source; sink = sink }) plan rest (outside s held n) (outside s later n') x y
+  with_source plan rest held later n n' x y none with s = record {
+    means = record {
+      story = with.means.story;
+      follows = with.means.follows;
+      bears = record {
+        gives = gives_along source with.means.story plan rest s none with.means.follows;
+        holds = with.means.bears.holds;
+        counts = with.means.bears.counts;
+      };
+    };
+    works = with.works;
+  }
+
   pub any_source : (plan rest : Plan) (held later : K) (n n' : ℕ) (x y : R) (watchers left : List W) → TakesNothing plan
       → MeansWhole view (record { source = no_source; sink = sink }) plan rest (outside tt held n) (outside tt later n') x y watchers left
       → (s : S) → MeansWhole view (record { source = source; sink = sink }) plan rest (outside s held n) (outside s later n') x y watchers left
-  any_source plan rest held later n n' x y watchers left none whole s = record {
-    session = whole.session;
-    with = record {
-      means = record {
-        story = whole.with.means.story;
-        follows = whole.with.means.follows;
-        bears = record {
-          gives = gives_along source whole.with.means.story plan rest s none whole.with.means.follows;
-          holds = whole.with.means.bears.holds;
-          counts = whole.with.means.bears.counts;
-        };
-      };
-      works = whole.with.works;
-    };
-  }
+  any_source plan rest held later n n' x y watchers left none whole s =
+      record { session = whole.session; with = with_source plan rest held later n n' _ _ none whole.with s }
 
 -- ---- watchers
 

@@ -6,11 +6,11 @@ use Rattle.stair_model.specs.Geometry.{Geometry}
 use Rattle.stair_model.specs.Slots.{HasSlot}
 use Rattle.stair_rack.specs.Answers.{Ran, any_call}
 use Rattle.stair_rack.specs.Crash.{image_now}
-use Rattle.stair_rack.specs.History.{Attach, Happening, Read, Sectors, SlotCall, Sync, Write}
+use Rattle.stair_rack.specs.History.{Happening}
 use Rattle.stair_rack.specs.Moments.{IsMoment}
 use Rattle.stair_rack.specs.Offline.{IsAttached, IsHeld, IsOffline}
 use Rattle.stair_rack.specs.Sector.{Sector, content, damaged}
-use Rattle.stair_rack.specs.Stretch.{IsNoWrite, NothingWritten, every_slot}
+use Rattle.stair_rack.specs.Stretch.{NothingWritten, every_slot}
 use Rattle.stair_rack.specs.declared.watcher.Event.{Event}
 use Rattle.stair_rack.proofs.CrashLemmas.{CrashMayLeave-now}
 use Rattle.stair_rack.proofs.MomentLemmas.{moment_between, moment_last, moment_sooner, ran_any, ran_join, ran_none}
@@ -39,6 +39,7 @@ use Rattle.stair_array.specs.Causes.{IsFree, WasGoneTo, WhyGoesOn}
 use Rattle.stair_array.specs.Machine.{Answer, EpochsSpent, Refusal, ReplaceSlot, Step, TooFew}
 use Rattle.stair_array.specs.Mends.{Replaces}
 use Rattle.stair_array.specs.Promise.{Begun, Closed, Does, Ends, Found, GoesOn, IsOpenFor, Keeps, Opened, Performs, Seen, Session, StartsFrom, Stops}
+use Rattle.stair_array.proofs.RecoverLemmas.{looks_write_none}
 use Rattle.stair_story.specs.Action.{Create, Survey}
 use Rattle.stair_story.specs.Devices.{DeviceView, Devices, WorksAll, seen_of}
 use Rattle.stair_story.specs.Kept.{HasMember}
@@ -316,14 +317,7 @@ module _ {R W : Type 0} (view : DeviceView R W) (s : State) (j : ℕ) where
       until = moment_between (ran_any asked) (works_ran view stands.honest story mid y works)
 
       unwritten : NothingWritten before (history_of view mid)
-      unwritten = none_written {allowed = LeavesSectors} {slots = every_slot} leaves asked
-        where
-          leaves : (i : ℕ) (call : SlotCall) → LeavesSectors i call → every_slot i → IsNoWrite call
-          leaves i (Attach answer) is on = tt
-          leaves i (Sectors size) is on = tt
-          leaves i (Read k answer) is on = tt
-          leaves i (Write k bytes answer) is on = absurd is
-          leaves i (Sync answer) is on = tt
+      unwritten = none_written {allowed = LeavesSectors} {slots = every_slot} looks_write_none asked
 
       finds : FindsArray s (Ok m) before before (history_of view mid)
       finds =

@@ -1,13 +1,20 @@
 -- What is so of each step of a plan is so of each step of a story that follows it.
-use Rattle.std.proofs.Common.{◌≡◌, ◌+◌, ◌≤◌, ℕ, List, [], ◌∷◌, Ok, Err, sym, subst, arith}
-use Rattle.std.specs.Prelude.{Result, ⊤}
+use Rattle.std.proofs.Common.{◌≡◌, ◌+◌, ◌<◌, ◌≤◌, ℕ, List, [], ◌∷◌, ◌++◌, length, length-append, Option, None, Some, Ok, Err, refl, sym, ap, subst, arith}
+use Rattle.std.proofs.lemmas.List.{nil_from_length}
+use Rattle.std.specs.Prelude.{Bool, IfSome, Result, ⊤}
+use Rattle.std.specs.Io.KnownBytes.{Consumes}
 use Rattle.stair_array.specs.Draws.{allowance}
-use Rattle.stair_array.specs.Machine.{Chunk, Dropped, Nothing, Progress, Promoted, Refusal, Step}
+use Rattle.stair_array.specs.Machine.{Answer, Chunk, Dropped, Nothing, Progress, Promoted, RebuildNext, Refusal, Step}
 use Rattle.stair_story.specs.Action.{Action, OkOf, Outcome}
 use Rattle.stair_story.specs.Drawn.{at_step, over_steps}
 use Rattle.stair_story.specs.Ending.{AllowsAtMost, EachStep, TakesNoStep}
+use Rattle.stair_story.specs.Means.{Gives}
+use Rattle.stair_story.specs.Outside.{SourceView}
 use Rattle.stair_story.specs.Plan.{Plan, Over, Ask, Take, Put, Allocate, Do, Try, RebuildAll, after_rebuild}
-use Rattle.stair_story.specs.Story.{Deed, Found as FoundOut, Took, TookLast, TakeFailed, HasPut, PutFailed, Grew, RanOut, Did, Stepped, Leads, Moves, after}
+use Rattle.stair_story.specs.Question.{IsReply, Reply}
+use Rattle.stair_story.specs.Story.{AreEnough, Deed, Found as FoundOut, Took, TookLast, TakeFailed, HasPut, PutFailed, Grew, RanOut, Did, Stepped, Leads, Moves, after}
+use Rattle.stair_story.specs.Sure.{IsToldSo}
+use Rattle.stair_story.specs.declared.status.Status.TheVariants.{InputFault, OutOfMemory, OutputFault}
 
 -- ---- the steps of a story
 
@@ -59,6 +66,108 @@ module _ (IsSo : Step → Type 0) where
   steps_along (deed ∷ story) plan rest each follows =
       let one = move_each deed plan follows.0 each follows.1 in
       (one.0, steps_along story follows.0 rest one.1 follows.2)
+
+-- ---- what is taken of bytes that a source tells
+
+module _ (Behind Short : List ℕ → Option (List ℕ) → Type 0) where
+  -- what is so behind each piece that may come, and where what is left is less
+  abbrev Telling : (least most : ℕ) → Option (List ℕ) → Type 0
+  Telling least most left = IsToldSo left (λ told.
+      ((bytes rest : List ℕ) → told ≡ bytes ++ rest → AreEnough least most bytes → Behind bytes (Some rest))
+      × (length told < least → Short told (Some [])))
+
+  -- a piece came
+  pub took_told : (least most : ℕ) (bytes : List ℕ) (left later : Option (List ℕ)) → AreEnough least most bytes → Consumes left later bytes
+      → Telling least most left → Behind bytes later
+  took_told least most bytes None later enough consumes told = absurd told
+  took_told least most bytes (Some all) None enough consumes told = absurd consumes
+  took_told least most bytes (Some all) (Some rest) enough consumes told = told.0 bytes rest consumes enough
+
+  -- the end came
+  none_left : (told rest : List ℕ) → told ≡ told ++ rest → rest ≡ []
+  none_left told rest same = nil_from_length rest (omega (arith, ap (λ (bytes : List ℕ). length bytes) same, length-append told rest))
+
+  pub took_last_told : (least most : ℕ) (bytes : List ℕ) (left later : Option (List ℕ)) → length bytes < least → Consumes left later bytes
+      → IfSome left (λ all. bytes ≡ all) → Telling least most left → Short bytes later
+  took_last_told least most bytes None later few consumes all told = absurd told
+  took_last_told least most bytes (Some left) None few consumes all told = absurd consumes
+  took_last_told least most bytes (Some left) (Some rest) few consumes all told =
+      let same : left ≡ left ++ rest = subst (λ (piece : List ℕ). left ≡ piece ++ rest) all consumes in
+      subst (λ (piece : List ℕ). Short piece (Some rest)) (sym all)
+      (subst (λ (none : List ℕ). Short left (Some none)) (sym (none_left left rest same))
+      (told.1 (subst (λ (piece : List ℕ). length piece < least) all few)))
+
+-- Each step that is taken is such a one, of a source that tells that this is left.
+abbrev pub EachStepOf : (Step → Type 0) → Plan → Option (List ℕ) → Type 0
+EachStepOf IsSo (Over status) left = ⊤
+EachStepOf IsSo (Ask question k) left = (reply : Reply question) → IsReply question reply → EachStepOf IsSo (k reply) left
+EachStepOf IsSo (Take least most k short) left = IsToldSo left (λ told.
+    ((bytes rest : List ℕ) → told ≡ bytes ++ rest → AreEnough least most bytes → EachStepOf IsSo (k bytes) (Some rest))
+    × (length told < least → EachStepOf IsSo (short told) (Some [])))
+EachStepOf IsSo (Put bytes plan) left = EachStepOf IsSo plan left
+EachStepOf IsSo (Allocate plan) left = EachStepOf IsSo plan left
+EachStepOf IsSo (Do action k) left = (done : OkOf action) → EachStepOf IsSo (k done) left
+EachStepOf IsSo (Try step k) left = IsSo step × ((answer : Answer step) (gone : Bool) → EachStepOf IsSo (k answer gone) left)
+EachStepOf IsSo (RebuildAll slots done k) left = IsSo RebuildNext × ((count : ℕ) → EachStepOf IsSo (k count) left)
+
+module _ (IsSo : Step → Type 0) {S : Type 0} (view : SourceView S) where
+  abbrev Of : Plan → S → Type 0
+  Of plan source = EachStepOf IsSo plan (view.left source)
+
+  moved : (rest plan : Plan) (a b : S) → rest ≡ plan → b ≡ a → Of plan a → Of rest b
+  moved rest plan a b same kept each = subst (λ (p : Plan). Of p b) (sym same) (subst (λ (source : S). Of plan source) (sym kept) each)
+
+  done_of : (action : Action) (k : OkOf action → Plan) (outcome : Outcome action) (a : S) → ((done : OkOf action) → Of (k done) a)
+      → Of (after action k outcome) a
+  done_of action k (Ok done) a each = each done
+  done_of action k (Err refusal) a each = tt
+
+  rebuilt_of : (slots done : ℕ) (k : ℕ → Plan) (answer : Result Progress Refusal) (a : S) → Of (RebuildAll slots done k) a
+      → Of (after_rebuild slots done k answer) a
+  rebuilt_of slots done k (Ok Nothing) a each = each.1 done
+  rebuilt_of slots done k (Ok (Chunk j t)) a each = each
+  rebuilt_of slots done k (Ok (Promoted j)) a each = each
+  rebuilt_of slots done k (Ok (Dropped j)) a each = each
+  rebuilt_of slots done k (Err refusal) a each = tt
+
+  move_of : (deed : Deed) (plan rest : Plan) (a b : S) → Of plan a → Moves deed plan rest → Gives view deed a b → OfDeed IsSo deed × Of rest b
+  move_of (FoundOut asked) (Ask question k) rest a b each moves gives = (tt, moved rest (k moves.0) a b moves.3 gives (each moves.0 moves.2))
+  move_of (Took bytes) (Take least most k short) rest a b each moves gives = (
+    tt,
+    moved rest (k bytes) b b moves.1 refl
+        (took_told (λ piece left. EachStepOf IsSo (k piece) left) (λ piece left. EachStepOf IsSo (short piece) left) least most bytes (view.left a)
+        (view.left b) moves.0 gives.0 each),
+  )
+  move_of (TookLast bytes) (Take least most k short) rest a b each moves gives = (
+    tt,
+    moved rest (short bytes) b b moves.1 refl
+        (took_last_told (λ piece left. EachStepOf IsSo (k piece) left) (λ piece left. EachStepOf IsSo (short piece) left) least most bytes (view.left a)
+        (view.left b) moves.0 gives.0 gives.1 each),
+  )
+  move_of (TakeFailed bytes) (Take least most k short) rest a b each moves gives = (tt, moved rest (Over InputFault) b b moves.1 refl tt)
+  move_of (HasPut bytes) (Put all plan) rest a b each moves gives = (tt, moved rest plan a b moves.1 gives each)
+  move_of (PutFailed part) (Put all plan) rest a b each moves gives = (tt, moved rest (Over OutputFault) b b moves.1 refl tt)
+  move_of Grew (Allocate plan) rest a b each moves gives = (tt, moved rest plan a b moves gives each)
+  move_of RanOut (Allocate plan) rest a b each moves gives = (tt, moved rest (Over OutOfMemory) b b moves refl tt)
+  move_of (Did did came) (Do action k) rest a b each moves gives =
+      (tt, moved rest (after action k moves.0) a b moves.2 gives (done_of action k moves.0 a each))
+  move_of (Stepped did came events left) (Try step k) rest a b each moves gives = (
+    subst (OfDeed IsSo) (sym moves.1) each.0,
+    moved rest (k moves.0 left) a b moves.2 gives (each.1 moves.0 left),
+  )
+  move_of (Stepped did came events left) (RebuildAll slots done k) rest a b each moves gives = (
+    subst (OfDeed IsSo) (sym moves.1) each.0,
+    moved rest (after_rebuild slots done k moves.0) a b moves.2 gives (rebuilt_of slots done k moves.0 a each),
+  )
+  move_of _ _ rest a b each moves gives = absurd moves
+
+  -- a story takes no steps but those of its plan, of what the source told
+  pub steps_of : (story : List Deed) (plan rest : Plan) (a b : S) → Of plan a → Leads Moves story plan rest → Leads (Gives view) story a b
+      → AllSteps IsSo story
+  steps_of [] plan rest a b each follows gives = tt
+  steps_of (deed ∷ story) plan rest a b each follows gives =
+      let one = move_of deed plan follows.0 a gives.0 each follows.1 gives.1 in
+      (one.0, steps_of story follows.0 rest gives.0 b one.1 follows.2 gives.2)
 
 -- ---- what its steps are allowed
 

@@ -11,8 +11,9 @@ use Rattle.stair_member.specs.declared.why.Why.TheVariants as why
 use Rattle.stair_session.specs.Session.{ArrayState}
 use Rattle.stair_array.specs.Calls.{refused}
 use Rattle.stair_array.specs.Causes.{First, IsAllowed, IsNextChunk, UnderWay}
-use Rattle.stair_array.specs.Machine.{Answer, Chunk, Dropped, EpochsSpent, LookAtSeats, Progress, Promoted, ReadBlock, RebuildNext, Recover, Refusal, ReplaceSlot, ScrubStripe, SetFrozen, SetLabel, Step, TooFew, WriteBlocks}
+use Rattle.stair_array.specs.Machine.{Answer, Chunk, Dropped, EpochsSpent, Progress, Promoted, RebuildNext, Recover, Refusal, Step, TooFew}
 use Rattle.stair_array.specs.Promise.{AnswersStopped, Ended, Ends, Found, GoesOn, Keeps, KeepsProgress, KeepsRebuild, Opened, Performs, Seen, Session, StartsFrom, Stays}
+use Rattle.stair_array.proofs.OpenStepLemmas.{starts_open}
 use Rattle.stair_story.specs.Action.{Create, Outcome, Survey}
 use Rattle.stair_story.specs.Devices.{DeviceView, Devices, WorksAll, seen_of, session_after}
 use Rattle.stair_story.specs.Kept.{HasMember}
@@ -82,21 +83,7 @@ progress_follows next was is (Ended rebuild before not none) stands =
     ∙ if_false (is_rebuilt is.member at.slot) (Some at) None
     (λ one. let found = rebuilt_is is.member at.slot one in not (record { below = found.0; why = found.1 })) ∙ sym is_then
 
--- a step other than the opening starts from an open array that wasn't stopped
-pub starts_open : (step : Step) (was : ArrayState) (session : Session) → (step ≡ Recover → ⊥) → StartsFrom step was session
-    → (session ≡ Opened was) × (was.stopped ≡ None)
-starts_open Recover was session other starts = absurd (other refl)
-starts_open (ReadBlock b) was (Opened a) other starts = (ap Opened (sym starts.0), ap (λ a. a.stopped) starts.0 ∙ starts.1)
-starts_open (WriteBlocks b contents) was (Opened a) other starts = (ap Opened (sym starts.0), ap (λ a. a.stopped) starts.0 ∙ starts.1)
-starts_open (ScrubStripe t) was (Opened a) other starts = (ap Opened (sym starts.0), ap (λ a. a.stopped) starts.0 ∙ starts.1)
-starts_open (ReplaceSlot j) was (Opened a) other starts = (ap Opened (sym starts.0), ap (λ a. a.stopped) starts.0 ∙ starts.1)
-starts_open RebuildNext was (Opened a) other starts = (ap Opened (sym starts.0), ap (λ a. a.stopped) starts.0 ∙ starts.1)
-starts_open (SetFrozen frozen) was (Opened a) other starts = (ap Opened (sym starts.0), ap (λ a. a.stopped) starts.0 ∙ starts.1)
-starts_open (SetLabel label) was (Opened a) other starts = (ap Opened (sym starts.0), ap (λ a. a.stopped) starts.0 ∙ starts.1)
-starts_open LookAtSeats was (Opened a) other starts = (ap Opened (sym starts.0), ap (λ a. a.stopped) starts.0 ∙ starts.1)
-starts_open _ was _ other starts = absurd starts
-
--- and the opening from an array that was found
+-- an opening starts from an array that was found
 starts_found : (was : ArrayState) (session : Session) → StartsFrom Recover was session → session ≡ Found was.member
 starts_found was (Found m) starts = ap Found (sym (ap (λ a. a.member) starts))
 starts_found was _ starts = absurd starts
@@ -172,12 +159,12 @@ module _ {R W : Type 0} (view : DeviceView R W) where
       → (step ≡ Recover → ⊥) → Follows next x.session → Performs step answer events (seen_of view x) (seen_of view y)
       → GoesInTurn (Stepped step answer events left) next x y
   step_in_turn step answer events left next x y other follows does =
-      let open_at = starts_open step does.was x.session other does.starts in
-      let stands : next ≡ stands_in (Opened does.was) = (subst (λ (s : Session). Follows next s) open_at.0 follows) open_at.1 in
+      let open_at = starts_open step other does.was x.session does.starts in
+      let stands : next ≡ stands_in (Opened does.was) = (subst (λ (s : Session). Follows next s) open_at.is_open follows) open_at.unstopped in
       record {
         turn = subst
             (λ (s : Session). IsInTurn (Stepped step answer events left) next s)
-            (sym open_at.0) (in_turn events left step answer does.was does.is next stands does.allowed does.rebuild);
+            (sym open_at.is_open) (in_turn events left step answer does.was does.is next stands does.allowed does.rebuild);
         follows = elim does.ends [
           | Ends is err closed ↦ absurd (other is)
           | GoesOn ok keeps opened ↦

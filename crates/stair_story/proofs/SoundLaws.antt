@@ -15,6 +15,7 @@ use Rattle.stair_session.specs.Session.{ArrayState, IsLiveIn}
 use Rattle.stair_array.specs.Causes.{First, IsAllowed, IsNextChunk, UnderWay}
 use Rattle.stair_array.specs.Machine.{Answer, Chunk, Dropped, EpochsSpent, Promoted, RebuildNext, Recover, ReplaceSlot, ScrubStripe, Step, TooFew}
 use Rattle.stair_array.specs.Promise.{Ended, Ends, EndsIn, GoesOn, HasMade, Keeps, KeepsProgress, KeepsRebuild, Opened, Performs, Seen, Session, Stays}
+use Rattle.stair_array.proofs.OpenStepLemmas.{starts_open}
 use Rattle.stair_story.specs.Action.{Create, Outcome, Survey}
 use Rattle.stair_story.specs.Devices.{DeviceView, Devices, WorksAll, seen_of, session_after}
 use Rattle.stair_story.specs.Kept.{HasMember}
@@ -23,7 +24,7 @@ use Rattle.stair_story.specs.Run.{history_of}
 use Rattle.stair_story.specs.Sound.{AreSoundChunks, HasDeed, IsPromotionOf, IsReplacementOf, IsScrubOf, IsSound, IsSoundChunk, IsSoundStart}
 use Rattle.stair_story.specs.Story.{Deed, Did, Stepped, Leads}
 use Rattle.stair_story.proofs.PromotedLaws.{geometry_stays, live_or_not, was_promoted}
-use Rattle.stair_story.proofs.RebuiltLaws.{opened_fresh, starts_open}
+use Rattle.stair_story.proofs.RebuiltLaws.{opened_fresh}
 use Rattle.stair_story.proofs.RunLaws.{one_ran, works_ran}
 
 -- ---- moments
@@ -152,8 +153,8 @@ module _ {R W : Type 0} (view : DeviceView R W) (honest : IsTrue view.rack.hones
       → (does : Performs step answer events (seen_of view x) (seen_of view y)) → Ran any_call first (h_of x) → IsSoundSoFar first x.session (h_of x)
       → IsSoundSoFar first y.session (h_of y)
   step_so_far first step answer events x y other does since so_far =
-      let open_at = starts_open step does.was x.session other does.starts in
-      let sound : AreSoundSoFar first does.was (h_of x) = (subst (λ (s : Session). IsSoundSoFar first s (h_of x)) open_at.0 so_far) open_at.1 in
+      let open_at = starts_open step other does.was x.session does.starts in
+      let sound : AreSoundSoFar first does.was (h_of x) = (subst (λ (s : Session). IsSoundSoFar first s (h_of x)) open_at.is_open so_far) open_at.unstopped in
       elim does.ends [
         | Ends is err closed ↦ absurd (other is)
         | GoesOn ok keeps opened ↦
@@ -204,8 +205,8 @@ module _ {R W : Type 0} (view : DeviceView R W) (honest : IsTrue view.rack.hones
       elim works.0 [
         | inr again ↦ absurd (let never = again.answered in cc)
         | inl does ↦
-            let open_at = starts_open RebuildNext does.was x.session (λ same. cc) does.starts in
-            let sound : AreSoundSoFar first does.was (h_of x) = (subst (λ (s : Session). IsSoundSoFar first s (h_of x)) open_at.0 so_far) open_at.1 in (
+            let open_at = starts_open RebuildNext (λ same. cc) does.was x.session does.starts in
+            let sound : AreSoundSoFar first does.was (h_of x) = (subst (λ (s : Session). IsSoundSoFar first s (h_of x)) open_at.is_open so_far) open_at.unstopped in (
               does.is.member,
               open_then RebuildNext (Ok (Promoted slot)) does.is y.session (λ same. cc) does.ends,
               subst (λ (k : ℕ). AreSoundChunks does.is.member.array.geometry k first (h_of y)) is

@@ -6,11 +6,11 @@ use Rattle.std.specs.Prelude.{Bool, IsOk, IsTrue, ⊤}
 use Rattle.stair_model.specs.Geometry.{Geometry}
 use Rattle.stair_model.specs.Slots.{HasSlot}
 use Rattle.stair_rack.specs.Answers.{Ran, any_call}
-use Rattle.stair_rack.specs.History.{Attach, Happening, Read, Sectors, SlotCall, Sync, Write}
+use Rattle.stair_rack.specs.History.{Happening}
 use Rattle.stair_rack.specs.Moments.{IsMoment}
 use Rattle.stair_rack.specs.Offline.{IsOffline}
 use Rattle.stair_rack.specs.Sector.{Cell, Good}
-use Rattle.stair_rack.specs.Stretch.{IsNoWrite, NothingWritten, every_slot}
+use Rattle.stair_rack.specs.Stretch.{NothingWritten, every_slot}
 use Rattle.stair_rack.specs.Telling.{IsReading, Telling}
 use Rattle.stair_rack.specs.declared.watcher.Event.{Event}
 use Rattle.stair_rack.specs.Crash.{image_now}
@@ -41,6 +41,8 @@ use Rattle.stair_session.specs.Session.{ArrayState}
 use Rattle.stair_array.specs.Causes.{MarkGoesOn, WhyGoesOn}
 use Rattle.stair_array.specs.Machine.{Answer, Chunk, Dropped, Nothing, Promoted, RebuildNext, Recover, Refusal, ReplaceSlot, Step}
 use Rattle.stair_array.specs.Promise.{Begun, Closed, Ends, Found, GoesOn, Opened, Performs, Seen, Session, StartsFrom, Stops, unopened}
+use Rattle.stair_array.proofs.OpenStepLemmas.{opening_or_open}
+use Rattle.stair_array.proofs.RecoverLemmas.{looks_write_none}
 use Rattle.stair_story.specs.Action.{Action, Create, OkOf, Outcome, Survey}
 use Rattle.stair_story.specs.Devices.{DeviceView, Devices, MeansWhole, WorksAll, devices, seen_of}
 use Rattle.stair_story.specs.Ending.{AdmitsNone, AdmitsOnce, EachStep}
@@ -53,7 +55,6 @@ use Rattle.stair_story.proofs.KeptLaws.{known_begun, starts_known}
 use Rattle.stair_story.proofs.PlannedLaws.{steps_along}
 use Rattle.stair_story.proofs.PlannedSureLaws.{none_replaced_in}
 use Rattle.stair_story.proofs.RunLaws.{one_ran, works_ran}
-use Rattle.stair_story.proofs.SureStepLaws.{starts_open}
 
 -- ---- what a survey finds
 
@@ -70,14 +71,7 @@ module _ (s : State) (m : Membership) (old new : Telling) (last : List Happening
   until at = moment_sooner at (moment_between (ran_any asked) later)
 
   unwritten : {h : List Happening} → IsMoment old.history h new.history → NothingWritten old.history h
-  unwritten at = none_written {allowed = LeavesSectors} {slots = every_slot} leaves (ran_before asked at)
-    where
-      leaves : (i : ℕ) (call : SlotCall) → LeavesSectors i call → every_slot i → IsNoWrite call
-      leaves i (Attach answer) is on = tt
-      leaves i (Sectors size) is on = tt
-      leaves i (Read k answer) is on = tt
-      leaves i (Write k bytes answer) is on = absurd is
-      leaves i (Sync answer) is on = tt
+  unwritten at = none_written {allowed = LeavesSectors} {slots = every_slot} looks_write_none (ran_before asked at)
 
   small : IsHere m j → j < 32
   small here = let drawn = surveyed.drawn in
@@ -187,7 +181,7 @@ module _ (slot : ℕ) (step : Step) (other : step ≢ ReplaceSlot slot) (answer 
     (does : Performs step answer events x y) where
   opened_out : (step ≡ Recover → IsOk answer) → IsOut slot x.session → IsOut slot (Opened does.is)
   opened_out ok out =
-      elim (starts_open step does.was x.session does.starts) [
+      elim (opening_or_open step does.was x.session does.starts) [
         | inl opening ↦
             let opens = opens_from does.was x.session (subst (λ (begun : Step). StartsFrom begun does.was x.session) opening does.starts) in
             let found : IsOut slot (Found opens.found) = subst (IsOut slot) opens.is_found out in

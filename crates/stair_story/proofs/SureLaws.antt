@@ -1,9 +1,7 @@
 -- A plan that is sure to end with Done ends so, where memory isn't short and neither source nor sink fails: one induction on the
 -- story, whatever bears it out, and what follows over a rack alone.
-use Rattle.std.proofs.Common.{◌≡◌, ◌∙◌, ℕ, ◌<◌, ◌≤◌, List, [], ◌∷◌, ◌++◌, length, length-append, Option, None, Some, Ok, inl, inr, refl, sym, ap, subst, arith}
-use Rattle.std.proofs.lemmas.List.{nil_from_length}
-use Rattle.std.specs.Prelude.{Bool, IfSome, IsTrue}
-use Rattle.std.specs.Io.KnownBytes.{Consumes}
+use Rattle.std.proofs.Common.{◌≡◌, ◌∙◌, ℕ, ◌≤◌, List, [], ◌∷◌, Option, None, Some, Ok, inl, inr, refl, sym, ap, subst}
+use Rattle.std.specs.Prelude.{Bool, IsTrue}
 use Rattle.stair_rack.specs.Answers.{Ran, any_call}
 use Rattle.stair_rack.specs.Count.{Rose, Rose-kept, kept-Rose}
 use Rattle.stair_rack.specs.History.{Happening}
@@ -29,36 +27,13 @@ use Rattle.stair_story.specs.Means.{Gives, Holds}
 use Rattle.stair_story.specs.Outside.{Outside, Views}
 use Rattle.stair_story.specs.Plan.{Plan, Over, Ask, Take, Put, Allocate, Do, Try, RebuildAll, after_rebuild}
 use Rattle.stair_story.specs.Rack.{MeansOver, RackView, Works, told_of}
-use Rattle.stair_story.specs.Story.{AreEnough, Deed, Found, Took, TookLast, TakeFailed, HasPut, PutFailed, Grew, RanOut, Did, Stepped, Leads, Moves, after}
+use Rattle.stair_story.specs.Story.{Deed, Found, Took, TookLast, TakeFailed, HasPut, PutFailed, Grew, RanOut, Did, Stepped, Leads, Moves, after}
 use Rattle.stair_story.specs.Sure.{HasNoFault, IsDone, IsDoneFrom, IsFreeFor, IsSure, Last, More, counted_behind}
 use Rattle.stair_story.proofs.EndingLaws.{sink_on, source_on}
 use Rattle.stair_story.proofs.EndingLaws.{ends_so}
+use Rattle.stair_story.proofs.PlannedLaws.{took_last_told, took_told}
 use Rattle.stair_story.proofs.RackLaws.{IsOffDevices, works_still}
 use Rattle.stair_story.proofs.RunLaws.{forgets}
-
--- ---- what is taken
-
-module _ (counted : List ℕ) (s : State) where
-  -- a piece came
-  took_sure : (least most : ℕ) (k short : List ℕ → Plan) (bytes : List ℕ) (left later : Option (List ℕ)) → AreEnough least most bytes
-      → Consumes left later bytes → IsSure counted (Take least most k short) s left → IsSure counted (k bytes) s later
-  took_sure least most k short bytes None later enough consumes sure = absurd sure
-  took_sure least most k short bytes (Some told) None enough consumes sure = absurd consumes
-  took_sure least most k short bytes (Some told) (Some rest) enough consumes sure = sure.0 bytes rest consumes enough
-
-  -- the end came
-  none_left : (told rest : List ℕ) → told ≡ told ++ rest → rest ≡ []
-  none_left told rest same = nil_from_length rest (omega (arith, ap (λ (bytes : List ℕ). length bytes) same, length-append told rest))
-
-  took_last_sure : (least most : ℕ) (k short : List ℕ → Plan) (bytes : List ℕ) (left later : Option (List ℕ)) → length bytes < least
-      → Consumes left later bytes → IfSome left (λ all. bytes ≡ all) → IsSure counted (Take least most k short) s left → IsSure counted (short bytes) s later
-  took_last_sure least most k short bytes None later few consumes all sure = absurd sure
-  took_last_sure least most k short bytes (Some told) None few consumes all sure = absurd consumes
-  took_last_sure least most k short bytes (Some told) (Some rest) few consumes all sure =
-      let same : told ≡ told ++ rest = subst (λ (piece : List ℕ). told ≡ piece ++ rest) all consumes in
-      subst (λ (piece : List ℕ). IsSure counted (short piece) s (Some rest)) (sym all)
-      (subst (λ (none : List ℕ). IsSure counted (short told) s (Some none)) (sym (none_left told rest same))
-      (sure.1 (subst (λ (piece : List ℕ). length piece < least) all few)))
 
 -- ---- a story, whatever bears it out
 
@@ -149,11 +124,13 @@ module _ {X S K : Type 0} (One : Deed → X → X → Type 0)
   one_sure counted s (Took bytes) (Take least most next short) rest story x y works a b k l moves gives holds sound whole ready sure =
       StaysSure counted s (carries.still counted s (Took bytes) story x y works tt ready)
       (same_sure counted s rest (next bytes) b b moves.1 refl
-      (took_sure counted s least most next short bytes (streams.source.left a) (streams.source.left b) moves.0 gives.0 sure))
+      (took_told (λ piece left. IsSure counted (next piece) s left) (λ piece left. IsSure counted (short piece) s left) least most bytes
+      (streams.source.left a) (streams.source.left b) moves.0 gives.0 sure))
   one_sure counted s (TookLast bytes) (Take least most next short) rest story x y works a b k l moves gives holds sound whole ready sure =
       StaysSure counted s (carries.still counted s (TookLast bytes) story x y works tt ready)
       (same_sure counted s rest (short bytes) b b moves.1 refl
-      (took_last_sure counted s least most next short bytes (streams.source.left a) (streams.source.left b) moves.0 gives.0 gives.1 sure))
+      (took_last_told (λ piece left. IsSure counted (next piece) s left) (λ piece left. IsSure counted (short piece) s left) least most bytes
+      (streams.source.left a) (streams.source.left b) moves.0 gives.0 gives.1 sure))
   one_sure counted s (TakeFailed bytes) (Take least most next short) rest story x y works a b k l moves gives holds sound whole ready sure =
       absurd (sound gives.4)
   one_sure counted s (HasPut bytes) (Put all plan) rest story x y works a b k l moves gives holds sound whole ready sure =

@@ -1,6 +1,6 @@
 -- Over a rack, a session and watchers a sure plan ends with Done: a step that can be done is done and leads on, and what comes
 -- behind it is sure again.
-use Rattle.std.proofs.Common.{◌≡◌, ◌≢◌, ◌∙◌, ◌⊎◌, ℕ, ◌<◌, List, [], ◌∷◌, Option, None, Some, Result, Ok, Err, inl, inr, refl, sym, ap, subst, arith}
+use Rattle.std.proofs.Common.{◌≡◌, ◌≢◌, ◌∙◌, ℕ, ◌<◌, List, [], ◌∷◌, Option, None, Some, Result, Ok, Err, inl, inr, refl, sym, ap, subst, arith}
 use Rattle.std.proofs.lemmas.Bool.{false≢true}
 use Rattle.std.specs.Prelude.{Bool, IsOk, IsSome, IsTrue}
 use Rattle.stair_model.specs.Geometry.{Geometry}
@@ -29,6 +29,7 @@ use Rattle.stair_session.specs.Session.{ArrayState, seats_in}
 use Rattle.stair_array.specs.Draws.{HasDraws}
 use Rattle.stair_array.specs.Machine.{Answer, GivenBy, PassesTests, Recover, ReplaceSlot, Row, Step}
 use Rattle.stair_array.specs.Promise.{AnswersStopped, Begun, BeginsWith, EndsIn, Ends, Found, GoesOn, IsFitFor, IsOpenFor, MayReplace, Opened, Performs, Seen, ServesState, Session, StartsFrom, is_open}
+use Rattle.stair_array.proofs.OpenStepLemmas.{IsOpened, opening_or_open}
 use Rattle.stair_story.specs.declared.status.Status.{Status}
 use Rattle.stair_story.specs.Action.{Outcome, Survey}
 use Rattle.stair_story.specs.Devices.{DeviceView, Devices, MeansWith, WorksAll, seen_of}
@@ -59,11 +60,7 @@ starts_drawn _ was (Opened a) starts draws = subst (λ (b : ArrayState). HasDraw
 starts_drawn _ was _ starts draws = absurd starts
 
 -- behind a step that was done the array is open, and isn't stopped
-pub record IsOpened (is : ArrayState) (session : Session) : Type 0 where
-  pub is_open : session ≡ Opened is
-  pub unstopped : is.stopped ≡ None
-
-ends_open : (step : Step) (given : GivenBy step) (is : ArrayState) (session : Session) → EndsIn step (Ok given) is session → IsOpened is session
+pub ends_open : (step : Step) (given : GivenBy step) (is : ArrayState) (session : Session) → EndsIn step (Ok given) is session → IsOpened is session
 ends_open step given is session (Ends opens err same) = absurd (false≢true err)
 ends_open step given is session (GoesOn opens keeps same) = record { is_open = same; unstopped = keeps }
 
@@ -76,13 +73,7 @@ pub none_some : (fault : Option FenceFault) → fault ≡ None → IsSome fault 
 none_some None none some = false≢true some
 none_some (Some fault) none some = let same : Some fault ≡ None = none in cc
 
--- so is the array with which a step but an opening begins
-pub starts_open : (step : Step) (was : ArrayState) (session : Session) → StartsFrom step was session → (step ≡ Recover) ⊎ IsOpened was session
-starts_open Recover was session starts = inl refl
-starts_open _ was (Opened a) starts = inr (record { is_open = ap Opened (sym starts.0); unstopped = ap (λ (b : ArrayState). b.stopped) starts.0 ∙ starts.1 })
-starts_open _ was _ starts = absurd starts
-
--- which isn't an opening
+-- no opening starts from an open array
 never_opening : (step : Step) (was : ArrayState) (session : Session) → step ≡ Recover → StartsFrom step was session → session ≡ Opened was → ⊥
 never_opening step was session opening starts is =
     subst (λ (end : Session). StartsFrom Recover was end) is (subst (λ (begun : Step). StartsFrom begun was session) opening starts)
@@ -130,7 +121,7 @@ keeps_by : (counted : List ℕ) (step : Step) (answer : Answer step) (events : L
     → KeepsCounted counted step begun row.seats
 keeps_by counted Recover answer events given before h s later begun row x y does begins opened serves serves_later kept = tt
 keeps_by counted step answer events given before h s later begun row x y does begins opened serves serves_later kept =
-    elim (starts_open step does.was x.session does.starts) [
+    elim (opening_or_open step does.was x.session does.starts) [
       | inl opening ↦ let same : step ≡ Recover = opening in absurd cc
       | inr began ↦
           kept_twice (IsCounted counted) begun row.seats (seats_in does.was.member.array) (seats_in does.is.member.array) s.seats later.seats begins
@@ -143,7 +134,7 @@ free_for : (step : Step) (before : List Happening) (s : State) (was : ArrayState
     → StartsFrom step was session → ServesState NoneReturns before s session told → s.seats ≡ Some seats
     → ((j : ℕ) → step ≡ ReplaceSlot j → IsOpened was session → mark_in was.member.array j ≡ Down) → IsFreeFor step seats
 free_for (ReplaceSlot j) before s was session told seats starts serves known down =
-    elim (starts_open (ReplaceSlot j) was session starts) [
+    elim (opening_or_open (ReplaceSlot j) was session starts) [
       | inl opening ↦ let same : ReplaceSlot j ≡ Recover = opening in absurd cc
       | inr began ↦
           subst (λ (is : Seats). (is j).mark ≡ Down) (seats_once (sym (opened_seats before s was session told began serves) ∙ known)) (down j refl began)

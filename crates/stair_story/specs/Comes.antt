@@ -2,10 +2,13 @@
 use Rattle.std.specs.Prelude.{List, [], ◌∷◌, ⊤}
 use Rattle.stair_story.specs.Devices.{DeviceView, Devices, WorksAll}
 use Rattle.stair_story.specs.Plan.{Plan}
-use Rattle.stair_story.specs.Story.{Deed, Did, Grew, Leads, Moves, RanOut, Stepped}
+use Rattle.stair_story.specs.Question.{Judgement}
+use Rattle.stair_story.specs.Story.{Deed, Did, Found, Grew, Leads, Moves, RanOut, Stepped}
 
--- a deed that touches neither source nor sink nor counter
+-- a deed that touches neither source nor sink nor counter, which the judgement of blocks does
 abbrev pub IsApart : Deed → Type 0
+IsApart (Found (Judgement command g input)) = ⊥
+IsApart (Found question) = ⊤
 IsApart (Did action outcome) = ⊤
 IsApart (Stepped step answer events left) = ⊤
 IsApart Grew = ⊤

@@ -10,7 +10,7 @@ use Rattle.stair_story.specs.declared.fault.Fault.TheVariants as fault
 use Rattle.stair_story.specs.Action.{status_of_create, status_of_survey}
 use Rattle.stair_story.specs.Refused.{status_of_refusal}
 use Rattle.stair_story.specs.declared.status.Status.{Status}
-use Rattle.stair_story.specs.declared.status.Status.TheVariants.{EpochsSpent, Gone, JournalLost, Key, Limit, NotToml, Input, InputFault, OutOfRange, OutputFault, OutOfMemory, TooFew}
+use Rattle.stair_story.specs.declared.status.Status.TheVariants.{BadLine, EpochsSpent, Gone, JournalLost, Key, Limit, NotToml, Input, InputFault, OutOfRange, OutputFault, OutOfMemory, TooFew}
 
 -- the status of a geometry text
 abbrev pub status_of_config : ConfigFault → Status
@@ -41,6 +41,7 @@ status_of_fault (fault.Replace fault slots) = status_of_refusal slots (replace_r
 status_of_fault (fault.Rebuild fault slots) = status_of_refusal slots (rebuild_refusal fault)
 status_of_fault (fault.Gone slot) = Gone slot
 status_of_fault (fault.OutOfRange asked limit) = OutOfRange asked limit
+status_of_fault (fault.BadLine number) = BadLine number
 
 -- the status of a call that may have ended with a fault
 abbrev pub status_of : Result Status Fault → Status

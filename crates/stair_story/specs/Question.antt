@@ -5,6 +5,8 @@ use Rattle.stair_conf.specs.Config.{TextReadsAs}
 use Rattle.stair_conf.specs.Words.{IsSpelled, Spells}
 use Rattle.stair_conf.specs.declared.fault.ConfigFault.{ConfigFault}
 use Rattle.stair_conf.specs.declared.job.Job.{Job}
+use Rattle.stair_script.specs.Line.{SpellsLine}
+use Rattle.stair_script.specs.declared.line.Line.{Line}
 use Rattle.stair_story.specs.declared.status.Status.{Status}
 use Rattle.stair_conf.specs.declared.job.StripeCommand.{StripeCommand}
 use Rattle.stair_story.specs.Answer.{Judges}
@@ -18,12 +20,15 @@ pub data Question : Type 0 where
   Text : List ℕ → Question
   -- the status and the output for a whole input
   Judgement : StripeCommand → Geometry → List ℕ → Question
+  -- what a line of a script says, if it is one
+  ScriptLine : List ℕ → Question
 
 abbrev pub Reply : Question → Type 0
 Reply (Words words) = Option Job
 Reply (Limits g) = Option ℕ
 Reply (Text text) = Result Geometry ConfigFault
 Reply (Judgement command g input) = Status × List ℕ
+Reply (ScriptLine bytes) = Option Line
 
 -- the right reply
 abbrev pub IsReply : (question : Question) → Reply question → Type 0
@@ -33,3 +38,5 @@ IsReply (Limits g) None = IsWithinLimits g
 IsReply (Limits g) (Some k) = IsFirstBrokenLimit g k
 IsReply (Text text) reply = TextReadsAs text reply
 IsReply (Judgement command g input) reply = Judges command g input reply.0 reply.1
+IsReply (ScriptLine bytes) None = (said : Line) → ¬ SpellsLine bytes said
+IsReply (ScriptLine bytes) (Some said) = SpellsLine bytes said

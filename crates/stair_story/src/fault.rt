@@ -35,6 +35,8 @@ pub enum Fault {
     Gone(u8),
     /// The number `asked` is at or past the `limit`.
     OutOfRange { asked: u64, limit: u64 },
+    /// This line of a script, counted from 1, isn't in the grammar, or is too long.
+    BadLine(u64),
 }
 
 impl From<AllocError> for Fault {

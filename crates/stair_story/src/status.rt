@@ -77,6 +77,8 @@ pub enum Status {
     EpochsSpent,
     /// There was no memory.
     OutOfMemory,
+    /// This line of a script, counted from 1, isn't in the grammar, or is too long.
+    BadLine(u64),
     /// A write was under way, and this sector of the journal's body can't be read from any live slot.
     JournalLost {
         sector: u32,
@@ -105,6 +107,7 @@ impl From<Fault> for Status {
             Fault::Rebuild { fault, slots } => status_of_rebuild(fault, slots),
             Fault::Gone(slot) => Status::Gone(slot),
             Fault::OutOfRange { asked, limit } => Status::OutOfRange { asked, limit },
+            Fault::BadLine(number) => Status::BadLine(number),
         }
     }
 }
@@ -244,6 +247,7 @@ impl Status {
             Status::Gone(_) => 15,
             Status::EpochsSpent => 16,
             Status::OutOfMemory => 17,
+            Status::BadLine(_) => 18,
             Status::JournalLost { .. } => 19,
             Status::Frozen => 20,
         }
@@ -269,7 +273,7 @@ impl fmt::Display for Status {
             Status::NoCodeword => write!(f, "no codeword holds these cells"),
             Status::Usage => write!(
                 f,
-                "usage: stair FOLDER check|stripe|restore|create|show|read|write|scrub|replace|rebuild|freeze|thaw|label"
+                "usage: stair FOLDER check|stripe|restore|create|show|read|write|scrub|replace|rebuild|run|exercise|freeze|thaw|label"
             ),
             Status::Limit(limit) => write!(f, "geometry: limit {limit}"),
             Status::Key(key) => write!(f, "geometry: key {}", key.name()),
@@ -305,6 +309,7 @@ impl fmt::Display for Status {
             Status::Gone(slot) => write!(f, "gone: slot {slot}"),
             Status::EpochsSpent => write!(f, "epochs spent"),
             Status::OutOfMemory => write!(f, "out of memory"),
+            Status::BadLine(number) => write!(f, "bad line {number}"),
             Status::JournalLost { sector } => write!(f, "journal lost: sector {sector}"),
             Status::Frozen => write!(f, "frozen"),
         }

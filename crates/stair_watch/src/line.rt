@@ -4,8 +4,8 @@ ghost use Rattle.std.specs.Fmt.{decimal};
 
 use std::marker::Model;
 
-/// A line has at most so many bytes. The longest one, of a geometry with 31 entries of coverage, has fewer.
-pub const LINE_LIMIT: usize = 1024;
+/// A line has at most so many bytes. The longest one, of a number and the 1,024 digits of a sector, has fewer.
+pub const LINE_LIMIT: usize = 1100;
 
 /// A line of text, as far as it is made.
 #[derive(Drop)]

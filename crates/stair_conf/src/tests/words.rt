@@ -2,9 +2,9 @@ use crate::{Job, Method, StripeCommand, WordsFault, read_words};
 use std::alloc::{AllocError, Global};
 use std::test::Fail;
 
-// Each row is a command line, a blank behind each word but the last, and the numbers N M R E.., BLOCK COUNT or SLOT that it
-// has, None where it is faulty.
-const LINES: [(&str, Option<&[u64]>); 61] = [
+// Each row is a command line, a blank behind each word but the last, and the numbers N M R E.., BLOCK COUNT, SLOT or NUMBER
+// COUNT that it has, None where it is faulty.
+const LINES: [(&str, Option<&[u64]>); 70] = [
     ("check 4 1 2 1", Some(&[4, 1, 2, 1])),
     ("restore 8 2 4 1 1 2", Some(&[8, 2, 4, 1, 1, 2])),
     (
@@ -72,6 +72,18 @@ const LINES: [(&str, Option<&[u64]>); 61] = [
     ("label shelf 7", None),
     ("label shelf ", None),
     ("Label shelf", None),
+    ("run", Some(&[])),
+    ("run 1", None),
+    ("runs", None),
+    ("exercise 0 1", Some(&[0, 1])),
+    (
+        "exercise 18446744073709551615 1000001",
+        Some(&[u64::MAX, 1_000_001]),
+    ),
+    ("exercise 0", None),
+    ("exercise 0 1 2", None),
+    ("exercise 0 01", None),
+    ("exercise", None),
 ];
 
 // Each row is the word TEXT, and whether it is one.
@@ -125,6 +137,8 @@ fn front_of(job: &Job) -> &'static str {
         Job::Freeze => "freeze",
         Job::Thaw => "thaw",
         Job::Label { .. } => "label ",
+        Job::Run => "run",
+        Job::Exercise { .. } => "exercise ",
     }
 }
 
@@ -141,8 +155,10 @@ fn numbers_of(alloc: Global, job: &Job) -> Result<Vec<u64>, AllocError> {
         | Job::Rebuild
         | Job::Freeze
         | Job::Thaw
-        | Job::Label { .. } => Ok(Vec::new(alloc)),
+        | Job::Label { .. }
+        | Job::Run => Ok(Vec::new(alloc)),
         Job::Read { block, count } | Job::Write { block, count } => [*block, *count].to_vec(alloc),
+        Job::Exercise { number, count } => [*number, *count].to_vec(alloc),
         Job::Replace { slot } => [*slot].to_vec(alloc),
     }
 }

@@ -7,13 +7,14 @@ use Rattle.stair_story.specs.Fault.{status_of, status_of_fault}
 use Rattle.stair_story.specs.Means.{Means}
 use Rattle.stair_story.specs.Outside.{outside, sink_alone, views}
 use Rattle.stair_rack.specs.Watching.{watcher_view}
-use Rattle.stair_conf.specs.declared.job.Job.TheVariants.{Create, Freeze, Label, Read, Rebuild, Replace, Scrub, Show, Thaw}
+use Rattle.stair_conf.specs.declared.job.Job.TheVariants.{Create, Exercise, Freeze, Label, Read, Rebuild, Replace, Scrub, Show, Thaw}
 use Rattle.stair_story.specs.Devices.{MeansWhole, device_view}
 use Rattle.stair_story.proofs.DeviceLaws.{any_source, calls_once, with_once}
 use Rattle.stair_engine.specs.Blocks.{read_plan, write_plan}
 use Rattle.stair_engine.proofs.ArmLaws.{arm}
 use Rattle.stair_engine.proofs.JobLaws.{job_once, job_untaken}
 use Rattle.stair_story.specs.Plan.{Over}
+use Rattle.stair_engine.specs.Scripts.{run_plan}
 use Rattle.stair_engine.specs.Plans.{create_plan, job_plan, show_plan, stripe_plan, tested_plan, within_limits}
 use Rattle.stair_story.specs.Question.{Limits}
 use Rattle.stair_story.specs.Rack.{MeansOver, rack_view}
@@ -166,6 +167,26 @@ returns-in-Write-clause-means g c =
     (subst (λ (s : Status). MeansWhole devices view (write_plan job.block job.count) (Over s) old new c.args.rack.now c.write-done.new.rack
     c.args.watchers.now.items c.write-done.new.watchers.items) (sym is) (c.write-done.ensures.means c.args.steps.now))
 
+pub returns-in-Run-clause-means : goal.returns-in-Run-clause-means
+returns-in-Run-clause-means g c =
+    let view = views g.S.Source.left g.S.Source.ended g.S.Source.faults g.K.Sink.held g.K.Sink.faults in
+    let rack = rack_view g.R.Rack.is_honest g.R.Rack.history g.R.Rack.bads g.R.Rack.gones in
+    let told = watcher_view
+    (λ b. (goal.Watcher-dyn g (b.vtable, b.value)).told b.value)
+    (λ b. (goal.Watcher-dyn g (b.vtable, b.value)).count b.value)
+    (λ b. (goal.Watcher-dyn g (b.vtable, b.value)).left b.value)
+    (λ b. (goal.Watcher-dyn g (b.vtable, b.value)).patience b.value)
+    in
+    let devices = device_view rack told in
+    let status = c.unwrap_or_else-in-Run.result in
+    let is : status ≡ status_of c.run_script-done.result = status_is _ c.run_script-done.result c.unwrap_or_else-in-Run.ensures in
+    let old = outside c.args.input.now c.args.output.now c.args.steps.now in
+    let new = outside c.run_script-done.new.input c.run_script-done.new.output c.args.steps.now in
+    subst (λ (of : Job). MeansWhole devices view (job_plan of) (Over status) old new c.args.rack.now c.run_script-done.new.rack c.args.watchers.now.items c.run_script-done.new.watchers.items)
+    (sym c.in-Run.is)
+    (subst (λ (s : Status). MeansWhole devices view run_plan (Over s) old new c.args.rack.now c.run_script-done.new.rack
+    c.args.watchers.now.items c.run_script-done.new.watchers.items) (sym is) (c.run_script-done.ensures.means c.args.steps.now))
+
 pub returns-in-Scrub-clause-means : goal.returns-in-Scrub-clause-means
 returns-in-Scrub-clause-means g c =
     let rack = rack_view g.R.Rack.is_honest g.R.Rack.history g.R.Rack.bads g.R.Rack.gones in
@@ -236,8 +257,8 @@ returns-in-Thaw-clause-means g c =
     (status_is _ c.thaw.result c.unwrap_or_else-in-Thaw.ensures) _ c.in-Thaw.is c.args.input.now c.args.output.now c.thaw.new.output c.args.steps.now
     c.args.rack.now c.thaw.new.rack c.args.watchers.now.items c.thaw.new.watchers.items c.thaw.ensures.means
 
-pub returns-clause-means : goal.returns-clause-means
-returns-clause-means g c =
+pub returns-in-Label-clause-means : goal.returns-in-Label-clause-means
+returns-in-Label-clause-means g c =
     let rack = rack_view g.R.Rack.is_honest g.R.Rack.history g.R.Rack.bads g.R.Rack.gones in
     let told = watcher_view
     (λ b. (goal.Watcher-dyn g (b.vtable, b.value)).told b.value)
@@ -249,3 +270,19 @@ returns-clause-means g c =
     arm (device_view rack told) view.source view.sink (Label c.in-Label.text) (job_untaken (Label c.in-Label.text) (λ no. no)) c.label-done.result c.unwrap_or_else-in-Label.result
     (status_is _ c.label-done.result c.unwrap_or_else-in-Label.ensures) _ c.in-Label.is c.args.input.now c.args.output.now c.label-done.new.output c.args.steps.now
     c.args.rack.now c.label-done.new.rack c.args.watchers.now.items c.label-done.new.watchers.items c.label-done.ensures.means
+
+pub returns-clause-means : goal.returns-clause-means
+returns-clause-means g c =
+    let rack = rack_view g.R.Rack.is_honest g.R.Rack.history g.R.Rack.bads g.R.Rack.gones in
+    let told = watcher_view
+    (λ b. (goal.Watcher-dyn g (b.vtable, b.value)).told b.value)
+    (λ b. (goal.Watcher-dyn g (b.vtable, b.value)).count b.value)
+    (λ b. (goal.Watcher-dyn g (b.vtable, b.value)).left b.value)
+    (λ b. (goal.Watcher-dyn g (b.vtable, b.value)).patience b.value)
+    in
+    let view = views g.S.Source.left g.S.Source.ended g.S.Source.faults g.K.Sink.held g.K.Sink.faults in
+    let of = Exercise c.in-Exercise.number c.in-Exercise.count in
+    arm (device_view rack told) view.source view.sink of (job_untaken of (λ no. no)) c.exercise-done.result c.unwrap_or_else-in-Exercise.result
+    (status_is _ c.exercise-done.result c.unwrap_or_else-in-Exercise.ensures) _ c.in-Exercise.is c.args.input.now c.args.output.now
+    c.exercise-done.new.output c.args.steps.now c.args.rack.now c.exercise-done.new.rack c.args.watchers.now.items c.exercise-done.new.watchers.items
+    c.exercise-done.ensures.means
