@@ -31,13 +31,22 @@ pub(crate) const WHOLE: Ends = Ends {
     room: 10_000,
 };
 
-// The first two events that a watcher kept; None where there is no watcher any more.
-pub(crate) type Told = Option<[Option<Event>; 2]>;
+// The first three events that a watcher kept; None where there is no watcher any more.
+pub(crate) type Told = Option<[Option<Event>; 3]>;
 
-pub(crate) const NOTHING_TOLD: Told = Some([None, None]);
+pub(crate) const NOTHING_TOLD: Told = Some([None; 3]);
+
+// These events, one behind the other.
+pub(crate) fn told(events: &[Event]) -> Told {
+    let mut kept = [None; 3];
+    for (slot, event) in kept.iter_mut().zip(events.iter()) {
+        *slot = Some(*event);
+    }
+    Some(kept)
+}
 
 pub(crate) fn fenced(slot: u8) -> Told {
-    Some([Some(Event::Fenced { slot }), None])
+    told(&[Event::Fenced { slot }])
 }
 
 // What came of a call.
@@ -128,7 +137,7 @@ fn call_on<K: Sink, L: Ledger>(
         &mut steps,
     );
     let told = match watchers.pop() {
-        Some(kept) => Some([kept.kept(0), kept.kept(1)]),
+        Some(kept) => Some([kept.kept(0), kept.kept(1), kept.kept(2)]),
         None => None,
     };
     Ok(Ended {
@@ -236,7 +245,7 @@ const CALLS: u32 = 8000;
 pub(crate) struct Shape {
     text: &'static str,
     devices: u8,
-    sectors: u32,
+    pub(crate) sectors: u32,
 }
 
 // 15 blocks, five in each of three stripes. A device has the body in sectors 3 to 10, and the stripes behind it.

@@ -1,7 +1,7 @@
 // Devices that are scrubbed, replaced and rebuilt, and arrays that are frozen.
 use crate::calls::{
     EIGHT, Ends, FOUR, NOTHING_TOLD, Told, WHOLE, act, call, created, fenced, gives, is_refused,
-    is_shown, restarted, says, with_array, with_bad_cells, with_blocks, writes,
+    is_shown, restarted, says, told, with_array, with_bad_cells, with_blocks, writes,
 };
 use stair_engine::Status;
 use stair_memrack::{Act, MemRack, What};
@@ -14,10 +14,7 @@ const WROTE: &str = "wrote 1 blocks\n";
 
 // A slot was admitted, and promoted.
 fn renewed(slot: u8) -> Told {
-    Some([
-        Some(Event::Admitted { slot }),
-        Some(Event::Promoted { slot }),
-    ])
+    told(&[Event::Admitted { slot }, Event::Promoted { slot }])
 }
 
 // SCRUBS
@@ -27,17 +24,16 @@ fn renewed(slot: u8) -> Told {
 fn bad_cells_are_written_anew(rt: HostRuntime) -> Result<(), Fail> {
     let alloc = rt.alloc();
     let mut rack = with_bad_cells(alloc)?;
-    let repaired = Event::Repaired {
+    let repaired = told(&[Event::Repaired {
         stripe: 0,
         cells: 2,
-    };
-    let told = Some([Some(repaired), None]);
+    }]);
     let is_so = says(
         alloc,
         &mut rack,
         "scrub",
         "scrubbed 3 stripes cells 2\n",
-        told,
+        repaired,
     )?;
     assert!(rt; is_so);
     let clean = "scrubbed 3 stripes cells 0\n";
@@ -166,7 +162,7 @@ fn a_rebuild_that_was_stopped(rt: HostRuntime) -> Result<(), Fail> {
     let mut rack = half_rebuilt(alloc)?;
     assert!(rt; writes(alloc, &mut rack, "write 200 1", &[7], WROTE, NOTHING_TOLD)?);
     assert!(rt; writes(alloc, &mut rack, "write 1000 1", &[9], WROTE, NOTHING_TOLD)?);
-    let promoted = Some([Some(Event::Promoted { slot: 3 }), None]);
+    let promoted = told(&[Event::Promoted { slot: 3 }]);
     assert!(rt; says(alloc, &mut rack, "rebuild", "rebuild 64 steps\n", promoted)?);
     assert!(rt;
         says(
@@ -182,10 +178,7 @@ fn a_rebuild_that_was_stopped(rt: HostRuntime) -> Result<(), Fail> {
         act(0, What::Pull { slot: 1 }),
     ];
     let mut rack = restarted(alloc, rack, &acts)?;
-    let both = Some([
-        Some(Event::Fenced { slot: 0 }),
-        Some(Event::Fenced { slot: 1 }),
-    ]);
+    let both = told(&[Event::Fenced { slot: 0 }, Event::Fenced { slot: 1 }]);
     assert!(rt; gives(alloc, &mut rack, "read 200 1", &[7], both)?);
     assert!(rt; gives(alloc, &mut rack, "read 1000 1", &[9], NOTHING_TOLD)?);
     Ok(())

@@ -1,7 +1,7 @@
 // Scripts, line by line, and steps that a number gives.
 use crate::calls::{
     Came, EIGHT, Ends, FILLINGS, NOTHING_TOLD, Told, WHOLE, act, call, created, gives, is_refused,
-    says, with_bad_cells, with_blocks,
+    is_shown, restarted, says, told, with_array, with_bad_cells, with_blocks,
 };
 use stair_engine::Status;
 use stair_memrack::{MemRack, What};
@@ -42,6 +42,15 @@ fn answers(
     Ok(came.status == Status::Done && is_said && came.told == told && came.left == 0)
 }
 
+// A slot was left out, its device admitted, and the slot promoted.
+fn renewed(slot: u8) -> Told {
+    told(&[
+        Event::Fenced { slot },
+        Event::Admitted { slot },
+        Event::Promoted { slot },
+    ])
+}
+
 // Whether the array of four devices, all of whose blocks were written, ends this script so, with these replies before.
 fn ends(alloc: Global, script: &[u8], status: Status, replies: &[u8]) -> Result<bool, AllocError> {
     let mut rack = with_blocks(alloc, &[])?;
@@ -51,7 +60,7 @@ fn ends(alloc: Global, script: &[u8], status: Status, replies: &[u8]) -> Result<
 
 // EACH KIND OF LINE
 
-const DAY: &str = "read 5\nwrite 5 @\nscrub 0\n\nreplace 3\nrebuild 2\nrebuild 5000\nread 5";
+const LINES: &str = "read 5\nwrite 5 @\nscrub 0\n\nreplace 3\nrebuild 2\nrebuild 5000\nread 5";
 
 // A slot has another device. The last line needs no end, and a blank one has no reply.
 #[test]
@@ -62,16 +71,51 @@ fn each_kind_of_line_is_done(rt: HostRuntime) -> Result<(), Fail> {
         sectors: 17,
     };
     let mut rack = with_blocks(alloc, &[act(0, What::Pull { slot: 3 }), act(0, blank)])?;
-    let script = with_digits(alloc, DAY, *b"Ab")?;
+    let script = with_digits(alloc, LINES, *b"Ab")?;
     let mut replies = with_digits(alloc, "5 @\nwrote 5\n", *b"06")?;
     let rest = "scrubbed stripe 0 cells 0\nadmitted 3\nrebuild 2 steps\nrebuild 1 steps\n5 @\n";
     replies.extend_from_slice(&with_digits(alloc, rest, *b"ab")?)?;
-    let told = Some([
-        Some(Event::Fenced { slot: 3 }),
-        Some(Event::Admitted { slot: 3 }),
-    ]);
-    assert!(rt; answers(alloc, &mut rack, &script, &replies, told)?);
+    assert!(rt; answers(alloc, &mut rack, &script, &replies, renewed(3))?);
     assert!(rt; gives(alloc, &mut rack, "read 5 1", &[0xAB], NOTHING_TOLD)?);
+    Ok(())
+}
+
+const DAY: &str = "read 5\nwrite 5 @\nscrub 0\nreplace 3\nrebuild 5000\nread 5\n";
+
+const SHOWN: &str =
+    "array 00000000000000000000000000000008\ngeometry n 8 m 2 r 4 e 1 1 2 stripes 64 blocks 1280\nepoch 5\nslot 0 live 1\nslot 1 live 1\nslot 2 live 1\nslot 3 live 4\nslot 4 live 1\nslot 5 live 1\nslot 6 live 1\nslot 7 live 1\n";
+
+// The array of eight devices, whose first 196 blocks are each filled with its number, and then a blank device in slot 3.
+fn with_a_blank_device(alloc: Global) -> Result<MemRack, AllocError> {
+    let mut blocks = Vec::new(alloc);
+    for number in 0..196 {
+        blocks.extend_from_slice(&[number; 512])?;
+    }
+    let mut rack = with_array(alloc, &EIGHT, &[])?;
+    let _ = call(alloc, &mut rack, "write 0 196", &blocks, WHOLE)?;
+    let blank = What::InsertBlank {
+        slot: 3,
+        sectors: EIGHT.sectors,
+    };
+    restarted(
+        alloc,
+        rack,
+        &[act(0, What::Pull { slot: 3 }), act(0, blank)],
+    )
+}
+
+// A working day: a device is lost, and a blank one put in its place.
+#[test]
+fn a_working_day(rt: HostRuntime) -> Result<(), Fail> {
+    let alloc = rt.alloc();
+    let mut rack = with_a_blank_device(alloc)?;
+    let script = with_digits(alloc, DAY, *b"aa")?;
+    let mut replies = with_digits(alloc, "5 @\nwrote 5\n", *b"05")?;
+    let rest = "scrubbed stripe 0 cells 0\nadmitted 3\nrebuild 64 steps\n5 @\n";
+    replies.extend_from_slice(&with_digits(alloc, rest, *b"aa")?)?;
+    assert!(rt; answers(alloc, &mut rack, &script, &replies, renewed(3))?);
+    assert!(rt; is_shown(alloc, &mut rack, SHOWN)?);
+    assert!(rt; gives(alloc, &mut rack, "read 194 2", &[194, 195], NOTHING_TOLD)?);
     Ok(())
 }
 
@@ -91,7 +135,7 @@ fn a_line_repairs(rt: HostRuntime) -> Result<(), Fail> {
             &mut rack,
             b"scrub 0\nscrub 0\n",
             said,
-            Some([Some(repaired), None])
+            told(&[repaired])
         )?
     );
     Ok(())
