@@ -106,6 +106,13 @@ fn run<L: Ledger>(rt: &HostRuntime, blank: Blank) -> Outcome
         }
     };
     let job = stair_conf::read_words(rt.alloc(), &words.command);
+    // Without the job nothing tells how its devices are to be opened.
+    if matches!(job, Err(WordsFault::Memory)) {
+        return Outcome {
+            ended: Err(Refusal::Status(Status::OutOfMemory)),
+            events: None,
+        };
+    }
     let mut told = Counts {
         fenced: 0,
         repaired: 0,
