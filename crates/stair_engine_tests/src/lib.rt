@@ -1,8 +1,7 @@
 //! Tests of whole calls of `stair`, over racks in memory.
 #![tactic(auto)]
 
-#[cfg(test)]
-mod calls;
+pub mod calls;
 #[cfg(test)]
 mod crashes;
 #[cfg(test)]

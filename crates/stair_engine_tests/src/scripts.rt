@@ -1,7 +1,7 @@
 // Scripts, line by line, and steps that a number gives.
 use crate::calls::{
     Came, EIGHT, Ends, FILLINGS, NOTHING_TOLD, Told, WHOLE, act, call, created, gives, is_refused,
-    is_shown, restarted, says, told, with_array, with_bad_cells, with_blocks,
+    is_shown, restarted, says, told, with_array, with_bad_cells, with_blocks, with_digits,
 };
 use stair_engine::Status;
 use stair_memrack::{MemRack, What};
@@ -9,21 +9,6 @@ use stair_rack::Event;
 use stair_super::Mark;
 use std::alloc::{AllocError, Global};
 use std::test::Fail;
-
-// A text in which each `@` stands for the 1,024 digits of a sector of this byte.
-fn with_digits(alloc: Global, text: &str, digits: [u8; 2]) -> Result<Vec<u8>, AllocError> {
-    let mut bytes = Vec::new(alloc);
-    for byte in text.as_bytes() {
-        if *byte == b'@' {
-            for _ in 0..512 {
-                bytes.extend_from_slice(&digits)?;
-            }
-        } else {
-            bytes.push(*byte)?;
-        }
-    }
-    Ok(bytes)
-}
 
 fn ran(alloc: Global, rack: &mut MemRack, script: &[u8]) -> Result<Came, AllocError> {
     call(alloc, rack, "run", script, WHOLE)

@@ -1,7 +1,7 @@
 // Arrays whose superblocks are of the first version of the format.
 use crate::calls::{
     FILLINGS, FOUR, NOTHING_TOLD, WHOLE, act, call, call_words, crashed, created, gives,
-    is_refused, is_shown, restarted, sector, with_blocks, writes,
+    is_refused, is_shown, make_older, restarted, sector, with_blocks, writes,
 };
 use stair_engine::Status;
 use stair_memrack::{Act, MemRack, What};
@@ -9,25 +9,6 @@ use stair_rack::Rack;
 use stair_super::{newer_of, read_super};
 use std::alloc::{AllocError, Global};
 use std::test::Fail;
-
-// Makes the superblocks in both places of four devices those of the first version, in the first epoch.
-fn make_older(rack: &mut MemRack) {
-    for slot in 0..4 {
-        rack.attach(slot);
-        if let Some(block) = first_of(rack, slot) {
-            rack.write(slot, 0, &block);
-            rack.write(slot, 1, &block);
-            rack.sync(slot);
-        }
-    }
-}
-
-// The superblock that `create` wrote to a slot, in the first version.
-fn first_of(rack: &mut MemRack, slot: u8) -> Option<[u8; 512]> {
-    let mut block = sector(rack, slot, 0)?;
-    block[7] = b'1';
-    Some(block)
-}
 
 // The byte that tells the version of the newest superblock of a slot.
 fn version_of(rack: &mut MemRack, slot: u8) -> Option<u8> {

@@ -1,0 +1,86 @@
+// What the blocks of the array of four devices hold.
+use stair_engine::Status;
+use stair_engine_tests::calls::{NOTHING_TOLD, Told, WHOLE, call, restarted};
+use stair_memrack::MemRack;
+use std::alloc::{AllocError, Global};
+
+/// What fills each of the 15 blocks.
+pub(crate) type Fillings = [u8; 15];
+
+/// What fills blocks that were put out; None where one isn't filled with a single byte, or there are others than 15.
+pub(crate) fn fillings_of(put: &[u8]) -> Option<Fillings> {
+    if put.len() != 15 * 512 {
+        return None;
+    }
+    let mut fillings = [0; 15];
+    for (block, filling) in fillings.iter_mut().enumerate() {
+        let bytes = put.get(block * 512..(block + 1) * 512)?;
+        let first = *bytes.first()?;
+        if bytes.iter().any(|byte| *byte != first) {
+            return None;
+        }
+        *filling = first;
+    }
+    Some(fillings)
+}
+
+/// The same fillings, with this one of a block.
+pub(crate) fn with_block(fillings: &Fillings, block: usize, filling: u8) -> Fillings {
+    let mut fillings = *fillings;
+    if let Some(place) = fillings.get_mut(block) {
+        *place = filling;
+    }
+    fillings
+}
+
+/// The same fillings, with this one of so many blocks from the first one on.
+pub(crate) fn with_first(fillings: &Fillings, count: usize, filling: u8) -> Fillings {
+    let mut fillings = *fillings;
+    for place in fillings.iter_mut().take(count) {
+        *place = filling;
+    }
+    fillings
+}
+
+/// What a call put out that read all blocks, and told.
+#[derive(Clone, Copy, PartialEq, Eq)]
+pub(crate) struct Blocks {
+    pub(crate) fillings: Fillings,
+    pub(crate) told: Told,
+}
+
+impl Blocks {
+    pub(crate) fn new(fillings: &Fillings, told: Told) -> Blocks {
+        let fillings = *fillings;
+        Blocks { fillings, told }
+    }
+}
+
+/// Reads all blocks; None where that isn't done.
+pub(crate) fn read_all(alloc: Global, rack: &mut MemRack) -> Result<Option<Blocks>, AllocError> {
+    let came = call(alloc, rack, "read 0 15", &[], WHOLE)?;
+    if came.status != Status::Done {
+        return Ok(None);
+    }
+    Ok(fillings_of(&came.put).map(|fillings| Blocks::new(&fillings, came.told)))
+}
+
+/// Whether all blocks are read, are these, and this is told.
+pub(crate) fn reads(
+    alloc: Global,
+    rack: &mut MemRack,
+    fillings: &Fillings,
+    told: Told,
+) -> Result<bool, AllocError> {
+    Ok(read_all(alloc, rack)? == Some(Blocks::new(fillings, told)))
+}
+
+/// Whether all blocks are these, also in a second call behind a crash, and nothing is told.
+pub(crate) fn holds(alloc: Global, rack: MemRack, fillings: &Fillings) -> Result<bool, AllocError> {
+    let mut rack = rack;
+    if !reads(alloc, &mut rack, fillings, NOTHING_TOLD)? {
+        return Ok(false);
+    }
+    let mut rack = restarted(alloc, rack, &[])?;
+    reads(alloc, &mut rack, fillings, NOTHING_TOLD)
+}
