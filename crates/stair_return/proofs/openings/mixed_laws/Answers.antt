@@ -1,0 +1,17 @@
+-- The laws are lemmas.
+use Rattle.stair_rack.proofs.MomentLemmas.{moment_first}
+use Rattle.stair_return.proofs.MixedImages.{counted, mixed_reassembly, tolerated_at}
+use Rattle.stair_return.proofs.StillStretch.{still_tolerated}
+use Rattle.stair_return.proofs.openings.mixed_laws.Goals as goal
+
+pub returns-clause-moments : goal.returns-clause-moments
+returns-clause-moments c = λ g before old h new tolerated at. tolerated_at g before old new tolerated h at
+
+pub returns-clause-counted : goal.returns-clause-counted
+returns-clause-counted c = λ g before old new ran tolerated. counted g before old new tolerated (moment_first ran.more ran.is)
+
+pub returns-clause-reassembly : goal.returns-clause-reassembly
+returns-clause-reassembly c = λ g before old new to history ran tolerated mixed. mixed_reassembly before old new history ran g to tolerated mixed
+
+pub returns-clause-still : goal.returns-clause-still
+returns-clause-still c = λ g old new history steady still tolerated. still_tolerated g old new history steady still tolerated

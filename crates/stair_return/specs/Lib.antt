@@ -1,0 +1,7 @@
+-- Media that come back: which one lies where, what holds of it wherever it lies, and what an opening asks of the outside.
+pub mod Following
+pub mod Given
+pub mod Together
+pub mod Counted
+pub mod Still
+pub mod Found

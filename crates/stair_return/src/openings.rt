@@ -1,0 +1,68 @@
+//! What an opening asks of the outside where media come back, and what a survey finds by it.
+
+ghost use Rattle.std.specs.Prelude.{◌≡◌, ℕ, IsTrue, List, None, Ok, Result};
+ghost use Rattle.stair_model.specs.Geometry.{Geometry};
+ghost use Rattle.stair_rack.specs.Answers.{IsHistory, Ran, any_call};
+ghost use Rattle.stair_rack.specs.Crash.{EachImage};
+ghost use Rattle.stair_rack.specs.History.{Happening};
+ghost use Rattle.stair_rack.specs.Media.{Image};
+ghost use Rattle.stair_rack.specs.Moments.{IsMoment};
+ghost use Rattle.stair_rack.specs.Offline.{IsAttached};
+ghost use Rattle.stair_rack.specs.Telling.{Telling};
+ghost use Rattle.stair_member.specs.Membership.{Membership};
+ghost use Rattle.stair_member.specs.Survey.{Surveys};
+ghost use Rattle.stair_member.specs.declared.fault.SurveyFault.{SurveyFault};
+ghost use Rattle.stair_state.specs.Holding.{Holders, IsConsistentSince};
+ghost use Rattle.stair_state.specs.Represents.{AreSteady, no_write};
+ghost use Rattle.stair_state.specs.State.{State};
+ghost use Rattle.stair_state.specs.Tolerance.{IsTolerated};
+ghost use Rattle.stair_session.specs.Mixed.{IsMixed, IsToleratedMixed};
+ghost use Rattle.stair_session.specs.Returning.{IsKnownWherever};
+ghost use Rattle.stair_return.specs.Counted.{IsToleratedCounted};
+ghost use Rattle.stair_return.specs.Still.{IsStill};
+ghost use Rattle.stair_return.specs.Found.{CoversMedia, FindsMember, IsToleratedReassembly};
+
+/// Tolerance of a stretch in which each slot may be seen at a moment of its own. It does nothing.
+pub fn mixed_laws()
+    // so each moment of it is within tolerance
+    ensures moments { (g : Geometry) (before old h new : List Happening) →
+        IsToleratedMixed g before old new → IsMoment old h new → IsTolerated g before h }
+    // and where what fails at one moment counts as failed throughout it is so too
+    ensures counted { (g : Geometry) (before old new : List Happening) →
+        Ran any_call old new → IsToleratedMixed g before old new →
+        IsToleratedCounted g before old new }
+    // where the outside does nothing, and calls write nothing, it is tolerance of the moment at which it begins
+    ensures still { (g : Geometry) (old new : List Happening) → IsHistory old →
+        AreSteady g old → IsStill old new → IsTolerated g old old →
+        IsToleratedMixed g old old new }
+    // whatever the outside does while calls write nothing, each slot at a moment of its own gives a reassembly of what was
+    // there when it began, which alone is within tolerance
+    ensures reassembly { (g : Geometry) (before old new : List Happening) (to : Image) →
+        IsHistory old → Ran no_write old new → IsToleratedMixed g before old new →
+        IsMixed before old new to → IsToleratedReassembly g old to }
+{}
+
+/// What a survey finds on an honest rack, in a session that began at `before`, whatever comes back meanwhile. It does nothing.
+pub fn survey_laws()
+    // it answers a member of the array, and each slot that is missing for it is among those that count as failed
+    ensures finds { (g : Geometry) (before : List Happening) (old new : Telling)
+        (answer : Result Membership SurveyFault) → Surveys answer old new → IsTrue new.honest →
+        Ran any_call before old.history →
+        (tolerated : IsToleratedMixed g before old.history new.history) →
+        FindsMember g tolerated.failed answer }
+    // the greatest draw that it saw is at least every epoch that a medium bore when it began, in a slot or outside
+    ensures covers { (s : State) (holders : Holders) (since : ℕ) (before : List Happening)
+        (old new : Telling) (answer : Result Membership SurveyFault) (m : Membership) →
+        Surveys answer old new → IsTrue new.honest → Ran any_call before old.history →
+        IsConsistentSince s holders since old.history →
+        IsToleratedMixed s.geometry before old.history new.history → answer ≡ Ok m →
+        CoversMedia s.geometry m.drawn old.history }
+    // and its member knows all media at the end: their epochs are at most that draw, its own epoch names what it has, and the
+    // medium in a slot that takes part and is attached is the only one of its slot that it means
+    ensures known { (s : State) (holders : Holders) (since : ℕ) (before : List Happening)
+        (old new : Telling) (answer : Result Membership SurveyFault) (m : Membership) →
+        Surveys answer old new → IsTrue new.honest → Ran any_call before old.history →
+        IsConsistentSince s holders since old.history →
+        IsToleratedMixed s.geometry before old.history new.history → answer ≡ Ok m →
+        EachImage (IsKnownWherever None m (IsAttached new.history)) new.history }
+{}
