@@ -11,3 +11,12 @@ pub mod MixedFinding
 pub mod SurveyLemmas
 pub mod AttachedOnce
 pub mod KnownLemmas
+pub mod FiveDevices
+pub mod FiveConsistent
+pub mod FiveMoments
+pub mod FiveSurvey
+pub mod FiveSupers
+pub mod CutPromotion
+pub mod PromotionSurvey
+pub mod CutFence
+pub mod FenceSurvey

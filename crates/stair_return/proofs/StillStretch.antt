@@ -41,10 +41,10 @@ use Rattle.stair_return.specs.Still.{IsLook, IsStill}
 -- NOTHING CHANGES
 
 -- the slot is as it was, but for whether it is attached
-record IsSame (was is : SlotState) : Type 0 where
-  size : is.size ≡ was.size
-  sectors : (k : ℕ) → is.sector k ≡ was.sector k
-  pulls : is.pulls ≡ was.pulls
+pub record IsSame (was is : SlotState) : Type 0 where
+  pub size : is.size ≡ was.size
+  pub sectors : (k : ℕ) → is.sector k ≡ was.sector k
+  pub pulls : is.pulls ≡ was.pulls
 
 look_same : (was b : SlotState) (j : ℕ) (c : SlotCall) → LeavesSectors j c → IsSame was b → IsSame was (after_call c b)
 look_same was b j (Attach reply.Done) may is = record { size = is.size; sectors = is.sectors; pulls = is.pulls }
@@ -66,6 +66,10 @@ still_on (Called i c ∷ more) old j each =
           (λ same. look_same (slot_state old j) (slot_state (more ++ old) j) i c each.1 before.0) before.0,
       before.1,
     )
+
+pub still_same : {x y : List Happening} (j : ℕ) → IsStill x y → IsSame (slot_state x j) (slot_state y j) × (stopped y ≡ stopped x)
+still_same {x} {y} j still =
+    subst (λ (h : List Happening). IsSame (slot_state x j) (slot_state h j) × (stopped h ≡ stopped x)) (sym still.is) (still_on still.more x j still.each)
 
 -- CELLS THAT ARE LOST
 
@@ -120,9 +124,7 @@ module _ (g : Geometry) (old new : List Happening) (history : IsHistory old) (st
   -- MIXED IMAGES ARE THOSE THAT A CRASH MAY LEAVE
 
   same_at : (x : List Happening) (j : ℕ) → IsMoment old x new → IsSame (slot_state old j) (slot_state x j) × (stopped x ≡ stopped old)
-  same_at x j at =
-      let each = each_before still at in
-      subst (λ (h : List Happening). IsSame (slot_state old j) (slot_state h j) × (stopped h ≡ stopped old)) (sym each.is) (still_on each.more old j each.each)
+  same_at x j at = still_same j (each_before still at)
 
   none_there : (j : ℕ) → WasOffline old old new j → (slot_state old j).size ≡ None
   none_there j offline = by offline.holds

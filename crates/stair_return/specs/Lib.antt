@@ -5,3 +5,4 @@ pub mod Together
 pub mod Counted
 pub mod Still
 pub mod Found
+pub mod Misled

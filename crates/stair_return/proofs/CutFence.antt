@@ -1,0 +1,342 @@
+-- The second history: a fence was cut, and while the rack is looked at the one device with the new epoch is pulled, and then another one.
+use Rattle.std.proofs.Common.{◌≡◌, ◌≢◌, ℕ, ◌<◌, ◌≤◌, List, [], ◌∷◌, ◌⊎◌, inl, inr, refl, sym, ap, ◌∙◌, subst, arith, None, Some, false, true, replicate}
+use Rattle.std.proofs.lemmas.Bool.{cases_lt, cond-true, cond-false, false≢true, lt-ltb, le-ltb}
+use Rattle.stair_model.specs.Slots.{HasSlot, Slots, slot_count}
+use Rattle.stair_model.specs.Sum.{sum_below}
+use Rattle.stair_rack.specs.History.{Acted, Attach, Called, Happening, Pulled, slot_state}
+use Rattle.stair_rack.specs.Media.{Image}
+use Rattle.stair_rack.specs.Moments.{AtEveryMoment, IsMoment}
+use Rattle.stair_rack.specs.Offline.{IsOffline}
+use Rattle.stair_rack.specs.declared.rack.Reply.TheVariants.{Gone}
+use Rattle.stair_rack.proofs.MomentLemmas.{at_every_join, at_moment}
+use Rattle.stair_super.specs.Superblock.{IsSuperblock, joined_in, mark_in}
+use Rattle.stair_super.specs.declared.configuration.Configuration.{Configuration}
+use Rattle.stair_super.specs.declared.mark.Mark.TheVariants.{Down, Live}
+use Rattle.stair_member.specs.Editions.{Edition, copy_of}
+use Rattle.stair_state.specs.Blocks.{Codewords}
+use Rattle.stair_state.specs.Holding.{Holders}
+use Rattle.stair_state.specs.Tolerance.{IsTolerated, IsWithinTolerance}
+use Rattle.stair_return.specs.Misled.{cut_fence, device_of, empty_after, five, looked_at, made_of, read_and_pulled}
+use Rattle.stair_return.specs.Still.{IsStill}
+use Rattle.stair_return.proofs.FiveConsistent.{IsCut}
+use Rattle.stair_return.proofs.FiveDevices.{AreEditions, IsWithin, tolerates}
+use Rattle.stair_return.proofs.FiveMoments.{GoesOn, HoldsDevice, IsNow, act_each, goes_made, goes_pulled, goes_still, made_holds, not_both, now_still, still_each, within}
+use Rattle.stair_return.proofs.FiveSupers.{call_still, look_still, named_super, past_none}
+use Rattle.stair_return.proofs.FiveSurvey.{empty_still, five_cases, past_five}
+
+-- slots 1 and 2, which the new epoch marks Down; and 0 and 4, which are pulled
+abbrev down : Slots
+down = record { marks = false ∷ true ∷ true ∷ false ∷ false ∷ replicate 27 false }
+
+abbrev beside_down : Slots
+beside_down = record { marks = true ∷ false ∷ false ∷ true ∷ true ∷ replicate 27 false }
+
+abbrev pub pulled : Slots
+pulled = record { marks = true ∷ false ∷ false ∷ false ∷ true ∷ replicate 27 false }
+
+abbrev beside_pulled : Slots
+beside_pulled = record { marks = false ∷ true ∷ true ∷ true ∷ false ∷ replicate 27 false }
+
+-- THE SUPERBLOCKS
+
+new_array : (j : ℕ) → j < 1 → (cut_fence j).array ≡ (cut_fence 0).array
+new_array j below = ap (λ (x : Edition). x.array) (cond-true _ _ _ (lt-ltb j 1 below))
+
+old_array : (j : ℕ) → 1 ≤ j → (cut_fence j).array ≡ (cut_fence 1).array
+old_array j above = ap (λ (x : Edition). x.array) (cond-false _ _ _ (le-ltb j 1 above))
+
+live_up : Live ≢ Down
+live_up same = cc
+
+formed_first : IsSuperblock (copy_of (cut_fence 0) 0)
+formed_first =
+    named_super 5 Live Down Down Live Live 1 0 0 1 1 (omega arith) (omega arith, omega arith) refl refl (omega arith, omega arith)
+    (omega arith, omega arith) 5 0 (omega arith) (omega arith) (omega arith) live_up
+
+formed_later : (draw j : ℕ) → draw < 6 → 4 ≤ draw → j < 5 → mark_in (cut_fence 1).array j ≢ Down
+    → IsSuperblock (copy_of (record { array = (cut_fence 1).array; draw = draw }) j)
+formed_later draw j small least below up =
+    named_super 4 Live Live Live Live Live 1 1 1 1 1 (omega arith) (omega arith, omega arith) (omega arith, omega arith) (omega arith, omega arith)
+    (omega arith, omega arith) (omega arith, omega arith) draw j (omega (arith, small)) least below up
+
+module _ (words : Codewords) where
+  pub are : AreEditions words cut_fence
+  are = record {
+    formed =
+        five_cases (λ j. j < 5 → IsSuperblock (copy_of (cut_fence j) j)) (λ b. formed_first)
+        (λ b. formed_later 4 1 (omega arith) (omega arith) b live_up) (λ b. formed_later 4 2 (omega arith) (omega arith) b live_up)
+        (λ b. formed_later 5 3 (omega arith) (omega arith) b live_up) (λ b. formed_later 5 4 (omega arith) (omega arith) b live_up)
+        (λ j past below. absurd (omega (arith, past, below)));
+    of_five =
+        five_cases (λ j. j < 5 → (cut_fence j).array.geometry ≡ five) (λ b. refl) (λ b. refl) (λ b. refl) (λ b. refl) (λ b. refl)
+        (λ j past below. absurd (omega (arith, past, below)));
+  }
+
+  -- IT IS CONSISTENT
+
+  abbrev pub holders : Holders
+  holders j = Some (joined_in (cut_fence 1).array j)
+
+  pub epochs : (j : ℕ) → (4 ≤ (cut_fence j).array.epoch) × ((cut_fence j).array.epoch ≤ 5) × ((cut_fence j).array.frozen ≡ false)
+      × ((cut_fence j).array.label ≡ [])
+  epochs j =
+      elim (cases_lt j 1) [
+        | inl below ↦
+            subst (λ (x : Configuration). (4 ≤ x.epoch) × (x.epoch ≤ 5) × (x.frozen ≡ false) × (x.label ≡ [])) (sym (new_array j below))
+            (omega arith, omega arith, refl, refl)
+        | inr above ↦
+            subst (λ (x : Configuration). (4 ≤ x.epoch) × (x.epoch ≤ 5) × (x.frozen ≡ false) × (x.label ≡ [])) (sym (old_array j above))
+            (omega arith, omega arith, refl, refl)
+      ]
+
+  pub draws : (j : ℕ) → j < 5 → (cut_fence j).draw ≤ 5
+  draws =
+      five_cases (λ j. j < 5 → (cut_fence j).draw ≤ 5) (λ b. omega arith) (λ b. omega arith) (λ b. omega arith) (λ b. omega arith) (λ b. omega arith)
+      (λ j past below. absurd (omega (arith, past, below)))
+
+  one : (i j : ℕ) → (cut_fence i).array.epoch ≡ (cut_fence j).array.epoch → (cut_fence i).array ≡ (cut_fence j).array
+  one i j same =
+      elim (cases_lt i 1) [
+        | inl below ↦
+            elim (cases_lt j 1) [
+              | inl also ↦ new_array i below ∙ sym (new_array j also)
+              | inr other ↦
+                  absurd
+                  (omega (
+                    arith,
+                    sym (ap (λ (x : Configuration). x.epoch) (new_array i below)) ∙ same ∙ ap (λ (x : Configuration). x.epoch) (old_array j other),
+                  ))
+            ]
+        | inr above ↦
+            elim (cases_lt j 1) [
+              | inl other ↦
+                  absurd
+                  (omega (
+                    arith,
+                    sym (ap (λ (x : Configuration). x.epoch) (old_array i above)) ∙ same ∙ ap (λ (x : Configuration). x.epoch) (new_array j other),
+                  ))
+              | inr also ↦ old_array i above ∙ sym (old_array j also)
+            ]
+      ]
+
+  not_live : Down ≢ Live
+  not_live same = cc
+
+  -- what the new epoch marks Live is so by the old one
+  live_first : (j : ℕ) → mark_in (cut_fence 0).array j ≡ Live → joined_in (cut_fence 1).array j ≡ joined_in (cut_fence 0).array j
+  live_first =
+      five_cases (λ j. mark_in (cut_fence 0).array j ≡ Live → joined_in (cut_fence 1).array j ≡ joined_in (cut_fence 0).array j) (λ is. refl)
+      (λ is. absurd (not_live is)) (λ is. absurd (not_live is)) (λ is. refl) (λ is. refl)
+      (λ j past is. absurd (not_live (sym (past_five Live Down Down Live Live Down j past) ∙ is)))
+
+  live_held : (i j : ℕ) → mark_in (cut_fence i).array j ≡ Live → joined_in (cut_fence 1).array j ≡ joined_in (cut_fence i).array j
+  live_held i j marked =
+      elim (cases_lt i 1) [
+        | inl below ↦
+            subst (λ (x : Configuration). joined_in (cut_fence 1).array j ≡ joined_in x j) (sym (new_array i below))
+            (live_first j (ap (λ (x : Configuration). mark_in x j) (sym (new_array i below)) ∙ marked))
+        | inr above ↦ ap (λ (x : Configuration). joined_in x j) (sym (old_array i above))
+      ]
+
+  few_down : slot_count down ≤ 2
+  unfolding sum_below
+  few_down = let two : slot_count down ≡ 2 = refl in omega (arith, two)
+
+  pub cut : IsCut words cut_fence holders 4
+  cut = record {
+    least = λ j below. (epochs j).0;
+    drawn = record {
+      exceptions = down;
+      formed = refl;
+      few = few_down;
+      others =
+          five_cases (λ j. j < 5 → ¬ HasSlot down j → (i : ℕ) → i < 5 → (cut_fence i).array.epoch ≤ (cut_fence j).draw)
+          (λ b out i i_in. (epochs i).1) (λ b out. absurd (out refl)) (λ b out. absurd (out refl)) (λ b out i i_in. (epochs i).1)
+          (λ b out i i_in. (epochs i).1) (λ j past below. absurd (omega (arith, past, below)));
+    };
+    live = λ i j below marked. ap Some (live_held i j marked);
+    frozen = λ j below. (epochs j).2;
+    label = λ j below. (epochs j).3;
+    one = λ i j i_in j_in same. one i j same;
+  }
+
+  -- ITS MOMENTS
+
+  abbrev pub r0 : List Happening
+  r0 = made_of words cut_fence
+
+  abbrev pub r1 : List Happening
+  r1 = looked_at 0 r0
+
+  abbrev pub r2 : List Happening
+  r2 = Acted 0 (Pulled (device_of words cut_fence 0)) ∷ r1
+
+  abbrev pub r3 : List Happening
+  r3 = looked_at 1 r2
+
+  abbrev pub r4 : List Happening
+  r4 = looked_at 2 r3
+
+  abbrev pub r5 : List Happening
+  r5 = looked_at 3 r4
+
+  abbrev pub r6 : List Happening
+  r6 = Acted 4 (Pulled (device_of words cut_fence 4)) ∷ r5
+
+  abbrev pub r7 : List Happening
+  r7 = Called 4 (Attach Gone) ∷ r6
+
+  -- The current superblock is slot 0's, and slot 1's once that one is pulled. Slots 1, 2 and 3 are never pulled.
+  pub record Stands (h : List Happening) : Type 0 where
+    pub goes : GoesOn words cut_fence pulled h
+    pub now : (GoesOn words cut_fence down h × IsNow words cut_fence 0 h) ⊎ IsNow words cut_fence 1 h
+
+  newest_first : (j : ℕ) → j < 5 → ((cut_fence j).array.epoch < 5) ⊎ (((cut_fence j).array.epoch ≡ 5) × (0 ≤ j))
+  newest_first =
+      five_cases (λ j. j < 5 → ((cut_fence j).array.epoch < 5) ⊎ (((cut_fence j).array.epoch ≡ 5) × (0 ≤ j))) (λ b. inr (refl, omega arith))
+      (λ b. inl (omega arith)) (λ b. inl (omega arith)) (λ b. inl (omega arith)) (λ b. inl (omega arith))
+      (λ j past below. absurd (omega (arith, past, below)))
+
+  pub newest_second : (j : ℕ) → j < 5 → ¬ (j ≡ 0) → ((cut_fence j).array.epoch < 4) ⊎ (((cut_fence j).array.epoch ≡ 4) × (1 ≤ j))
+  newest_second =
+      five_cases (λ j. j < 5 → ¬ (j ≡ 0) → ((cut_fence j).array.epoch < 4) ⊎ (((cut_fence j).array.epoch ≡ 4) × (1 ≤ j)))
+      (λ b other. absurd (other refl)) (λ b other. inr (refl, omega arith)) (λ b other. inr (refl, omega arith)) (λ b other. inr (refl, omega arith))
+      (λ b other. inr (refl, omega arith)) (λ j past below. absurd (omega (arith, past, below)))
+
+  s0 : Stands r0
+  s0 = record {
+    goes = goes_made words cut_fence pulled;
+    now =
+        inl (
+          goes_made words cut_fence down,
+          record { first = made_holds words cut_fence 0 (omega arith); newest = λ j is. newest_first j is.below },
+        );
+  }
+
+  still_on : (x y : List Happening) → IsStill x y → Stands x → Stands y
+  still_on x y still s = record {
+    goes = goes_still words cut_fence pulled x y still s.goes;
+    now =
+        elim s.now [
+          | inl is ↦ inl (goes_still words cut_fence down x y still is.0, now_still words cut_fence 0 x y still is.1)
+          | inr is ↦ inr (now_still words cut_fence 1 x y still is)
+        ];
+  }
+
+  s1 : Stands r1
+  s1 = still_on r0 r1 (look_still r0 0) s0
+
+  -- while slot 0 holds nothing
+  now_second : (h : List Happening) → (slot_state h 0).size ≡ None → HoldsDevice words cut_fence 1 (slot_state h 1) → IsNow words cut_fence 1 h
+  now_second h none holds = record {
+    first = holds;
+    newest = λ j is.
+        newest_second j is.below
+        (λ same.
+        not_both words cut_fence 0 (slot_state h 0) none (subst (λ (i : ℕ). HoldsDevice words cut_fence i (slot_state h i)) same is));
+  }
+
+  s2 : Stands r2
+  s2 = record {
+    goes = goes_pulled words cut_fence pulled r1 0 (device_of words cut_fence 0) refl s1.goes;
+    now = inr (now_second r2 refl (made_holds words cut_fence 1 (omega arith)));
+  }
+
+  s3 : Stands r3
+  s3 = still_on r2 r3 (look_still r2 1) s2
+
+  s4 : Stands r4
+  s4 = still_on r3 r4 (look_still r3 2) s3
+
+  s5 : Stands r5
+  s5 = still_on r4 r5 (look_still r4 3) s4
+
+  s6 : Stands r6
+  s6 = record {
+    goes = goes_pulled words cut_fence pulled r5 4 (device_of words cut_fence 4) refl s5.goes;
+    now =
+        inr (now_second r6 refl (record {
+          below = omega arith;
+          size = (made_holds words cut_fence 1 (omega arith)).size;
+          sectors = (made_holds words cut_fence 1 (omega arith)).sectors;
+        }));
+  }
+
+  pub s7 : Stands r7
+  s7 = still_on r6 r7 (call_still r6 4) s6
+
+  still : (x y : List Happening) → Stands x → IsStill x y → AtEveryMoment Stands x y
+  still x y s is = still_each words cut_fence Stands (λ m part. still_on x m part s) is
+
+  throughout : AtEveryMoment Stands r0 (read_and_pulled words)
+  throughout =
+      at_every_join (still r0 r1 s0 (look_still r0 0))
+      (at_every_join (act_each words cut_fence Stands r1 0 (Pulled (device_of words cut_fence 0)) s1 s2)
+      (at_every_join (still r2 r3 s2 (look_still r2 1))
+      (at_every_join (still r3 r4 s3 (look_still r3 2))
+      (at_every_join (still r4 r5 s4 (look_still r4 3))
+      (at_every_join (act_each words cut_fence Stands r5 4 (Pulled (device_of words cut_fence 4)) s5 s6)
+      (at_every_join (still r6 r7 s6 (call_still r6 4))
+      (still r7 (empty_after 27 r7) s7 (empty_still 27 r7))))))))
+
+  -- TOLERANCE
+
+  live_beside : (j : ℕ) → j < 5 → ¬ HasSlot down j
+      → (mark_in (cut_fence 0).array j ≡ Live) × (joined_in (cut_fence j).array j ≡ joined_in (cut_fence 0).array j)
+  live_beside =
+      five_cases
+      (λ j. j < 5 → ¬ HasSlot down j → (mark_in (cut_fence 0).array j ≡ Live) × (joined_in (cut_fence j).array j ≡ joined_in (cut_fence 0).array j))
+      (λ b kept. (refl, refl)) (λ b kept. absurd (kept refl)) (λ b kept. absurd (kept refl)) (λ b kept. (refl, refl)) (λ b kept. (refl, refl))
+      (λ j past below. absurd (omega (arith, past, below)))
+
+  pub live_then : (j : ℕ) → j < 5 → ¬ HasSlot pulled j
+      → (mark_in (cut_fence 1).array j ≡ Live) × (joined_in (cut_fence j).array j ≡ joined_in (cut_fence 1).array j)
+  live_then =
+      five_cases
+      (λ j. j < 5 → ¬ HasSlot pulled j → (mark_in (cut_fence 1).array j ≡ Live) × (joined_in (cut_fence j).array j ≡ joined_in (cut_fence 1).array j))
+      (λ b kept. absurd (kept refl)) (λ b kept. (refl, refl)) (λ b kept. (refl, refl)) (λ b kept. (refl, refl)) (λ b kept. absurd (kept refl))
+      (λ j past below. absurd (omega (arith, past, below)))
+
+  pub few_pulled : slot_count pulled ≤ 2
+  unfolding sum_below
+  few_pulled = let two : slot_count pulled ≡ 2 = refl in omega (arith, two)
+
+  many_down : 2 < slot_count beside_down
+  unfolding sum_below
+  many_down = let three : slot_count beside_down ≡ 3 = refl in omega (arith, three)
+
+  many_pulled : 2 < slot_count beside_pulled
+  unfolding sum_below
+  many_pulled = let three : slot_count beside_pulled ≡ 3 = refl in omega (arith, three)
+
+  beside_down_kept : (j : ℕ) → HasSlot beside_down j → (j < 5) × ¬ HasSlot down j
+  beside_down_kept =
+      five_cases (λ j. HasSlot beside_down j → (j < 5) × ¬ HasSlot down j) (λ has. (omega arith, λ out. false≢true out)) (λ has. absurd (false≢true has))
+      (λ has. absurd (false≢true has)) (λ has. (omega arith, λ out. false≢true out)) (λ has. (omega arith, λ out. false≢true out))
+      (λ j past has. absurd (false≢true (sym (past_none true false false true true j past) ∙ has)))
+
+  beside_pulled_kept : (j : ℕ) → HasSlot beside_pulled j → (j < 5) × ¬ HasSlot pulled j
+  beside_pulled_kept =
+      five_cases (λ j. HasSlot beside_pulled j → (j < 5) × ¬ HasSlot pulled j) (λ has. absurd (false≢true has)) (λ has. (omega arith, λ out. false≢true out))
+      (λ has. (omega arith, λ out. false≢true out)) (λ has. (omega arith, λ out. false≢true out)) (λ has. absurd (false≢true has))
+      (λ j past has. absurd (false≢true (sym (past_none false true true true false j past) ∙ has)))
+
+  -- where slots 0 and 4 have failed
+  pub tolerates_pulled : (offline : ℕ → Type 0) (image : Image) → IsWithin words cut_fence pulled offline image 1 → IsWithinTolerance offline five image
+  tolerates_pulled offline image is =
+      tolerates words cut_fence are pulled refl few_pulled beside_pulled refl many_pulled beside_pulled_kept 3 (omega arith) false≢true offline image 1 is
+
+  pub at : (h : List Happening) → IsMoment r0 h (read_and_pulled words) → Stands h
+  at h moment = at_moment {P = Stands} throughout moment
+
+  pub tolerated_at : (h : List Happening) → IsMoment r0 h (read_and_pulled words) → IsTolerated five r0 h
+  tolerated_at h moment image left =
+      elim (at h moment).now [
+        | inl is ↦
+            tolerates words cut_fence are down refl few_down beside_down refl many_down beside_down_kept 3 (omega arith) false≢true (IsOffline r0 h) image 0
+            (within words cut_fence down 0 h image is.0 is.1 left (λ j below kept. (live_beside j below kept).0) (λ j below kept. (live_beside j below kept).1))
+        | inr is ↦
+            tolerates_pulled (IsOffline r0 h) image
+            (within words cut_fence pulled 1 h image (at h moment).goes is left (λ j below kept. (live_then j below kept).0)
+            (λ j below kept. (live_then j below kept).1))
+      ]
