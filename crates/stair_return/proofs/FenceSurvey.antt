@@ -5,16 +5,13 @@ use Rattle.std.proofs.lemmas.Bool.{cond-true, cond-false, false≢true, le-ltb}
 use Rattle.std.proofs.lemmas.List.{get_or-replicate}
 use Rattle.stair_model.specs.Slots.{HasSlot, Slots, slot_count}
 use Rattle.stair_model.specs.Sum.{sum_below}
-use Rattle.stair_rack.specs.Answers.{Calls, Ran, Told, any_call}
+use Rattle.stair_rack.specs.Answers.{Ran, any_call}
 use Rattle.stair_rack.specs.Sector.{content}
-use Rattle.stair_rack.specs.History.{Acted, Attach, Called, Happening, Pulled, Read, slot_state}
+use Rattle.stair_rack.specs.History.{Acted, Happening, Pulled, slot_state}
 use Rattle.stair_rack.specs.Media.{Image, SlotImage}
 use Rattle.stair_rack.specs.Moments.{IsMoment}
 use Rattle.stair_rack.specs.Offline.{IsHeld, InUse, NoMedium}
-use Rattle.stair_rack.specs.declared.rack.Got.TheVariants as got
-use Rattle.stair_rack.specs.declared.rack.Reply.TheVariants.{Done, Gone}
-use Rattle.stair_rack.proofs.MomentLemmas.{calls_ran, moment_between, ran_any, ran_join, ran_none}
-use Rattle.stair_member.specs.Asked.{AsksBelow, NotThere, There}
+use Rattle.stair_rack.proofs.MomentLemmas.{moment_between, ran_join, ran_none}
 use Rattle.stair_member.specs.Counting.{MoreThan}
 use Rattle.stair_member.specs.Current.{IsCurrent}
 use Rattle.stair_member.specs.Editions.{copy_of}
@@ -32,12 +29,13 @@ use Rattle.stair_state.specs.Tolerance.{IsToleratedAlone}
 use Rattle.stair_state.proofs.OutsideLemmas.{slot_now, slot_now_left}
 use Rattle.stair_session.specs.Mixed.{WasOffline}
 use Rattle.stair_return.specs.Misled.{Emptied, IsMisled, IsToleratedAtWorst, IsWorstSlot, Left, cut_fence, empty_after, five, read_and_pulled, rack_of}
-use Rattle.stair_return.proofs.CutFence.{are, at, cut, draws, holders, live_then, newest_second, pulled, r0, r1, r2, r3, r4, r5, r7, s7, tolerated_at, tolerates_pulled}
+use Rattle.stair_return.proofs.CutFence.{are, at, cut, draws, holders, live_then, newest_second, pulled, r0, r1, r3, r4, r5, r7, s7, tolerated_at, tolerates_pulled}
 use Rattle.stair_return.proofs.FiveConsistent.{inside, made_consistent}
 use Rattle.stair_return.proofs.FiveDevices.{IsDevice, IsWithin, Shows, current, identity}
 use Rattle.stair_return.proofs.FiveMoments.{GoesOn, HoldsDevice, made_holds, online, settles}
+use Rattle.stair_return.proofs.FiveSteps.{FiveSteps, Misses, Sees, asked_below, asked_each, rest_5, to_5}
 use Rattle.stair_return.proofs.FiveSupers.{past_has, past_none}
-use Rattle.stair_return.proofs.FiveSurvey.{Asked, WasGone, WasSeen, asked_past, down_reason, empty_asked, findings, five_cases, found_drawn, found_image, found_shows, found_stands, found_surveys, gone_reason, gones, here_reason, next_place, not_bare, not_has, past_five, seen_device, tail_ran}
+use Rattle.stair_return.proofs.FiveSurvey.{down_reason, findings, five_cases, found_drawn, found_image, found_shows, found_stands, found_surveys, gone_reason, gones, here_reason, next_place, not_bare, not_has, past_five, seen_device}
 
 -- slot 4, and those that the array hasn't
 abbrev gone : Slots
@@ -59,183 +57,44 @@ module _ (words : Codewords) where
   abbrev new : List Happening
   new = read_and_pulled words
 
-  -- THE CALLS
-
-  abbrev a0 : List Happening
-  a0 = Called 0 (Attach Done) ∷ r0 words
-
-  abbrev b0 : List Happening
-  b0 = Called 0 (Read 0 got.Good) ∷ a0
-
-  abbrev a1 : List Happening
-  a1 = Called 1 (Attach Done) ∷ r2 words
-
-  abbrev b1 : List Happening
-  b1 = Called 1 (Read 0 got.Good) ∷ a1
-
-  abbrev a2 : List Happening
-  a2 = Called 2 (Attach Done) ∷ r3 words
-
-  abbrev b2 : List Happening
-  b2 = Called 2 (Read 0 got.Good) ∷ a2
-
-  abbrev a3 : List Happening
-  a3 = Called 3 (Attach Done) ∷ r4 words
-
-  abbrev b3 : List Happening
-  b3 = Called 3 (Read 0 got.Good) ∷ a3
+  -- HOW IT GOES
 
   made : (j : ℕ) → j < 5 → HoldsDevice words cut_fence j (slot_state (r0 words) j)
   made j below = made_holds words cut_fence j below
 
-  attached_0 : Calls (r0 words) a0 0 (Attach Done)
-  attached_0 = Told [] tt refl refl
-
-  first_0 : Calls a0 b0 0 (Read 0 got.Good)
-  first_0 = Told [] tt refl refl
-
-  second_0 : Calls b0 (r1 words) 0 (Read 1 got.Good)
-  second_0 = Told [] tt refl refl
-
-  attached_1 : Calls (r1 words) a1 1 (Attach Done)
-  attached_1 =
-      Told (Acted 0 (Pulled _) ∷ []) (
-        tt,
-        inl (
-          omega arith,
-          settles words cut_fence 0 (slot_state (r1 words) 0)
-              (record { below = omega arith; size = (made 0 (omega arith)).size; sectors = (made 0 (omega arith)).sectors }),
-        ),
-      ) refl refl
-
-  first_1 : Calls a1 b1 1 (Read 0 got.Good)
-  first_1 = Told [] tt refl refl
-
-  second_1 : Calls b1 (r3 words) 1 (Read 1 got.Good)
-  second_1 = Told [] tt refl refl
-
-  attached_2 : Calls (r3 words) a2 2 (Attach Done)
-  attached_2 = Told [] tt refl refl
-
-  first_2 : Calls a2 b2 2 (Read 0 got.Good)
-  first_2 = Told [] tt refl refl
-
-  second_2 : Calls b2 (r4 words) 2 (Read 1 got.Good)
-  second_2 = Told [] tt refl refl
-
-  attached_3 : Calls (r4 words) a3 3 (Attach Done)
-  attached_3 = Told [] tt refl refl
-
-  first_3 : Calls a3 b3 3 (Read 0 got.Good)
-  first_3 = Told [] tt refl refl
-
-  second_3 : Calls b3 (r5 words) 3 (Read 1 got.Good)
-  second_3 = Told [] tt refl refl
-
-  gone_last : Calls (r5 words) (r7 words) 4 (Attach Gone)
-  gone_last =
-      Told (Acted 4 (Pulled _) ∷ []) (tt, inl (omega arith, settles words cut_fence 4 (slot_state (r5 words) 4) (made 4 (omega arith)))) refl refl
-
-  asked_five : AsksBelow 5 (r0 words) (r7 words)
-  asked_five = (
-    r5 words,
-    (
-      r4 words,
-      (
-        r3 words,
-        (r1 words, (r0 words, refl, There a0 b0 got.Good got.Good attached_0 first_0 second_0), There a1 b1 got.Good got.Good attached_1 first_1 second_1),
-        There a2 b2 got.Good got.Good attached_2 first_2 second_2,
+  steps : FiveSteps words cut_fence gone refl (r7 words)
+  steps = record {
+    x1 = r1 words;
+    x2 = r3 words;
+    x3 = r4 words;
+    x4 = r5 words;
+    s0 = Sees false≢true [] tt (made 0 (omega arith)) refl refl;
+    s1 = Sees false≢true (Acted 0 (Pulled _) ∷ []) (
+      tt,
+      inl (
+        omega arith,
+        settles words cut_fence 0 (slot_state (r1 words) 0)
+            (record { below = omega arith; size = (made 0 (omega arith)).size; sectors = (made 0 (omega arith)).sectors }),
       ),
-      There a3 b3 got.Good got.Good attached_3 first_3 second_3,
-    ),
-    NotThere gone_last,
-  )
+    ) (made 1 (omega arith)) refl refl;
+    s2 = Sees false≢true [] tt (made 2 (omega arith)) refl refl;
+    s3 = Sees false≢true [] tt (made 3 (omega arith)) refl refl;
+    s4 = Misses refl (Acted 4 (Pulled _) ∷ []) (tt, inl (omega arith, settles words cut_fence 4 (slot_state (r5 words) 4) (made 4 (omega arith)))) refl
+        refl;
+  }
 
-  asked : AsksBelow 32 (r0 words) new
-  asked = empty_asked words cut_fence pulled (r0 words) (r7 words) (s7 words).goes asked_five 27
-
-  -- HOW THE HISTORY GOES
-
-  to_1 : Ran any_call (r0 words) (r1 words)
-  to_1 = ran_join (ran_any (calls_ran attached_0)) (ran_join (ran_any (calls_ran first_0)) (ran_any (calls_ran second_0)))
-
-  seen_1 : Ran any_call (r1 words) (r3 words)
-  seen_1 = ran_join (ran_any (calls_ran attached_1)) (ran_join (ran_any (calls_ran first_1)) (ran_any (calls_ran second_1)))
-
-  seen_2 : Ran any_call (r3 words) (r4 words)
-  seen_2 = ran_join (ran_any (calls_ran attached_2)) (ran_join (ran_any (calls_ran first_2)) (ran_any (calls_ran second_2)))
-
-  seen_3 : Ran any_call (r4 words) (r5 words)
-  seen_3 = ran_join (ran_any (calls_ran attached_3)) (ran_join (ran_any (calls_ran first_3)) (ran_any (calls_ran second_3)))
-
-  to_3 : Ran any_call (r0 words) (r3 words)
-  to_3 = ran_join to_1 seen_1
-
-  to_4 : Ran any_call (r0 words) (r4 words)
-  to_4 = ran_join to_3 seen_2
-
-  to_5 : Ran any_call (r0 words) (r5 words)
-  to_5 = ran_join to_4 seen_3
+  held : (j : ℕ) → j < 5 → ¬ HasSlot gone j → IsHeld (r0 words) new j
+  unfolding empty_after
+  held =
+      five_cases (λ j. j < 5 → ¬ HasSlot gone j → IsHeld (r0 words) new j) (λ b seen. IsHeld.Unattached refl (omega arith))
+      (λ b seen. InUse refl refl (omega arith)) (λ b seen. InUse refl refl (omega arith)) (λ b seen. InUse refl refl (omega arith))
+      (λ b seen. absurd (seen refl)) (λ j past b. absurd (omega (arith, past, b)))
 
   to_7 : Ran any_call (r0 words) (r7 words)
-  to_7 = ran_join to_5 (ran_any (calls_ran gone_last))
+  to_7 = to_5 words cut_fence gone refl (r7 words) steps pulled (s7 words).goes
 
   rest_7 : Ran any_call (r7 words) new
-  unfolding empty_after
-  rest_7 = tail_ran words cut_fence gone refl pulled (r7 words) (s7 words).goes to_7 27 0
-
-  rest_5 : Ran any_call (r5 words) new
-  rest_5 = ran_join (ran_any (calls_ran gone_last)) rest_7
-
-  rest_4 : Ran any_call (r4 words) new
-  rest_4 = ran_join seen_3 rest_5
-
-  rest_3 : Ran any_call (r3 words) new
-  rest_3 = ran_join seen_2 rest_4
-
-  rest_1 : Ran any_call (r1 words) new
-  rest_1 = ran_join seen_1 rest_3
-
-  -- WHAT IS FOUND
-
-  held_0 : IsHeld (r0 words) new 0
-  unfolding empty_after
-  held_0 = IsHeld.Unattached refl (omega arith)
-
-  held_1 : IsHeld (r0 words) new 1
-  unfolding empty_after
-  held_1 = InUse refl refl (omega arith)
-
-  held_2 : IsHeld (r0 words) new 2
-  unfolding empty_after
-  held_2 = InUse refl refl (omega arith)
-
-  held_3 : IsHeld (r0 words) new 3
-  unfolding empty_after
-  held_3 = InUse refl refl (omega arith)
-
-  each : (j : ℕ) → j < 32 → Asked words cut_fence gone refl new j
-  each =
-      five_cases (λ j. j < 32 → Asked words cut_fence gone refl new j)
-      (λ small.
-      WasSeen false≢true (omega arith) (r0 words) a0 b0 (r1 words) (ran_none (r0 words)) attached_0 first_0 second_0 refl
-      (record { below = omega arith; size = (made 0 (omega arith)).size; sectors = (made 0 (omega arith)).sectors }) refl
-      (record { below = omega arith; size = (made 0 (omega arith)).size; sectors = (made 0 (omega arith)).sectors }) rest_1 held_0)
-      (λ small.
-      WasSeen false≢true (omega arith) (r1 words) a1 b1 (r3 words) to_1 attached_1 first_1 second_1 refl
-      (record { below = omega arith; size = (made 1 (omega arith)).size; sectors = (made 1 (omega arith)).sectors }) refl
-      (record { below = omega arith; size = (made 1 (omega arith)).size; sectors = (made 1 (omega arith)).sectors }) rest_3 held_1)
-      (λ small.
-      WasSeen false≢true (omega arith) (r3 words) a2 b2 (r4 words) to_3 attached_2 first_2 second_2 refl
-      (record { below = omega arith; size = (made 2 (omega arith)).size; sectors = (made 2 (omega arith)).sectors }) refl
-      (record { below = omega arith; size = (made 2 (omega arith)).size; sectors = (made 2 (omega arith)).sectors }) rest_4 held_2)
-      (λ small.
-      WasSeen false≢true (omega arith) (r4 words) a3 b3 (r5 words) to_4 attached_3 first_3 second_3 refl
-      (record { below = omega arith; size = (made 3 (omega arith)).size; sectors = (made 3 (omega arith)).sectors }) refl
-      (record { below = omega arith; size = (made 3 (omega arith)).size; sectors = (made 3 (omega arith)).sectors }) rest_5 held_3)
-      (λ small. WasGone refl (r5 words) (r7 words) to_5 gone_last (NoMedium refl) rest_7)
-      (λ j past small.
-      asked_past words cut_fence gone refl pulled (r7 words) (s7 words).goes to_7 j past small (past_has false false false false true j past small))
+  rest_7 = rest_5 words cut_fence gone refl (r7 words) steps pulled (s7 words).goes
 
   -- WHAT IS ANSWERED
 
@@ -310,7 +169,10 @@ module _ (words : Codewords) where
     tolerated = tolerated_at words;
     whys = whys;
     gones = gones words cut_fence gone refl new;
-    surveys = found_surveys words cut_fence gone refl new (are words) (Err (TooFew whys)) each asked (member, surveyed, refl, too_few);
+    surveys =
+        found_surveys words cut_fence gone refl new (are words) (Err (TooFew whys))
+        (asked_each words cut_fence gone refl (r7 words) steps pulled (s7 words).goes held past_gone)
+        (asked_below words cut_fence gone refl (r7 words) steps pulled (s7 words).goes) (member, surveyed, refl, too_few);
   }
 
   -- WHAT IS WORST AT THE END
@@ -399,7 +261,7 @@ module _ (words : Codewords) where
   worst_slot : (j : ℕ) → IsWorstSlot (r0 words) (r0 words) new j (worst j)
   worst_slot =
       five_cases (λ j. IsWorstSlot (r0 words) (r0 words) new j (worst j))
-      (Emptied (record { moment = r3 words; is_one = moment_between to_3 rest_3; holds = NoMedium refl }) refl (λ k. refl))
+      (Emptied (record { moment = r7 words; is_one = moment_between to_7 rest_7; holds = NoMedium refl }) refl (λ k. refl))
       (left_there 1 (omega arith) false≢true) (left_there 2 (omega arith) false≢true) (left_there 3 (omega arith) false≢true)
       (Emptied (record { moment = r7 words; is_one = moment_between to_7 rest_7; holds = NoMedium refl }) refl (λ k. refl))
       (λ j past. let none = none_past j past in Emptied none.2 none.0 none.1)

@@ -15,6 +15,7 @@ pub mod FiveDevices
 pub mod FiveConsistent
 pub mod FiveMoments
 pub mod FiveSurvey
+pub mod FiveSteps
 pub mod FiveSupers
 pub mod CutPromotion
 pub mod PromotionSurvey
