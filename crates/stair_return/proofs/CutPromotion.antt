@@ -3,26 +3,24 @@ use Rattle.std.proofs.Common.{◌≡◌, ◌≢◌, ℕ, ◌<◌, ◌≤◌, Lis
 use Rattle.std.proofs.lemmas.Bool.{cases_lt, cond-true, cond-false, false≢true, lt-ltb, le-ltb}
 use Rattle.stair_model.specs.Slots.{HasSlot, Slots, no_slots, slot_count}
 use Rattle.stair_model.specs.Sum.{sum_below}
-use Rattle.stair_model.proofs.SetLaws.{has_slot-none, slot_count_member, slot_count_none}
-use Rattle.stair_rack.specs.Crash.{CrashMayLeave}
-use Rattle.stair_rack.specs.History.{Acted, Attach, Called, Happening, InsertedOld, Pulled, slot_state}
-use Rattle.stair_rack.specs.Media.{Image}
+use Rattle.stair_model.proofs.SetLaws.{has_slot-none, slot_count_none}
+use Rattle.stair_rack.specs.History.{Acted, Attach, Called, Happening, InsertedOld, Pulled, SlotAct, slot_state}
 use Rattle.stair_rack.specs.Moments.{AtEveryMoment, IsMoment}
-use Rattle.stair_rack.specs.Offline.{IsOffline}
 use Rattle.stair_rack.specs.declared.rack.Reply.TheVariants.{Gone}
-use Rattle.stair_rack.proofs.MomentLemmas.{at_every_join, at_moment}
+use Rattle.stair_rack.proofs.MomentLemmas.{at_every_join}
 use Rattle.stair_super.specs.Superblock.{IsSuperblock, joined_in, mark_in}
 use Rattle.stair_super.specs.declared.mark.Mark.TheVariants.{Down, Live, Rebuilding}
 use Rattle.stair_member.specs.Editions.{Edition, copy_of}
 use Rattle.stair_state.specs.Blocks.{Codewords}
 use Rattle.stair_state.specs.Holding.{Holders}
 use Rattle.stair_state.specs.Tolerance.{IsTolerated}
-use Rattle.stair_return.specs.Counted.{HasBorne, IsToleratedCounted}
+use Rattle.stair_return.specs.Counted.{IsToleratedCounted}
 use Rattle.stair_return.specs.Misled.{cut_promotion, device_of, empty_after, five, looked_at, made_of, one_after_the_other}
 use Rattle.stair_return.specs.Still.{IsStill}
 use Rattle.stair_return.proofs.FiveConsistent.{IsCut}
-use Rattle.stair_return.proofs.FiveDevices.{AreEditions, IsWithin, borne_own, tolerates, tolerates_counting}
-use Rattle.stair_return.proofs.FiveMoments.{GoesOn, HoldsDevice, IsNow, act_each, back_holds, goes_back, goes_made, goes_pulled, goes_still, left_shows, made_holds, not_both, now_still, still_each, within}
+use Rattle.stair_return.proofs.FiveCounted.{Stands, each_act, each_still, stands_still, counted as counted_throughout, tolerated_at as tolerated_throughout}
+use Rattle.stair_return.proofs.FiveDevices.{AreEditions}
+use Rattle.stair_return.proofs.FiveMoments.{GoesOn, HoldsDevice, back_holds, goes_back, goes_made, goes_pulled, made_holds, not_both}
 use Rattle.stair_return.proofs.FiveSupers.{call_still, look_still, named_super, past_none}
 use Rattle.stair_return.proofs.FiveSurvey.{empty_still, five_cases}
 
@@ -32,6 +30,20 @@ failed = record { marks = true ∷ true ∷ false ∷ false ∷ false ∷ replic
 
 abbrev pub stand : Slots
 stand = record { marks = false ∷ false ∷ true ∷ true ∷ true ∷ replicate 27 false }
+
+pub few_failed : slot_count failed ≤ 2
+unfolding sum_below
+few_failed = let two : slot_count failed ≡ 2 = refl in omega (arith, two)
+
+pub many_stand : 2 < slot_count stand
+unfolding sum_below
+many_stand = let three : slot_count stand ≡ 3 = refl in omega (arith, three)
+
+pub stand_kept : (j : ℕ) → HasSlot stand j → (j < 5) × ¬ HasSlot failed j
+stand_kept =
+    five_cases (λ j. HasSlot stand j → (j < 5) × ¬ HasSlot failed j) (λ has. absurd (false≢true has)) (λ has. absurd (false≢true has))
+    (λ has. (omega arith, λ out. false≢true out)) (λ has. (omega arith, λ out. false≢true out)) (λ has. (omega arith, λ out. false≢true out))
+    (λ j past has. absurd (false≢true (sym (past_none false false true true true j past) ∙ has)))
 
 -- THE SUPERBLOCKS
 
@@ -167,11 +179,6 @@ module _ (words : Codewords) where
   abbrev pub h9 : List Happening
   h9 = looked_at 4 h8
 
-  -- the current superblock is slot 0's, or slot 1's while that one is away
-  pub record Stands (h : List Happening) : Type 0 where
-    pub goes : GoesOn words cut_promotion failed h
-    pub now : IsNow words cut_promotion 0 h ⊎ IsNow words cut_promotion 1 h
-
   newest_first : (j : ℕ) → j < 5 → ((cut_promotion j).array.epoch < 5) ⊎ (((cut_promotion j).array.epoch ≡ 5) × (0 ≤ j))
   newest_first =
       five_cases (λ j. j < 5 → ((cut_promotion j).array.epoch < 5) ⊎ (((cut_promotion j).array.epoch ≡ 5) × (0 ≤ j))) (λ b. inr (refl, omega arith))
@@ -184,80 +191,90 @@ module _ (words : Codewords) where
       (λ b other. absurd (other refl)) (λ b other. inr (refl, omega arith)) (λ b other. inl (omega arith)) (λ b other. inl (omega arith))
       (λ b other. inl (omega arith)) (λ j past below. absurd (omega (arith, past, below)))
 
-  now_first : (h : List Happening) → HoldsDevice words cut_promotion 0 (slot_state h 0) → IsNow words cut_promotion 0 h
-  now_first h holds = record { first = holds; newest = λ j is. newest_first j is.below }
+  live_first : (j : ℕ) → j < 5 → mark_in (cut_promotion 0).array j ≡ Live
+  live_first =
+      five_cases (λ j. j < 5 → mark_in (cut_promotion 0).array j ≡ Live) (λ b. refl) (λ b. refl) (λ b. refl) (λ b. refl) (λ b. refl)
+      (λ j past below. absurd (omega (arith, past, below)))
 
-  s0 : Stands h0
-  s0 = record { goes = goes_made words cut_promotion failed; now = inl (now_first h0 (made_holds words cut_promotion 0 (omega arith))) }
+  kept_live : (c j : ℕ) → j < 5 → ¬ HasSlot failed j → c < 2
+      → (mark_in (cut_promotion c).array j ≡ Live) × (joined_in (cut_promotion j).array j ≡ joined_in (cut_promotion c).array j)
+  kept_live c j below kept new =
+      subst (λ (x : Edition). (mark_in x.array j ≡ Live) × (joined_in (cut_promotion j).array j ≡ joined_in x.array j)) (sym (new_edition c new))
+      (live_first j below, (plain j).2 j)
 
-  s1 : Stands h1
+  -- by slot 0's superblock, or by slot 1's while that one is away
+  by_first : (h : List Happening) → GoesOn words cut_promotion failed h → HoldsDevice words cut_promotion 0 (slot_state h 0)
+      → Stands words cut_promotion failed h
+  by_first h goes holds = record {
+    goes = goes;
+    current = 0;
+    now = record { first = holds; newest = λ j is. newest_first j is.below };
+    live = λ j below kept. kept_live 0 j below kept (omega arith);
+  }
+
+  s0 : Stands words cut_promotion failed h0
+  s0 = by_first h0 (goes_made words cut_promotion failed) (made_holds words cut_promotion 0 (omega arith))
+
+  s1 : Stands words cut_promotion failed h1
   s1 = record {
     goes = goes_pulled words cut_promotion failed h0 0 (device_of words cut_promotion 0) refl s0.goes;
-    now =
-        inr (record {
-          first = made_holds words cut_promotion 1 (omega arith);
-          newest = λ j is.
-              newest_second j is.below
-              (λ same.
-              not_both words cut_promotion 0 (slot_state h1 0) refl
-              (subst (λ (i : ℕ). HoldsDevice words cut_promotion i (slot_state h1 i)) same is));
-        });
+    current = 1;
+    now = record {
+      first = made_holds words cut_promotion 1 (omega arith);
+      newest = λ j is.
+          newest_second j is.below
+          (λ same.
+          not_both words cut_promotion 0 (slot_state h1 0) refl
+          (subst (λ (i : ℕ). HoldsDevice words cut_promotion i (slot_state h1 i)) same is));
+    };
+    live = λ j below kept. kept_live 1 j below kept (omega arith);
   }
 
-  still_on : (x y : List Happening) → IsStill x y → Stands x → Stands y
-  still_on x y still s = record {
-    goes = goes_still words cut_promotion failed x y still s.goes;
-    now =
-        elim s.now [
-          | inl is ↦ inl (now_still words cut_promotion 0 x y still is)
-          | inr is ↦ inr (now_still words cut_promotion 1 x y still is)
-        ];
-  }
+  s2 : Stands words cut_promotion failed h2
+  s2 = stands_still words cut_promotion failed h1 h2 (call_still h1 0) s1
 
-  s2 : Stands h2
-  s2 = still_on h1 h2 (call_still h1 0) s1
+  s3 : Stands words cut_promotion failed h3
+  s3 =
+      by_first h3 (goes_back words cut_promotion failed h2 0 refl (omega arith) refl s2.goes)
+      (back_holds words cut_promotion 0 (slot_state h2 0) (omega arith) refl)
 
-  s3 : Stands h3
-  s3 = record {
-    goes = goes_back words cut_promotion failed h2 0 refl (omega arith) refl s2.goes;
-    now = inl (now_first h3 (back_holds words cut_promotion 0 (slot_state h2 0) (omega arith) refl));
-  }
+  s4 : Stands words cut_promotion failed h4
+  s4 =
+      by_first h4 (goes_pulled words cut_promotion failed h3 1 (device_of words cut_promotion 1) refl s3.goes)
+      (back_holds words cut_promotion 0 (slot_state h2 0) (omega arith) refl)
 
-  s4 : Stands h4
-  s4 = record {
-    goes = goes_pulled words cut_promotion failed h3 1 (device_of words cut_promotion 1) refl s3.goes;
-    now = inl (now_first h4 (back_holds words cut_promotion 0 (slot_state h2 0) (omega arith) refl));
-  }
+  s5 : Stands words cut_promotion failed h5
+  s5 = stands_still words cut_promotion failed h4 h5 (call_still h4 1) s4
 
-  s5 : Stands h5
-  s5 = still_on h4 h5 (call_still h4 1) s4
+  s6 : Stands words cut_promotion failed h6
+  s6 =
+      by_first h6 (goes_back words cut_promotion failed h5 1 refl (omega arith) refl s5.goes)
+      (back_holds words cut_promotion 0 (slot_state h2 0) (omega arith) refl)
 
-  s6 : Stands h6
-  s6 = record {
-    goes = goes_back words cut_promotion failed h5 1 refl (omega arith) refl s5.goes;
-    now = inl (now_first h6 (back_holds words cut_promotion 0 (slot_state h2 0) (omega arith) refl));
-  }
+  s7 : Stands words cut_promotion failed h7
+  s7 = stands_still words cut_promotion failed h6 h7 (look_still h6 2) s6
 
-  s7 : Stands h7
-  s7 = still_on h6 h7 (look_still h6 2) s6
+  s8 : Stands words cut_promotion failed h8
+  s8 = stands_still words cut_promotion failed h7 h8 (look_still h7 3) s7
 
-  s8 : Stands h8
-  s8 = still_on h7 h8 (look_still h7 3) s7
+  pub s9 : Stands words cut_promotion failed h9
+  s9 = stands_still words cut_promotion failed h8 h9 (look_still h8 4) s8
 
-  pub s9 : Stands h9
-  s9 = still_on h8 h9 (look_still h8 4) s8
+  still : (x y : List Happening) → Stands words cut_promotion failed x → IsStill x y → AtEveryMoment (Stands words cut_promotion failed) x y
+  still x y s is = each_still words cut_promotion failed x y s is
 
-  still : (x y : List Happening) → Stands x → IsStill x y → AtEveryMoment Stands x y
-  still x y s is = still_each words cut_promotion Stands (λ m part. still_on x m part s) is
+  act : (h : List Happening) (i : ℕ) (a : SlotAct) → Stands words cut_promotion failed h → Stands words cut_promotion failed (Acted i a ∷ h)
+      → AtEveryMoment (Stands words cut_promotion failed) h (Acted i a ∷ h)
+  act h i a before after = each_act words cut_promotion failed h i a before after
 
-  throughout : AtEveryMoment Stands h0 (one_after_the_other words)
+  throughout : AtEveryMoment (Stands words cut_promotion failed) h0 (one_after_the_other words)
   throughout =
-      at_every_join (act_each words cut_promotion Stands h0 0 (Pulled (device_of words cut_promotion 0)) s0 s1)
+      at_every_join (act h0 0 (Pulled (device_of words cut_promotion 0)) s0 s1)
       (at_every_join (still h1 h2 s1 (call_still h1 0))
-      (at_every_join (act_each words cut_promotion Stands h2 0 (InsertedOld 0) s2 s3)
-      (at_every_join (act_each words cut_promotion Stands h3 1 (Pulled (device_of words cut_promotion 1)) s3 s4)
+      (at_every_join (act h2 0 (InsertedOld 0) s2 s3)
+      (at_every_join (act h3 1 (Pulled (device_of words cut_promotion 1)) s3 s4)
       (at_every_join (still h4 h5 s4 (call_still h4 1))
-      (at_every_join (act_each words cut_promotion Stands h5 1 (InsertedOld 0) s5 s6)
+      (at_every_join (act h5 1 (InsertedOld 0) s5 s6)
       (at_every_join (still h6 h7 s6 (look_still h6 2))
       (at_every_join (still h7 h8 s7 (look_still h7 3))
       (at_every_join (still h8 h9 s8 (look_still h8 4))
@@ -265,59 +282,12 @@ module _ (words : Codewords) where
 
   -- TOLERANCE
 
-  live_first : (j : ℕ) → j < 5 → ¬ HasSlot failed j → mark_in (cut_promotion 0).array j ≡ Live
-  live_first =
-      five_cases (λ j. j < 5 → ¬ HasSlot failed j → mark_in (cut_promotion 0).array j ≡ Live) (λ b kept. refl) (λ b kept. refl) (λ b kept. refl)
-      (λ b kept. refl) (λ b kept. refl) (λ j past below. absurd (omega (arith, past, below)))
-
-  is_within : (h : List Happening) (image : Image) → Stands h → CrashMayLeave h image
-      → IsWithin words cut_promotion failed (IsOffline h0 h) image 0 ⊎ IsWithin words cut_promotion failed (IsOffline h0 h) image 1
-  is_within h image s left =
-      elim s.now [
-        | inl now ↦ inl (within words cut_promotion failed 0 h image s.goes now left live_first (λ j below kept. (plain j).2 j))
-        | inr now ↦ inr (within words cut_promotion failed 1 h image s.goes now left live_first (λ j below kept. (plain j).2 j))
-      ]
-
-  few : slot_count failed ≤ 2
-  unfolding sum_below
-  few = let two : slot_count failed ≡ 2 = refl in omega (arith, two)
-
-  pub many : 2 < slot_count stand
-  unfolding sum_below
-  many = let three : slot_count stand ≡ 3 = refl in omega (arith, three)
-
-  stand_kept : (j : ℕ) → HasSlot stand j → (j < 5) × ¬ HasSlot failed j
-  stand_kept =
-      five_cases (λ j. HasSlot stand j → (j < 5) × ¬ HasSlot failed j) (λ has. absurd (false≢true has)) (λ has. absurd (false≢true has))
-      (λ has. (omega arith, λ out. false≢true out)) (λ has. (omega arith, λ out. false≢true out)) (λ has. (omega arith, λ out. false≢true out))
-      (λ j past has. absurd (false≢true (sym (past_none false false true true true j past) ∙ has)))
-
-  at : (h : List Happening) → IsMoment h0 h (one_after_the_other words) → Stands h
-  at h moment = at_moment {P = Stands} throughout moment
-
   pub tolerated_at : (h : List Happening) → IsMoment h0 h (one_after_the_other words) → IsTolerated five h0 h
-  tolerated_at h moment image left =
-      elim (is_within h image (at h moment) left) [
-        | inl is ↦ tolerates words cut_promotion are failed refl few stand refl many stand_kept 2 (omega arith) false≢true (IsOffline h0 h) image 0 is
-        | inr is ↦ tolerates words cut_promotion are failed refl few stand refl many stand_kept 2 (omega arith) false≢true (IsOffline h0 h) image 1 is
-      ]
+  tolerated_at =
+      tolerated_throughout words cut_promotion failed are refl few_failed stand refl many_stand stand_kept 2 (omega arith) false≢true (one_after_the_other words)
+      throughout
 
   pub counted : IsToleratedCounted five h0 h0 (one_after_the_other words)
-  counted = record {
-    failed = failed;
-    formed = refl;
-    few = few;
-    each = λ h moment image left.
-        elim (is_within h image (at h moment) left) [
-          | inl is ↦
-              tolerates_counting words cut_promotion are failed refl few stand refl many stand_kept 2 (omega arith) false≢true (IsOffline h0 h) image 0 is
-          | inr is ↦
-              tolerates_counting words cut_promotion are failed refl few stand refl many stand_kept 2 (omega arith) false≢true (IsOffline h0 h) image 1 is
-        ];
-    alone = λ other more.
-        let some = slot_count_member more.slots (omega (arith, more.many)) in
-        let borne : HasBorne other h0 (one_after_the_other words) some.0 = more.each some.0 some.2 in
-        (borne_own words cut_promotion are (λ i. borne.image) other some.0 borne.super
-        (left_shows words cut_promotion (slot_state borne.left.moment some.0) (λ i. borne.image) some.0 borne.left.holds
-        ((at borne.left.moment borne.left.is_one).goes.slots some.0)) borne.bears).same;
-  }
+  counted =
+      counted_throughout words cut_promotion failed are refl few_failed stand refl many_stand stand_kept 2 (omega arith) false≢true (one_after_the_other words)
+      throughout

@@ -17,7 +17,10 @@ pub mod FiveMoments
 pub mod FiveSurvey
 pub mod FiveSteps
 pub mod FiveSupers
+pub mod FiveCounted
 pub mod CutPromotion
 pub mod PromotionSurvey
 pub mod CutFence
 pub mod FenceSurvey
+pub mod CutFences
+pub mod FencesSurvey

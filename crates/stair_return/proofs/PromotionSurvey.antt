@@ -21,7 +21,7 @@ use Rattle.stair_member.specs.declared.why.Why.{Why}
 use Rattle.stair_member.specs.declared.why.Why.TheVariants as why
 use Rattle.stair_state.specs.Blocks.{AreEncodingsOf, Codewords, zero_blocks}
 use Rattle.stair_return.specs.Misled.{IsMisled, cut_promotion, empty_after, five, one_after_the_other, rack_of}
-use Rattle.stair_return.proofs.CutPromotion.{are, cut, epochs, failed, h0, h2, h3, h5, h7, h8, h9, holders, many, s9, stand, tolerated_at}
+use Rattle.stair_return.proofs.CutPromotion.{are, cut, epochs, failed, h0, h2, h3, h5, h7, h8, h9, holders, many_stand, s9, stand, tolerated_at}
 use Rattle.stair_return.proofs.FiveConsistent.{made_consistent}
 use Rattle.stair_return.proofs.FiveDevices.{IsDevice, Shows, current, identity}
 use Rattle.stair_return.proofs.FiveMoments.{HoldsDevice, made_holds, settles}
@@ -102,7 +102,7 @@ module _ (words : Codewords) where
 
   stands : Identifies five image
   stands =
-      found_stands words cut_promotion gone refl new (are words) stand refl (many words)
+      found_stands words cut_promotion gone refl new (are words) stand refl many_stand
       (five_cases (λ j. HasSlot stand j → (j < 5) × ¬ HasSlot gone j) (λ has. absurd (false≢true has)) (λ has. absurd (false≢true has))
       (λ has. (omega arith, false≢true)) (λ has. (omega arith, false≢true)) (λ has. (omega arith, false≢true))
       (λ j past has. absurd (false≢true (sym (past_none false false true true true j past) ∙ has))))

@@ -1,15 +1,15 @@
 -- A survey finds the array where mixed images are tolerated, whatever comes back meanwhile.
-use Rattle.std.specs.Prelude.{IsTrue, Result, Ok, Err}
-use Rattle.std.proofs.Common.{◌≡◌, ℕ, ◌<◌, ◌≤◌, List, ◌⊎◌, inl, inr, refl, sym, ◌∙◌, subst, arith, None}
+use Rattle.std.specs.Prelude.{IsTrue, true, Result, Ok, Err}
+use Rattle.std.proofs.Common.{◌≡◌, ℕ, ◌<◌, ◌≤◌, List, [], ◌∷◌, ◌⊎◌, inl, inr, refl, sym, ◌∙◌, subst, arith, None}
 use Rattle.std.proofs.lemmas.Bool.{cases_lt}
 use Rattle.stair_model.specs.Geometry.{Geometry}
 use Rattle.stair_model.specs.Slots.{HasSlot, slot_count}
 use Rattle.stair_rack.specs.Answers.{IsHistory, Ran, any_call}
-use Rattle.stair_rack.specs.History.{Happening, slot_state}
+use Rattle.stair_rack.specs.History.{Happening, Made, slot_state}
 use Rattle.stair_rack.specs.Media.{Image, SlotImage}
 use Rattle.stair_rack.specs.Offline.{IsOffline, NoMedium, RackStopped, Unattached}
-use Rattle.stair_rack.specs.Telling.{Telling}
-use Rattle.stair_rack.proofs.MomentLemmas.{moment_first}
+use Rattle.stair_rack.specs.Telling.{Telling, telling}
+use Rattle.stair_rack.proofs.MomentLemmas.{moment_first, ran_none}
 use Rattle.stair_rack.proofs.OfflineLemmas.{WasPulled-sooner}
 use Rattle.stair_super.specs.Superblock.{Superblock}
 use Rattle.stair_member.specs.Asked.{LeavesSectors}
@@ -31,6 +31,7 @@ use Rattle.stair_state.proofs.AgreeLemmas.{live_here}
 use Rattle.stair_state.proofs.OutsideLemmas.{slot_now, slot_now_left}
 use Rattle.stair_session.specs.Mixed.{IsMixed, IsMixedSlot, IsToleratedMixed, WasOffline}
 use Rattle.stair_return.specs.Found.{FindsMember}
+use Rattle.stair_return.specs.Misled.{IsMisled, five}
 use Rattle.stair_return.proofs.MixedFinding.{IsMixedFinding, SameHeld, mixed_finding}
 use Rattle.stair_return.proofs.MixedImages.{offline_failed, slot_mixed}
 
@@ -199,3 +200,12 @@ module _ (before : List Happening) (old new : Telling) (answer : Result Membersh
 
     pub finds : FindsMember g tolerated.failed answer
     finds = by_answer answer surveys.answered
+
+-- so it isn't misled
+pub not_misled : (image : Image) (new : List Happening) → IsMisled image new → ¬ IsToleratedMixed five (Made image ∷ []) (Made image ∷ []) new
+not_misled image new misled tolerated =
+    let found =
+    finds (Made image ∷ []) (telling true (Made image ∷ []) 0 (λ j. 0)) (telling true new 0 misled.gones) (Err (TooFew misled.whys)) misled.surveys refl
+    (ran_none (Made image ∷ [])) five tolerated in
+    let never : ◌≡◌ {A = Result Membership SurveyFault} (Err (TooFew misled.whys)) (Ok found.member) = found.found in
+    absurd (cc)

@@ -127,6 +127,34 @@ read_and_pulled words =
     (Acted 0 (Pulled (device_of words cut_fence 0)) ∷ read))) in
     empty_after 27 (pulled_at words cut_fence 4 others)
 
+-- THE THIRD HISTORY
+
+-- Two fences were cut. Epoch 5, which marks slots 2 and 3 Down, is on slot 0 alone; and epoch 6, which marks slot 0 Down, is on
+-- slot 1 alone, and drawn on all but slot 0.
+abbrev pub two_fences : ℕ → Edition
+two_fences j = if nat_lt j 1
+    then record {
+      array = naming 5 (Live ∷ Live ∷ Down ∷ Down ∷ Live ∷ []) (1 ∷ 1 ∷ 0 ∷ 0 ∷ 1 ∷ []);
+      draw = 5;
+    }
+    else (if nat_lt j 2
+    then record {
+      array = naming 6 (Down ∷ Live ∷ Live ∷ Live ∷ Live ∷ []) (0 ∷ 1 ∷ 1 ∷ 1 ∷ 1 ∷ []);
+      draw = 6;
+    }
+    else record {
+      array = naming 4 (Live ∷ Live ∷ Live ∷ Live ∷ Live ∷ []) (1 ∷ 1 ∷ 1 ∷ 1 ∷ 1 ∷ []);
+      draw = 6;
+    })
+
+-- A survey of it. The device of slot 0 is pulled once it was read, and that of slot 1 before it is attached; neither comes back.
+abbrev pub only_pulled : Codewords → List Happening
+only_pulled words =
+    let read = looked_at 0 (made_of words two_fences) in
+    let second = pulled_at words two_fences 1
+    (Acted 0 (Pulled (device_of words two_fences 0)) ∷ read) in
+    empty_after 27 (looked_at 4 (looked_at 3 (looked_at 2 second)))
+
 -- WHAT THE OUTSIDE KEEPS TO
 
 -- The slot at the end: empty where it was offline at some moment, and each sector damaged that was so at some moment.
