@@ -17,7 +17,7 @@ use Rattle.stair_return.specs.Following.{before_act, before_pull, before_return,
 
 -- WHERE A MEDIUM LAY BEFORE AN ACT
 
-outside_once : {a b : ℕ} → Outside a ≡ Outside b → a ≡ b
+pub outside_once : {a b : ℕ} → Outside a ≡ Outside b → a ≡ b
 outside_once same = cc
 
 pub not_outside : {i : ℕ} → Outside i ≡ InSlot → ⊥

@@ -1,5 +1,6 @@
 -- Two reassemblies of one consistent image: the greatest epoch is current in both, and a slot that is live in both has one medium.
-use Rattle.std.proofs.Common.{◌≡◌, ℕ, ◌<◌, ◌≤◌, ◌⊎◌, inl, inr, sym, subst, ◌∙◌, arith, Some, None}
+use Rattle.std.proofs.Common.{◌≡◌, ℕ, ◌<◌, ◌≤◌, ◌⊎◌, inl, inr, sym, subst, ◌∙◌, arith, None}
+use Rattle.std.proofs.lemmas.Option.{same_Some}
 use Rattle.stair_rack.specs.Media.{Medium, SlotImage, Image}
 use Rattle.stair_super.specs.Superblock.{Superblock}
 use Rattle.stair_member.specs.Superblocks.{Counts}
@@ -19,16 +20,10 @@ use Rattle.stair_return.specs.Together.{HasOneMedium}
 -- one medium lies in a place
 same_medium : (slot : SlotImage) (p : Location) (a b : Medium) → IsMediumOf slot p a → IsMediumOf slot p b → a ≡ b
 same_medium slot InSlot a b is also =
-    let size : a.size ≡ b.size = some_same a.size b.size (sym is.0 ∙ also.0) in
+    let size : a.size ≡ b.size = same_Some a.size b.size (sym is.0 ∙ also.0) in
     let cells : a.cell ≡ b.cell = sym is.1 ∙ also.1 in
     λ i. record { size = size i; cell = cells i }
-  where
-    some_same : (x y : ℕ) → Some x ≡ Some y → x ≡ y
-    some_same x y e = cc
-same_medium slot (Outside l) a b is also = some_same a b (sym is ∙ also)
-  where
-    some_same : (x y : Medium) → Some x ≡ Some y → x ≡ y
-    some_same x y e = cc
+same_medium slot (Outside l) a b is also = same_Some a b (sym is ∙ also)
 
 module _ (s : State) (encodings : Encodings s) (image a b : Image) (top also : Superblock) (it : IsConsistent s encodings image)
     (is_a : IsReassembly image a) (is_b : IsReassembly image b) (alone_a : IsToleratedAlone s.geometry a) (alone_b : IsToleratedAlone s.geometry b)

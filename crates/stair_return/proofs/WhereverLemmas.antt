@@ -3,6 +3,7 @@ use Rattle.std.proofs.Common.{◌≡◌, ℕ, zero, suc, ◌<◌, List, [], ◌�
 use Rattle.std.specs.Prelude.{IsSome, ◌&&◌, not, is_some, length, remove}
 use Rattle.std.proofs.lemmas.Bool.{cases_Bool, cases_eq, cases_lt, cond-true, cond-false, false≢true}
 use Rattle.std.proofs.lemmas.Option.{slice_get_cases}
+use Rattle.std.proofs.lemmas.Option.{same_Some}
 use Rattle.stair_rack.specs.Answers.{IsAnswered, IsCall, IsHistory, IsNoAttach, Ran, Runs, is_ready}
 use Rattle.stair_rack.specs.Crash.{SlotMayLeave}
 use Rattle.stair_rack.specs.History.{Happening, Made, Stopped, Acted, Called, SlotAct, Pulled, InsertedBlank, InsertedOld, SectorDamaged, SlotCall, Attach, Sectors, Read, Write, Sync, SlotState, after_act, after_call, slot_state, stopped, with_old}
@@ -23,17 +24,14 @@ use Rattle.stair_state.specs.Represents.{no_write}
 use Rattle.stair_state.proofs.DegradedLemmas.{copies_again, copies_damaged}
 use Rattle.stair_state.proofs.OutsideLemmas.{look_left, slot_before, slot_now, slot_now_left}
 use Rattle.stair_return.specs.Following.{AreOfNamed, Kept, SurvivesDamage, Wherever, before_act, before_return, name_of}
-use Rattle.stair_return.proofs.NameLemmas.{attached_name, before_gap, gap_behind, gap_below, name_apart, named_act_cases, named_call_cases, not_outside, pulled_last, pulled_other, same_pulls, still_attached, unpulled_name}
+use Rattle.stair_return.proofs.NameLemmas.{attached_name, before_gap, gap_behind, gap_below, name_apart, named_act_cases, named_call_cases, not_outside, outside_once, pulled_last, pulled_other, same_pulls, still_attached, unpulled_name}
 
 -- LISTS OF MEDIA
 
 -- of the list with one more behind it
 pushed_cases : (xs : List Medium) (m x : Medium) (i : ℕ) → slice_get (xs ++ m ∷ []) i ≡ Some x
     → ((i ≡ length xs) × (m ≡ x)) ⊎ ((¬ (i ≡ length xs)) × (slice_get xs i ≡ Some x))
-pushed_cases [] m x zero is = inl (refl, some_once is)
-  where
-    some_once : {a b : Medium} → Some a ≡ Some b → a ≡ b
-    some_once same = cc
+pushed_cases [] m x zero is = inl (refl, same_Some m x is)
 pushed_cases [] m x (suc i) is = absurd (false≢true (ap is_some is))
 pushed_cases (y ∷ xs) m x zero is = inr (λ same. absurd (omega (arith, same)), is)
 pushed_cases (y ∷ xs) m x (suc i) is =
@@ -289,16 +287,10 @@ outside_wherever old new j i medium history ran at =
       inside = λ named image left. absurd (not_outside (name_apart old j (Outside i) InSlot (sym named)));
       outside = λ k m named here.
           let same : k ≡ i = outside_once (name_apart old j (Outside k) (Outside i) named) in
-          let one : medium ≡ m = some_once (sym at ∙ ap (slice_get (slot_state old j).removed) (sym same) ∙ here) in
+          let one : medium ≡ m = same_Some medium m (sym at ∙ ap (slice_get (slot_state old j).removed) (sym same) ∙ here) in
           λ l. inl (ap (λ (x : Medium). x.cell l) (sym one));
     })
   where
-    outside_once : {a b : ℕ} → Outside a ≡ Outside b → a ≡ b
-    outside_once same = cc
-
-    some_once : {a b : Medium} → Some a ≡ Some b → a ≡ b
-    some_once same = cc
-
     survives : SurvivesDamage (AreDamagedCopies medium.cell)
     survives = record {
       harmed = λ was is copies holds k. elim (copies k) [
