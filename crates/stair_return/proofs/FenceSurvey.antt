@@ -250,7 +250,7 @@ module _ (words : Codewords) where
       device.cells k
       ∙ sym (ap content (((at_each damaged_once.moment damaged_once.is_one).kept j below kept).0.sectors k))
       ∙ ap content damaged_once.holds)
-      (λ k never. device.cells k ∙ sym (ap content (last_holds.0.sectors k)))
+      (λ k. inl (device.cells k ∙ sym (ap content (last_holds.0.sectors k))))
     where
       device : IsDevice words cut_fence worst j
       device = seen_device words cut_fence away refl new j (kept_there j below kept) below

@@ -28,6 +28,7 @@ use Rattle.stair_state.proofs.ExchangedLemmas.{slot_cases, slot_here, with_slot}
 use Rattle.stair_state.proofs.OutsideLemmas.{slot_now, slot_now_left}
 use Rattle.stair_state.proofs.ReturnLemmas.{IsFrom, MediaCameFrom, New, Same, at_image, came_looking}
 use Rattle.stair_session.specs.Mixed.{AsAt, Away, IsMixed, IsMixedSlot, IsToleratedMixed, WasOffline}
+use Rattle.stair_return.specs.Misled.{Emptied, IsWorstSlot, Left}
 use Rattle.stair_return.specs.Counted.{HasBorne, IsToleratedCounted, IsToleratedCounting}
 use Rattle.stair_return.specs.Found.{IsToleratedReassembly}
 
@@ -176,6 +177,15 @@ module _ (g : Geometry) (before old new : List Happening) (tolerated : IsTolerat
 
   pub mixed_alone : (to : Image) → IsMixed before old new to → IsToleratedAlone g to
   mixed_alone to mixed = within_tolerance (λ j. (to j).size ≡ None) to mixed (λ current j. tolerated.within to current j mixed)
+
+-- WHAT IS WORST AT THE END IS A MIXED IMAGE
+
+pub worst_mixed : {before old new : List Happening} (j : ℕ) (to : SlotImage) → IsMoment old new new → IsWorstSlot before old new j to
+    → IsMixedSlot before old new j to
+worst_mixed j to last (Emptied offline none all) = Away offline none all
+worst_mixed {new} j to last (Left online was left size harmed cells) =
+    AsAt was (record { moment = new; is_one = last; holds = left }) size
+    (λ k. elim (cells k) [ inl same ↦ inl same | inr once ↦ inr (harmed k once, inl once) ])
 
 -- A MIXED IMAGE IS A REASSEMBLY
 

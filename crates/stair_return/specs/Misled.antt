@@ -1,6 +1,6 @@
 -- Racks on which what is asked of an opening isn't met, though the outside keeps to less: a survey of them answers that too few
 -- devices are left.
-use Rattle.std.specs.Prelude.{◌≡◌, ◌==◌, ◌++◌, ◌+◌, ℕ, true, false, Err, List, [], ◌∷◌, None, Some, zero, suc, if◌then◌else◌, nat_lt, replicate}
+use Rattle.std.specs.Prelude.{◌≡◌, ◌==◌, ◌++◌, ◌+◌, ◌⊎◌, ℕ, true, false, Err, List, [], ◌∷◌, None, Some, zero, suc, if◌then◌else◌, nat_lt, replicate}
 use Rattle.stair_model.specs.Device.{gate_sector}
 use Rattle.stair_model.specs.Geometry.{Geometry, geometry_of, sectors_needed}
 use Rattle.stair_model.specs.Stripe.{cell}
@@ -164,7 +164,7 @@ pub data IsWorstSlot (before old new : List Happening) (j : ℕ) (to : SlotImage
   Left : (¬ WasOffline before old new j) → (was : SlotImage)
       → SlotMayLeave (slot_state new j) was → to.size ≡ was.size
       → ((k : ℕ) → WasDamaged old new j k → to.cell k ≡ Damaged)
-      → ((k : ℕ) → (¬ WasDamaged old new j k) → to.cell k ≡ was.cell k)
+      → ((k : ℕ) → (to.cell k ≡ was.cell k) ⊎ WasDamaged old new j k)
       → IsWorstSlot before old new j to
 
 -- each moment is within tolerance, and so is alone what is worst at the end

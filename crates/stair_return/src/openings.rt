@@ -15,10 +15,11 @@ ghost use Rattle.stair_member.specs.declared.fault.SurveyFault.{SurveyFault};
 ghost use Rattle.stair_state.specs.Holding.{Holders, IsConsistentSince};
 ghost use Rattle.stair_state.specs.Represents.{AreSteady, no_write};
 ghost use Rattle.stair_state.specs.State.{State};
-ghost use Rattle.stair_state.specs.Tolerance.{IsTolerated};
+ghost use Rattle.stair_state.specs.Tolerance.{IsTolerated, IsToleratedAlone};
 ghost use Rattle.stair_session.specs.Mixed.{IsMixed, IsToleratedMixed};
 ghost use Rattle.stair_session.specs.Returning.{IsKnownWherever};
 ghost use Rattle.stair_return.specs.Counted.{IsToleratedCounted};
+ghost use Rattle.stair_return.specs.Misled.{IsWorstSlot};
 ghost use Rattle.stair_return.specs.Still.{IsStill};
 ghost use Rattle.stair_return.specs.Found.{CoversMedia, FindsMember, IsToleratedReassembly};
 
@@ -31,6 +32,10 @@ pub fn mixed_laws()
     ensures counted { (g : Geometry) (before old new : List Happening) →
         Ran any_call old new → IsToleratedMixed g before old new →
         IsToleratedCounted g before old new }
+    // and what is worst at its end is so alone
+    ensures worst { (g : Geometry) (before old new : List Happening) (to : Image) →
+        Ran any_call old new → IsToleratedMixed g before old new →
+        ((j : ℕ) → IsWorstSlot before old new j (to j)) → IsToleratedAlone g to }
     // where the outside does nothing, and calls write nothing, it is tolerance of the moment at which it begins
     ensures still { (g : Geometry) (old new : List Happening) → IsHistory old →
         AreSteady g old → IsStill old new → IsTolerated g old old →

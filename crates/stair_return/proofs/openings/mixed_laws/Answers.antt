@@ -1,6 +1,6 @@
 -- The laws are lemmas.
-use Rattle.stair_rack.proofs.MomentLemmas.{moment_first}
-use Rattle.stair_return.proofs.MixedImages.{counted, mixed_reassembly, tolerated_at}
+use Rattle.stair_rack.proofs.MomentLemmas.{moment_first, moment_last}
+use Rattle.stair_return.proofs.MixedImages.{counted, mixed_alone, mixed_reassembly, tolerated_at, worst_mixed}
 use Rattle.stair_return.proofs.StillStretch.{still_tolerated}
 use Rattle.stair_return.proofs.openings.mixed_laws.Goals as goal
 
@@ -15,3 +15,7 @@ returns-clause-reassembly c = λ g before old new to history ran tolerated mixed
 
 pub returns-clause-still : goal.returns-clause-still
 returns-clause-still c = λ g old new history steady still tolerated. still_tolerated g old new history steady still tolerated
+
+pub returns-clause-worst : goal.returns-clause-worst
+returns-clause-worst c = λ g before old new to ran tolerated worst.
+    mixed_alone g before old new tolerated to (λ j. worst_mixed j (to j) (moment_last ran.more ran.is) (worst j))
