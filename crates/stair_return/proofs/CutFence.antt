@@ -6,7 +6,6 @@ use Rattle.stair_model.specs.Sum.{sum_below}
 use Rattle.stair_rack.specs.History.{Acted, Attach, Called, Happening, Pulled, slot_state}
 use Rattle.stair_rack.specs.Media.{Image}
 use Rattle.stair_rack.specs.Moments.{AtEveryMoment, IsMoment}
-use Rattle.stair_rack.specs.Offline.{IsOffline}
 use Rattle.stair_rack.specs.declared.rack.Reply.TheVariants.{Gone}
 use Rattle.stair_rack.proofs.MomentLemmas.{at_every_join, at_moment}
 use Rattle.stair_super.specs.Superblock.{IsSuperblock, joined_in, mark_in}
@@ -19,8 +18,9 @@ use Rattle.stair_state.specs.Tolerance.{IsTolerated, IsWithinTolerance}
 use Rattle.stair_return.specs.Misled.{cut_fence, device_of, empty_after, five, looked_at, made_of, read_and_pulled}
 use Rattle.stair_return.specs.Still.{IsStill}
 use Rattle.stair_return.proofs.FiveConsistent.{IsCut}
+use Rattle.stair_return.proofs.FiveCounted.{Stands, stands_still, tolerated}
 use Rattle.stair_return.proofs.FiveDevices.{AreEditions, IsWithin, tolerates}
-use Rattle.stair_return.proofs.FiveMoments.{GoesOn, HoldsDevice, IsNow, act_each, goes_made, goes_pulled, goes_still, made_holds, not_both, now_still, still_each, within}
+use Rattle.stair_return.proofs.FiveMoments.{GoesOn, HoldsDevice, act_each, goes_made, goes_pulled, goes_still, made_holds, not_both, still_each}
 use Rattle.stair_return.proofs.FiveSupers.{call_still, look_still, named_super, past_none}
 use Rattle.stair_return.proofs.FiveSurvey.{empty_still, five_cases, past_five}
 
@@ -186,101 +186,6 @@ module _ (words : Codewords) where
   abbrev pub r7 : List Happening
   r7 = Called 4 (Attach Gone) ∷ r6
 
-  -- The current superblock is slot 0's, and slot 1's once that one is pulled. Slots 1, 2 and 3 are never pulled.
-  pub record Stands (h : List Happening) : Type 0 where
-    pub goes : GoesOn words cut_fence pulled h
-    pub now : (GoesOn words cut_fence down h × IsNow words cut_fence 0 h) ⊎ IsNow words cut_fence 1 h
-
-  newest_first : (j : ℕ) → j < 5 → ((cut_fence j).array.epoch < 5) ⊎ (((cut_fence j).array.epoch ≡ 5) × (0 ≤ j))
-  newest_first =
-      five_cases (λ j. j < 5 → ((cut_fence j).array.epoch < 5) ⊎ (((cut_fence j).array.epoch ≡ 5) × (0 ≤ j))) (λ b. inr (refl, omega arith))
-      (λ b. inl (omega arith)) (λ b. inl (omega arith)) (λ b. inl (omega arith)) (λ b. inl (omega arith))
-      (λ j past below. absurd (omega (arith, past, below)))
-
-  pub newest_second : (j : ℕ) → j < 5 → ¬ (j ≡ 0) → ((cut_fence j).array.epoch < 4) ⊎ (((cut_fence j).array.epoch ≡ 4) × (1 ≤ j))
-  newest_second =
-      five_cases (λ j. j < 5 → ¬ (j ≡ 0) → ((cut_fence j).array.epoch < 4) ⊎ (((cut_fence j).array.epoch ≡ 4) × (1 ≤ j)))
-      (λ b other. absurd (other refl)) (λ b other. inr (refl, omega arith)) (λ b other. inr (refl, omega arith)) (λ b other. inr (refl, omega arith))
-      (λ b other. inr (refl, omega arith)) (λ j past below. absurd (omega (arith, past, below)))
-
-  s0 : Stands r0
-  s0 = record {
-    goes = goes_made words cut_fence pulled;
-    now =
-        inl (
-          goes_made words cut_fence down,
-          record { first = made_holds words cut_fence 0 (omega arith); newest = λ j is. newest_first j is.below },
-        );
-  }
-
-  still_on : (x y : List Happening) → IsStill x y → Stands x → Stands y
-  still_on x y still s = record {
-    goes = goes_still words cut_fence pulled x y still s.goes;
-    now =
-        elim s.now [
-          | inl is ↦ inl (goes_still words cut_fence down x y still is.0, now_still words cut_fence 0 x y still is.1)
-          | inr is ↦ inr (now_still words cut_fence 1 x y still is)
-        ];
-  }
-
-  s1 : Stands r1
-  s1 = still_on r0 r1 (look_still r0 0) s0
-
-  -- while slot 0 holds nothing
-  now_second : (h : List Happening) → (slot_state h 0).size ≡ None → HoldsDevice words cut_fence 1 (slot_state h 1) → IsNow words cut_fence 1 h
-  now_second h none holds = record {
-    first = holds;
-    newest = λ j is.
-        newest_second j is.below
-        (λ same.
-        not_both words cut_fence 0 (slot_state h 0) none (subst (λ (i : ℕ). HoldsDevice words cut_fence i (slot_state h i)) same is));
-  }
-
-  s2 : Stands r2
-  s2 = record {
-    goes = goes_pulled words cut_fence pulled r1 0 (device_of words cut_fence 0) refl s1.goes;
-    now = inr (now_second r2 refl (made_holds words cut_fence 1 (omega arith)));
-  }
-
-  s3 : Stands r3
-  s3 = still_on r2 r3 (look_still r2 1) s2
-
-  s4 : Stands r4
-  s4 = still_on r3 r4 (look_still r3 2) s3
-
-  s5 : Stands r5
-  s5 = still_on r4 r5 (look_still r4 3) s4
-
-  s6 : Stands r6
-  s6 = record {
-    goes = goes_pulled words cut_fence pulled r5 4 (device_of words cut_fence 4) refl s5.goes;
-    now =
-        inr (now_second r6 refl (record {
-          below = omega arith;
-          size = (made_holds words cut_fence 1 (omega arith)).size;
-          sectors = (made_holds words cut_fence 1 (omega arith)).sectors;
-        }));
-  }
-
-  pub s7 : Stands r7
-  s7 = still_on r6 r7 (call_still r6 4) s6
-
-  still : (x y : List Happening) → Stands x → IsStill x y → AtEveryMoment Stands x y
-  still x y s is = still_each words cut_fence Stands (λ m part. still_on x m part s) is
-
-  throughout : AtEveryMoment Stands r0 (read_and_pulled words)
-  throughout =
-      at_every_join (still r0 r1 s0 (look_still r0 0))
-      (at_every_join (act_each words cut_fence Stands r1 0 (Pulled (device_of words cut_fence 0)) s1 s2)
-      (at_every_join (still r2 r3 s2 (look_still r2 1))
-      (at_every_join (still r3 r4 s3 (look_still r3 2))
-      (at_every_join (still r4 r5 s4 (look_still r4 3))
-      (at_every_join (act_each words cut_fence Stands r5 4 (Pulled (device_of words cut_fence 4)) s5 s6)
-      (at_every_join (still r6 r7 s6 (call_still r6 4))
-      (still r7 (empty_after 27 r7) s7 (empty_still 27 r7))))))))
-
-  -- TOLERANCE
-
   live_beside : (j : ℕ) → j < 5 → ¬ HasSlot down j
       → (mark_in (cut_fence 0).array j ≡ Live) × (joined_in (cut_fence j).array j ≡ joined_in (cut_fence 0).array j)
   live_beside =
@@ -296,6 +201,111 @@ module _ (words : Codewords) where
       (λ j. j < 5 → ¬ HasSlot pulled j → (mark_in (cut_fence 1).array j ≡ Live) × (joined_in (cut_fence j).array j ≡ joined_in (cut_fence 1).array j))
       (λ b kept. absurd (kept refl)) (λ b kept. (refl, refl)) (λ b kept. (refl, refl)) (λ b kept. (refl, refl)) (λ b kept. absurd (kept refl))
       (λ j past below. absurd (omega (arith, past, below)))
+
+  -- By slot 0's superblock, which marks slots 1 and 2 Down, and by slot 1's once that one is pulled. Slots 1, 2 and 3 never are.
+  pub record AtMoment (h : List Happening) : Type 0 where
+    pub goes : GoesOn words cut_fence pulled h
+    pub stands : Stands words cut_fence down h ⊎ Stands words cut_fence pulled h
+
+  newest_first : (j : ℕ) → j < 5 → ((cut_fence j).array.epoch < 5) ⊎ (((cut_fence j).array.epoch ≡ 5) × (0 ≤ j))
+  newest_first =
+      five_cases (λ j. j < 5 → ((cut_fence j).array.epoch < 5) ⊎ (((cut_fence j).array.epoch ≡ 5) × (0 ≤ j))) (λ b. inr (refl, omega arith))
+      (λ b. inl (omega arith)) (λ b. inl (omega arith)) (λ b. inl (omega arith)) (λ b. inl (omega arith))
+      (λ j past below. absurd (omega (arith, past, below)))
+
+  pub newest_second : (j : ℕ) → j < 5 → ¬ (j ≡ 0) → ((cut_fence j).array.epoch < 4) ⊎ (((cut_fence j).array.epoch ≡ 4) × (1 ≤ j))
+  newest_second =
+      five_cases (λ j. j < 5 → ¬ (j ≡ 0) → ((cut_fence j).array.epoch < 4) ⊎ (((cut_fence j).array.epoch ≡ 4) × (1 ≤ j)))
+      (λ b other. absurd (other refl)) (λ b other. inr (refl, omega arith)) (λ b other. inr (refl, omega arith)) (λ b other. inr (refl, omega arith))
+      (λ b other. inr (refl, omega arith)) (λ j past below. absurd (omega (arith, past, below)))
+
+  s0 : AtMoment r0
+  s0 = record {
+    goes = goes_made words cut_fence pulled;
+    stands =
+        inl (record {
+          goes = goes_made words cut_fence down;
+          current = 0;
+          now = record { first = made_holds words cut_fence 0 (omega arith); newest = λ j is. newest_first j is.below };
+          live = live_beside;
+        });
+  }
+
+  still_on : (x y : List Happening) → IsStill x y → AtMoment x → AtMoment y
+  still_on x y still s = record {
+    goes = goes_still words cut_fence pulled x y still s.goes;
+    stands =
+        elim s.stands [
+          | inl by_first ↦ inl (stands_still words cut_fence down x y still by_first)
+          | inr by_second ↦ inr (stands_still words cut_fence pulled x y still by_second)
+        ];
+  }
+
+  s1 : AtMoment r1
+  s1 = still_on r0 r1 (look_still r0 0) s0
+
+  -- while slot 0 holds nothing
+  without_first : (h : List Happening) → (slot_state h 0).size ≡ None → HoldsDevice words cut_fence 1 (slot_state h 1) → GoesOn words cut_fence pulled h
+      → AtMoment h
+  without_first h none holds goes = record {
+    goes = goes;
+    stands =
+        inr (record {
+          goes = goes;
+          current = 1;
+          now = record {
+            first = holds;
+            newest = λ j is.
+                newest_second j is.below
+                (λ same.
+                not_both words cut_fence 0 (slot_state h 0) none (subst (λ (i : ℕ). HoldsDevice words cut_fence i (slot_state h i)) same is));
+          };
+          live = live_then;
+        });
+  }
+
+  s2 : AtMoment r2
+  s2 =
+      without_first r2 refl (made_holds words cut_fence 1 (omega arith))
+      (goes_pulled words cut_fence pulled r1 0 (device_of words cut_fence 0) refl s1.goes)
+
+  s3 : AtMoment r3
+  s3 = still_on r2 r3 (look_still r2 1) s2
+
+  s4 : AtMoment r4
+  s4 = still_on r3 r4 (look_still r3 2) s3
+
+  s5 : AtMoment r5
+  s5 = still_on r4 r5 (look_still r4 3) s4
+
+  s6 : AtMoment r6
+  s6 =
+      without_first r6 refl
+      (record {
+        below = omega arith;
+        size = (made_holds words cut_fence 1 (omega arith)).size;
+        sectors = (made_holds words cut_fence 1 (omega arith)).sectors;
+      })
+      (goes_pulled words cut_fence pulled r5 4 (device_of words cut_fence 4) refl s5.goes)
+
+  pub s7 : AtMoment r7
+  s7 = still_on r6 r7 (call_still r6 4) s6
+
+  still : (x y : List Happening) → AtMoment x → IsStill x y → AtEveryMoment AtMoment x y
+  still x y s is = still_each words cut_fence AtMoment (λ m part. still_on x m part s) is
+
+  throughout : AtEveryMoment AtMoment r0 (read_and_pulled words)
+  throughout =
+      at_every_join (still r0 r1 s0 (look_still r0 0))
+      (at_every_join (act_each words cut_fence AtMoment r1 0 (Pulled (device_of words cut_fence 0)) s1 s2)
+      (at_every_join (still r2 r3 s2 (look_still r2 1))
+      (at_every_join (still r3 r4 s3 (look_still r3 2))
+      (at_every_join (still r4 r5 s4 (look_still r4 3))
+      (at_every_join (act_each words cut_fence AtMoment r5 4 (Pulled (device_of words cut_fence 4)) s5 s6)
+      (at_every_join (still r6 r7 s6 (call_still r6 4))
+      (still r7 (empty_after 27 r7) s7 (empty_still 27 r7))))))))
+
+  -- TOLERANCE
 
   pub few_pulled : slot_count pulled ≤ 2
   unfolding sum_below
@@ -326,17 +336,12 @@ module _ (words : Codewords) where
   tolerates_pulled offline image is =
       tolerates words cut_fence are pulled refl few_pulled beside_pulled refl many_pulled beside_pulled_kept 3 (omega arith) false≢true offline image 1 is
 
-  pub at : (h : List Happening) → IsMoment r0 h (read_and_pulled words) → Stands h
-  at h moment = at_moment {P = Stands} throughout moment
+  pub at : (h : List Happening) → IsMoment r0 h (read_and_pulled words) → AtMoment h
+  at h moment = at_moment {P = AtMoment} throughout moment
 
   pub tolerated_at : (h : List Happening) → IsMoment r0 h (read_and_pulled words) → IsTolerated five r0 h
-  tolerated_at h moment image left =
-      elim (at h moment).now [
-        | inl is ↦
-            tolerates words cut_fence are down refl few_down beside_down refl many_down beside_down_kept 3 (omega arith) false≢true (IsOffline r0 h) image 0
-            (within words cut_fence down 0 h image is.0 is.1 left (λ j below kept. (live_beside j below kept).0) (λ j below kept. (live_beside j below kept).1))
-        | inr is ↦
-            tolerates_pulled (IsOffline r0 h) image
-            (within words cut_fence pulled 1 h image (at h moment).goes is left (λ j below kept. (live_then j below kept).0)
-            (λ j below kept. (live_then j below kept).1))
+  tolerated_at h moment =
+      elim (at h moment).stands [
+        | inl s ↦ tolerated words cut_fence down are refl few_down beside_down refl many_down beside_down_kept 3 (omega arith) false≢true h s
+        | inr s ↦ tolerated words cut_fence pulled are refl few_pulled beside_pulled refl many_pulled beside_pulled_kept 3 (omega arith) false≢true h s
       ]

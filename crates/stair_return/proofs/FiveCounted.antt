@@ -45,12 +45,9 @@ module _ (words : Codewords) (editions : ℕ → Edition) (failed : Slots) where
   module _ (are : AreEditions words editions) (formed : IsSlotSet failed) (few : slot_count failed ≤ 2)
       (stand : Slots) (stand_formed : IsSlotSet stand) (many : 2 < slot_count stand)
       (stand_kept : (j : ℕ) → HasSlot stand j → (j < 5) × ¬ HasSlot failed j) (journal : ℕ) (journal_in : journal < 5)
-      (journal_kept : ¬ HasSlot failed journal) (new : List Happening) (throughout : AtEveryMoment Stands (made_of words editions) new) where
+      (journal_kept : ¬ HasSlot failed journal) where
     abbrev old : List Happening
     old = made_of words editions
-
-    at : (h : List Happening) → IsMoment old h new → Stands h
-    at h moment = at_moment {P = Stands} throughout moment
 
     is_within : (h : List Happening) (image : Image) (s : Stands h) → CrashMayLeave h image
         → IsWithin words editions failed (IsOffline old h) image s.current
@@ -58,25 +55,31 @@ module _ (words : Codewords) (editions : ℕ → Edition) (failed : Slots) where
         within words editions failed s.current h image s.goes s.now left (λ j below kept. (s.live j below kept).0)
         (λ j below kept. (s.live j below kept).1)
 
-    pub tolerated_at : (h : List Happening) → IsMoment old h new → IsTolerated five old h
-    tolerated_at h moment image left =
-        let s = at h moment in
+    pub tolerated : (h : List Happening) → Stands h → IsTolerated five old h
+    tolerated h s image left =
         tolerates words editions are failed formed few stand stand_formed many stand_kept journal journal_in journal_kept (IsOffline old h) image
         s.current (is_within h image s left)
 
-    pub counted : IsToleratedCounted five old old new
-    counted = record {
-      failed = failed;
-      formed = formed;
-      few = few;
-      each = λ h moment image left.
-          let s = at h moment in
-          tolerates_counting words editions are failed formed few stand stand_formed many stand_kept journal journal_in journal_kept (IsOffline old h)
-          image s.current (is_within h image s left);
-      alone = λ other more.
-          let some = slot_count_member more.slots (omega (arith, more.many)) in
-          let borne : HasBorne other old new some.0 = more.each some.0 some.2 in
-          (borne_own words editions are (λ i. borne.image) other some.0 borne.super
-          (left_shows words editions (slot_state borne.left.moment some.0) (λ i. borne.image) some.0 borne.left.holds
-          ((at borne.left.moment borne.left.is_one).goes.slots some.0)) borne.bears).same;
-    }
+    module _ (new : List Happening) (throughout : AtEveryMoment Stands old new) where
+      at : (h : List Happening) → IsMoment old h new → Stands h
+      at h moment = at_moment {P = Stands} throughout moment
+
+      pub tolerated_at : (h : List Happening) → IsMoment old h new → IsTolerated five old h
+      tolerated_at h moment = tolerated h (at h moment)
+
+      pub counted : IsToleratedCounted five old old new
+      counted = record {
+        failed = failed;
+        formed = formed;
+        few = few;
+        each = λ h moment image left.
+            let s = at h moment in
+            tolerates_counting words editions are failed formed few stand stand_formed many stand_kept journal journal_in journal_kept (IsOffline old h)
+            image s.current (is_within h image s left);
+        alone = λ other more.
+            let some = slot_count_member more.slots (omega (arith, more.many)) in
+            let borne : HasBorne other old new some.0 = more.each some.0 some.2 in
+            (borne_own words editions are (λ i. borne.image) other some.0 borne.super
+            (left_shows words editions (slot_state borne.left.moment some.0) (λ i. borne.image) some.0 borne.left.holds
+            ((at borne.left.moment borne.left.is_one).goes.slots some.0)) borne.bears).same;
+      }
