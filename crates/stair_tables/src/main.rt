@@ -35,12 +35,12 @@ fn read_extent(rt: &HostRuntime) -> Result<Extent, Fault> {
     }
 }
 
-/// Prints what came of a part of a table: over how many calls it goes, how many cases were wrong, and where the whole of it was tried
-/// how many there were. Answers whether all were right.
+/// Prints what came of a part of a table: over how many calls it goes, or how many cases there were, and how many were wrong; where the
+/// whole of it was tried also how many cases there were at these calls. Answers whether all were right.
 fn print_part(rt: &HostRuntime, extent: Extent, part: Part) -> Result<bool, Fault> {
     match extent {
-        Extent::Some => println!(rt; "{part}"),
-        Extent::Whole => println!(rt; "{part}, of {} cases", part.cases()),
+        Extent::Whole if part.goes_over_calls() => println!(rt; "{part}, {} cases", part.cases()),
+        _ => println!(rt; "{part}"),
     }
     .map_err(|_| Fault::Output)?;
     Ok(part.is_right())

@@ -195,13 +195,13 @@ impl Work {
                     tally.judge(is_settled, at, alone as u32);
                 }
             }
-            tally.judge(others == 0, at, PENDING as u32);
-            tally.judge(self.is_settled(alloc, newest, at)?, at, 1001);
+            tally.judge(others == 0, at, ALL_ALONE);
+            tally.judge(self.is_settled(alloc, newest, at)?, at, ALL_NEWEST);
         }
         if torn.sectors != old.sectors {
-            tally.judge(self.is_settled(alloc, torn, at)?, at, 1002);
+            tally.judge(self.is_settled(alloc, torn, at)?, at, ALL_TORN);
         }
-        tally.judge(self.is_settled(alloc, old, at)?, at, 1000);
+        tally.judge(self.is_settled(alloc, old, at)?, at, ALL_OLD);
         Ok(())
     }
 }
@@ -216,6 +216,15 @@ const PENDING: usize = 32;
 const NEWEST: u32 = 1;
 
 const TORN: u32 = 9;
+
+// Cases by their numbers: below these stand the sectors that are newest alone, and the last one is that all of those were found.
+const ALL_OLD: u32 = 1000;
+
+const ALL_NEWEST: u32 = 1001;
+
+const ALL_TORN: u32 = 1002;
+
+const ALL_ALONE: u32 = 1003;
 
 // What a crash left.
 #[derive(Drop)]

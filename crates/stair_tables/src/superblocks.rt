@@ -256,6 +256,9 @@ fn is_read(alloc: Global, rack: MemRack, why: Why) -> Result<bool, AllocError> {
     holds(alloc, restarted(alloc, rack, &[])?, &[0; 15])
 }
 
+// The case of a place, beside its bytes by their numbers, in which the array is opened.
+const OPENED: u32 = 1000;
+
 // Tries other bytes at a place.
 fn try_place(
     alloc: Global,
@@ -277,7 +280,7 @@ fn try_place(
         }
     }
     let is_right = is_read(alloc, rack, reason(version, place, last))?;
-    tally.judge(is_right, place, 1000);
+    tally.judge(is_right, place, OPENED);
     Ok(())
 }
 

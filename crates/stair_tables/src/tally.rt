@@ -119,6 +119,10 @@ impl Part {
         self.tally.wrong == 0 && self.tally.right > 0
     }
 
+    pub(crate) fn goes_over_calls(&self) -> bool {
+        self.calls.is_some()
+    }
+
     /// How many cases were tried.
     pub(crate) fn cases(&self) -> u32 {
         self.tally.right.saturating_add(self.tally.wrong)
