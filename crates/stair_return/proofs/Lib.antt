@@ -5,6 +5,14 @@ pub mod WhereverLemmas
 pub mod MediaInStage
 pub mod GivenLemmas
 pub mod SuperKept
+pub mod MediaSince
+pub mod BorneSince
+pub mod OrderSince
+pub mod BehindSince
+pub mod KeptSince
+pub mod StoodSince
+pub mod SessionBegins
+pub mod EpochLaws
 pub mod MixedImages
 pub mod StillStretch
 pub mod MixedFinding

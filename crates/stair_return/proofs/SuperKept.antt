@@ -35,7 +35,7 @@ use Rattle.stair_return.proofs.WhereverLemmas.{kept_left, own_wherever}
 
 -- CELLS
 
-torn_not_good : (cell : Cell) → is_good (torn cell) ≡ false
+pub torn_not_good : (cell : Cell) → is_good (torn cell) ≡ false
 torn_not_good (Good bytes) = refl
 torn_not_good Damaged = refl
 torn_not_good Torn = refl

@@ -1,13 +1,13 @@
 -- What holds of a medium while it is in use holds of it wherever it lies.
-use Rattle.std.proofs.Common.{◌≡◌, ℕ, zero, suc, ◌<◌, List, [], ◌∷◌, ◌++◌, ◌⊎◌, inl, inr, refl, sym, ap, ◌∙◌, subst, arith, true, false, slice_get, Option, None, Some}
+use Rattle.std.proofs.Common.{◌≡◌, ℕ, zero, suc, ◌<◌, List, [], ◌∷◌, ◌++◌, ◌⊎◌, inl, inr, refl, sym, ap, ◌∙◌, subst, arith, true, false, slice_get, Option, Some}
 use Rattle.std.specs.Prelude.{IsSome, ◌&&◌, not, is_some, length, remove}
 use Rattle.std.proofs.lemmas.Bool.{cases_Bool, cases_eq, cases_lt, cond-true, cond-false, false≢true}
 use Rattle.std.proofs.lemmas.Option.{slice_get_cases}
 use Rattle.std.proofs.lemmas.Option.{same_Some}
 use Rattle.stair_rack.specs.Answers.{IsAnswered, IsCall, IsHistory, IsNoAttach, Ran, Runs, is_ready}
-use Rattle.stair_rack.specs.Crash.{SlotMayLeave}
+use Rattle.stair_rack.specs.Crash.{CrashMayLeave, SlotMayLeave}
 use Rattle.stair_rack.specs.History.{Happening, Made, Stopped, Acted, Called, SlotAct, Pulled, InsertedBlank, InsertedOld, SectorDamaged, SlotCall, Attach, Sectors, Read, Write, Sync, SlotState, after_act, after_call, slot_state, stopped, with_old}
-use Rattle.stair_rack.specs.Media.{Medium, SlotImage, has_sector, sectors_of}
+use Rattle.stair_rack.specs.Media.{Image, Medium, SlotImage, has_sector, sectors_of}
 use Rattle.stair_rack.specs.Moments.{IsMoment}
 use Rattle.stair_rack.specs.Offline.{Here, IsAttached, IsKept, Lost, WasPulled}
 use Rattle.stair_rack.specs.Outside.{IsAct, MayHappen}
@@ -17,7 +17,6 @@ use Rattle.stair_rack.proofs.CrashLemmas.{settled_left}
 use Rattle.stair_rack.proofs.MomentLemmas.{moment_first, moment_last, ran_before}
 use Rattle.stair_rack.proofs.OfflineLemmas.{and-true_left, reply_if-Done}
 use Rattle.stair_rack.proofs.StepLemmas.{Keeps, kept}
-use Rattle.stair_rack.proofs.TidyLemmas.{history_tidy}
 use Rattle.stair_state.specs.Degraded.{AreDamagedCopies, Taken, Blank, Stays}
 use Rattle.stair_state.specs.Reassembly.{InSlot, IsMediumOf, Location, Outside}
 use Rattle.stair_state.specs.Represents.{no_write}
@@ -94,25 +93,26 @@ call_left h j (Sync reply.Done) answered off image left =
     absurd (false≢true (sym off ∙ and-true_left (slot_state h j).attached (not (stopped h)) ready))
 call_left h j (Sync reply.Gone) answered off image left = left
 
-module _ (j : ℕ) (name : Location) (Q : (ℕ → Cell) → Type 0) (survives : SurvivesDamage Q) where
+-- what holds of the size and the cells of a medium, also once some were damaged
+module _ (j : ℕ) (name : Location) (Q : ℕ → (ℕ → Cell) → Type 0) (survives : (n : ℕ) → SurvivesDamage (Q n)) where
   -- of the slot's medium of that name, as the slot stands
   pub record Holds (b : SlotState) (names : Location → Location) : Type 0 where
-    pub inside : names InSlot ≡ name → (image : SlotImage) → SlotMayLeave b image → Q image.cell
-    pub outside : (i : ℕ) (m : Medium) → names (Outside i) ≡ name → slice_get b.removed i ≡ Some m → Q m.cell
+    pub inside : names InSlot ≡ name → (image : SlotImage) → SlotMayLeave b image → (n : ℕ) → image.size ≡ Some n → Q n image.cell
+    pub outside : (i : ℕ) (m : Medium) → names (Outside i) ≡ name → slice_get b.removed i ≡ Some m → Q m.size m.cell
 
   -- AN ACT
 
   holds_pulled : (b : SlotState) (names : Location → Location) (m : Medium) → MayHappen b (Pulled m) → Holds b names
       → Holds (after_act (Pulled m) b) (λ p. names (before_act (Pulled m) b p))
   holds_pulled b names m settles holds = record {
-    inside = λ named image left. survives.blank image.cell (λ k. settled_left Damaged (image.cell k) (left.each k));
+    inside = λ named image left n has. (survives n).blank image.cell (λ k. settled_left Damaged (image.cell k) (left.each k));
     outside = λ i x named at.
         elim (pushed_cases b.removed m x i at) [
           | inl last ↦
-              subst (λ (y : Medium). Q y.cell) last.1
+              subst (λ (y : Medium). Q y.size y.cell) last.1
               (holds.inside (sym (ap names (pulled_last (length b.removed) i last.0)) ∙ named)
               (record { size = b.size; cell = m.cell; removed = b.removed })
-              (record { size = refl; each = settles.each; removed = refl }))
+              (record { size = refl; each = settles.each; removed = refl }) m.size settles.size)
           | inr other ↦ holds.outside i x (sym (ap names (pulled_other (length b.removed) i other.0)) ∙ named) other.1
         ];
   }
@@ -120,14 +120,16 @@ module _ (j : ℕ) (name : Location) (Q : (ℕ → Cell) → Type 0) (survives :
   holds_returned : (b : SlotState) (names : Location → Location) (i : ℕ) (m : Medium) → i < length b.removed → slice_get b.removed i ≡ Some m
       → Holds b names → Holds (with_old i (Some m) b) (λ p. names (before_return i p))
   holds_returned b names i m below at holds = record {
-    inside = λ named image left.
-        survives.harmed m.cell image.cell (λ k. sectors_left (Some m.size) m.cell k (image.cell k) (left.each k)) (holds.outside i m named at);
+    inside = λ named image left n has.
+        subst (λ (size : ℕ). Q size image.cell) (same_Some m.size n (sym left.size ∙ has))
+        ((survives m.size).harmed m.cell image.cell (λ k. sectors_left (Some m.size) m.cell k (image.cell k) (left.each k)) (holds.outside i m named at));
     outside = λ k x named here. holds.outside (before_gap i k) x named (sym (removed_was b.removed i k below) ∙ here);
   }
 
   -- an act by which no medium moves
   holds_staying : (b : SlotState) (names : Location → Location) (a : SlotAct) → (after_act a b).removed ≡ b.removed
-      → (names InSlot ≡ name → (image : SlotImage) → SlotMayLeave (after_act a b) image → Q image.cell) → Holds b names → Holds (after_act a b) names
+      → (names InSlot ≡ name → (image : SlotImage) → SlotMayLeave (after_act a b) image → (n : ℕ) → image.size ≡ Some n → Q n image.cell) → Holds b names
+      → Holds (after_act a b) names
   holds_staying b names a same now holds = record {
     inside = now;
     outside = λ i m named at. holds.outside i m named (subst (λ xs. slice_get xs i ≡ Some m) same at);
@@ -138,7 +140,7 @@ module _ (j : ℕ) (name : Location) (Q : (ℕ → Cell) → Type 0) (survives :
   holds_act b names (Pulled m) may holds = holds_pulled b names m may holds
   holds_act b names (InsertedBlank size) may holds =
       holds_staying b names (InsertedBlank size) refl
-      (λ named image left. survives.blank image.cell (λ k. settled_left Damaged (image.cell k) (left.each k))) holds
+      (λ named image left n has. (survives n).blank image.cell (λ k. settled_left Damaged (image.cell k) (left.each k))) holds
   holds_act b names (InsertedOld i) may holds =
       elim (slice_get_cases b.removed i).1 [
         | inl at ↦
@@ -148,30 +150,31 @@ module _ (j : ℕ) (name : Location) (Q : (ℕ → Cell) → Type 0) (survives :
       ]
   holds_act b names (SectorDamaged l) may holds = holds_staying b names (SectorDamaged l) refl by holds
     where
-      by : names InSlot ≡ name → (image : SlotImage) → SlotMayLeave (after_act (SectorDamaged l) b) image → Q image.cell
-      by named image left =
+      by : names InSlot ≡ name → (image : SlotImage) → SlotMayLeave (after_act (SectorDamaged l) b) image → (n : ℕ) → image.size ≡ Some n → Q n image.cell
+      by named image left n is =
           let from = slot_before [] 0 b (SectorDamaged l) tt image left in
           elim from.degraded [
-            | Taken none all ↦ survives.blank image.cell all
-            | Blank size has all ↦ survives.blank image.cell all
-            | Stays size copies ↦ survives.harmed from.was.cell image.cell copies (holds.inside named from.was from.left)
+            | Taken none all ↦ (survives n).blank image.cell all
+            | Blank size has all ↦ (survives n).blank image.cell all
+            | Stays size copies ↦ (survives n).harmed from.was.cell image.cell copies (holds.inside named from.was from.left n (sym size ∙ is))
           ]
 
   -- A CALL
 
   -- at a moment, where the slot is attached and holds that medium
   abbrev pub HoldsInUse : List Happening → Type 0
-  HoldsInUse x = IsAttached x j → name_of x j InSlot ≡ name → (image : SlotImage) → SlotMayLeave (slot_state x j) image → Q image.cell
+  HoldsInUse x = IsAttached x j → name_of x j InSlot ≡ name → (image : SlotImage) → SlotMayLeave (slot_state x j) image → (n : ℕ)
+      → image.size ≡ Some n → Q n image.cell
 
   holds_call : (h : List Happening) (c : SlotCall) → IsAnswered h j c
       → ((after_call c (slot_state h j)).attached ≡ true → name_of h j InSlot ≡ name → (image : SlotImage)
-      → SlotMayLeave (after_call c (slot_state h j)) image → Q image.cell)
+      → SlotMayLeave (after_call c (slot_state h j)) image → (n : ℕ) → image.size ≡ Some n → Q n image.cell)
       → Holds (slot_state h j) (name_of h j) → Holds (after_call c (slot_state h j)) (name_of h j)
   holds_call h c answered used holds = record {
-    inside = λ named image left.
+    inside = λ named image left n has.
         elim (cases_Bool (after_call c (slot_state h j)).attached) [
-          | inl on ↦ used on named image left
-          | inr off ↦ holds.inside named image (call_left h j c answered off image left)
+          | inl on ↦ used on named image left n has
+          | inr off ↦ holds.inside named image (call_left h j c answered off image left) n has
         ];
     outside = λ i m named at. holds.outside i m named (subst (λ xs. slice_get xs i ≡ Some m) (call_removed c (slot_state h j)) at);
   }
@@ -199,9 +202,9 @@ module _ (j : ℕ) (name : Location) (Q : (ℕ → Cell) → Type 0) (survives :
             named_call_cases Holds h i j c
             (λ at.
             holds_call h c (subst (λ n. IsAnswered h n c) same call.1)
-            (λ on named image left.
+            (λ on named image left n has.
             used (subst (λ (b : SlotState). b.attached ≡ true) (sym (state same)) on) named image
-            (subst (λ (b : SlotState). SlotMayLeave b image) (sym (state same)) left)) holds) holds
+            (subst (λ (b : SlotState). SlotMayLeave b image) (sym (state same)) left) n has) holds) holds
         | inr other ↦ named_call_cases Holds h i j c (λ same. absurd (other same)) holds
       ]
     where
@@ -227,13 +230,14 @@ module _ (j : ℕ) (name : Location) (Q : (ℕ → Cell) → Type 0) (survives :
       on_call : (h : List Happening) (i : ℕ) (c : SlotCall) → no_write i c → Holds (slot_state h j) (name_of h j)
           → Holds (after_call c (slot_state h j)) (name_of h j)
       on_call h i c may holds = record {
-        inside = λ named image left. holds.inside named image (look_left (slot_state h j) i c may image left);
+        inside = λ named image left n has. holds.inside named image (look_left (slot_state h j) i c may image left) n has;
         outside = λ k m named at. holds.outside k m named (subst (λ xs. slice_get xs k ≡ Some m) (call_removed c (slot_state h j)) at);
       }
 
   -- wherever it lies
   pub holds_wherever : {allowed : ℕ → SlotCall → Type 0} {start h : List Happening} → Ran allowed start h
-      → ((x : List Happening) → IsMoment start x h → HoldsInUse x) → Holds (slot_state start j) (name_of start j) → Wherever h j name Q
+      → ((x : List Happening) → IsMoment start x h → HoldsInUse x) → Holds (slot_state start j) (name_of start j) → (image : Image)
+      → CrashMayLeave h image → (p : Location) (medium : Medium) → IsMediumOf (image j) p medium → name_of h j p ≡ name → Q medium.size medium.cell
   holds_wherever {allowed} {start} {h} ran used holds image left p medium is named = by p is named
     where
       at_end : Holds (slot_state h j) (name_of h j)
@@ -241,8 +245,8 @@ module _ (j : ℕ) (name : Location) (Q : (ℕ → Cell) → Type 0) (survives :
           subst (λ (x : List Happening). Holds (slot_state x j) (name_of x j)) (sym ran.is)
           (holds_on allowed ran.more start ran.runs (λ x at. used x (subst (λ (y : List Happening). IsMoment start x y) (sym ran.is) at)) holds)
 
-      by : (p : Location) → IsMediumOf (image j) p medium → name_of h j p ≡ name → Q medium.cell
-      by InSlot is named = subst Q is.1 (at_end.inside named (image j) (left j))
+      by : (p : Location) → IsMediumOf (image j) p medium → name_of h j p ≡ name → Q medium.size medium.cell
+      by InSlot is named = subst (Q medium.size) is.1 (at_end.inside named (image j) (left j) medium.size is.0)
       by (Outside i) is named = at_end.outside i medium named (subst (λ xs. slice_get xs i ≡ Some medium) (left j).removed is)
 
 -- OF THE MEDIUM IN THE SLOT
@@ -262,10 +266,10 @@ pub own_wherever : (j : ℕ) (Q : (ℕ → Cell) → Type 0) → SurvivesDamage 
     → ((x : List Happening) → IsMoment from x h → (slot_state x j).pulls ≡ (slot_state start j).pulls → (image : SlotImage)
     → SlotMayLeave (slot_state x j) image → Q image.cell) → Wherever h j (name_of start j InSlot) Q
 own_wherever j Q survives {allowed} {start} {from} {h} some upto unpulled after each =
-    holds_wherever j (name_of start j InSlot) Q survives {allowed = IsNoAttach j} after
-    (λ x at on named image left. each x at ((still_attached j (ran_before after at) on).1 ∙ same) image left)
+    holds_wherever j (name_of start j InSlot) (λ n. Q) (λ n. survives) {allowed = IsNoAttach j} after
+    (λ x at on named image left n has. each x at ((still_attached j (ran_before after at) on).1 ∙ same) image left)
     (record {
-      inside = λ named image left. each from (moment_first after.more after.is) same image left;
+      inside = λ named image left n has. each from (moment_first after.more after.is) same image left;
       outside = λ i m named at. absurd (not_outside (name_apart from j (Outside i) InSlot (named ∙ sym name)));
     })
   where
@@ -280,11 +284,11 @@ own_wherever j Q survives {allowed} {start} {from} {h} some upto unpulled after 
 pub outside_wherever : (old new : List Happening) (j i : ℕ) (medium : Medium) → IsHistory old → Ran (IsNoAttach j) old new
     → slice_get (slot_state old j).removed i ≡ Some medium → Wherever new j (name_of old j (Outside i)) (AreDamagedCopies medium.cell)
 outside_wherever old new j i medium history ran at =
-    holds_wherever j (name_of old j (Outside i)) (AreDamagedCopies medium.cell) survives {allowed = IsNoAttach j} ran
-    (λ x moment on named image left.
+    holds_wherever j (name_of old j (Outside i)) (λ n. AreDamagedCopies medium.cell) (λ n. survives) {allowed = IsNoAttach j} ran
+    (λ x moment on named image left n has.
     absurd (not_outside (name_apart old j (Outside i) InSlot (sym named ∙ attached_name j history (ran_before ran moment) on))))
     (record {
-      inside = λ named image left. absurd (not_outside (name_apart old j (Outside i) InSlot (sym named)));
+      inside = λ named image left n has. absurd (not_outside (name_apart old j (Outside i) InSlot (sym named)));
       outside = λ k m named here.
           let same : k ≡ i = outside_once (name_apart old j (Outside k) (Outside i) named) in
           let one : medium ≡ m = same_Some medium m (sym at ∙ ap (slice_get (slot_state old j).removed) (sym same) ∙ here) in
@@ -313,28 +317,18 @@ pub looked_wherever : (old new : List Happening) (j : ℕ) (name : Location) →
     → Wherever new j name (AreOfNamed old j name)
 looked_wherever old new j name history ran image left p medium is named = by p is named
   where
-    sized : (image : SlotImage) (o : Option ℕ) → image.size ≡ o → name_of old j InSlot ≡ name → SlotMayLeave (slot_state old j) image
-        → AreOfNamed old j name image.cell
-    sized image (Some n) has named left =
-        Kept image InSlot (record { size = n; cell = image.cell }) left (has, refl) named (λ k. inl refl)
-    sized image None none named left =
-        AreOfNamed.Blank
-        (λ k.
-        settled_left Damaged (image.cell k)
-        (subst (λ s. MayLeave s (image.cell k))
-        ((history_tidy history).past_end j k (ap (λ (o : Option ℕ). has_sector o k) (sym left.size ∙ none))) (left.each k)))
-
-    first : Holds j name (AreOfNamed old j name) (named_survives old j name) (slot_state old j) (name_of old j)
+    first : Holds j name (λ n. AreOfNamed old j name) (λ n. named_survives old j name) (slot_state old j) (name_of old j)
     first = record {
-      inside = λ named image left. sized image image.size refl named left;
+      inside = λ named image left n has.
+          Kept image InSlot (record { size = n; cell = image.cell }) left (has, refl) named (λ k. inl refl);
       outside = λ i m named at. Kept (slot_now (slot_state old j)) (Outside i) m (slot_now_left (slot_state old j)) at named (λ k. inl refl);
     }
 
-    at_end : Holds j name (AreOfNamed old j name) (named_survives old j name) (slot_state new j) (name_of new j)
+    at_end : Holds j name (λ n. AreOfNamed old j name) (λ n. named_survives old j name) (slot_state new j) (name_of new j)
     at_end =
-        kept {allowed = no_write} {P = λ h. Holds j name (AreOfNamed old j name) (named_survives old j name) (slot_state h j) (name_of h j)}
-        (looks_keep j name (AreOfNamed old j name) (named_survives old j name)) ran first
+        kept {allowed = no_write} {P = λ h. Holds j name (λ n. AreOfNamed old j name) (λ n. named_survives old j name) (slot_state h j) (name_of h j)}
+        (looks_keep j name (λ n. AreOfNamed old j name) (λ n. named_survives old j name)) ran first
 
     by : (p : Location) → IsMediumOf (image j) p medium → name_of new j p ≡ name → AreOfNamed old j name medium.cell
-    by InSlot is named = subst (AreOfNamed old j name) is.1 (at_end.inside named (image j) (left j))
+    by InSlot is named = subst (AreOfNamed old j name) is.1 (at_end.inside named (image j) (left j) medium.size is.0)
     by (Outside i) is named = at_end.outside i medium named (subst (λ xs. slice_get xs i ≡ Some medium) (left j).removed is)

@@ -2,6 +2,7 @@
 //! live, and what an opening asks of the outside. Its functions are laws, and do nothing.
 #![tactic(auto)]
 
+pub mod epochs;
 pub mod examples;
 pub mod following;
 pub mod holders;

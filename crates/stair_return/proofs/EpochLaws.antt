@@ -1,0 +1,70 @@
+-- The laws of a call that establishes an epoch, of a state's own geometry.
+use Rattle.std.proofs.Common.{◌≡◌, ℕ, List, refl, subst, None}
+use Rattle.std.specs.Prelude.{IsTrue}
+use Rattle.stair_model.specs.Geometry.{Geometry}
+use Rattle.stair_model.specs.Slots.{Slots}
+use Rattle.stair_rack.specs.Crash.{CrashMayLeave, EachImage}
+use Rattle.stair_rack.specs.History.{Happening}
+use Rattle.stair_rack.specs.Media.{Image}
+use Rattle.stair_rack.specs.Moments.{IsMoment}
+use Rattle.stair_rack.specs.Offline.{IsAttached}
+use Rattle.stair_rack.specs.Telling.{Telling}
+use Rattle.stair_member.specs.Epochs.{Issued}
+use Rattle.stair_member.specs.Establishing.{Establishes}
+use Rattle.stair_member.specs.Membership.{IsHere, Membership}
+use Rattle.stair_member.specs.declared.aim.Aim.{Aim}
+use Rattle.stair_member.specs.declared.aim.Aim.TheVariants.{Promote}
+use Rattle.stair_state.specs.Holding.{Holders, IsConsistentBy}
+use Rattle.stair_state.specs.State.{State}
+use Rattle.stair_session.specs.Returning.{IsKnownWherever, holders_of}
+use Rattle.stair_return.specs.Beginning.{BeginsWherever, StandsWherever}
+use Rattle.stair_return.specs.Found.{CoversMedia}
+use Rattle.stair_return.proofs.KeptSince.{kept_since}
+use Rattle.stair_return.proofs.StoodSince.{knows_then, latest, stands_since}
+
+abbrev with_geometry : State → Geometry → State
+with_geometry s y = record { geometry = y; content = s.content; in_doubt = s.in_doubt; seats = s.seats }
+
+pub keeps : (s : State) (holders : Holders) (since : ℕ) (aim : Aim) (gone : Slots) (m last : Membership) (old h new : List Happening) (image : Image)
+    (begins : BeginsWherever s holders since aim m old) → Issued aim gone m last old new → IsMoment old h new → CrashMayLeave h image
+    → IsConsistentBy s begins.is.encodings holders since image
+keeps s holders since aim gone m last old h new image begins issued at left =
+    subst
+    (λ (y : Geometry). (b : BeginsWherever (with_geometry s y) holders since aim m old)
+    → IsConsistentBy (with_geometry s y) b.is.encodings holders since image) begins.geometry
+    (λ b. kept_since holders since aim m s.content s.in_doubt s.seats old b gone last h new issued at image left) begins
+
+pub stands : (s : State) (holders : Holders) (since : ℕ) (aim : Aim) (gone : Slots) (m last : Membership) (old new : List Happening) (image : Image)
+    (begins : BeginsWherever s holders since aim m old) → StandsWherever aim gone m last old new → CrashMayLeave new image
+    → IsConsistentBy s begins.is.encodings (holders_of last) last.array.epoch image
+stands s holders since aim gone m last old new image begins stood left =
+    subst
+    (λ (y : Geometry). (b : BeginsWherever (with_geometry s y) holders since aim m old)
+    → IsConsistentBy (with_geometry s y) b.is.encodings (holders_of last) last.array.epoch image) begins.geometry
+    (λ b. stands_since holders since aim m s.content s.in_doubt s.seats old b gone last new stood image left) begins
+
+pub covers : (s : State) (holders : Holders) (since : ℕ) (aim : Aim) (gone : Slots) (m last : Membership) (old new : List Happening)
+    → BeginsWherever s holders since aim m old → StandsWherever aim gone m last old new → CoversMedia s.geometry last.array.epoch new
+covers s holders since aim gone m last old new begins stood =
+    subst
+    (λ (y : Geometry). BeginsWherever (with_geometry s y) holders since aim m old → CoversMedia y last.array.epoch new) begins.geometry
+    (λ b image left. latest holders since aim m s.content s.in_doubt s.seats old b gone last new stood image left) begins
+
+pub knows : (s : State) (holders : Holders) (since : ℕ) (aim : Aim) (gone : Slots) (m last : Membership) (old new : List Happening)
+    → BeginsWherever s holders since aim m old → StandsWherever aim gone m last old new → EachImage (IsKnownWherever None last (IsAttached new)) new
+knows s holders since aim gone m last old new begins stood =
+    subst
+    (λ (y : Geometry). BeginsWherever (with_geometry s y) holders since aim m old → EachImage (IsKnownWherever None last (IsAttached new)) new)
+    begins.geometry (λ b image left. knows_then holders since aim m s.content s.in_doubt s.seats old b gone last new stood image left) begins
+
+pub established : (aim : Aim) (m last : Membership) (old new : Telling) (establishes : Establishes aim m last None old new) → IsTrue new.honest
+    → ((slot : ℕ) → aim ≡ Promote slot → IsHere m slot) → StandsWherever aim establishes.gone m last old.history new.history
+established aim m last old new establishes honest promoted = record {
+  issued = establishes.issued honest;
+  member = establishes.rules;
+  established = establishes.done refl;
+  dropped = establishes.were_gone.dropped;
+  among = establishes.among honest refl;
+  on_disk = establishes.on_disk honest refl;
+  promoted = promoted;
+}

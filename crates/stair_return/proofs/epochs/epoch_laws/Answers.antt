@@ -1,0 +1,18 @@
+-- The laws are lemmas.
+use Rattle.stair_return.proofs.EpochLaws.{covers, established, keeps, knows, stands}
+use Rattle.stair_return.proofs.epochs.epoch_laws.Goals as goal
+
+pub returns-clause-keeps : goal.returns-clause-keeps
+returns-clause-keeps c = keeps
+
+pub returns-clause-stands : goal.returns-clause-stands
+returns-clause-stands c = stands
+
+pub returns-clause-covers : goal.returns-clause-covers
+returns-clause-covers c = covers
+
+pub returns-clause-knows : goal.returns-clause-knows
+returns-clause-knows c = knows
+
+pub returns-clause-established : goal.returns-clause-established
+returns-clause-established c = established

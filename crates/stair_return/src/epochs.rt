@@ -1,0 +1,78 @@
+//! What becomes of an array whose media come back while an epoch is established, and once it stands.
+
+ghost use Rattle.std.specs.Prelude.{◌≡◌, ◌≢◌, ℕ, IsTrue, List, None};
+ghost use Rattle.stair_model.specs.Slots.{Slots};
+ghost use Rattle.stair_rack.specs.Answers.{IsHistory};
+ghost use Rattle.stair_rack.specs.Crash.{CrashMayLeave, EachImage};
+ghost use Rattle.stair_rack.specs.History.{Happening};
+ghost use Rattle.stair_rack.specs.Media.{Image};
+ghost use Rattle.stair_rack.specs.Moments.{IsMoment};
+ghost use Rattle.stair_rack.specs.Offline.{IsAttached};
+ghost use Rattle.stair_rack.specs.Telling.{Telling};
+ghost use Rattle.stair_member.specs.Aims.{admitted};
+ghost use Rattle.stair_member.specs.Epochs.{Issued};
+ghost use Rattle.stair_member.specs.Establishing.{Establishes};
+ghost use Rattle.stair_member.specs.Membership.{IsHere, IsMembership, Membership};
+ghost use Rattle.stair_member.specs.declared.aim.Aim.{Aim};
+ghost use Rattle.stair_member.specs.declared.aim.Aim.TheVariants.{Promote};
+ghost use Rattle.stair_state.specs.Blocks.{Codewords};
+ghost use Rattle.stair_state.specs.Holding.{Holders, IsConsistentBy, IsConsistentSince};
+ghost use Rattle.stair_state.specs.State.{State};
+ghost use Rattle.stair_state.specs.Tolerance.{IsTolerated};
+ghost use Rattle.stair_session.specs.Returning.{IsKnownWherever, holders_of};
+ghost use Rattle.stair_session.specs.Session.{ArrayState, IsOpenWith};
+ghost use Rattle.stair_return.specs.Beginning.{BeginsWherever, HasOwnNewest, SaysContent, StandsWherever};
+ghost use Rattle.stair_return.specs.Behind.{IsKnownBehind};
+ghost use Rattle.stair_return.specs.Found.{CoversMedia};
+ghost use Rattle.stair_return.specs.Given.{KnowsSuper};
+
+/// A call that establishes an epoch, on a rack that is consistent however its media lie. It does nothing.
+pub fn epoch_laws()
+    // At each moment of it, whatever comes back meanwhile and whatever it answers, each image that a crash may leave is consistent
+    // by the same holders, since the same epoch.
+    ensures keeps { (s : State) (holders : Holders) (since : ℕ) (aim : Aim) (gone : Slots)
+        (m last : Membership) (old h new : List Happening) (image : Image)
+        (begins : BeginsWherever s holders since aim m old) → Issued aim gone m last old new →
+        IsMoment old h new → CrashMayLeave h image →
+        IsConsistentBy s begins.is.encodings holders since image }
+    // Once its epoch stands each is so since that one, by the live slots of the member.
+    ensures stands { (s : State) (holders : Holders) (since : ℕ) (aim : Aim) (gone : Slots)
+        (m last : Membership) (old new : List Happening) (image : Image)
+        (begins : BeginsWherever s holders since aim m old) →
+        StandsWherever aim gone m last old new → CrashMayLeave new image →
+        IsConsistentBy s begins.is.encodings (holders_of last) last.array.epoch image }
+    // Then no medium bears a later epoch, and the member knows all media.
+    ensures covers { (s : State) (holders : Holders) (since : ℕ) (aim : Aim) (gone : Slots)
+        (m last : Membership) (old new : List Happening) →
+        BeginsWherever s holders since aim m old → StandsWherever aim gone m last old new →
+        CoversMedia s.geometry last.array.epoch new }
+    ensures knows { (s : State) (holders : Holders) (since : ℕ) (aim : Aim) (gone : Slots)
+        (m last : Membership) (old new : List Happening) →
+        BeginsWherever s holders since aim m old → StandsWherever aim gone m last old new →
+        EachImage (IsKnownWherever None last (IsAttached new)) new }
+    // So stands an epoch that was established on an honest rack.
+    ensures established { (aim : Aim) (m last : Membership) (old new : Telling)
+        (establishes : Establishes aim m last None old new) → IsTrue new.honest →
+        ((slot : ℕ) → aim ≡ Promote slot → IsHere m slot) →
+        StandsWherever aim establishes.gone m last old.history new.history }
+{}
+
+/// What a session has when it establishes an epoch that neither admits nor promotes. It does nothing.
+pub fn begin_laws()
+    // what a slot's own superblock tells of what lies in its places, where the next one holds none but it that isn't older
+    ensures own { (m : Membership) (h : List Happening) (j : ℕ) → IsHistory h →
+        IsMembership m → IsHere m j → IsAttached h j → HasOwnNewest m h j → KnowsSuper m h j }
+    // Between calls, within tolerance, what it knows of all media and has of its slots is what such a call begins with, but for
+    // what lies behind the superblock places.
+    ensures begins { (s : State) (aim : Aim) (before : List Happening) (a : ArrayState)
+        (words : Codewords) (h : List Happening) → IsHistory h → IsOpenWith before a words h →
+        a.member.array.geometry ≡ s.geometry → admitted aim ≡ None →
+        ((j : ℕ) → aim ≢ Promote j) →
+        EachImage (IsKnownWherever None a.member (IsAttached h)) h →
+        (is : IsConsistentSince s (holders_of a.member) a.member.array.epoch h) →
+        IsTolerated s.geometry before h →
+        ((j : ℕ) → IsHere a.member j → IsAttached h j → HasOwnNewest a.member h j) →
+        IsKnownBehind s is.encodings (holders_of a.member) a.member.array.epoch aim a.member h →
+        SaysContent s aim a.member →
+        BeginsWherever s (holders_of a.member) a.member.array.epoch aim a.member h }
+{}
