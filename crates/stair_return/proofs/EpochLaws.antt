@@ -1,24 +1,32 @@
 -- The laws of a call that establishes an epoch, of a state's own geometry.
-use Rattle.std.proofs.Common.{◌≡◌, ℕ, List, refl, subst, None}
+use Rattle.std.proofs.Common.{◌≡◌, ◌≢◌, ℕ, List, refl, subst, None}
 use Rattle.std.specs.Prelude.{IsTrue}
 use Rattle.stair_model.specs.Geometry.{Geometry}
 use Rattle.stair_model.specs.Slots.{Slots}
+use Rattle.stair_rack.specs.Answers.{IsHistory}
 use Rattle.stair_rack.specs.Crash.{CrashMayLeave, EachImage}
 use Rattle.stair_rack.specs.History.{Happening}
 use Rattle.stair_rack.specs.Media.{Image}
 use Rattle.stair_rack.specs.Moments.{IsMoment}
 use Rattle.stair_rack.specs.Offline.{IsAttached}
 use Rattle.stair_rack.specs.Telling.{Telling}
+use Rattle.stair_member.specs.Aims.{admitted}
 use Rattle.stair_member.specs.Epochs.{Issued}
 use Rattle.stair_member.specs.Establishing.{Establishes}
 use Rattle.stair_member.specs.Membership.{IsHere, Membership}
 use Rattle.stair_member.specs.declared.aim.Aim.{Aim}
 use Rattle.stair_member.specs.declared.aim.Aim.TheVariants.{Promote}
+use Rattle.stair_state.specs.Blocks.{AreEncodingsOf, Codewords}
 use Rattle.stair_state.specs.Holding.{Holders, IsConsistentBy}
-use Rattle.stair_state.specs.State.{State}
+use Rattle.stair_state.specs.State.{State, new_content}
+use Rattle.stair_state.specs.Tolerance.{IsTolerated}
+use Rattle.stair_session.specs.Session.{ArrayState, IsOpenWith}
 use Rattle.stair_session.specs.Returning.{IsKnownWherever, holders_of}
-use Rattle.stair_return.specs.Beginning.{BeginsWherever, StandsWherever}
+use Rattle.stair_return.specs.Beginning.{BeginsWherever, HasOwnNewest, KnowsMedia, SaysContent, StandsWherever}
+use Rattle.stair_return.specs.Behind.{IsKnownBehind}
 use Rattle.stair_return.specs.Found.{CoversMedia}
+use Rattle.stair_return.proofs.SessionBegins.{session_begins}
+use Rattle.stair_return.proofs.SessionBehind.{session_behind}
 use Rattle.stair_return.proofs.KeptSince.{kept_since}
 use Rattle.stair_return.proofs.StoodSince.{knows_then, latest, stands_since}
 
@@ -68,3 +76,21 @@ established aim m last old new establishes honest promoted = record {
   on_disk = establishes.on_disk honest refl;
   promoted = promoted;
 }
+
+-- A SESSION
+
+pub begins : (s : State) (aim : Aim) (before : List Happening) (a : ArrayState) (words : Codewords) (h : List Happening) → IsHistory h
+    → IsOpenWith before a words h → a.member.array.geometry ≡ s.geometry → AreEncodingsOf s.geometry s.content.blocks words
+    → (new_content s).blocks ≡ s.content.blocks → admitted aim ≡ None → ((j : ℕ) → aim ≢ Promote j) → KnowsMedia s a.member h
+    → IsTolerated s.geometry before h → ((j : ℕ) → IsHere a.member j → IsAttached h j → HasOwnNewest a.member h j) → SaysContent s aim a.member
+    → BeginsWherever s (holders_of a.member) a.member.array.epoch aim a.member h
+begins s aim before a words h history is_open geometry encoded certain none_joins none_promoted knows tolerated newest says =
+    session_begins s aim before a words h history is_open geometry none_joins none_promoted knows.known knows.is tolerated newest behind says
+  where
+    behind : IsKnownBehind s knows.is.encodings (holders_of a.member) a.member.array.epoch aim a.member h
+    behind =
+        subst
+        (λ (y : Geometry). (k : KnowsMedia (with_geometry s y) a.member h) → IsTolerated y before h → AreEncodingsOf y s.content.blocks words
+        → IsKnownBehind (with_geometry s y) k.is.encodings (holders_of a.member) a.member.array.epoch aim a.member h) geometry
+        (λ k within are. session_behind s.content s.in_doubt s.seats before a words h history is_open k within are certain aim none_joins) knows tolerated
+        encoded

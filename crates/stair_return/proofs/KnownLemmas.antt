@@ -82,14 +82,14 @@ borne_steady g h a b steady left_a left_b i InSlot s borne =
     }
 
 -- a medium that bears it at a later moment of a look bore it when that began, by the same name
-record WasBorne (g : Geometry) (old : List Happening) (i : ℕ) (name : Location) (s : Superblock) : Type 0 where
-  was : Image
-  left : CrashMayLeave old was
-  place : Location
-  named : name_of old i place ≡ name
-  borne : IsBorne g was i place s
+pub record WasBorne (g : Geometry) (old : List Happening) (i : ℕ) (name : Location) (s : Superblock) : Type 0 where
+  pub was : Image
+  pub left : CrashMayLeave old was
+  pub place : Location
+  pub named : name_of old i place ≡ name
+  pub borne : IsBorne g was i place s
 
-borne_before : (g : Geometry) (old x : List Happening) (image : Image) (i : ℕ) (p : Location) (s : Superblock) → IsHistory old → Ran no_write old x
+pub borne_before : (g : Geometry) (old x : List Happening) (image : Image) (i : ℕ) (p : Location) (s : Superblock) → IsHistory old → Ran no_write old x
     → CrashMayLeave x image → IsBorne g image i p s → WasBorne g old i (name_of x i p) s
 borne_before g old x image i p s is_history looked left borne =
     by (looked_wherever old x i (name_of x i p) is_history looked image left p borne.medium borne.is_one refl)

@@ -12,6 +12,8 @@ pub mod BehindSince
 pub mod KeptSince
 pub mod StoodSince
 pub mod SessionBegins
+pub mod SessionBehind
+pub mod SessionLooks
 pub mod EpochLaws
 pub mod MixedImages
 pub mod StillStretch

@@ -1,12 +1,14 @@
 -- How a call begins that establishes an epoch, on a rack that is consistent however its media lie.
-use Rattle.std.specs.Prelude.{◌≡◌, ◌≤◌, ◌⊎◌, ℕ, List, Contains, Some}
+use Rattle.std.specs.Prelude.{◌≡◌, ◌≤◌, ◌⊎◌, ℕ, List, Contains, None, Some}
+use Rattle.stair_model.specs.Device.{gate_sector}
 use Rattle.stair_model.specs.Slots.{HasSlot, Slots}
 use Rattle.stair_rack.specs.Answers.{IsHistory}
 use Rattle.stair_rack.specs.Crash.{EachImage, image_now}
-use Rattle.stair_rack.specs.History.{Happening, slot_state}
+use Rattle.stair_rack.specs.History.{Happening, SlotCall, slot_state}
 use Rattle.stair_rack.specs.Media.{Image}
 use Rattle.stair_rack.specs.Offline.{IsAttached}
 use Rattle.stair_rack.specs.Sector.{content}
+use Rattle.stair_rack.specs.Stretch.{IsNoWrite}
 use Rattle.stair_super.specs.Newer.{IsOlder}
 use Rattle.stair_super.specs.Superblock.{Superblock, joined_in, mark_in}
 use Rattle.stair_super.specs.declared.mark.Mark.TheVariants.{Live}
@@ -20,11 +22,15 @@ use Rattle.stair_member.specs.Superblocks.{HoldsSuper}
 use Rattle.stair_member.specs.declared.aim.Aim.{Aim}
 use Rattle.stair_member.specs.declared.aim.Aim.TheVariants.{Promote}
 use Rattle.stair_member.specs.declared.why.Why.TheVariants.{Gone}
-use Rattle.stair_state.specs.Holding.{HolderReserved, Holders, IsConsistentSince, OfAdmitted}
+use Rattle.stair_journal.specs.Gate.{ReadsClosed}
+use Rattle.stair_state.specs.Holding.{HolderReserved, Holders, IsConsistentSince, IsHolder, OfAdmitted}
+use Rattle.stair_state.specs.Reassembly.{IsReassembly}
+use Rattle.stair_state.specs.Redoing.{AttachesNone}
 use Rattle.stair_state.specs.State.{State, new_content}
-use Rattle.stair_session.specs.Returning.{IsKnownWherever}
+use Rattle.stair_session.specs.Returning.{IsKnownWherever, holders_of}
 use Rattle.stair_session.specs.Session.{HasOwn, own_super}
 use Rattle.stair_return.specs.Behind.{IsKnownBehind}
+use Rattle.stair_return.specs.Found.{CoversMedia}
 use Rattle.stair_return.specs.Given.{KnowsSuper}
 
 -- the draw of slot j's holder is at least every epoch that a medium bears, and the member's
@@ -47,6 +53,21 @@ pub record HasOwnNewest (m : Membership) (h : List Happening) (j : ℕ) : Type 0
   pub newest : (other : Superblock)
       → HoldsSuper (content ((slot_state h j).sector (place_of m j))) other
       → (other ≡ own_super m own.draw j) ⊎ IsOlder other (own_super m own.draw j)
+
+-- What a session is to know of all media, between the calls of an open array: what `Knows` says; that no medium bears a later
+-- epoch than the member's; and that the gates of holders read closed, wherever they lie.
+pub record KnowsMedia (s : State) (m : Membership) (h : List Happening) : Type 0 where
+  pub known : EachImage (IsKnownWherever None m (IsAttached h)) h
+  pub is : IsConsistentSince s (holders_of m) m.array.epoch h
+  pub latest : CoversMedia s.geometry m.array.epoch h
+  pub closed : EachImage (λ image. (to : Image) (j : ℕ) → IsReassembly image to
+      → IsHolder s.geometry (holders_of m) j ((to j).cell)
+      → ReadsClosed s.geometry ((to j).cell gate_sector)) h
+
+-- a call that writes nothing, and attaches no slot that takes part
+pub record IsBesideMember (m : Membership) (j : ℕ) (call : SlotCall) : Type 0 where
+  pub writes : IsNoWrite call
+  pub attaches : AttachesNone (IsHere m) j call
 
 -- what the member's epoch says beside its slots, and what the new one is to say, is so of the state, before or after the change
 -- in doubt

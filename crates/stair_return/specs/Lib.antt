@@ -2,9 +2,9 @@
 pub mod Following
 pub mod Given
 pub mod Behind
-pub mod Beginning
 pub mod Together
 pub mod Counted
 pub mod Still
 pub mod Found
+pub mod Beginning
 pub mod Misled

@@ -1,8 +1,8 @@
 //! What becomes of an array whose media come back while an epoch is established, and once it stands.
 
-ghost use Rattle.std.specs.Prelude.{◌≡◌, ◌≢◌, ℕ, IsTrue, List, None};
+ghost use Rattle.std.specs.Prelude.{◌≡◌, ◌≢◌, ℕ, IsTrue, List, None, Some};
 ghost use Rattle.stair_model.specs.Slots.{Slots};
-ghost use Rattle.stair_rack.specs.Answers.{IsHistory};
+ghost use Rattle.stair_rack.specs.Answers.{IsHistory, Ran};
 ghost use Rattle.stair_rack.specs.Crash.{CrashMayLeave, EachImage};
 ghost use Rattle.stair_rack.specs.History.{Happening};
 ghost use Rattle.stair_rack.specs.Media.{Image};
@@ -15,14 +15,13 @@ ghost use Rattle.stair_member.specs.Establishing.{Establishes};
 ghost use Rattle.stair_member.specs.Membership.{IsHere, IsMembership, Membership};
 ghost use Rattle.stair_member.specs.declared.aim.Aim.{Aim};
 ghost use Rattle.stair_member.specs.declared.aim.Aim.TheVariants.{Promote};
-ghost use Rattle.stair_state.specs.Blocks.{Codewords};
-ghost use Rattle.stair_state.specs.Holding.{Holders, IsConsistentBy, IsConsistentSince};
-ghost use Rattle.stair_state.specs.State.{State};
+ghost use Rattle.stair_state.specs.Blocks.{AreEncodingsOf, Codewords};
+ghost use Rattle.stair_state.specs.Holding.{Holders, IsConsistentBy};
+ghost use Rattle.stair_state.specs.State.{State, new_content};
 ghost use Rattle.stair_state.specs.Tolerance.{IsTolerated};
 ghost use Rattle.stair_session.specs.Returning.{IsKnownWherever, holders_of};
-ghost use Rattle.stair_session.specs.Session.{ArrayState, IsOpenWith};
-ghost use Rattle.stair_return.specs.Beginning.{BeginsWherever, HasOwnNewest, SaysContent, StandsWherever};
-ghost use Rattle.stair_return.specs.Behind.{IsKnownBehind};
+ghost use Rattle.stair_session.specs.Session.{ArrayState, IsOpenWith, seats_in};
+ghost use Rattle.stair_return.specs.Beginning.{BeginsWherever, HasOwnNewest, IsBesideMember, KnowsMedia, SaysContent, StandsWherever};
 ghost use Rattle.stair_return.specs.Found.{CoversMedia};
 ghost use Rattle.stair_return.specs.Given.{KnowsSuper};
 
@@ -62,17 +61,20 @@ pub fn begin_laws()
     // what a slot's own superblock tells of what lies in its places, where the next one holds none but it that isn't older
     ensures own { (m : Membership) (h : List Happening) (j : ℕ) → IsHistory h →
         IsMembership m → IsHere m j → IsAttached h j → HasOwnNewest m h j → KnowsSuper m h j }
-    // Between calls, within tolerance, what it knows of all media and has of its slots is what such a call begins with, but for
-    // what lies behind the superblock places.
+    // Between calls, within tolerance, where it knows of all media what it is to know, it has what such a call begins with.
     ensures begins { (s : State) (aim : Aim) (before : List Happening) (a : ArrayState)
         (words : Codewords) (h : List Happening) → IsHistory h → IsOpenWith before a words h →
-        a.member.array.geometry ≡ s.geometry → admitted aim ≡ None →
-        ((j : ℕ) → aim ≢ Promote j) →
-        EachImage (IsKnownWherever None a.member (IsAttached h)) h →
-        (is : IsConsistentSince s (holders_of a.member) a.member.array.epoch h) →
-        IsTolerated s.geometry before h →
+        a.member.array.geometry ≡ s.geometry →
+        AreEncodingsOf s.geometry s.content.blocks words →
+        (new_content s).blocks ≡ s.content.blocks → admitted aim ≡ None →
+        ((j : ℕ) → aim ≢ Promote j) → KnowsMedia s a.member h → IsTolerated s.geometry before h →
         ((j : ℕ) → IsHere a.member j → IsAttached h j → HasOwnNewest a.member h j) →
-        IsKnownBehind s is.encodings (holders_of a.member) a.member.array.epoch aim a.member h →
         SaysContent s aim a.member →
         BeginsWherever s (holders_of a.member) a.member.array.epoch aim a.member h }
+    // And it knows that still after calls that write nothing and attach no slot that takes part, whatever comes back meanwhile,
+    // if that is within tolerance.
+    ensures looked { (s : State) (m : Membership) (before old new : List Happening) →
+        IsHistory old → m.array.geometry ≡ s.geometry → Ran (IsBesideMember m) old new →
+        KnowsMedia s m old → IsTolerated s.geometry before new →
+        s.seats ≡ Some (seats_in m.array) → KnowsMedia s m new }
 {}
