@@ -14,6 +14,7 @@ pub mod StoodSince
 pub mod SessionBegins
 pub mod SessionBehind
 pub mod SessionLooks
+pub mod LeavingBegins
 pub mod EpochLaws
 pub mod MixedImages
 pub mod StillStretch

@@ -1,7 +1,7 @@
 //! What becomes of an array whose media come back while an epoch is established, and once it stands.
 
-ghost use Rattle.std.specs.Prelude.{◌≡◌, ◌≢◌, ℕ, IsTrue, List, None, Some};
-ghost use Rattle.stair_model.specs.Slots.{Slots};
+ghost use Rattle.std.specs.Prelude.{◌≡◌, ◌≢◌, ◌<◌, ℕ, IsTrue, List, None, Some};
+ghost use Rattle.stair_model.specs.Slots.{HasSlot, Slots};
 ghost use Rattle.stair_rack.specs.Answers.{IsHistory, Ran};
 ghost use Rattle.stair_rack.specs.Crash.{CrashMayLeave, EachImage};
 ghost use Rattle.stair_rack.specs.History.{Happening};
@@ -11,10 +11,10 @@ ghost use Rattle.stair_rack.specs.Offline.{IsAttached};
 ghost use Rattle.stair_rack.specs.Telling.{Telling};
 ghost use Rattle.stair_member.specs.Aims.{admitted};
 ghost use Rattle.stair_member.specs.Epochs.{Issued};
-ghost use Rattle.stair_member.specs.Establishing.{Establishes};
+ghost use Rattle.stair_member.specs.Establishing.{Establishes, Leaves};
 ghost use Rattle.stair_member.specs.Membership.{IsHere, IsMembership, Membership};
 ghost use Rattle.stair_member.specs.declared.aim.Aim.{Aim};
-ghost use Rattle.stair_member.specs.declared.aim.Aim.TheVariants.{Promote};
+ghost use Rattle.stair_member.specs.declared.aim.Aim.TheVariants.{Fence, Promote};
 ghost use Rattle.stair_state.specs.Blocks.{AreEncodingsOf, Codewords};
 ghost use Rattle.stair_state.specs.Holding.{Holders, IsConsistentBy};
 ghost use Rattle.stair_state.specs.State.{State, new_content};
@@ -71,8 +71,13 @@ pub fn begin_laws()
         ((j : ℕ) → IsHere a.member j → IsAttached h j → HasOwnNewest a.member h j) →
         SaysContent s aim a.member →
         BeginsWherever s (holders_of a.member) a.member.array.epoch aim a.member h }
-    // And it knows that still after calls that write nothing and attach no slot that takes part, whatever comes back meanwhile,
-    // if that is within tolerance.
+    // A fence by the member that some slots left begins so where one by the member that it was does.
+    ensures leaves { (s : State) (holders : Holders) (since : ℕ) (leaving : Slots)
+        (m start : Membership) (h : List Happening) → BeginsWherever s holders since Fence m h →
+        Leaves leaving m start → ((j : ℕ) → HasSlot leaving j → j < m.array.geometry.n) →
+        BeginsWherever s holders since Fence start h }
+    // What it knows of all media it knows still after calls that write nothing and attach no slot that takes part, whatever comes
+    // back meanwhile, if that is within tolerance.
     ensures looked { (s : State) (m : Membership) (before old new : List Happening) →
         IsHistory old → m.array.geometry ≡ s.geometry → Ran (IsBesideMember m) old new →
         KnowsMedia s m old → IsTolerated s.geometry before new →
