@@ -22,7 +22,7 @@ use Rattle.stair_member.specs.Membership.{IsHere, Membership}
 use Rattle.stair_member.specs.Reserve.{Bears}
 use Rattle.stair_member.specs.Superblocks.{HoldsSuper}
 use Rattle.stair_member.specs.declared.aim.Aim.{Aim}
-use Rattle.stair_journal.specs.Gate.{IsOpenWith}
+use Rattle.stair_journal.specs.Gate.{IsOpenWith, ReadsClosed}
 use Rattle.stair_journal.specs.declared.redo.Redo.{Redo}
 use Rattle.stair_state.specs.Degraded.{AreDamagedCopies}
 use Rattle.stair_state.specs.Forms.{HasGate, IsOpen, RepresentsBy}
@@ -34,6 +34,7 @@ use Rattle.stair_state.proofs.DegradedLemmas.{holds_before}
 use Rattle.stair_state.proofs.ExchangedLemmas.{slot_here, slot_left, with_slot}
 use Rattle.stair_state.proofs.FormLemmas.{good_whole, represents_still}
 use Rattle.stair_state.proofs.ReassembledLemmas.{IsBorneFrom, from_slot}
+use Rattle.stair_return.specs.Beginning.{AreHoldersClosed}
 use Rattle.stair_return.specs.Behind.{Bearing, HasNumber, InUse, IsKnownBehind, IsRebuiltAs}
 use Rattle.stair_return.specs.Following.{name_of}
 use Rattle.stair_return.proofs.BorneSince.{copy_given}
@@ -283,6 +284,14 @@ module _ (s : State) (encodings : Encodings s) (holders : Holders) (since : ℕ)
         (back s.geometry m old (λ i. n) to only still_only) j (back_reassembled s.geometry m old (λ i. n) to only still_only)
         (record { joined = n; holder = holder; number = back_number s.geometry m old (λ i. n) to only still_only j here }))
 
+    closed_still : holders j ≡ Some n → AreHoldersClosed s.geometry holders m old → ReadsClosed s.geometry ((to j).cell gate_sector)
+    closed_still holder closed redo opened =
+        closed (first s.geometry m old (λ i. n) to only still_only) (first_left s.geometry m old (λ i. n) to only still_only)
+        (back s.geometry m old (λ i. n) to only still_only) j (back_reassembled s.geometry m old (λ i. n) to only still_only)
+        (record { joined = n; holder = holder; number = back_number s.geometry m old (λ i. n) to only still_only j here }) redo
+        (subst (λ (c : Cell). IsOpenWith s.geometry c redo)
+        (sym (back_behind s.geometry m old (λ i. n) to only still_only j gate_sector here (omega arith))) opened)
+
     -- its gate isn't open where it is rebuilt
     shut_still : IsRebuiltAs s.geometry since m old j n → (redo : Redo) → ¬ IsOpen s.geometry to j redo
     shut_still rebuilt redo opened =
@@ -344,6 +353,12 @@ module _ (s : State) (encodings : Encodings s) (holders : Holders) (since : ℕ)
 
     pub full_since : (to : Image) (j : ℕ) → IsReassembly image to → IsHolder s.geometry holders j ((to j).cell) → IsLargeEnough s.geometry (to j).size
     full_since to j reassembly holder = large_still to j holder.super.joined (holder_still to reassembly j holder) holder.joined
+
+    -- where their gates read closed they do so still
+    pub closed_since : AreHoldersClosed s.geometry holders m old → (to : Image) (j : ℕ) → IsReassembly image to
+        → IsHolder s.geometry holders j ((to j).cell) → ReadsClosed s.geometry ((to j).cell gate_sector)
+    closed_since closed to j reassembly holder =
+        closed_still to j holder.super.joined (holder_still to reassembly j holder) holder.joined closed
 
     module _ (to : Image) (some : Slots) (reassembly : IsReassembly image to) (have : HaveHolders s.geometry holders to (HasSlot some)) where
       abbrev number : ℕ → ℕ

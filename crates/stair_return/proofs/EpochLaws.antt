@@ -1,5 +1,5 @@
 -- The laws of a call that establishes an epoch, of a state's own geometry.
-use Rattle.std.proofs.Common.{◌≡◌, ◌≢◌, ℕ, List, refl, subst, None}
+use Rattle.std.proofs.Common.{◌≡◌, ◌≢◌, ℕ, List, refl, subst, None, Some}
 use Rattle.std.specs.Prelude.{IsTrue}
 use Rattle.stair_model.specs.Geometry.{Geometry}
 use Rattle.stair_model.specs.Slots.{Slots}
@@ -20,13 +20,15 @@ use Rattle.stair_state.specs.Blocks.{AreEncodingsOf, Codewords}
 use Rattle.stair_state.specs.Holding.{Holders, IsConsistentBy}
 use Rattle.stair_state.specs.State.{State, new_content}
 use Rattle.stair_state.specs.Tolerance.{IsTolerated}
-use Rattle.stair_session.specs.Session.{ArrayState, IsOpenWith}
+use Rattle.stair_session.specs.Session.{ArrayState, IsOpenWith, seats_in}
 use Rattle.stair_session.specs.Returning.{IsKnownWherever, holders_of}
-use Rattle.stair_return.specs.Beginning.{BeginsWherever, HasOwnNewest, KnowsMedia, SaysContent, StandsWherever}
+use Rattle.stair_return.specs.Beginning.{AreHoldersClosed, BeginsWherever, HasOwnNewest, KnowsMedia, SaysContent, StandsWherever}
 use Rattle.stair_return.specs.Behind.{IsKnownBehind}
 use Rattle.stair_return.specs.Found.{CoversMedia}
 use Rattle.stair_return.proofs.SessionBegins.{session_begins}
-use Rattle.stair_return.proofs.SessionBehind.{session_behind}
+use Rattle.stair_return.proofs.SessionBehind.{session_behind, session_closed}
+use Rattle.stair_return.proofs.EpochKnows.{knows_media}
+use Rattle.stair_session.proofs.OpenLaws.{goes_on_within}
 use Rattle.stair_return.proofs.KeptSince.{kept_since}
 use Rattle.stair_return.proofs.StoodSince.{knows_then, latest, stands_since}
 
@@ -77,6 +79,17 @@ established aim m last old new establishes honest promoted = record {
   promoted = promoted;
 }
 
+pub goes_on : (s : State) (holders : Holders) (since : ℕ) (aim : Aim) (gone : Slots) (m last : Membership) (before old new : List Happening)
+    → BeginsWherever s holders since aim m old → StandsWherever aim gone m last old new → AreHoldersClosed s.geometry holders m old
+    → IsTolerated s.geometry before new → KnowsMedia (record s { seats = Some (seats_in last.array) }) last new
+goes_on s holders since aim gone m last before old new begins stood closed tolerated =
+    subst
+    (λ (y : Geometry). BeginsWherever (with_geometry s y) holders since aim m old → AreHoldersClosed y holders m old → IsTolerated y before new
+    → KnowsMedia (record (with_geometry s y) { seats = Some (seats_in last.array) }) last new) begins.geometry
+    (λ b shut within.
+    knows_media holders since aim m s.content s.in_doubt s.seats old b gone last before new stood shut within
+    (goes_on_within m.array.geometry before new within)) begins closed tolerated
+
 -- A SESSION
 
 pub begins : (s : State) (aim : Aim) (before : List Happening) (a : ArrayState) (words : Codewords) (h : List Happening) → IsHistory h
@@ -94,3 +107,13 @@ begins s aim before a words h history is_open geometry encoded certain none_join
         → IsKnownBehind (with_geometry s y) k.is.encodings (holders_of a.member) a.member.array.epoch aim a.member h) geometry
         (λ k within are. session_behind s.content s.in_doubt s.seats before a words h history is_open k within are certain aim none_joins) knows tolerated
         encoded
+
+pub closes : (s : State) (before : List Happening) (a : ArrayState) (words : Codewords) (h : List Happening) → IsHistory h
+    → IsOpenWith before a words h → a.member.array.geometry ≡ s.geometry → AreEncodingsOf s.geometry s.content.blocks words
+    → (new_content s).blocks ≡ s.content.blocks → KnowsMedia s a.member h → IsTolerated s.geometry before h
+    → AreHoldersClosed s.geometry (holders_of a.member) a.member h
+closes s before a words h history is_open geometry encoded certain knows tolerated =
+    subst
+    (λ (y : Geometry). KnowsMedia (with_geometry s y) a.member h → IsTolerated y before h → AreEncodingsOf y s.content.blocks words
+    → AreHoldersClosed y (holders_of a.member) a.member h) geometry
+    (λ k within are. session_closed s.content s.in_doubt s.seats before a words h history is_open k within are certain) knows tolerated encoded

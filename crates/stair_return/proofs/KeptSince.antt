@@ -95,7 +95,7 @@ module _ (holders : Holders) (since : ℕ) (aim : Aim) (m : Membership) (content
     pub seen : m.array.epoch ≤ m.drawn
     seen = begins.member.known
 
-    numbers : (j n : ℕ) → HasSlot issued.slots j → holders j ≡ Some n → IsHere m j × (n ≡ joined_in m.array j)
+    pub numbers : (j n : ℕ) → HasSlot issued.slots j → holders j ≡ Some n → IsHere m j × (n ≡ joined_in m.array j)
     numbers j n has holder = begins.meant.taken j n (issued.taking j has) holder
 
     it : IsConsistentBy s begins.is.encodings holders since (image_now old)

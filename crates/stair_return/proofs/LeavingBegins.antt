@@ -1,5 +1,5 @@
 -- A fence begins, by the member that some slots left, where one begins by the member that it was.
-use Rattle.std.proofs.Common.{◌≡◌, ℕ, ◌<◌, List, inl, inr, refl, sym, ap, ◌∙◌, subst, None, Some}
+use Rattle.std.proofs.Common.{◌≡◌, ℕ, ◌<◌, List, inl, inr, sym, ◌∙◌, subst, None, Some}
 use Rattle.stair_model.specs.Geometry.{Geometry}
 use Rattle.stair_model.specs.Slots.{HasSlot, Slots}
 use Rattle.stair_rack.specs.History.{Happening}
@@ -7,7 +7,7 @@ use Rattle.stair_rack.specs.Media.{SlotImage}
 use Rattle.stair_member.specs.Aims.{admitted}
 use Rattle.stair_member.specs.Epochs.{IsTaken}
 use Rattle.stair_member.specs.Establishing.{Leaves}
-use Rattle.stair_member.specs.Membership.{IsHere, IsMembership, Membership, why_of}
+use Rattle.stair_member.specs.Membership.{IsHere, IsMembership, Membership}
 use Rattle.stair_member.specs.declared.aim.Aim.{Aim}
 use Rattle.stair_member.specs.declared.aim.Aim.TheVariants.{Fence}
 use Rattle.stair_member.specs.declared.why.Why.{Why}
@@ -16,27 +16,31 @@ use Rattle.stair_member.proofs.CountingLemmas.{has_or_not}
 use Rattle.stair_state.specs.Holding.{Holders}
 use Rattle.stair_state.specs.State.{State}
 use Rattle.stair_session.proofs.FencesLemmas.{start_rules}
-use Rattle.stair_return.specs.Beginning.{BeginsWherever}
+use Rattle.stair_return.specs.Beginning.{AreHoldersClosed, BeginsWherever}
 use Rattle.stair_return.specs.Behind.{Bearing, ByMedium, ByMember, HasHolder, HasNumber, InUse, IsRebuiltAs}
 
-module _ (s : State) (holders : Holders) (since : ℕ) (aim : Aim) (m : Membership) (whys : List Why) (h : List Happening) where
+module _ (holders : Holders) (m : Membership) (whys : List Why) (h : List Happening) where
   -- the same member, with other reasons
   abbrev other : Membership
   other = record { array = m.array; drawn = m.drawn; whys = whys; places = m.places }
 
-  module _ (rules : IsMembership other) (here : (j : ℕ) → IsHere other j → IsHere m j)
-      (joins : (j n : ℕ) → IsTaken (admitted aim) other j → holders j ≡ Some n → IsHere other j)
-      (begins : BeginsWherever s holders since aim m h) where
-    taken : (j : ℕ) → IsTaken (admitted aim) other j → IsTaken (admitted aim) m j
-    taken j (inl is) = inl (here j is)
-    taken j (inr is) = inr is
-
+  module _ (here : (j : ℕ) → IsHere other j → IsHere m j) where
     number : (g : Geometry) (from to : SlotImage) (j n : ℕ) → HasNumber g other h from to j n → HasNumber g m h from to j n
     number g from to j n (Bearing b bears joined) = Bearing b bears joined
     number g from to j n (InUse is used joined size copies) = InUse (here j is) used joined size copies
 
     holder : (g : Geometry) (from to : SlotImage) (j : ℕ) → HasHolder g holders other h from to j → HasHolder g holders m h from to j
     holder g from to j has = record { joined = has.joined; holder = has.holder; number = number g from to j has.joined has.number }
+
+    pub closed_other : (g : Geometry) → AreHoldersClosed g holders m h → AreHoldersClosed g holders other h
+    closed_other g closed image left to j reassembly has = closed image left to j reassembly (holder g (image j) (to j) j has)
+
+  module _ (s : State) (since : ℕ) (aim : Aim) (rules : IsMembership other) (here : (j : ℕ) → IsHere other j → IsHere m j)
+      (joins : (j n : ℕ) → IsTaken (admitted aim) other j → holders j ≡ Some n → IsHere other j)
+      (begins : BeginsWherever s holders since aim m h) where
+    taken : (j : ℕ) → IsTaken (admitted aim) other j → IsTaken (admitted aim) m j
+    taken j (inl is) = inl (here j is)
+    taken j (inr is) = inr is
 
     rebuilt : (g : Geometry) (j n : ℕ) → IsRebuiltAs g since other h j n → IsRebuiltAs g since m h j n
     rebuilt g j n (ByMedium a there marked joined) = ByMedium a there marked joined
@@ -57,10 +61,10 @@ module _ (s : State) (holders : Holders) (since : ℕ) (aim : Aim) (m : Membersh
           record { there = k.there; steady = k.steady; drawn = k.drawn; place = k.place; aside = k.aside };
       behind = record {
         forms = λ image left to some reassembly have.
-            begins.behind.forms image left to some reassembly (λ j on. holder s.geometry (image j) (to j) j (have j on));
-        full = λ image left to j reassembly has. begins.behind.full image left to j reassembly (holder s.geometry (image j) (to j) j has);
+            begins.behind.forms image left to some reassembly (λ j on. holder here s.geometry (image j) (to j) j (have j on));
+        full = λ image left to j reassembly has. begins.behind.full image left to j reassembly (holder here s.geometry (image j) (to j) j has);
         rebuilding = λ image left to j n redo reassembly is has.
-            begins.behind.rebuilding image left to j n redo reassembly (rebuilt s.geometry j n is) (number s.geometry (image j) (to j) j n has);
+            begins.behind.rebuilding image left to j n redo reassembly (rebuilt s.geometry j n is) (number here s.geometry (image j) (to j) j n has);
         laid = begins.behind.laid;
       };
       drawn = begins.drawn;
@@ -77,35 +81,43 @@ module _ (s : State) (holders : Holders) (since : ℕ) (aim : Aim) (m : Membersh
       };
     }
 
+module _ (leaving : Slots) (m start : Membership) (leaves : Leaves leaving m start) where
+  same : start ≡ record { array = m.array; drawn = m.drawn; whys = start.whys; places = m.places }
+  same = λ i. record { array = leaves.array i; drawn = leaves.drawn i; whys = start.whys; places = leaves.places i }
+
+  here : (j : ℕ) → IsHere (record { array = m.array; drawn = m.drawn; whys = start.whys; places = m.places }) j → IsHere m j
+  here j is =
+      elim (has_or_not leaving j) [
+        | inl out ↦
+            elim is.why [
+              | inl up ↦ let never : why.Gone ≡ why.Here = sym (leaves.left j out) ∙ up in absurd (cc)
+              | inr up ↦ let never : why.Gone ≡ why.Rebuilding = sym (leaves.left j out) ∙ up in absurd (cc)
+            ]
+        | inr stays ↦ record {
+          below = is.below;
+          why =
+              elim is.why [
+                | inl up ↦ inl (sym (leaves.others j stays) ∙ up)
+                | inr up ↦ inr (sym (leaves.others j stays) ∙ up)
+              ];
+        }
+      ]
+
 -- where none is admitted
 pub leaves_begins : (s : State) (holders : Holders) (since : ℕ) (leaving : Slots) (m start : Membership) (h : List Happening)
     → BeginsWherever s holders since Fence m h → Leaves leaving m start → ((j : ℕ) → HasSlot leaving j → j < m.array.geometry.n) → BeginsWherever s holders since Fence start h
 leaves_begins s holders since leaving m start h begins leaves below =
-    subst (λ (x : Membership). BeginsWherever s holders since Fence x h) (sym same)
-    (begins_other s holders since Fence m start.whys h (subst IsMembership same (start_rules leaving m start leaves below begins.member)) here only begins)
+    subst (λ (x : Membership). BeginsWherever s holders since Fence x h) (sym (same leaving m start leaves))
+    (begins_other holders m start.whys h s since Fence (subst IsMembership (same leaving m start leaves) (start_rules leaving m start leaves below begins.member))
+    (here leaving m start leaves) only begins)
   where
-    same : start ≡ record { array = m.array; drawn = m.drawn; whys = start.whys; places = m.places }
-    same = λ i. record { array = leaves.array i; drawn = leaves.drawn i; whys = start.whys; places = leaves.places i }
-
-    here : (j : ℕ) → IsHere (record { array = m.array; drawn = m.drawn; whys = start.whys; places = m.places }) j → IsHere m j
-    here j is =
-        elim (has_or_not leaving j) [
-          | inl out ↦
-              elim is.why [
-                | inl up ↦ let never : why.Gone ≡ why.Here = sym (leaves.left j out) ∙ up in absurd (cc)
-                | inr up ↦ let never : why.Gone ≡ why.Rebuilding = sym (leaves.left j out) ∙ up in absurd (cc)
-              ]
-          | inr stays ↦ record {
-            below = is.below;
-            why =
-                elim is.why [
-                  | inl up ↦ inl (sym (leaves.others j stays) ∙ up)
-                  | inr up ↦ inr (sym (leaves.others j stays) ∙ up)
-                ];
-          }
-        ]
-
     only : (j n : ℕ) → IsTaken None (record { array = m.array; drawn = m.drawn; whys = start.whys; places = m.places }) j → holders j ≡ Some n
         → IsHere (record { array = m.array; drawn = m.drawn; whys = start.whys; places = m.places }) j
     only j n (inl is) held = is
     only j n (inr joins) held = let never : None ≡ Some j = joins.0 in absurd (cc)
+
+pub leaves_closed : (g : Geometry) (holders : Holders) (leaving : Slots) (m start : Membership) (h : List Happening)
+    → AreHoldersClosed g holders m h → Leaves leaving m start → AreHoldersClosed g holders start h
+leaves_closed g holders leaving m start h closed leaves =
+    subst (λ (x : Membership). AreHoldersClosed g holders x h) (sym (same leaving m start leaves))
+    (closed_other holders m start.whys h (here leaving m start leaves) g closed)

@@ -15,6 +15,8 @@ pub mod SessionBegins
 pub mod SessionBehind
 pub mod SessionLooks
 pub mod LeavingBegins
+pub mod SteadyEpoch
+pub mod EpochKnows
 pub mod EpochLaws
 pub mod MixedImages
 pub mod StillStretch

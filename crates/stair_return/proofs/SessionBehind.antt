@@ -47,7 +47,7 @@ use Rattle.stair_state.proofs.ToleranceLemmas.{journal_gate}
 use Rattle.stair_session.specs.Returning.{holders_of}
 use Rattle.stair_session.specs.Session.{ArrayState, IsLiveIn, IsOpenWith}
 use Rattle.stair_session.proofs.MidwayLemmas.{rebuilding_why}
-use Rattle.stair_return.specs.Beginning.{KnowsMedia}
+use Rattle.stair_return.specs.Beginning.{AreHoldersClosed, KnowsMedia}
 use Rattle.stair_return.specs.Behind.{Bearing, ByMedium, ByMember, HasHolder, HasNumber, InUse, IsKnownBehind, IsRebuiltAs}
 use Rattle.stair_return.proofs.StoodSince.{held_here}
 use Rattle.stair_return.proofs.WhereverLemmas.{kept_left}
@@ -403,3 +403,6 @@ module _ (content : Content) (in_doubt : Option Change) (seats : Option Seats) (
       rebuilding = λ image left to j n redo. shut_now image left to j n redo;
       laid = λ image left j redo joins on. let never : None ≡ Some j = sym none_joins ∙ joins in absurd (cc);
     }
+
+    pub session_closed : AreHoldersClosed g (holders_of a.member) a.member h
+    session_closed image left to j reassembly has = (has_rest image left to reassembly j has).gate

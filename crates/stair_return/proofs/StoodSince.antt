@@ -128,7 +128,7 @@ module _ (holders : Holders) (since : ℕ) (aim : Aim) (m : Membership) (content
     abbrev g : Geometry
     g = m.array.geometry
 
-    end : IsMoment old new new
+    pub end : IsMoment old new new
     end = moment_last stands.issued.ran.more stands.issued.ran.is
 
     kept : IsConsistentBy s begins.is.encodings holders since image
@@ -230,7 +230,7 @@ module _ (holders : Holders) (since : ℕ) (aim : Aim) (m : Membership) (content
         (all_here g last stands.established.stands.geometry stands.established.stands.enough))
 
     -- its live slots are holders
-    less : (j n : ℕ) → holders_of last j ≡ Some n → holders j ≡ Some n
+    pub less : (j n : ℕ) → holders_of last j ≡ Some n → holders j ≡ Some n
     less j n holder =
         let is = held_here last j n holder in
         let below : j < g.n = subst (λ (y : Geometry). j < y.n) stands.established.stands.geometry is.below in

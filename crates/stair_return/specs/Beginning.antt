@@ -1,6 +1,7 @@
 -- How a call begins that establishes an epoch, on a rack that is consistent however its media lie.
 use Rattle.std.specs.Prelude.{◌≡◌, ◌≤◌, ◌⊎◌, ℕ, List, Contains, None, Some}
 use Rattle.stair_model.specs.Device.{gate_sector}
+use Rattle.stair_model.specs.Geometry.{Geometry}
 use Rattle.stair_model.specs.Slots.{HasSlot, Slots}
 use Rattle.stair_rack.specs.Answers.{IsHistory}
 use Rattle.stair_rack.specs.Crash.{EachImage, image_now}
@@ -29,7 +30,7 @@ use Rattle.stair_state.specs.Redoing.{AttachesNone}
 use Rattle.stair_state.specs.State.{State, new_content}
 use Rattle.stair_session.specs.Returning.{IsKnownWherever, holders_of}
 use Rattle.stair_session.specs.Session.{HasOwn, own_super}
-use Rattle.stair_return.specs.Behind.{IsKnownBehind}
+use Rattle.stair_return.specs.Behind.{HasHolder, IsKnownBehind}
 use Rattle.stair_return.specs.Found.{CoversMedia}
 use Rattle.stair_return.specs.Given.{KnowsSuper}
 
@@ -108,3 +109,8 @@ pub record StandsWherever (aim : Aim) (gone : Slots) (m last : Membership)
   pub on_disk : StandsOnDisk (admitted aim) last old new
   -- the slot that is promoted was here
   pub promoted : (slot : ℕ) → aim ≡ Promote slot → IsHere m slot
+
+-- in each reassembly the gate of a slot that has its holder, or the medium in use that the member means by it, reads closed
+abbrev pub AreHoldersClosed : Geometry → Holders → Membership → List Happening → Type 0
+AreHoldersClosed g holders m h = EachImage (λ image. (to : Image) (j : ℕ) → IsReassembly image to
+    → HasHolder g holders m h (image j) (to j) j → ReadsClosed g ((to j).cell gate_sector)) h

@@ -1,6 +1,7 @@
 //! What becomes of an array whose media come back while an epoch is established, and once it stands.
 
 ghost use Rattle.std.specs.Prelude.{◌≡◌, ◌≢◌, ◌<◌, ℕ, IsTrue, List, None, Some};
+ghost use Rattle.stair_model.specs.Geometry.{Geometry};
 ghost use Rattle.stair_model.specs.Slots.{HasSlot, Slots};
 ghost use Rattle.stair_rack.specs.Answers.{IsHistory, Ran};
 ghost use Rattle.stair_rack.specs.Crash.{CrashMayLeave, EachImage};
@@ -21,7 +22,7 @@ ghost use Rattle.stair_state.specs.State.{State, new_content};
 ghost use Rattle.stair_state.specs.Tolerance.{IsTolerated};
 ghost use Rattle.stair_session.specs.Returning.{IsKnownWherever, holders_of};
 ghost use Rattle.stair_session.specs.Session.{ArrayState, IsOpenWith, seats_in};
-ghost use Rattle.stair_return.specs.Beginning.{BeginsWherever, HasOwnNewest, IsBesideMember, KnowsMedia, SaysContent, StandsWherever};
+ghost use Rattle.stair_return.specs.Beginning.{AreHoldersClosed, BeginsWherever, HasOwnNewest, IsBesideMember, KnowsMedia, SaysContent, StandsWherever};
 ghost use Rattle.stair_return.specs.Found.{CoversMedia};
 ghost use Rattle.stair_return.specs.Given.{KnowsSuper};
 
@@ -49,6 +50,12 @@ pub fn epoch_laws()
         (m last : Membership) (old new : List Happening) →
         BeginsWherever s holders since aim m old → StandsWherever aim gone m last old new →
         EachImage (IsKnownWherever None last (IsAttached new)) new }
+    // Within tolerance, where the gates of holders read closed, a session knows of all media what it is to know then.
+    ensures goes_on { (s : State) (holders : Holders) (since : ℕ) (aim : Aim) (gone : Slots)
+        (m last : Membership) (before old new : List Happening) →
+        BeginsWherever s holders since aim m old → StandsWherever aim gone m last old new →
+        AreHoldersClosed s.geometry holders m old → IsTolerated s.geometry before new →
+        KnowsMedia (record s { seats = Some (seats_in last.array) }) last new }
     // So stands an epoch that was established on an honest rack.
     ensures established { (aim : Aim) (m last : Membership) (old new : Telling)
         (establishes : Establishes aim m last None old new) → IsTrue new.honest →
@@ -71,11 +78,22 @@ pub fn begin_laws()
         ((j : ℕ) → IsHere a.member j → IsAttached h j → HasOwnNewest a.member h j) →
         SaysContent s aim a.member →
         BeginsWherever s (holders_of a.member) a.member.array.epoch aim a.member h }
+    // and the gates of holders read closed then.
+    ensures closes { (s : State) (before : List Happening) (a : ArrayState) (words : Codewords)
+        (h : List Happening) → IsHistory h → IsOpenWith before a words h →
+        a.member.array.geometry ≡ s.geometry →
+        AreEncodingsOf s.geometry s.content.blocks words →
+        (new_content s).blocks ≡ s.content.blocks → KnowsMedia s a.member h →
+        IsTolerated s.geometry before h →
+        AreHoldersClosed s.geometry (holders_of a.member) a.member h }
     // A fence by the member that some slots left begins so where one by the member that it was does.
     ensures leaves { (s : State) (holders : Holders) (since : ℕ) (leaving : Slots)
         (m start : Membership) (h : List Happening) → BeginsWherever s holders since Fence m h →
         Leaves leaving m start → ((j : ℕ) → HasSlot leaving j → j < m.array.geometry.n) →
         BeginsWherever s holders since Fence start h }
+    ensures leaves_closed { (g : Geometry) (holders : Holders) (leaving : Slots)
+        (m start : Membership) (h : List Happening) → AreHoldersClosed g holders m h →
+        Leaves leaving m start → AreHoldersClosed g holders start h }
     // What it knows of all media it knows still after calls that write nothing and attach no slot that takes part, whatever comes
     // back meanwhile, if that is within tolerance.
     ensures looked { (s : State) (m : Membership) (before old new : List Happening) →

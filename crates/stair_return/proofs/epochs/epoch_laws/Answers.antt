@@ -1,5 +1,5 @@
 -- The laws are lemmas.
-use Rattle.stair_return.proofs.EpochLaws.{covers, established, keeps, knows, stands}
+use Rattle.stair_return.proofs.EpochLaws.{covers, established, goes_on, keeps, knows, stands}
 use Rattle.stair_return.proofs.epochs.epoch_laws.Goals as goal
 
 pub returns-clause-keeps : goal.returns-clause-keeps
@@ -13,6 +13,9 @@ returns-clause-covers c = covers
 
 pub returns-clause-knows : goal.returns-clause-knows
 returns-clause-knows c = knows
+
+pub returns-clause-goes_on : goal.returns-clause-goes_on
+returns-clause-goes_on c = goes_on
 
 pub returns-clause-established : goal.returns-clause-established
 returns-clause-established c = established

@@ -1,0 +1,102 @@
+-- Once an epoch stands a session knows of all media what it is to know.
+use Rattle.std.proofs.Common.{◌≡◌, ℕ, List, ap, Option, Some}
+use Rattle.std.specs.Prelude.{IsTrue}
+use Rattle.stair_model.specs.Slots.{Slots}
+use Rattle.stair_rack.specs.Crash.{CrashMayLeave}
+use Rattle.stair_rack.specs.History.{Happening, stopped}
+use Rattle.stair_rack.specs.Media.{Image}
+use Rattle.stair_rack.proofs.TidyLemmas.{history_on}
+use Rattle.stair_super.specs.Superblock.{Superblock}
+use Rattle.stair_super.specs.declared.configuration.Configuration.{Configuration}
+use Rattle.stair_member.specs.Current.{IsCurrent}
+use Rattle.stair_member.specs.Epochs.{IsIssuing}
+use Rattle.stair_member.specs.Membership.{Membership}
+use Rattle.stair_member.specs.Seats.{Seats, seats_of}
+use Rattle.stair_member.specs.declared.aim.Aim.{Aim}
+use Rattle.stair_state.specs.Holding.{Holders, IsBorneSince, IsConsistentBy, IsHolder}
+use Rattle.stair_state.specs.Reassembly.{IsReassembly}
+use Rattle.stair_state.specs.Represents.{Encodings}
+use Rattle.stair_state.specs.State.{Change, Content, State}
+use Rattle.stair_state.specs.Tolerance.{IsTolerated}
+use Rattle.stair_state.proofs.HoldingLemmas.{current_since}
+use Rattle.stair_state.proofs.OutsideLemmas.{tolerated_alone}
+use Rattle.stair_session.specs.Returning.{holders_of}
+use Rattle.stair_session.specs.Session.{seats_in}
+use Rattle.stair_return.specs.Beginning.{AreHoldersClosed, BeginsWherever, KnowsMedia, StandsWherever}
+use Rattle.stair_return.proofs.BehindSince.{closed_since}
+use Rattle.stair_return.proofs.KeptSince.{numbers, so}
+use Rattle.stair_return.proofs.SessionBehind.{left_reassembled}
+use Rattle.stair_return.proofs.SteadyEpoch.{steady_epoch}
+use Rattle.stair_return.proofs.StoodSince.{end, knows_then, latest, less, names_it, stands_since}
+use Rattle.stair_journal.specs.Gate.{ReadsClosed}
+use Rattle.stair_model.specs.Device.{gate_sector}
+
+-- seats aside it is the same state
+reseated : (s : State) (seats : Option Seats) → Encodings s → Encodings (record s { seats = seats })
+reseated s seats e = record { old = e.old; new = e.new; old_are = e.old_are; new_are = e.new_are }
+
+by_seats : (s : State) (seats : Option Seats) (e : Encodings s) (holders : Holders) (since : ℕ) (image : Image) → IsConsistentBy s e holders since image
+    → IsConsistentBy (record s { seats = seats }) (reseated s seats e) holders since image
+unfolding reseated
+by_seats s seats e holders since image it = record {
+  overtaken = it.overtaken;
+  reserved = it.reserved;
+  live = it.live;
+  frozen = it.frozen;
+  label = it.label;
+  forms = it.forms;
+  full = it.full;
+  rebuilding = it.rebuilding;
+  one_list = it.one_list;
+  own_joined = it.own_joined;
+}
+
+module _ (holders : Holders) (since : ℕ) (aim : Aim) (m : Membership) (content : Content) (in_doubt : Option Change) (seats : Option Seats)
+    (old : List Happening) where
+  abbrev s : State
+  s = record { geometry = m.array.geometry; content = content; in_doubt = in_doubt; seats = seats }
+
+  module _ (begins : BeginsWherever s holders since aim m old) (gone : Slots) (last : Membership) (before new : List Happening)
+      (stands : StandsWherever aim gone m last old new) (closed : AreHoldersClosed m.array.geometry holders m old)
+      (tolerated : IsTolerated m.array.geometry before new) (going : ¬ IsTrue (stopped new)) where
+    module _ (image : Image) (left : CrashMayLeave new image) where
+      it : IsConsistentBy s begins.is.encodings (holders_of last) last.array.epoch image
+      it = stands_since holders since aim m content in_doubt seats old begins gone last new stands image left
+
+      seat : (current : Superblock) (j : ℕ) → IsCurrent m.array.geometry image current → seats_of current j ≡ seats_in last.array j
+      seat current j is_current =
+          let there : IsBorneSince m.array.geometry last.array.epoch image current =
+          current_since s begins.is.encodings (holders_of last) last.array.epoch image it image
+          (left_reassembled new (history_on {allowed = IsIssuing stands.issued.slots stands.issued.editions} begins.history stands.issued.ran) image left)
+          (tolerated_alone m.array.geometry before new image tolerated left) current is_current in
+          ap (λ (c : Configuration). seats_in c j)
+          (names_it holders since aim m content in_doubt seats old begins gone last new stands image left current there)
+
+      closed_then : (to : Image) (j : ℕ) → IsReassembly image to → IsHolder m.array.geometry (holders_of last) j ((to j).cell)
+          → ReadsClosed m.array.geometry ((to j).cell gate_sector)
+      closed_then to j reassembly holder =
+          closed_since s begins.is.encodings holders since aim m stands.issued.slots
+          (so holders since aim m content in_doubt seats old begins gone last new new stands.issued
+          (end holders since aim m content in_doubt seats old begins gone last new stands image left) image left).editions old new begins.history
+          (so holders since aim m content in_doubt seats old begins gone last new new stands.issued
+          (end holders since aim m content in_doubt seats old begins gone last new stands image left) image left).ran begins.behind image left
+          (numbers holders since aim m content in_doubt seats old begins gone last new new stands.issued
+          (end holders since aim m content in_doubt seats old begins gone last new stands image left) image left) closed to j reassembly
+          (record {
+            super = holder.super;
+            bears = holder.bears;
+            joined = less holders since aim m content in_doubt seats old begins gone last new stands image left j holder.super.joined holder.joined;
+          })
+
+    pub knows_media : KnowsMedia (record s { seats = Some (seats_in last.array) }) last new
+    knows_media = record {
+      known = λ image left. knows_then holders since aim m content in_doubt seats old begins gone last new stands image left;
+      is = record {
+        encodings = reseated s (Some (seats_in last.array)) begins.is.encodings;
+        each = λ image left. by_seats s (Some (seats_in last.array)) begins.is.encodings (holders_of last) last.array.epoch image (it image left);
+        seats = λ image left current j only is_current. seat image left current j is_current;
+        steady = steady_epoch m.array.geometry aim gone m last old new begins.history begins.is.steady stands.issued going;
+      };
+      latest = λ image left. latest holders since aim m content in_doubt seats old begins gone last new stands image left;
+      closed = λ image left to j. closed_then image left to j;
+    }
