@@ -1,11 +1,11 @@
 -- The laws of a call that establishes an epoch, of a state's own geometry.
-use Rattle.std.proofs.Common.{◌≡◌, ◌≢◌, ℕ, List, refl, subst, None, Some}
+use Rattle.std.proofs.Common.{◌≡◌, ◌≢◌, ℕ, ◌<◌, List, inl, inr, refl, subst, None, Some}
 use Rattle.std.specs.Prelude.{IsTrue}
 use Rattle.stair_model.specs.Geometry.{Geometry}
 use Rattle.stair_model.specs.Slots.{Slots}
 use Rattle.stair_rack.specs.Answers.{IsHistory}
-use Rattle.stair_rack.specs.Crash.{CrashMayLeave, EachImage}
-use Rattle.stair_rack.specs.History.{Happening}
+use Rattle.stair_rack.specs.Crash.{CrashMayLeave, EachImage, image_now}
+use Rattle.stair_rack.specs.History.{Happening, stopped}
 use Rattle.stair_rack.specs.Media.{Image}
 use Rattle.stair_rack.specs.Moments.{IsMoment}
 use Rattle.stair_rack.specs.Offline.{IsAttached}
@@ -27,10 +27,12 @@ use Rattle.stair_return.specs.Behind.{IsKnownBehind}
 use Rattle.stair_return.specs.Found.{CoversMedia}
 use Rattle.stair_return.proofs.SessionBegins.{session_begins}
 use Rattle.stair_return.proofs.SessionBehind.{session_behind, session_closed}
+use Rattle.stair_return.proofs.OwnNewest.{own_newest}
+use Rattle.stair_rack.proofs.CrashLemmas.{CrashMayLeave-now}
 use Rattle.stair_return.proofs.EpochKnows.{knows_media}
 use Rattle.stair_session.proofs.OpenLaws.{goes_on_within}
 use Rattle.stair_return.proofs.KeptSince.{kept_since}
-use Rattle.stair_return.proofs.StoodSince.{knows_then, latest, stands_since}
+use Rattle.stair_return.proofs.StoodSince.{knows_then, latest, stands_since, taken_up}
 
 abbrev with_geometry : State → Geometry → State
 with_geometry s y = record { geometry = y; content = s.content; in_doubt = s.in_doubt; seats = s.seats }
@@ -89,6 +91,20 @@ goes_on s holders since aim gone m last before old new begins stood closed toler
     (λ b shut within.
     knows_media holders since aim m s.content s.in_doubt s.seats old b gone last before new stood shut within
     (goes_on_within m.array.geometry before new within)) begins closed tolerated
+
+pub own : (s : State) (holders : Holders) (since : ℕ) (aim : Aim) (gone : Slots) (m last : Membership) (old new : List Happening) (j : ℕ)
+    → BeginsWherever s holders since aim m old → StandsWherever aim gone m last old new → ¬ IsTrue (stopped new) → IsHere last j → IsAttached new j
+    → HasOwnNewest last new j
+own s holders since aim gone m last old new j begins stood going here on =
+    subst (λ (y : Geometry). BeginsWherever (with_geometry s y) holders since aim m old → HasOwnNewest last new j) begins.geometry
+    (λ b.
+    own_newest aim gone m last old new b.history b.is.steady stood going j here on
+    (λ used.
+    b.supers j
+    (elim (taken_up holders since aim m s.content s.in_doubt s.seats old b gone last new stood (image_now new) (CrashMayLeave-now new) j here) [
+      | inl was ↦ inl was.0
+      | inr joins ↦ inr (joins, subst (λ (y : Geometry). j < y.n) stood.established.stands.geometry here.below)
+    ]) used)) begins
 
 -- A SESSION
 

@@ -17,6 +17,7 @@ pub mod SessionLooks
 pub mod LeavingBegins
 pub mod SteadyEpoch
 pub mod EpochKnows
+pub mod OwnNewest
 pub mod EpochLaws
 pub mod MixedImages
 pub mod StillStretch

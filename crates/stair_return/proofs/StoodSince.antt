@@ -268,7 +268,7 @@ module _ (holders : Holders) (since : ℕ) (aim : Aim) (m : Membership) (content
 
     -- WHAT THE MEMBER KNOWS THEN
 
-    taken_up : (j : ℕ) → IsHere last j → (IsHere m j × (admitted aim ≢ Some j)) ⊎ (admitted aim ≡ Some j)
+    pub taken_up : (j : ℕ) → IsHere last j → (IsHere m j × (admitted aim ≢ Some j)) ⊎ (admitted aim ≡ Some j)
     taken_up j here =
         elim (decided (admitted aim) j) [
           | inl joins ↦ inr joins

@@ -5,7 +5,7 @@ ghost use Rattle.stair_model.specs.Geometry.{Geometry};
 ghost use Rattle.stair_model.specs.Slots.{HasSlot, Slots};
 ghost use Rattle.stair_rack.specs.Answers.{IsHistory, Ran};
 ghost use Rattle.stair_rack.specs.Crash.{CrashMayLeave, EachImage};
-ghost use Rattle.stair_rack.specs.History.{Happening};
+ghost use Rattle.stair_rack.specs.History.{Happening, stopped};
 ghost use Rattle.stair_rack.specs.Media.{Image};
 ghost use Rattle.stair_rack.specs.Moments.{IsMoment};
 ghost use Rattle.stair_rack.specs.Offline.{IsAttached};
@@ -56,6 +56,11 @@ pub fn epoch_laws()
         BeginsWherever s holders since aim m old → StandsWherever aim gone m last old new →
         AreHoldersClosed s.geometry holders m old → IsTolerated s.geometry before new →
         KnowsMedia (record s { seats = Some (seats_in last.array) }) last new }
+    // Each slot that takes part and is attached has its own superblock, and nothing in its next place ties with that.
+    ensures own { (s : State) (holders : Holders) (since : ℕ) (aim : Aim) (gone : Slots)
+        (m last : Membership) (old new : List Happening) (j : ℕ) →
+        BeginsWherever s holders since aim m old → StandsWherever aim gone m last old new →
+        ¬ IsTrue (stopped new) → IsHere last j → IsAttached new j → HasOwnNewest last new j }
     // So stands an epoch that was established on an honest rack.
     ensures established { (aim : Aim) (m last : Membership) (old new : Telling)
         (establishes : Establishes aim m last None old new) → IsTrue new.honest →

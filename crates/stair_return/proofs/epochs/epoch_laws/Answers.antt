@@ -1,5 +1,5 @@
 -- The laws are lemmas.
-use Rattle.stair_return.proofs.EpochLaws.{covers, established, goes_on, keeps, knows, stands}
+use Rattle.stair_return.proofs.EpochLaws.{covers, established, goes_on, keeps, knows, own, stands}
 use Rattle.stair_return.proofs.epochs.epoch_laws.Goals as goal
 
 pub returns-clause-keeps : goal.returns-clause-keeps
@@ -16,6 +16,9 @@ returns-clause-knows c = knows
 
 pub returns-clause-goes_on : goal.returns-clause-goes_on
 returns-clause-goes_on c = goes_on
+
+pub returns-clause-own : goal.returns-clause-own
+returns-clause-own c = own
 
 pub returns-clause-established : goal.returns-clause-established
 returns-clause-established c = established
