@@ -1,13 +1,12 @@
 -- What a session has when it establishes an epoch.
-use Rattle.std.proofs.Common.{◌≡◌, ◌≢◌, ℕ, ◌-◌, ◌<◌, ◌≤◌, List, ◌⊎◌, inl, inr, refl, sym, ap, ◌∙◌, subst, arith, Option, None, Some, false}
+use Rattle.std.proofs.Common.{◌≡◌, ◌≢◌, ℕ, ◌-◌, ◌<◌, ◌≤◌, List, ◌⊎◌, inl, inr, sym, ap, ◌∙◌, subst, arith, Option, None, Some}
 use Rattle.std.proofs.lemmas.Bool.{cases_lt}
 use Rattle.stair_model.specs.Geometry.{Geometry}
 use Rattle.stair_rack.specs.Answers.{IsHistory}
 use Rattle.stair_rack.specs.Crash.{EachImage, image_now}
-use Rattle.stair_rack.specs.History.{Happening, slot_state}
-use Rattle.stair_rack.specs.Media.{has_sector}
+use Rattle.stair_rack.specs.History.{Happening}
 use Rattle.stair_rack.specs.Offline.{IsAttached}
-use Rattle.stair_rack.specs.Sector.{Cell, Damaged, content}
+use Rattle.stair_rack.specs.Sector.{Cell, content}
 use Rattle.stair_rack.proofs.CrashLemmas.{CrashMayLeave-now}
 use Rattle.stair_rack.proofs.TidyLemmas.{history_tidy}
 use Rattle.stair_super.specs.Superblock.{Superblock}
@@ -24,7 +23,6 @@ use Rattle.stair_member.proofs.EditionLemmas.{holds_copy}
 use Rattle.stair_member.proofs.NewestLemmas.{places_whole, super_no_older}
 use Rattle.stair_member.proofs.SuperLemmas.{super_at}
 use Rattle.stair_state.specs.Holding.{HolderReserved, IsBorneSince, IsConsistentBy, IsConsistentSince, OfAdmitted}
-use Rattle.stair_state.specs.Reassembly.{Empty, InSlot, IsReassembledSlot, IsReassembly, OneOf}
 use Rattle.stair_state.specs.State.{State}
 use Rattle.stair_state.specs.Tolerance.{IsTolerated, IsToleratedAlone}
 use Rattle.stair_state.proofs.HoldingLemmas.{current_since}
@@ -38,6 +36,7 @@ use Rattle.stair_return.specs.Behind.{IsKnownBehind}
 use Rattle.stair_return.specs.Given.{KnowsSuper}
 use Rattle.stair_return.proofs.KeptSince.{up_below}
 use Rattle.stair_return.proofs.StoodSince.{held_here, holders_here}
+use Rattle.stair_return.proofs.SessionBehind.{left_reassembled}
 use Rattle.stair_state.specs.Blocks.{Codewords}
 
 -- THE SUPERBLOCK OF A SLOT
@@ -109,17 +108,6 @@ own_known m h j history rules here on is = record {
 
 -- THE IMAGE NOW
 
--- it is a reassembly of itself
-now_reassembled : (h : List Happening) → IsHistory h → IsReassembly (image_now h) (image_now h)
-now_reassembled h history j = sized (slot_state h j).size refl
-  where
-    past : (k : ℕ) → has_sector (slot_state h j).size k ≡ false → (image_now h j).cell k ≡ Damaged
-    past k none = ap content ((history_tidy history).past_end j k none)
-
-    sized : (o : Option ℕ) → (slot_state h j).size ≡ o → IsReassembledSlot (image_now h j) (image_now h j)
-    sized (Some n) is = OneOf InSlot (record { size = n; cell = (image_now h j).cell }) (is, refl) is (λ k. inl refl) past
-    sized None is = Empty is (λ k. past k (ap (λ (o : Option ℕ). has_sector o k) is))
-
 -- A SESSION
 
 module _ (s : State) (aim : Aim) (before : List Happening) (a : ArrayState) (words : Codewords) (h : List Happening)
@@ -136,7 +124,7 @@ module _ (s : State) (aim : Aim) (before : List Happening) (a : ArrayState) (wor
   -- a medium bears the member's epoch, or a later one: so that is drawn
   bears_epoch : IsBorneSince s.geometry a.member.array.epoch (image_now h) alone.current
   bears_epoch =
-      current_since s is.encodings (holders_of a.member) a.member.array.epoch (image_now h) it (image_now h) (now_reassembled h history) alone alone.current
+      current_since s is.encodings (holders_of a.member) a.member.array.epoch (image_now h) it (image_now h) (left_reassembled h history (image_now h) (CrashMayLeave-now h)) alone alone.current
       alone.is_current
 
   drawn_now : AllBut s.geometry.n s.geometry.m (λ j. HolderReserved s.geometry (holders_of a.member) (image_now h) j
