@@ -1,7 +1,7 @@
 -- What a new array holds.
-use Rattle.std.proofs.Common.{◌≡◌, ◌≢◌, ℕ, ◌-◌, ◌*◌, ◌<◌, ◌≤◌, ◌++◌, List, length, replicate, get_or, slice_index, slice_index_or, inl, inr, refl, sym, ◌∙◌, ap, subst₂, arith}
+use Rattle.std.proofs.Common.{◌≡◌, ◌≢◌, ℕ, ◌*◌, ◌<◌, ◌≤◌, List, length, replicate, get_or, slice_index, inl, inr, refl, sym, ◌∙◌, ap, subst₂, arith}
 use Rattle.std.proofs.lemmas.Bool.{cases_lt, cond-true, cond-false, lt-ltb, le-ltb, ne_eqb}
-use Rattle.std.proofs.lemmas.List.{get_or-replicate, get_or_append_left, get_or-append_right, get_or_past, length-append, length-replicate}
+use Rattle.std.proofs.lemmas.List.{get_or-replicate, length-replicate}
 use Rattle.std.proofs.lemmas.List.Elements.{All-nil, All-replicate}
 use Rattle.stair_model.specs.Codeword.{IsCodeword}
 use Rattle.stair_model.specs.Device.{gate_sector}
@@ -29,6 +29,7 @@ use Rattle.stair_state.specs.Blocks.{AreEncodingsOf, zero_block, zero_blocks}
 use Rattle.stair_array.specs.Created.{IsNewDevice, IsNewSlot, Kept, Other, created_sector, first_configuration, first_super}
 use Rattle.stair_state.specs.State.{first_seats}
 use Rattle.stair_state.proofs.BlockLemmas.{encodes_blocks}
+use Rattle.stair_session.proofs.NewSessionLemmas.{among_first, length_first, past_first}
 
 -- ZEROS
 
@@ -58,25 +59,6 @@ zero g limits = record {
 }
 
 -- MARKS AND JOINED NUMBERS
-
-among_first : {A : Type 0} → (n j : ℕ) (a b : A) → j < n → slice_index_or (replicate n a ++ replicate (32 - n) b) j b ≡ a
-among_first n j a b below =
-    get_or_append_left (replicate n a) (replicate (32 - n) b) b j (omega (arith, length-replicate n a)) ∙ get_or-replicate n j a b below
-
-any_entry : {A : Type 0} → (n j : ℕ) (b : A) → slice_index_or (replicate n b) j b ≡ b
-any_entry n j b =
-    elim (cases_lt j n) [
-      | inl below ↦ get_or-replicate n j b b below
-      | inr past ↦ get_or_past (replicate n b) j b (omega (arith, length-replicate n b))
-    ]
-
-past_first : {A : Type 0} → (n j : ℕ) (a b : A) → n ≤ j → slice_index_or (replicate n a ++ replicate (32 - n) b) j b ≡ b
-past_first n j a b past =
-    get_or-append_right (replicate n a) (replicate (32 - n) b) n j b (length-replicate n a) past ∙ any_entry (32 - n) (j - n) b
-
-length_first : {A : Type 0} → (n : ℕ) (a b : A) → n ≤ 32 → length (replicate n a ++ replicate (32 - n) b) ≡ 32
-length_first n a b small =
-    omega (arith, length-append (replicate n a) (replicate (32 - n) b), length-replicate n a, length-replicate (32 - n) b)
 
 pub mark_first : (g : Geometry) (j : ℕ) → j < g.n → mark_in (first_configuration g) j ≡ Live
 mark_first g j below = among_first g.n j Live Down below

@@ -405,6 +405,8 @@ module _ (g : Geometry) (image : Image) (limits : IsWithinLimits g) (id : length
           omega arith;
     };
     live = λ j a borne marked. ap (λ (c : Configuration). Some (joined_in c j)) (sym (since_array a borne));
+    rebuilt = λ j joined a borne marked holder.
+        let mine : Some joined ≡ Some (joined_at a j) = sym holder ∙ ap (λ (c : Configuration). Some (joined_in c j)) (sym (since_array a borne)) in cc;
     frozen = λ a borne. inl (ap (λ (c : Configuration). c.frozen) (since_array a borne));
     label = λ a borne. inl (ap (λ (c : Configuration). c.label) (since_array a borne));
     forms = λ to some reassembly have gate. record {

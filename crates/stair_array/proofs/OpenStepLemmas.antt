@@ -17,7 +17,7 @@ use Rattle.stair_session.specs.Returning.{NoneReturns}
 use Rattle.stair_session.specs.Session.{ArrayState}
 use Rattle.stair_array.specs.Calls.{refused}
 use Rattle.stair_array.specs.Machine.{Answer, Recover, Step}
-use Rattle.stair_array.specs.Promise.{EndsIn, IsInState, IsOpenFor, Keeps, KeepsProgress, Opened, Performs, Seen, ServesState, Session, StartsFrom, is_open}
+use Rattle.stair_array.specs.Promise.{EndsIn, IsInState, IsOpenFor, Keeps, KeepsProgress, Opened, Performs, Seen, ServesState, Session, StartsFrom}
 use Rattle.stair_array.proofs.LeftServingLemmas.{represents_serving}
 use Rattle.stair_array.proofs.LedOnLemmas.{led_open}
 use Rattle.stair_array.proofs.ServingLemmas.{IsCalmTo, IsServing}

@@ -1,6 +1,6 @@
 -- A look at the seats of an open array is what is promised of a step, on any rack, and one of the machine, where no medium comes back.
-use Rattle.std.proofs.Common.{◌≡◌, inl, inr, refl, sym, ap, ◌∙◌, subst, arith, List, None, Option, Some}
-use Rattle.std.specs.Prelude.{Err, IfErr, IsOk, IsTrue, Ok}
+use Rattle.std.proofs.Common.{◌≡◌, inr, refl, sym, ap, ◌∙◌, subst, List, None, Option, Some}
+use Rattle.std.specs.Prelude.{Err, IfErr, IsOk, Ok}
 use Rattle.stair_rack.specs.Crash.{EachImage}
 use Rattle.stair_rack.specs.History.{Happening}
 use Rattle.stair_rack.specs.Moments.{AtEveryMoment, IsMoment}
@@ -20,7 +20,6 @@ use Rattle.stair_session.specs.Returning.{IsCalm, NoneReturns}
 use Rattle.stair_session.specs.Session.{IsArray, seats_in}
 use Rattle.stair_session.proofs.FencesLemmas.{stays_open}
 use Rattle.stair_array.specs.Causes.{IsAllowed}
-use Rattle.stair_array.specs.Draws.{Before}
 use Rattle.stair_array.specs.Events.{events_of}
 use Rattle.stair_array.specs.Machine.{Answer, LookAtSeats, Recover, Row}
 use Rattle.stair_array.specs.Promise.{EndsIn, IsInState, IsLed, IsLeftBy, IsOpenFor, KeepsProgress, LeadsStep, Opened, Performs, Seen, is_open, running}

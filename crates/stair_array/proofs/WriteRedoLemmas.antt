@@ -64,7 +64,7 @@ module _ (before : List Happening) (r : Redoing) (redoing : IsRedoing r) (stripe
   stage_goes stage rebuild stopped_by to p y over does honest none going is =
       let then =
       redo_goes r redoing before (array_with rebuild stopped_by p) stage to start p.told y over
-      (subst (λ (what : Writes). DoesStage what to None p y) (same_writes stage) does) honest is.begun none going is.amid in
+      (subst (λ (what : Writes). DoesStage what to None p y) (same_writes stage) does) honest is.amid is.begun none going in
       record { amid = then.0; begun = then.1 }
 
   pub way : (stage : Stage) (rebuild : Option Rebuild) (stopped_by : Option FenceFault) (p : Point) → NothingReturned before p.told.history

@@ -119,22 +119,19 @@ module _ (words : Codewords) where
             ]
       ]
 
-  not_live : Down ≢ Live
-  not_live same = cc
+  -- what the new epoch doesn't mark Down is as by the old one
+  held_first : (j : ℕ) → mark_in (cut_fence 0).array j ≢ Down → joined_in (cut_fence 1).array j ≡ joined_in (cut_fence 0).array j
+  held_first =
+      five_cases (λ j. mark_in (cut_fence 0).array j ≢ Down → joined_in (cut_fence 1).array j ≡ joined_in (cut_fence 0).array j) (λ up. refl)
+      (λ up. absurd (up refl)) (λ up. absurd (up refl)) (λ up. refl) (λ up. refl)
+      (λ j past up. absurd (up (past_five Live Down Down Live Live Down j past)))
 
-  -- what the new epoch marks Live is so by the old one
-  live_first : (j : ℕ) → mark_in (cut_fence 0).array j ≡ Live → joined_in (cut_fence 1).array j ≡ joined_in (cut_fence 0).array j
-  live_first =
-      five_cases (λ j. mark_in (cut_fence 0).array j ≡ Live → joined_in (cut_fence 1).array j ≡ joined_in (cut_fence 0).array j) (λ is. refl)
-      (λ is. absurd (not_live is)) (λ is. absurd (not_live is)) (λ is. refl) (λ is. refl)
-      (λ j past is. absurd (not_live (sym (past_five Live Down Down Live Live Down j past) ∙ is)))
-
-  live_held : (i j : ℕ) → mark_in (cut_fence i).array j ≡ Live → joined_in (cut_fence 1).array j ≡ joined_in (cut_fence i).array j
-  live_held i j marked =
+  held_then : (i j : ℕ) → mark_in (cut_fence i).array j ≢ Down → joined_in (cut_fence 1).array j ≡ joined_in (cut_fence i).array j
+  held_then i j up =
       elim (cases_lt i 1) [
         | inl below ↦
             subst (λ (x : Configuration). joined_in (cut_fence 1).array j ≡ joined_in x j) (sym (new_array i below))
-            (live_first j (ap (λ (x : Configuration). mark_in x j) (sym (new_array i below)) ∙ marked))
+            (held_first j (λ down. up (ap (λ (x : Configuration). mark_in x j) (new_array i below) ∙ down)))
         | inr above ↦ ap (λ (x : Configuration). joined_in x j) (sym (old_array i above))
       ]
 
@@ -154,7 +151,7 @@ module _ (words : Codewords) where
           (λ b out i i_in. (epochs i).1) (λ b out. absurd (out refl)) (λ b out. absurd (out refl)) (λ b out i i_in. (epochs i).1)
           (λ b out i i_in. (epochs i).1) (λ j past below. absurd (omega (arith, past, below)));
     };
-    live = λ i j below marked. ap Some (live_held i j marked);
+    held = λ i j below up. ap Some (held_then i j up);
     frozen = λ j below. (epochs j).2;
     label = λ j below. (epochs j).3;
     one = λ i j i_in j_in same. one i j same;

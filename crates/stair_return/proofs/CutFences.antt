@@ -1,5 +1,5 @@
 -- The third history: two fences were cut, and while the rack is looked at the two devices that have an epoch of their own are pulled.
-use Rattle.std.proofs.Common.{◌≡◌, ◌≢◌, ℕ, ◌<◌, ◌≤◌, List, [], ◌∷◌, ◌⊎◌, inl, inr, refl, sym, ap, ◌∙◌, subst, arith, None, Some, false, true, replicate}
+use Rattle.std.proofs.Common.{◌≡◌, ◌≢◌, ℕ, ◌<◌, ◌≤◌, List, [], ◌∷◌, ◌⊎◌, inl, inr, refl, ap, subst, arith, None, Some, false, true, replicate}
 use Rattle.std.proofs.lemmas.Bool.{false≢true}
 use Rattle.stair_model.specs.Slots.{HasSlot, Slots, slot_count}
 use Rattle.stair_model.specs.Sum.{sum_below}
@@ -91,25 +91,22 @@ module _ (words : Codewords) where
       (by_epoch (λ y. 4 ≡ y.epoch → (two_fences 2).array ≡ y) (λ same. absurd (omega (arith, same))) (λ same. absurd (omega (arith, same))) (λ same. refl) j j_in)
       i i_in
 
-  not_live : Down ≢ Live
-  not_live same = cc
-
-  -- a slot that an epoch marks Live has one joined number in all
-  live_held : (i j : ℕ) → i < 5 → mark_in (two_fences i).array j ≡ Live → joined_in (two_fences 2).array j ≡ joined_in (two_fences i).array j
-  live_held i j below =
-      by_epoch (λ x. mark_in x j ≡ Live → joined_in (two_fences 2).array j ≡ joined_in x j) (of_first j) (of_second j) (λ is. refl) i below
+  -- a slot that an epoch doesn't mark Down has one joined number in all
+  held_then : (i j : ℕ) → i < 5 → mark_in (two_fences i).array j ≢ Down → joined_in (two_fences 2).array j ≡ joined_in (two_fences i).array j
+  held_then i j below =
+      by_epoch (λ x. mark_in x j ≢ Down → joined_in (two_fences 2).array j ≡ joined_in x j) (of_first j) (of_second j) (λ up. refl) i below
     where
-      of_first : (j : ℕ) → mark_in (two_fences 0).array j ≡ Live → joined_in (two_fences 2).array j ≡ joined_in (two_fences 0).array j
+      of_first : (j : ℕ) → mark_in (two_fences 0).array j ≢ Down → joined_in (two_fences 2).array j ≡ joined_in (two_fences 0).array j
       of_first =
-          five_cases (λ j. mark_in (two_fences 0).array j ≡ Live → joined_in (two_fences 2).array j ≡ joined_in (two_fences 0).array j) (λ is. refl)
-          (λ is. refl) (λ is. absurd (not_live is)) (λ is. absurd (not_live is)) (λ is. refl)
-          (λ j past is. absurd (not_live (sym (past_five Live Live Down Down Live Down j past) ∙ is)))
+          five_cases (λ j. mark_in (two_fences 0).array j ≢ Down → joined_in (two_fences 2).array j ≡ joined_in (two_fences 0).array j) (λ up. refl)
+          (λ up. refl) (λ up. absurd (up refl)) (λ up. absurd (up refl)) (λ up. refl)
+          (λ j past up. absurd (up (past_five Live Live Down Down Live Down j past)))
 
-      of_second : (j : ℕ) → mark_in (two_fences 1).array j ≡ Live → joined_in (two_fences 2).array j ≡ joined_in (two_fences 1).array j
+      of_second : (j : ℕ) → mark_in (two_fences 1).array j ≢ Down → joined_in (two_fences 2).array j ≡ joined_in (two_fences 1).array j
       of_second =
-          five_cases (λ j. mark_in (two_fences 1).array j ≡ Live → joined_in (two_fences 2).array j ≡ joined_in (two_fences 1).array j)
-          (λ is. absurd (not_live is)) (λ is. refl) (λ is. refl) (λ is. refl) (λ is. refl)
-          (λ j past is. absurd (not_live (sym (past_five Down Live Live Live Live Down j past) ∙ is)))
+          five_cases (λ j. mark_in (two_fences 1).array j ≢ Down → joined_in (two_fences 2).array j ≡ joined_in (two_fences 1).array j)
+          (λ up. absurd (up refl)) (λ up. refl) (λ up. refl) (λ up. refl) (λ up. refl)
+          (λ j past up. absurd (up (past_five Down Live Live Live Live Down j past)))
 
   few_undrawn : slot_count undrawn ≤ 2
   unfolding sum_below
@@ -127,7 +124,7 @@ module _ (words : Codewords) where
           (λ b out. absurd (out refl)) (λ b out i i_in. upto i i_in) (λ b out i i_in. upto i i_in) (λ b out i i_in. upto i i_in)
           (λ b out i i_in. upto i i_in) (λ j past below. absurd (omega (arith, past, below)));
     };
-    live = λ i j below marked. ap Some (live_held i j below marked);
+    held = λ i j below up. ap Some (held_then i j below up);
     frozen = by_epoch (λ x. x.frozen ≡ false) refl refl refl;
     label = by_epoch (λ x. x.label ≡ []) refl refl refl;
     one = one;

@@ -141,7 +141,7 @@ module _ (words : Codewords) where
       few = omega (arith, slot_count_none no_slots (λ j small has. false≢true (sym (has_slot-none j) ∙ has)));
       others = λ j below out i i_in. omega (arith, (epochs i).1, (epochs j).2);
     };
-    live = λ i j below marked. ap Some (sym ((plain i).2 j));
+    held = λ i j below up. ap Some (sym ((plain i).2 j));
     frozen = λ j below. (plain j).0;
     label = λ j below. (plain j).1;
     one = λ i j i_in j_in same. one i j same;

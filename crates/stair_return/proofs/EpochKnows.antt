@@ -1,16 +1,16 @@
 -- Once an epoch stands a session knows of all media what it is to know.
-use Rattle.std.proofs.Common.{◌≡◌, ℕ, List, ap, Option, Some}
+use Rattle.std.proofs.Common.{◌≡◌, ℕ, List, ap, Option, Some, inl, inr, subst, ◌<◌}
 use Rattle.std.specs.Prelude.{IsTrue}
 use Rattle.stair_model.specs.Slots.{Slots}
-use Rattle.stair_rack.specs.Crash.{CrashMayLeave}
+use Rattle.stair_rack.specs.Crash.{CrashMayLeave, image_now}
 use Rattle.stair_rack.specs.History.{Happening, stopped}
 use Rattle.stair_rack.specs.Media.{Image}
 use Rattle.stair_rack.proofs.TidyLemmas.{history_on}
 use Rattle.stair_super.specs.Superblock.{Superblock}
 use Rattle.stair_super.specs.declared.configuration.Configuration.{Configuration}
 use Rattle.stair_member.specs.Current.{IsCurrent}
-use Rattle.stair_member.specs.Epochs.{IsIssuing}
-use Rattle.stair_member.specs.Membership.{Membership}
+use Rattle.stair_member.specs.Epochs.{IsIssuing, IsTaken}
+use Rattle.stair_member.specs.Membership.{Membership, IsHere}
 use Rattle.stair_member.specs.Seats.{Seats, seats_of}
 use Rattle.stair_member.specs.declared.aim.Aim.{Aim}
 use Rattle.stair_state.specs.Holding.{Holders, IsBorneSince, IsConsistentBy, IsHolder}
@@ -20,16 +20,20 @@ use Rattle.stair_state.specs.State.{Change, Content, State}
 use Rattle.stair_state.specs.Tolerance.{IsTolerated}
 use Rattle.stair_state.proofs.HoldingLemmas.{current_since}
 use Rattle.stair_state.proofs.OutsideLemmas.{tolerated_alone}
-use Rattle.stair_session.specs.Returning.{holders_of}
+use Rattle.stair_session.specs.Returning.{KnowsMedia, holders_of}
 use Rattle.stair_session.specs.Session.{seats_in}
-use Rattle.stair_return.specs.Beginning.{AreHoldersClosed, BeginsWherever, KnowsMedia, StandsWherever}
+use Rattle.stair_return.specs.Beginning.{AreHoldersClosed, BeginsWherever, StandsWherever}
 use Rattle.stair_return.proofs.BehindSince.{closed_since}
 use Rattle.stair_return.proofs.KeptSince.{numbers, so}
 use Rattle.stair_return.proofs.SessionBehind.{left_reassembled}
 use Rattle.stair_return.proofs.SteadyEpoch.{steady_epoch}
-use Rattle.stair_return.proofs.StoodSince.{end, knows_then, latest, less, names_it, stands_since}
+use Rattle.stair_return.proofs.OwnNewest.{own_newest}
+use Rattle.stair_return.proofs.StoodSince.{end, knows_then, latest, less, names_it, stands_since, taken_up}
 use Rattle.stair_journal.specs.Gate.{ReadsClosed}
 use Rattle.stair_model.specs.Device.{gate_sector}
+use Rattle.stair_model.specs.Geometry.{Geometry}
+use Rattle.stair_rack.proofs.CrashLemmas.{CrashMayLeave-now}
+use Rattle.stair_member.specs.Aims.{admitted}
 
 -- seats aside it is the same state
 reseated : (s : State) (seats : Option Seats) → Encodings s → Encodings (record s { seats = seats })
@@ -42,6 +46,7 @@ by_seats s seats e holders since image it = record {
   overtaken = it.overtaken;
   reserved = it.reserved;
   live = it.live;
+  rebuilt = it.rebuilt;
   frozen = it.frozen;
   label = it.label;
   forms = it.forms;
@@ -88,6 +93,14 @@ module _ (holders : Holders) (since : ℕ) (aim : Aim) (m : Membership) (content
             joined = less holders since aim m content in_doubt seats old begins gone last new stands image left j holder.super.joined holder.joined;
           })
 
+    -- who takes part then did so before, or was to be admitted
+    taken_part : (j : ℕ) → IsHere last j → IsTaken (admitted aim) m j
+    taken_part j here =
+        elim (taken_up holders since aim m content in_doubt seats old begins gone last new stands (image_now new) (CrashMayLeave-now new) j here) [
+          | inl was ↦ inl was.0
+          | inr joins ↦ inr (joins, subst (λ (y : Geometry). j < y.n) stands.established.stands.geometry here.below)
+        ]
+
     pub knows_media : KnowsMedia (record s { seats = Some (seats_in last.array) }) last new
     knows_media = record {
       known = λ image left. knows_then holders since aim m content in_doubt seats old begins gone last new stands image left;
@@ -97,6 +110,8 @@ module _ (holders : Holders) (since : ℕ) (aim : Aim) (m : Membership) (content
         seats = λ image left current j only is_current. seat image left current j is_current;
         steady = steady_epoch m.array.geometry aim gone m last old new begins.history begins.is.steady stands.issued going;
       };
+      own = λ j here on.
+          own_newest aim gone m last old new begins.history begins.is.steady stands going j here on (λ used. begins.supers j (taken_part j here) used);
       latest = λ image left. latest holders since aim m content in_doubt seats old begins gone last new stands image left;
       closed = λ image left to j. closed_then image left to j;
     }

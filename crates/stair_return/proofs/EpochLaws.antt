@@ -21,10 +21,9 @@ use Rattle.stair_state.specs.Holding.{Holders, IsConsistentBy}
 use Rattle.stair_state.specs.State.{State, new_content}
 use Rattle.stair_state.specs.Tolerance.{IsTolerated}
 use Rattle.stair_session.specs.Session.{ArrayState, IsOpenWith, seats_in}
-use Rattle.stair_session.specs.Returning.{IsKnownWherever, holders_of}
-use Rattle.stair_return.specs.Beginning.{AreHoldersClosed, BeginsWherever, HasOwnNewest, KnowsMedia, SaysContent, StandsWherever}
+use Rattle.stair_session.specs.Returning.{CoversMedia, HasOwnNewest, IsKnownWherever, KnowsMedia, holders_of}
+use Rattle.stair_return.specs.Beginning.{AreHoldersClosed, BeginsWherever, SaysContent, StandsWherever}
 use Rattle.stair_return.specs.Behind.{IsKnownBehind}
-use Rattle.stair_return.specs.Found.{CoversMedia}
 use Rattle.stair_return.proofs.SessionBegins.{session_begins}
 use Rattle.stair_return.proofs.SessionBehind.{session_behind, session_closed}
 use Rattle.stair_return.proofs.OwnNewest.{own_newest}
@@ -111,10 +110,10 @@ own s holders since aim gone m last old new j begins stood going here on =
 pub begins : (s : State) (aim : Aim) (before : List Happening) (a : ArrayState) (words : Codewords) (h : List Happening) → IsHistory h
     → IsOpenWith before a words h → a.member.array.geometry ≡ s.geometry → AreEncodingsOf s.geometry s.content.blocks words
     → (new_content s).blocks ≡ s.content.blocks → admitted aim ≡ None → ((j : ℕ) → aim ≢ Promote j) → KnowsMedia s a.member h
-    → IsTolerated s.geometry before h → ((j : ℕ) → IsHere a.member j → IsAttached h j → HasOwnNewest a.member h j) → SaysContent s aim a.member
+    → IsTolerated s.geometry before h → SaysContent s aim a.member
     → BeginsWherever s (holders_of a.member) a.member.array.epoch aim a.member h
-begins s aim before a words h history is_open geometry encoded certain none_joins none_promoted knows tolerated newest says =
-    session_begins s aim before a words h history is_open geometry none_joins none_promoted knows.known knows.is tolerated newest behind says
+begins s aim before a words h history is_open geometry encoded certain none_joins none_promoted knows tolerated says =
+    session_begins s aim before a words h history is_open geometry none_joins none_promoted knows.known knows.is tolerated knows.own behind says
   where
     behind : IsKnownBehind s knows.is.encodings (holders_of a.member) a.member.array.epoch aim a.member h
     behind =

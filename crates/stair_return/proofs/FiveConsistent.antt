@@ -1,14 +1,14 @@
 -- A rack of five devices whose superblocks a cut epoch left is consistent under reassembly, and holds zeros.
-use Rattle.std.proofs.Common.{◌≡◌, ℕ, ◌<◌, ◌≤◌, List, [], ◌∷◌, inl, inr, refl, sym, ap, ◌∙◌, subst, subst₂, arith, Option, Some, None, slice_get, false}
+use Rattle.std.proofs.Common.{◌≡◌, ◌≢◌, ℕ, ◌<◌, ◌≤◌, List, [], ◌∷◌, inl, inr, refl, sym, ap, ◌∙◌, subst, subst₂, arith, Option, Some, None, slice_get, false}
 use Rattle.std.proofs.lemmas.Bool.{cases_lt, cond-true, cond-false, false≢true, lt-ltb, le-ltb}
 use Rattle.stair_model.specs.Device.{cell_sector, gate_sector}
 use Rattle.stair_model.specs.Stripe.{cell}
 use Rattle.stair_rack.specs.History.{Made}
 use Rattle.stair_rack.specs.Media.{Image, Medium, SlotImage, has_sector}
 use Rattle.stair_rack.specs.Sector.{Cell}
-use Rattle.stair_super.specs.Superblock.{Superblock, joined_in, mark_in}
+use Rattle.stair_super.specs.Superblock.{Superblock, joined_in, mark_in, joined_at, mark_at}
 use Rattle.stair_super.specs.declared.configuration.Configuration.{Configuration}
-use Rattle.stair_super.specs.declared.mark.Mark.TheVariants.{Live}
+use Rattle.stair_super.specs.declared.mark.Mark.TheVariants.{Down, Live, Rebuilding}
 use Rattle.stair_member.specs.Counting.{AllBut}
 use Rattle.stair_member.specs.Editions.{Edition, copy_of}
 use Rattle.stair_member.specs.Reserve.{Bears}
@@ -79,7 +79,7 @@ module _ (words : Codewords) (editions : ℕ → Edition) where
   pub record IsCut (holders : Holders) (since : ℕ) : Type 0 where
     pub least : (j : ℕ) → j < 5 → since ≤ (editions j).array.epoch
     pub drawn : AllBut 5 2 (λ j. (i : ℕ) → i < 5 → (editions i).array.epoch ≤ (editions j).draw)
-    pub live : (i j : ℕ) → i < 5 → mark_in (editions i).array j ≡ Live → holders j ≡ Some (joined_in (editions i).array j)
+    pub held : (i j : ℕ) → i < 5 → mark_in (editions i).array j ≢ Down → holders j ≡ Some (joined_in (editions i).array j)
     pub frozen : (j : ℕ) → j < 5 → (editions j).array.frozen ≡ false
     pub label : (j : ℕ) → j < 5 → (editions j).array.label ≡ []
     pub one : (i j : ℕ) → i < 5 → j < 5 → (editions i).array.epoch ≡ (editions j).array.epoch → (editions i).array ≡ (editions j).array
@@ -160,6 +160,13 @@ module _ (words : Codewords) (editions : ℕ → Edition) where
     since_own : (a : Superblock) → IsBorneSince five since image a → (i : ℕ) × (i < 5) × (a.array ≡ (editions i).array)
     since_own a borne = (borne.slot, (own borne.slot borne.place a borne.borne).below, array_of borne.slot borne.place a borne.borne)
 
+    -- a slot that isn't marked Down has the holder that is meant
+    held_since : (a : Superblock) → IsBorneSince five since image a → (j : ℕ) → mark_at a j ≢ Down → holders j ≡ Some (joined_at a j)
+    held_since a borne j up =
+        let it = since_own a borne in
+        cut.held it.0 j it.1 (λ down. up (ap (λ (c : Configuration). mark_in c j) it.2 ∙ down))
+        ∙ ap (λ (c : Configuration). Some (joined_in c j)) (sym it.2)
+
     by_holders : IsConsistentBy zeros encodings holders since image
     by_holders = record {
       overtaken = λ i p a borne earlier.
@@ -175,9 +182,11 @@ module _ (words : Codewords) (editions : ℕ → Edition) where
           let upto : (editions i).array.epoch ≤ (editions j).draw = drawn i (own i q t borne).below in
           omega (arith, draw, epoch, upto)) cut.drawn;
       live = λ j a borne marked.
-          let it = since_own a borne in
-          cut.live it.0 j it.1 (sym (ap (λ (c : Configuration). mark_in c j) it.2) ∙ marked)
-          ∙ ap (λ (c : Configuration). Some (joined_in c j)) (sym it.2);
+          held_since a borne j (λ down. let never : Live ≡ Down = sym marked ∙ down in cc);
+      rebuilt = λ j joined a borne marked holder.
+          let same : Some joined ≡ Some (joined_at a j) =
+          sym holder ∙ held_since a borne j (λ down. let never : Rebuilding ≡ Down = sym marked ∙ down in cc) in
+          cc;
       frozen = λ a borne. let it = since_own a borne in inl (ap (λ (c : Configuration). c.frozen) it.2 ∙ cut.frozen it.0 it.1);
       label = λ a borne. let it = since_own a borne in inl (ap (λ (c : Configuration). c.label) it.2 ∙ cut.label it.0 it.1);
       forms = λ to some reassembly have gate. record {

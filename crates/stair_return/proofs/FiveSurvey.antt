@@ -2,7 +2,6 @@
 use Rattle.std.specs.Prelude.{◌&&◌, Result, is_some, not as negated}
 use Rattle.std.proofs.Common.{◌≡◌, ◌≢◌, ℕ, zero, suc, ◌+◌, ◌-◌, ◌<◌, ◌≤◌, List, [], ◌∷◌, inl, inr, refl, sym, ap, ◌∙◌, subst, arith, Bool, Option, None, false, true, replicate, slice_index_or, if◌then◌else◌}
 use Rattle.std.proofs.lemmas.Bool.{cases_Bool, cases_lt, cond-true, cond-false, le-ltb}
-use Rattle.std.proofs.lemmas.List.{get_or-replicate, get_or_past, length-replicate}
 use Rattle.stair_model.specs.Slots.{HasSlot, IsSlotSet, Slots, has_slot, slot_count}
 use Rattle.stair_rack.specs.Answers.{Calls, Ran, Told, any_call, is_ready, reply_if}
 use Rattle.stair_rack.specs.History.{Attach, Called, Happening, Read, empty_slot, slot_state, stopped}
@@ -32,6 +31,7 @@ use Rattle.stair_member.proofs.CountingLemmas.{has_or_not}
 use Rattle.stair_member.proofs.SuperLemmas.{counts_bears, one_super, super_held}
 use Rattle.stair_state.specs.Blocks.{Codewords}
 use Rattle.stair_state.proofs.FormLemmas.{good_whole}
+use Rattle.stair_session.proofs.NewSessionLemmas.{any_entry}
 use Rattle.stair_return.specs.Misled.{device_cell, empty_after, five, made_of, rack_of}
 use Rattle.stair_return.specs.Still.{IsStill}
 use Rattle.stair_return.proofs.FiveConsistent.{in_place}
@@ -39,13 +39,6 @@ use Rattle.stair_return.proofs.FiveDevices.{AreEditions, Bare, InPlace, IsDevice
 use Rattle.stair_return.proofs.FiveMoments.{GoesOn, Holding, HoldsDevice, SlotIs, Without, goes_still}
 
 -- LISTS OF 32
-
-any_entry : {A : Type 0} → (n j : ℕ) (b : A) → slice_index_or (replicate n b) j b ≡ b
-any_entry n j b =
-    elim (cases_lt j n) [
-      | inl below ↦ get_or-replicate n j b b below
-      | inr past ↦ get_or_past (replicate n b) j b (omega (arith, length-replicate n b))
-    ]
 
 pub past_five : {A : Type 0} → (a b c d e x : A) (j : ℕ) → 5 ≤ j → slice_index_or (a ∷ b ∷ c ∷ d ∷ e ∷ replicate 27 x) j x ≡ x
 past_five a b c d e x zero past = absurd (omega (arith, past))

@@ -145,6 +145,31 @@ module _ (holders : Holders) (since : ℕ) (aim : Aim) (m : Membership) (content
             ∙ ap Some (sym (same (inl here)))
         by (inr promoted) = begins.meant.promoted j promoted ∙ ap Some (sym (same (inr promoted)))
 
+    -- what is to be rebuilt was so before, or is admitted
+    rebuilt_first : (j : ℕ) → j < g.n → (named : Configuration) → IsAimed aim (HasSlot gone) m named → mark_in named j ≡ mark.Rebuilding
+        → admitted aim ≢ Some j → mark_in m.array j ≡ mark.Rebuilding
+    rebuilt_first j below named is rebuilds other =
+        elim (is.marks j below) [
+          | inr out ↦ absurd (rebuilt_not_down rebuilds out.1)
+          | inl of ↦
+              elim (rebuilt_before aim j (why_of m j) (rebuilding_why (aimed aim j (why_of m j)) (sym of ∙ rebuilds))) [
+                | inl was ↦ subst (λ (w : Why). IsMarkedFor w (mark_in m.array j)) was (begins.member.marked j below)
+                | inr joins ↦ absurd (other joins)
+              ]
+        ]
+
+    -- with its holder, if it has one; an admitted slot has none
+    rebuilt_of : (j joined : ℕ) → j < g.n → (named : Configuration) → IsAimed aim (HasSlot gone) m named → mark_in named j ≡ mark.Rebuilding
+        → holders j ≡ Some joined → joined ≡ joined_in named j
+    rebuilt_of j joined below named is marked holder =
+        elim (decided (admitted aim) j) [
+          | inl joins ↦
+              absurd (here_up m begins.member j (begins.meant.taken j joined (inr (joins, below)) holder).0 (known.down j joins))
+          | inr other ↦
+              begins.meant.rebuilt j joined (rebuilt_first j below named is marked other) holder
+              ∙ sym (is.joined j below (rebuilt_not_down marked) other)
+        ]
+
     -- SLOTS THAT ARE REBUILT
 
     module _ (to : Image) (j : ℕ) (a b : Superblock) (redo : Redo) (reassembly : IsReassembly image to) (there : IsBorneSince g since image a)
@@ -200,19 +225,9 @@ module _ (holders : Holders) (since : ℕ) (aim : Aim) (m : Membership) (content
                 reassembly j b bears joins (own joins (omega (arith, new_number, number, above))) redo
             | inr other ↦
                 by_number
-                (ByMember (marked_then other) (sym (is.joined j below (rebuilt_not_down rebuilds) other) ∙ sym number))
+                (ByMember (rebuilt_first j below named is rebuilds other)
+                (sym (is.joined j below (rebuilt_not_down rebuilds) other) ∙ sym number))
           ]
-        where
-          marked_then : admitted aim ≢ Some j → mark_in m.array j ≡ mark.Rebuilding
-          marked_then other =
-              elim (is.marks j below) [
-                | inr out ↦ absurd (rebuilt_not_down rebuilds out.1)
-                | inl of ↦
-                    elim (rebuilt_before aim j (why_of m j) (rebuilding_why (aimed aim j (why_of m j)) (sym of ∙ rebuilds))) [
-                      | inl was ↦ subst (λ (w : Why). IsMarkedFor w (mark_in m.array j)) was (begins.member.marked j below)
-                      | inr joins ↦ absurd (other joins)
-                    ]
-              ]
 
       pub shut_kept : j < g.n → ¬ IsOpen g to j redo
       shut_kept below = by (borne there.slot there.place a there.borne)
@@ -250,6 +265,9 @@ module _ (holders : Holders) (since : ℕ) (aim : Aim) (m : Membership) (content
       live = λ j x there marked.
           since_kept (λ c. mark_in c j ≡ mark.Live → holders j ≡ Some (joined_in c j)) (λ y first. it.live j y first) (begins.meant.live j)
           (live_of j (since_below x there j (live_not_down marked))) x there marked;
+      rebuilt = λ j joined x there marked.
+          since_kept (λ c. mark_in c j ≡ mark.Rebuilding → holders j ≡ Some joined → joined ≡ joined_in c j) (λ y first. it.rebuilt j joined y first)
+          (begins.meant.rebuilt j joined) (rebuilt_of j joined (since_below x there j (rebuilt_not_down marked))) x there marked;
       frozen =
           since_kept (λ c. (c.frozen ≡ content.frozen) ⊎ (c.frozen ≡ (new_content s).frozen)) it.frozen begins.says.frozen
           (λ named is. elim begins.says.frozen_new [ inl same ↦ inl (is.frozen ∙ same) | inr same ↦ inr (is.frozen ∙ same) ]);

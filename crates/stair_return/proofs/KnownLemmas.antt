@@ -44,9 +44,9 @@ use Rattle.stair_state.proofs.OutsideLemmas.{unwritten_ran}
 use Rattle.stair_state.proofs.ReassembledLemmas.{borne_of, counts_from}
 use Rattle.stair_state.proofs.StillLemmas.{steady_cells}
 use Rattle.stair_session.specs.Mixed.{IsToleratedMixed}
-use Rattle.stair_session.specs.Returning.{IsKnownWherever}
+use Rattle.stair_session.specs.Returning.{CoversMedia, IsKnownWherever}
 use Rattle.stair_return.specs.Following.{AreOfNamed, Blank, Kept, name_of}
-use Rattle.stair_return.specs.Found.{CoversMedia, IsToleratedReassembly}
+use Rattle.stair_return.specs.Found.{IsToleratedReassembly}
 use Rattle.stair_return.proofs.AttachedOnce.{none_after}
 use Rattle.stair_return.proofs.MixedImages.{mixed_reassembly}
 use Rattle.stair_return.proofs.NameLemmas.{attached_name, name_apart, still_attached}

@@ -71,6 +71,7 @@ module _ (holders : Holders) (m : Membership) (whys : List Why) (h : List Happen
       meant = record {
         taken = λ j n is held. (joins j n is held, (begins.meant.taken j n (taken j is) held).1);
         live = begins.meant.live;
+        rebuilt = begins.meant.rebuilt;
         promoted = begins.meant.promoted;
       };
       says = record {

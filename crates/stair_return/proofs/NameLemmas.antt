@@ -1,7 +1,7 @@
 -- Media keep their names: no two of a slot have one, and a slot that wasn't pulled has the medium that it had.
-use Rattle.std.proofs.Common.{◌≡◌, ℕ, ◌+◌, ◌<◌, ◌≤◌, List, [], ◌∷◌, inl, inr, refl, sym, ap, ◌∙◌, subst, arith, true, slice_get}
-use Rattle.std.specs.Prelude.{Option, None, Some, IsSome, ◌==◌, nat_lt, if◌then◌else◌, length}
-use Rattle.std.proofs.lemmas.Bool.{cases_eq, cases_lt, cond-true, cond-false, eq-eqb, ne_eqb, lt-ltb, le-ltb, false≢true}
+use Rattle.std.proofs.Common.{◌≡◌, ℕ, ◌≤◌, List, [], ◌∷◌, inl, inr, refl, sym, ◌∙◌, subst, arith, true, slice_get}
+use Rattle.std.specs.Prelude.{Option, None, Some, IsSome, ◌==◌, length}
+use Rattle.std.proofs.lemmas.Bool.{cases_eq, cases_lt, cond-true, cond-false, eq-eqb, ne_eqb, false≢true}
 use Rattle.stair_rack.specs.Answers.{IsAnswered, IsBesideAttach, IsHistory, IsNoAttach, Ran}
 use Rattle.stair_rack.specs.History.{Happening, Made, Stopped, Acted, Called, Pulled, InsertedBlank, InsertedOld, SectorDamaged, SlotAct, SlotCall, Attach, Sectors, Read, Write, Sync, SlotState, after_act, after_call, slot_state, with_old}
 use Rattle.stair_rack.specs.Media.{Medium}
@@ -13,71 +13,17 @@ use Rattle.stair_rack.proofs.OfflineLemmas.{pulls_on}
 use Rattle.stair_rack.proofs.StepLemmas.{Keeps, kept, keeps_slot}
 use Rattle.stair_rack.proofs.TidyLemmas.{history_tidy}
 use Rattle.stair_state.specs.Reassembly.{InSlot, Location, Outside}
-use Rattle.stair_return.specs.Following.{before_act, before_pull, before_return, name_of}
+use Rattle.stair_state.proofs.ReturnLemmas.{pulled_apart, returned_apart}
+use Rattle.stair_return.specs.Following.{before_act, name_of}
 
 -- WHERE A MEDIUM LAY BEFORE AN ACT
-
-pub outside_once : {a b : ℕ} → Outside a ≡ Outside b → a ≡ b
-outside_once same = cc
 
 pub not_outside : {i : ℕ} → Outside i ≡ InSlot → ⊥
 not_outside same = cc
 
-pub pulled_last : (count i : ℕ) → i ≡ count → before_pull count (Outside i) ≡ InSlot
-pulled_last count i same = cond-true _ _ _ (eq-eqb i count same)
-
-pub pulled_other : (count i : ℕ) → ¬ (i ≡ count) → before_pull count (Outside i) ≡ Outside i
-pulled_other count i other = cond-false _ _ _ (ne_eqb i count other)
-
-pulled_twice : (count : ℕ) (p : Location) → before_pull count (before_pull count p) ≡ p
-pulled_twice count InSlot = pulled_last count count refl
-pulled_twice count (Outside i) =
-    elim (cases_eq i count) [
-      | inl same ↦ ap (before_pull count) (pulled_last count i same) ∙ ap Outside (sym same)
-      | inr other ↦ ap (before_pull count) (pulled_other count i other) ∙ pulled_other count i other
-    ]
-
--- which of the media outside it was before one was put back
-abbrev pub before_gap : ℕ → ℕ → ℕ
-before_gap i k = if nat_lt k i then k else k + 1
-
-pub gap_below : (i k : ℕ) → k < i → before_gap i k ≡ k
-gap_below i k below = cond-true _ _ _ (lt-ltb k i below)
-
-pub gap_behind : (i k : ℕ) → i ≤ k → before_gap i k ≡ k + 1
-gap_behind i k behind = cond-false _ _ _ (le-ltb k i behind)
-
-gap_other : (i k : ℕ) → ¬ (before_gap i k ≡ i)
-gap_other i k same =
-    elim (cases_lt k i) [
-      | inl below ↦ omega (arith, same, gap_below i k below)
-      | inr behind ↦ omega (arith, same, gap_behind i k behind)
-    ]
-
-gap_once : (i k l : ℕ) → before_gap i k ≡ before_gap i l → k ≡ l
-gap_once i k l same =
-    elim (cases_lt k i) [
-      | inl below ↦
-          elim (cases_lt l i) [
-            | inl also ↦ omega (arith, same, gap_below i k below, gap_below i l also)
-            | inr behind ↦ omega (arith, same, gap_below i k below, gap_behind i l behind)
-          ]
-      | inr behind ↦
-          elim (cases_lt l i) [
-            | inl below ↦ omega (arith, same, gap_behind i k behind, gap_below i l below)
-            | inr also ↦ omega (arith, same, gap_behind i k behind, gap_behind i l also)
-          ]
-    ]
-
-returned_apart : (i : ℕ) (p q : Location) → before_return i p ≡ before_return i q → p ≡ q
-returned_apart i InSlot InSlot same = refl
-returned_apart i InSlot (Outside l) same = absurd (gap_other i l (sym (outside_once same)))
-returned_apart i (Outside k) InSlot same = absurd (gap_other i k (outside_once same))
-returned_apart i (Outside k) (Outside l) same = ap Outside (gap_once i k l (outside_once same))
-
 act_apart : (a : SlotAct) (b : SlotState) (p q : Location) → before_act a b p ≡ before_act a b q → p ≡ q
 act_apart (Pulled m) b p q same =
-    sym (pulled_twice (length b.removed) p) ∙ ap (before_pull (length b.removed)) same ∙ pulled_twice (length b.removed) q
+    pulled_apart (length b.removed) p q same
 act_apart (InsertedBlank size) b p q same = same
 act_apart (InsertedOld i) b p q same = returned_apart i p q same
 act_apart (SectorDamaged k) b p q same = same

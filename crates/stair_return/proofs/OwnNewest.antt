@@ -25,7 +25,8 @@ use Rattle.stair_state.specs.Reassembly.{InSlot, IsMediumOf, Location}
 use Rattle.stair_state.specs.Represents.{AreSteady}
 use Rattle.stair_state.proofs.FormLemmas.{good_whole}
 use Rattle.stair_session.specs.Session.{own_super}
-use Rattle.stair_return.specs.Beginning.{HasOwnNewest, StandsWherever}
+use Rattle.stair_session.specs.Returning.{HasOwnNewest}
+use Rattle.stair_return.specs.Beginning.{StandsWherever}
 use Rattle.stair_return.specs.Following.{name_of}
 use Rattle.stair_return.specs.Given.{KnowsSuper}
 use Rattle.stair_return.proofs.BorneSince.{copy_given}

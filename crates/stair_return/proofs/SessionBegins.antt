@@ -9,9 +9,9 @@ use Rattle.stair_rack.specs.Offline.{IsAttached}
 use Rattle.stair_rack.specs.Sector.{Cell, content}
 use Rattle.stair_rack.proofs.CrashLemmas.{CrashMayLeave-now}
 use Rattle.stair_rack.proofs.TidyLemmas.{history_tidy}
-use Rattle.stair_super.specs.Superblock.{Superblock}
-use Rattle.stair_super.specs.declared.mark.Mark.TheVariants.{Down, Live}
-use Rattle.stair_member.specs.Aims.{admitted}
+use Rattle.stair_super.specs.Superblock.{Superblock, mark_in}
+use Rattle.stair_super.specs.declared.mark.Mark.TheVariants.{Down, Live, Rebuilding}
+use Rattle.stair_member.specs.Aims.{admitted, mark_for}
 use Rattle.stair_member.specs.Counting.{AllBut}
 use Rattle.stair_member.specs.Current.{ByOutside, IsLost}
 use Rattle.stair_member.specs.Membership.{IsHere, IsMembership, Membership, place_of, why_of}
@@ -27,11 +27,11 @@ use Rattle.stair_state.specs.State.{State}
 use Rattle.stair_state.specs.Tolerance.{IsTolerated, IsToleratedAlone}
 use Rattle.stair_state.proofs.HoldingLemmas.{current_since}
 use Rattle.stair_state.proofs.OutsideLemmas.{tolerated_alone}
-use Rattle.stair_session.specs.Returning.{IsKnownWherever, holders_of}
+use Rattle.stair_session.specs.Returning.{HasOwnNewest, IsKnownWherever, holders_of}
 use Rattle.stair_session.specs.Session.{ArrayState, IsOpenWith, own_super}
 use Rattle.stair_session.proofs.ChangingLemmas.{live_here}
 use Rattle.stair_session.proofs.OwnLaws.{own_drawn, own_formed}
-use Rattle.stair_return.specs.Beginning.{AreMeant, BeginsWherever, HasOwnNewest, SaysContent}
+use Rattle.stair_return.specs.Beginning.{AreMeant, BeginsWherever, SaysContent}
 use Rattle.stair_return.specs.Behind.{IsKnownBehind}
 use Rattle.stair_return.specs.Given.{KnowsSuper}
 use Rattle.stair_return.proofs.KeptSince.{up_below}
@@ -154,6 +154,11 @@ module _ (s : State) (aim : Aim) (before : List Happening) (a : ArrayState) (wor
         let below = up_below a.member.array j (record { rules = is_open.array.member.array; marks = is_open.array.member.sizes.marks })
         (λ down. let never : Live ≡ Down = sym marked ∙ down in cc) in
         holders_here a.member j below (live_here (why_of a.member j) (sym (is_open.array.marks j below) ∙ marked));
+    rebuilt = λ j n marked holder.
+        let held = held_here a.member j n holder in
+        let live : mark_in a.member.array j ≡ Live = is_open.array.marks j held.below ∙ ap mark_for held.here in
+        let never : Rebuilding ≡ Live = sym marked ∙ live in
+        absurd (cc);
     promoted = λ j promoted. absurd (none_promoted j promoted);
   }
 

@@ -44,10 +44,10 @@ use Rattle.stair_state.proofs.HoldingLemmas.{current_since, live_holder}
 use Rattle.stair_state.proofs.OutsideLemmas.{tolerated_alone}
 use Rattle.stair_state.proofs.ReassembledLemmas.{IsBorneFrom, borne_of, from_slot}
 use Rattle.stair_state.proofs.ToleranceLemmas.{journal_gate}
-use Rattle.stair_session.specs.Returning.{holders_of}
+use Rattle.stair_session.specs.Returning.{KnowsMedia, holders_of}
 use Rattle.stair_session.specs.Session.{ArrayState, IsLiveIn, IsOpenWith}
 use Rattle.stair_session.proofs.MidwayLemmas.{rebuilding_why}
-use Rattle.stair_return.specs.Beginning.{AreHoldersClosed, KnowsMedia}
+use Rattle.stair_return.specs.Beginning.{AreHoldersClosed}
 use Rattle.stair_return.specs.Behind.{Bearing, ByMedium, ByMember, HasHolder, HasNumber, InUse, IsKnownBehind, IsRebuiltAs}
 use Rattle.stair_return.proofs.StoodSince.{held_here}
 use Rattle.stair_return.proofs.WhereverLemmas.{kept_left}

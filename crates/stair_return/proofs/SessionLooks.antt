@@ -3,18 +3,20 @@ use Rattle.std.proofs.Common.{◌≡◌, ℕ, ◌≤◌, List, sym, ap, ◌∙�
 use Rattle.stair_model.specs.Geometry.{Geometry}
 use Rattle.stair_rack.specs.Answers.{IsHistory, IsNoAttach, Ran}
 use Rattle.stair_rack.specs.Crash.{CrashMayLeave}
-use Rattle.stair_rack.specs.History.{Happening, slot_state}
+use Rattle.stair_rack.specs.History.{Happening, SlotCall, Attach, Sectors, Read, Write, Sync, slot_state}
 use Rattle.stair_rack.specs.Media.{Image, SlotImage}
 use Rattle.stair_rack.specs.Offline.{IsAttached}
+use Rattle.stair_rack.specs.Stretch.{IsNoWrite}
 use Rattle.stair_rack.proofs.MomentLemmas.{ran_weakened}
 use Rattle.stair_rack.proofs.TidyLemmas.{history_on}
 use Rattle.stair_super.specs.Superblock.{Superblock}
 use Rattle.stair_super.specs.declared.configuration.Configuration.{Configuration}
-use Rattle.stair_member.specs.Membership.{IsHere, Membership}
+use Rattle.stair_member.specs.Membership.{IsHere, IsMembership, Membership}
 use Rattle.stair_member.specs.Current.{IsCurrent}
 use Rattle.stair_member.specs.Seats.{seats_of}
 use Rattle.stair_state.specs.Holding.{IsConsistentBy}
 use Rattle.stair_state.specs.Reassembly.{Empty, InSlot, IsBorne, IsReassembledSlot, Location, OneOf, Unwritten}
+use Rattle.stair_state.specs.Redoing.{AttachesNone}
 use Rattle.stair_state.specs.Represents.{HaveSeats, no_write}
 use Rattle.stair_state.specs.State.{State}
 use Rattle.stair_state.specs.Tolerance.{IsTolerated}
@@ -22,9 +24,11 @@ use Rattle.stair_state.proofs.DegradedLemmas.{copies_again, copies_damaged}
 use Rattle.stair_state.proofs.HoldingLemmas.{current_since}
 use Rattle.stair_state.proofs.OutsideLemmas.{steady_looks, tolerated_alone}
 use Rattle.stair_state.proofs.ReturnLemmas.{MediaCameFrom, New, Same, at_image, came_looking, consistent_by_after}
-use Rattle.stair_session.specs.Returning.{IsKnownWherever, holders_of}
+use Rattle.stair_session.specs.Returning.{IsKnownWherever, KnowsMedia, holders_of}
 use Rattle.stair_session.specs.Session.{seats_in}
-use Rattle.stair_return.specs.Beginning.{IsBesideMember, KnowsMedia}
+use Rattle.stair_session.specs.InSession.{IsBehindPlaces}
+use Rattle.stair_session.proofs.OwnLaws.{newest_beside}
+use Rattle.stair_return.specs.Beginning.{IsBesideMember}
 use Rattle.stair_return.specs.Following.{name_of}
 use Rattle.stair_return.proofs.KnownLemmas.{WasBorne, borne_before}
 use Rattle.stair_return.proofs.NameLemmas.{attached_name, name_apart, still_attached}
@@ -42,13 +46,25 @@ was_reassembled before j image to from (Unwritten size is all) = Unwritten size 
 was_reassembled before j image to from (Empty none all) = Empty none all
 
 module _ (s : State) (m : Membership) (before old new : List Happening) (history : IsHistory old) (geometry : m.array.geometry ≡ s.geometry)
-    (ran : Ran (IsBesideMember m) old new) (knows : KnowsMedia s m old) where
+    (rules : IsMembership m) (ran : Ran (IsBesideMember m) old new) (knows : KnowsMedia s m old) where
   looked : Ran no_write old new
   looked = ran_weakened {allowed = IsBesideMember m} {more = no_write} (λ j c is. is.writes) ran
 
   spared : (j : ℕ) → IsHere m j → Ran (IsNoAttach j) old new
   spared j here =
       ran_weakened {allowed = IsBesideMember m} {more = IsNoAttach j} (λ i c is same. is.attaches (subst (λ (n : ℕ). IsHere m n) (sym same) here)) ran
+
+  beside : Ran (λ i c. IsBehindPlaces i c × AttachesNone (IsHere m) i c) old new
+  beside =
+      ran_weakened {allowed = IsBesideMember m} {more = λ i c. IsBehindPlaces i c × AttachesNone (IsHere m) i c}
+      (λ i c is. (behind i c is.writes, is.attaches)) ran
+    where
+      behind : (i : ℕ) (c : SlotCall) → IsNoWrite c → IsBehindPlaces i c
+      behind i (Attach answer) none = tt
+      behind i (Sectors size) none = tt
+      behind i (Read k answer) none = tt
+      behind i (Write k bytes answer) none = absurd none
+      behind i (Sync answer) none = tt
 
   module _ (image : Image) (left : CrashMayLeave new image) where
     was_borne : (i : ℕ) (p : Location) (x : Superblock) → IsBorne m.array.geometry image i p x
@@ -86,6 +102,7 @@ module _ (s : State) (m : Membership) (before old new : List Happening) (history
       steady = steady_looks s.geometry old new looked knows.is.steady;
     };
     latest = λ image left. latest_then image left;
+    own = λ j here on. newest_beside m old new rules history beside j here on (knows.own j here);
     closed = λ image left to j reassembly.
         let from = λ (i : ℕ). at_image (came_looking i looked) (image i) (left i) in
         knows.closed (λ i. (from i).was) (λ i. (from i).left) to j (λ i. was_reassembled old i (image i) (to i) (from i) (reassembly i));

@@ -73,6 +73,7 @@ module _ (s : State) (encodings : Encodings s) (holders fewer : Holders) (since 
         all_but_mapped {P = HolderReserved s.geometry holders image} {Q = HolderReserved s.geometry fewer image}
         (λ j below has joined holder. has joined (less j joined holder)) it.reserved;
     live = live;
+    rebuilt = λ j joined a there marked holder. it.rebuilt j joined a (since_then a there) marked (less j joined holder);
     frozen = λ a there. it.frozen a (since_then a there);
     label = λ a there. it.label a (since_then a there);
     forms = λ to some reassembly have. it.forms to some reassembly (λ j on. still_holder j ((to j).cell) (have j on));

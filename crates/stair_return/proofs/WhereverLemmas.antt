@@ -1,13 +1,13 @@
 -- What holds of a medium while it is in use holds of it wherever it lies.
-use Rattle.std.proofs.Common.{◌≡◌, ℕ, zero, suc, ◌<◌, List, [], ◌∷◌, ◌++◌, ◌⊎◌, inl, inr, refl, sym, ap, ◌∙◌, subst, arith, true, false, slice_get, Option, Some}
-use Rattle.std.specs.Prelude.{IsSome, ◌&&◌, not, is_some, length, remove}
+use Rattle.std.proofs.Common.{◌≡◌, ℕ, ◌<◌, List, [], ◌∷◌, ◌++◌, ◌⊎◌, inl, inr, refl, sym, ap, ◌∙◌, subst, arith, true, false, slice_get, Option, Some}
+use Rattle.std.specs.Prelude.{IsSome, ◌&&◌, not, length}
 use Rattle.std.proofs.lemmas.Bool.{cases_Bool, cases_eq, cases_lt, cond-true, cond-false, false≢true}
 use Rattle.std.proofs.lemmas.Option.{slice_get_cases}
 use Rattle.std.proofs.lemmas.Option.{same_Some}
 use Rattle.stair_rack.specs.Answers.{IsAnswered, IsCall, IsHistory, IsNoAttach, Ran, Runs, is_ready}
 use Rattle.stair_rack.specs.Crash.{CrashMayLeave, SlotMayLeave}
 use Rattle.stair_rack.specs.History.{Happening, Made, Stopped, Acted, Called, SlotAct, Pulled, InsertedBlank, InsertedOld, SectorDamaged, SlotCall, Attach, Sectors, Read, Write, Sync, SlotState, after_act, after_call, slot_state, stopped, with_old}
-use Rattle.stair_rack.specs.Media.{Image, Medium, SlotImage, has_sector, sectors_of}
+use Rattle.stair_rack.specs.Media.{Image, Medium, SlotImage, has_sector}
 use Rattle.stair_rack.specs.Moments.{IsMoment}
 use Rattle.stair_rack.specs.Offline.{Here, IsAttached, IsKept, Lost, WasPulled}
 use Rattle.stair_rack.specs.Outside.{IsAct, MayHappen}
@@ -18,53 +18,15 @@ use Rattle.stair_rack.proofs.MomentLemmas.{moment_first, moment_last, ran_before
 use Rattle.stair_rack.proofs.OfflineLemmas.{and-true_left, reply_if-Done}
 use Rattle.stair_rack.proofs.StepLemmas.{Keeps, kept}
 use Rattle.stair_state.specs.Degraded.{AreDamagedCopies, Taken, Blank, Stays}
-use Rattle.stair_state.specs.Reassembly.{InSlot, IsMediumOf, Location, Outside}
+use Rattle.stair_state.specs.Reassembly.{InSlot, IsMediumOf, Location, Outside, before_return}
 use Rattle.stair_state.specs.Represents.{no_write}
 use Rattle.stair_state.proofs.DegradedLemmas.{copies_again, copies_damaged}
 use Rattle.stair_state.proofs.OutsideLemmas.{look_left, slot_before, slot_now, slot_now_left}
-use Rattle.stair_return.specs.Following.{AreOfNamed, Kept, SurvivesDamage, Wherever, before_act, before_return, name_of}
-use Rattle.stair_return.proofs.NameLemmas.{attached_name, before_gap, gap_behind, gap_below, name_apart, named_act_cases, named_call_cases, not_outside, outside_once, pulled_last, pulled_other, same_pulls, still_attached, unpulled_name}
+use Rattle.stair_state.proofs.ReturnLemmas.{before_gap, outside_once, pulled_last, pulled_other, pushed_cases, removed_was, sectors_left}
+use Rattle.stair_return.specs.Following.{AreOfNamed, Kept, SurvivesDamage, Wherever, before_act, name_of}
+use Rattle.stair_return.proofs.NameLemmas.{attached_name, name_apart, named_act_cases, named_call_cases, not_outside, same_pulls, still_attached, unpulled_name}
 
--- LISTS OF MEDIA
-
--- of the list with one more behind it
-pushed_cases : (xs : List Medium) (m x : Medium) (i : ℕ) → slice_get (xs ++ m ∷ []) i ≡ Some x
-    → ((i ≡ length xs) × (m ≡ x)) ⊎ ((¬ (i ≡ length xs)) × (slice_get xs i ≡ Some x))
-pushed_cases [] m x zero is = inl (refl, same_Some m x is)
-pushed_cases [] m x (suc i) is = absurd (false≢true (ap is_some is))
-pushed_cases (y ∷ xs) m x zero is = inr (λ same. absurd (omega (arith, same)), is)
-pushed_cases (y ∷ xs) m x (suc i) is =
-    elim (pushed_cases xs m x i is) [
-      | inl last ↦ inl (ap suc last.0, last.1)
-      | inr other ↦ inr (λ same. other.0 (omega (arith, same)), other.1)
-    ]
-
--- and of the list without one
-removed_was : (xs : List Medium) (i k : ℕ) → i < length xs → slice_get (remove xs i) k ≡ slice_get xs (before_gap i k)
-removed_was [] i k below = absurd (omega (arith, below))
-removed_was (y ∷ xs) zero k below = ap (slice_get (y ∷ xs)) next
-  where
-    next : suc k ≡ before_gap 0 k
-    next = omega (arith, gap_behind 0 k (omega arith))
-removed_was (y ∷ xs) (suc i) zero below = ap (slice_get (y ∷ xs)) (sym (gap_below (suc i) 0 (omega arith)))
-removed_was (y ∷ xs) (suc i) (suc k) below =
-    removed_was xs i k (omega (arith, below)) ∙ ap (slice_get (y ∷ xs)) further
-  where
-    further : suc (before_gap i k) ≡ before_gap (suc i) (suc k)
-    further =
-        elim (cases_lt k i) [
-          | inl under ↦ omega (arith, gap_below i k under, gap_below (suc i) (suc k) (omega arith))
-          | inr behind ↦ omega (arith, gap_behind i k behind, gap_behind (suc i) (suc k) (omega arith))
-        ]
-
--- of the cells of a medium that was put back nothing is left past its end
-sectors_left : (size : Option ℕ) (cell : ℕ → Cell) (k : ℕ) (found : Cell) → MayLeave (sectors_of size cell k) found
-    → (found ≡ cell k) ⊎ (found ≡ Damaged)
-sectors_left size cell k found may =
-    elim (cases_Bool (has_sector size k)) [
-      | inl within ↦ inl (settled_left (cell k) found (subst (λ s. MayLeave s found) (cond-true _ _ _ within) may))
-      | inr past ↦ inr (settled_left Damaged found (subst (λ s. MayLeave s found) (cond-false _ _ _ past) may))
-    ]
+-- A CALL, AND A MEDIUM THAT WAS PUT BACK
 
 call_removed : (c : SlotCall) (b : SlotState) → (after_call c b).removed ≡ b.removed
 call_removed (Attach reply.Done) b = refl

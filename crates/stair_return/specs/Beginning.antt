@@ -1,37 +1,32 @@
 -- How a call begins that establishes an epoch, on a rack that is consistent however its media lie.
-use Rattle.std.specs.Prelude.{◌≡◌, ◌≤◌, ◌⊎◌, ℕ, List, Contains, None, Some}
+use Rattle.std.specs.Prelude.{◌≡◌, ◌≤◌, ◌⊎◌, ℕ, List, Contains, Some}
 use Rattle.stair_model.specs.Device.{gate_sector}
 use Rattle.stair_model.specs.Geometry.{Geometry}
 use Rattle.stair_model.specs.Slots.{HasSlot, Slots}
 use Rattle.stair_rack.specs.Answers.{IsHistory}
 use Rattle.stair_rack.specs.Crash.{EachImage, image_now}
-use Rattle.stair_rack.specs.History.{Happening, SlotCall, slot_state}
+use Rattle.stair_rack.specs.History.{Happening, SlotCall}
 use Rattle.stair_rack.specs.Media.{Image}
 use Rattle.stair_rack.specs.Offline.{IsAttached}
-use Rattle.stair_rack.specs.Sector.{content}
 use Rattle.stair_rack.specs.Stretch.{IsNoWrite}
-use Rattle.stair_super.specs.Newer.{IsOlder}
-use Rattle.stair_super.specs.Superblock.{Superblock, joined_in, mark_in}
-use Rattle.stair_super.specs.declared.mark.Mark.TheVariants.{Live}
+use Rattle.stair_super.specs.Superblock.{joined_in, mark_in}
+use Rattle.stair_super.specs.declared.mark.Mark.TheVariants.{Live, Rebuilding}
 use Rattle.stair_member.specs.Aims.{admitted, frozen_then, label_then}
 use Rattle.stair_member.specs.Counting.{AllBut}
 use Rattle.stair_member.specs.Editions.{edition_of}
 use Rattle.stair_member.specs.Epochs.{Issued, IsTaken, StandsOnDisk}
 use Rattle.stair_member.specs.Establishing.{IsEstablished}
-use Rattle.stair_member.specs.Membership.{IsHere, IsMembership, Membership, place_of, why_of}
-use Rattle.stair_member.specs.Superblocks.{HoldsSuper}
+use Rattle.stair_member.specs.Membership.{IsHere, IsMembership, Membership, why_of}
 use Rattle.stair_member.specs.declared.aim.Aim.{Aim}
 use Rattle.stair_member.specs.declared.aim.Aim.TheVariants.{Promote}
 use Rattle.stair_member.specs.declared.why.Why.TheVariants.{Gone}
 use Rattle.stair_journal.specs.Gate.{ReadsClosed}
-use Rattle.stair_state.specs.Holding.{HolderReserved, Holders, IsConsistentSince, IsHolder, OfAdmitted}
+use Rattle.stair_state.specs.Holding.{HolderReserved, Holders, IsConsistentSince, OfAdmitted}
 use Rattle.stair_state.specs.Reassembly.{IsReassembly}
 use Rattle.stair_state.specs.Redoing.{AttachesNone}
 use Rattle.stair_state.specs.State.{State, new_content}
-use Rattle.stair_session.specs.Returning.{IsKnownWherever, holders_of}
-use Rattle.stair_session.specs.Session.{HasOwn, own_super}
+use Rattle.stair_session.specs.Returning.{IsKnownWherever}
 use Rattle.stair_return.specs.Behind.{HasHolder, IsKnownBehind}
-use Rattle.stair_return.specs.Found.{CoversMedia}
 use Rattle.stair_return.specs.Given.{KnowsSuper}
 
 -- the draw of slot j's holder is at least every epoch that a medium bears, and the member's
@@ -40,30 +35,15 @@ HasDrawnAll m holders image j = HolderReserved m.array.geometry holders image j
     × ((joined : ℕ) → holders j ≡ Some joined
     → OfAdmitted m.array.geometry image joined (λ x. m.array.epoch ≤ x.draw) j)
 
--- The slots have their holders by these numbers: one that takes part, or is to be admitted, has none or the medium that the
--- member means; and one that is marked live, or is to be promoted, has that one.
+-- The slots have their holders by these numbers: one that takes part, is marked as one that is rebuilt, or is to be admitted, has
+-- none or the medium that the member means; and one that is marked live, or is to be promoted, has that one.
 pub record AreMeant (holders : Holders) (aim : Aim) (m : Membership) : Type 0 where
   pub taken : (j n : ℕ) → IsTaken (admitted aim) m j → holders j ≡ Some n
       → IsHere m j × (n ≡ joined_in m.array j)
   pub live : (j : ℕ) → mark_in m.array j ≡ Live → holders j ≡ Some (joined_in m.array j)
+  pub rebuilt : (j n : ℕ) → mark_in m.array j ≡ Rebuilding → holders j ≡ Some n
+      → n ≡ joined_in m.array j
   pub promoted : (j : ℕ) → aim ≡ Promote j → holders j ≡ Some (joined_in m.array j)
-
--- Slot j has its own superblock of the member's epoch, and the place that comes next holds the same one, or none that isn't older.
-pub record HasOwnNewest (m : Membership) (h : List Happening) (j : ℕ) : Type 0 where
-  pub own : HasOwn m h j
-  pub newest : (other : Superblock)
-      → HoldsSuper (content ((slot_state h j).sector (place_of m j))) other
-      → (other ≡ own_super m own.draw j) ⊎ IsOlder other (own_super m own.draw j)
-
--- What a session is to know of all media, between the calls of an open array: what `Knows` says; that no medium bears a later
--- epoch than the member's; and that the gates of holders read closed, wherever they lie.
-pub record KnowsMedia (s : State) (m : Membership) (h : List Happening) : Type 0 where
-  pub known : EachImage (IsKnownWherever None m (IsAttached h)) h
-  pub is : IsConsistentSince s (holders_of m) m.array.epoch h
-  pub latest : CoversMedia s.geometry m.array.epoch h
-  pub closed : EachImage (λ image. (to : Image) (j : ℕ) → IsReassembly image to
-      → IsHolder s.geometry (holders_of m) j ((to j).cell)
-      → ReadsClosed s.geometry ((to j).cell gate_sector)) h
 
 -- a call that writes nothing, and attaches no slot that takes part
 pub record IsBesideMember (m : Membership) (j : ℕ) (call : SlotCall) : Type 0 where

@@ -1,22 +1,13 @@
 -- Which medium lies where. Media are told apart by names, which they keep as they move.
-use Rattle.std.specs.Prelude.{◌≡◌, ◌+◌, ◌==◌, ℕ, List, [], ◌∷◌, if◌then◌else◌, length, nat_lt}
+use Rattle.std.specs.Prelude.{◌≡◌, ◌==◌, ℕ, List, [], ◌∷◌, if◌then◌else◌, length}
 use Rattle.stair_rack.specs.Crash.{EachImage, SlotMayLeave}
 use Rattle.stair_rack.specs.History.{Acted, Called, Happening, InsertedBlank, InsertedOld, Made, Pulled, SectorDamaged, SlotAct, SlotState, Stopped, slot_state}
 use Rattle.stair_rack.specs.Media.{Image, Medium, SlotImage}
 use Rattle.stair_rack.specs.Sector.{Cell}
 use Rattle.stair_state.specs.Degraded.{AreAllDamaged, AreDamagedCopies}
-use Rattle.stair_state.specs.Reassembly.{InSlot, IsMediumOf, Location, Outside}
+use Rattle.stair_state.specs.Reassembly.{IsMediumOf, Location, before_pull, before_return}
 
--- where the medium lay, before the slot's one was pulled and put behind so many others, that lies there after it
-abbrev pub before_pull : ℕ → Location → Location
-before_pull count InSlot = Outside count
-before_pull count (Outside i) = if i == count then InSlot else Outside i
-
--- and before this one of them was put back, and those behind it moved up
-abbrev pub before_return : ℕ → Location → Location
-before_return i InSlot = Outside i
-before_return i (Outside k) = Outside (if nat_lt k i then k else k + 1)
-
+-- where the medium lay, before an act, that lies there after it
 abbrev pub before_act : SlotAct → SlotState → Location → Location
 before_act (Pulled m) b p = before_pull (length b.removed) p
 before_act (InsertedBlank size) b p = p

@@ -1,14 +1,13 @@
 -- What a survey finds of an array to which media come back.
-use Rattle.std.specs.Prelude.{◌≡◌, ◌≤◌, ℕ, List, Result, Ok}
+use Rattle.std.specs.Prelude.{◌≡◌, ℕ, List, Result, Ok}
 use Rattle.stair_model.specs.Geometry.{Geometry}
 use Rattle.stair_model.specs.Slots.{HasSlot, Slots}
-use Rattle.stair_rack.specs.Crash.{CrashMayLeave, EachImage}
+use Rattle.stair_rack.specs.Crash.{CrashMayLeave}
 use Rattle.stair_rack.specs.History.{Happening}
 use Rattle.stair_rack.specs.Media.{Image}
-use Rattle.stair_super.specs.Superblock.{Superblock}
 use Rattle.stair_member.specs.Membership.{IsMissing, Membership}
 use Rattle.stair_member.specs.declared.fault.SurveyFault.{SurveyFault}
-use Rattle.stair_state.specs.Reassembly.{IsBorne, IsReassembly, Location}
+use Rattle.stair_state.specs.Reassembly.{IsReassembly}
 use Rattle.stair_state.specs.Tolerance.{IsToleratedAlone}
 
 -- the answer is a member of this array, and each slot that is missing for it is one of these
@@ -18,11 +17,6 @@ pub record FindsMember (g : Geometry) (failed : Slots) (answer : Result Membersh
   pub found : answer ≡ Ok member
   pub identity : member.array.geometry ≡ g
   pub missing : (j : ℕ) → IsMissing member j → HasSlot failed j
-
--- in each image that a crash at h may leave no medium, in a slot or outside, bears a greater epoch than this draw
-abbrev pub CoversMedia : Geometry → ℕ → List Happening → Type 0
-CoversMedia g draw h = EachImage (λ image. (i : ℕ) (p : Location) (s : Superblock)
-    → IsBorne g image i p s → s.array.epoch ≤ draw) h
 
 -- it is a reassembly of an image that a crash at h might have left, and alone within tolerance
 pub record IsToleratedReassembly (g : Geometry) (h : List Happening) (to : Image) : Type 0 where

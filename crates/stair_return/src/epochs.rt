@@ -20,10 +20,9 @@ ghost use Rattle.stair_state.specs.Blocks.{AreEncodingsOf, Codewords};
 ghost use Rattle.stair_state.specs.Holding.{Holders, IsConsistentBy};
 ghost use Rattle.stair_state.specs.State.{State, new_content};
 ghost use Rattle.stair_state.specs.Tolerance.{IsTolerated};
-ghost use Rattle.stair_session.specs.Returning.{IsKnownWherever, holders_of};
+ghost use Rattle.stair_session.specs.Returning.{CoversMedia, HasOwnNewest, IsKnownWherever, KnowsMedia, holders_of};
 ghost use Rattle.stair_session.specs.Session.{ArrayState, IsOpenWith, seats_in};
-ghost use Rattle.stair_return.specs.Beginning.{AreHoldersClosed, BeginsWherever, HasOwnNewest, IsBesideMember, KnowsMedia, SaysContent, StandsWherever};
-ghost use Rattle.stair_return.specs.Found.{CoversMedia};
+ghost use Rattle.stair_return.specs.Beginning.{AreHoldersClosed, BeginsWherever, IsBesideMember, SaysContent, StandsWherever};
 ghost use Rattle.stair_return.specs.Given.{KnowsSuper};
 
 /// A call that establishes an epoch, on a rack that is consistent however its media lie. It does nothing.
@@ -80,7 +79,6 @@ pub fn begin_laws()
         AreEncodingsOf s.geometry s.content.blocks words →
         (new_content s).blocks ≡ s.content.blocks → admitted aim ≡ None →
         ((j : ℕ) → aim ≢ Promote j) → KnowsMedia s a.member h → IsTolerated s.geometry before h →
-        ((j : ℕ) → IsHere a.member j → IsAttached h j → HasOwnNewest a.member h j) →
         SaysContent s aim a.member →
         BeginsWherever s (holders_of a.member) a.member.array.epoch aim a.member h }
     // and the gates of holders read closed then.
@@ -102,7 +100,8 @@ pub fn begin_laws()
     // What it knows of all media it knows still after calls that write nothing and attach no slot that takes part, whatever comes
     // back meanwhile, if that is within tolerance.
     ensures looked { (s : State) (m : Membership) (before old new : List Happening) →
-        IsHistory old → m.array.geometry ≡ s.geometry → Ran (IsBesideMember m) old new →
+        IsHistory old → m.array.geometry ≡ s.geometry → IsMembership m →
+        Ran (IsBesideMember m) old new →
         KnowsMedia s m old → IsTolerated s.geometry before new →
         s.seats ≡ Some (seats_in m.array) → KnowsMedia s m new }
 {}

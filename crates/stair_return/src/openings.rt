@@ -17,11 +17,11 @@ ghost use Rattle.stair_state.specs.Represents.{AreSteady, no_write};
 ghost use Rattle.stair_state.specs.State.{State};
 ghost use Rattle.stair_state.specs.Tolerance.{IsTolerated, IsToleratedAlone};
 ghost use Rattle.stair_session.specs.Mixed.{IsMixed, IsToleratedMixed};
-ghost use Rattle.stair_session.specs.Returning.{IsKnownWherever};
+ghost use Rattle.stair_session.specs.Returning.{CoversMedia, IsKnownWherever};
 ghost use Rattle.stair_return.specs.Counted.{IsToleratedCounted};
 ghost use Rattle.stair_return.specs.Misled.{IsWorstSlot};
 ghost use Rattle.stair_return.specs.Still.{IsStill};
-ghost use Rattle.stair_return.specs.Found.{CoversMedia, FindsMember, IsToleratedReassembly};
+ghost use Rattle.stair_return.specs.Found.{FindsMember, IsToleratedReassembly};
 
 /// Tolerance of a stretch in which each slot may be seen at a moment of its own. It does nothing.
 pub fn mixed_laws()

@@ -51,6 +51,29 @@ slot_now a stage start h j stays is =
 no_join : (last : Membership) (h : List Happening) → MayJoin None last h
 no_join last h = record { absent = λ j never. absurd (cc); drawn = λ image left j k s never. absurd (cc) }
 
+-- a slot on whose medium superblocks alone were written serves still, whichever media come back
+module _ (slots : Slots) (editions : List Edition) (m : Membership) (words : Codewords) (old new : List Happening) (j : ℕ)
+    (ran : Ran (IsIssuing slots editions) old new) (was : IsAttached old j) (stays : ¬ WasPulled old new j)
+    (is : ServesSlot m.array.geometry words old j) where
+  rests : (redo : Redo) (after : Codewords) → SlotIn (doing m redo words after) AtRest new new j
+  rests redo after =
+      slot_now (doing m redo words after) AtRest old new j stays
+      (stage_on slots editions old new j ran (doing m redo words after) AtRest old
+      (slot_in (doing m redo words after) AtRest (IsSlot j) old old (is.rests redo after) j refl))
+
+  pub serves_issued : ServesSlot m.array.geometry words new j
+  serves_issued = record {
+    rests = λ redo after.
+        is_in (doing m redo words after) AtRest (IsSlot j) new new
+        (λ i at. subst (λ (x : ℕ). SlotIn (doing m redo words after) AtRest new new x) (sym at) (rests redo after));
+    large = large_on slots editions old new j ran m.array.geometry was is.large stays;
+  }
+
+-- nor is a closed gate written then
+pub shut_issued : (slots : Slots) (editions : List Edition) (g : Geometry) (old new : List Happening) (j : ℕ) → Ran (IsIssuing slots editions) old new
+    → ¬ WasPulled old new j → IsShut g old old j → IsShut g new new j
+shut_issued slots editions g old new j ran stays shut = kept_now old new j gate_sector stays (shut_on slots editions old new j ran g old shut)
+
 -- THE EPOCH
 
 -- Whatever was before it, where each slot that took part was attached or bore nothing, and the gates of those that are rebuilt
@@ -126,8 +149,8 @@ module _ (aim : Aim) (gone : Slots) (m last : Membership) (old new : List Happen
         let up : aimed aim j (why_of m j) ≡ why.Rebuilding =
         sym (aimed_now j below (λ is_gone. let never : why.Rebuilding ≡ why.Gone = sym rebuilt ∙ is_gone in cc)) ∙ rebuilt in
         subst (λ (g : Geometry). IsShut g new new j) (sym same_geometry)
-        (kept_now old new j gate_sector (kept_medium j below_m on)
-        (shut_on slots editions old new j ran m.array.geometry old (shut j below_m (rebuilt_before aim j (why_of m j) up) was)))
+        (shut_issued slots editions m.array.geometry old new j ran (kept_medium j below_m on)
+        (shut j below_m (rebuilt_before aim j (why_of m j) up) was))
 
     -- The session has this epoch then.
     pub stood : HasEpoch last new
@@ -140,23 +163,6 @@ module _ (aim : Aim) (gone : Slots) (m last : Membership) (old new : List Happen
           (λ j below has. (record { below = below; why = inl has.0 }, has.1)) (again.stood aim gone m last old new image st left);
       own = λ j here. own_after j (below_before j here.below) (own j (taken j here));
       shut = shut_after;
-    }
-
-  -- A SLOT THAT SERVES
-
-  module _ (words : Codewords) (j : ℕ) (was : IsAttached old j) (stays : ¬ WasPulled old new j) (is : ServesSlot m.array.geometry words old j) where
-    rests : (redo : Redo) (after : Codewords) → SlotIn (doing m redo words after) AtRest new new j
-    rests redo after =
-        slot_now (doing m redo words after) AtRest old new j stays
-        (stage_on slots editions old new j ran (doing m redo words after) AtRest old
-        (slot_in (doing m redo words after) AtRest (IsSlot j) old old (is.rests redo after) j refl))
-
-    pub serves_on : ServesSlot m.array.geometry words new j
-    serves_on = record {
-      rests = λ redo after.
-          is_in (doing m redo words after) AtRest (IsSlot j) new new
-          (λ i at. subst (λ (x : ℕ). SlotIn (doing m redo words after) AtRest new new x) (sym at) (rests redo after));
-      large = large_on slots editions old new j ran m.array.geometry was is.large stays;
     }
 
 -- THE SESSION
@@ -183,7 +189,7 @@ module _ (aim : Aim) (gone : Slots) (m last : Membership) (words : Codewords) (o
         | inr promotes ↦ ready.serves j promotes was
       ] in
       subst (λ (g : Geometry). ServesSlot g words new j) (sym st.established.stands.geometry)
-      (serves_on aim gone m last old new own_before st going words j was
+      (serves_issued st.fencing.issued.slots st.fencing.issued.editions m words old new j st.fencing.issued.ran was
       (kept_medium aim gone m last old new own_before st going j below_m on) serves)
 
   -- What a session keeps is so again once the epoch stands, with the slot that was promoted among those that serve.

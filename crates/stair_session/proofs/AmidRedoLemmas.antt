@@ -3,7 +3,7 @@ use Rattle.std.proofs.Common.{ℕ, ◌<◌, ◌∙◌, ◌≡◌, ◌≢◌, ◌
 use Rattle.std.specs.Prelude.{IsTrue}
 use Rattle.stair_model.specs.Geometry.{Geometry}
 use Rattle.stair_model.specs.Slots.{HasSlot, Slots}
-use Rattle.stair_rack.specs.Answers.{Ran}
+use Rattle.stair_rack.specs.Answers.{Ran, IsHistory}
 use Rattle.stair_rack.specs.History.{Happening, slot_state, stopped}
 use Rattle.stair_rack.specs.Offline.{IsAttached, WasPulled}
 use Rattle.stair_rack.specs.Placed.{IsSlot, Placed}
@@ -27,7 +27,7 @@ use Rattle.stair_state.proofs.StageLemmas.{SlotIn, is_in, slot_in}
 use Rattle.stair_session.specs.Chunks.{IsBesideChunks}
 use Rattle.stair_session.specs.Courses.{AreLive, DoesStage, Fenced, IsOver, LeavesOut, NoneWas, Point, point, stage_writes}
 use Rattle.stair_session.specs.InSession.{state_with}
-use Rattle.stair_session.specs.Leading.{IsAmidRedo, led_to, rebuild_in, rebuilt_words}
+use Rattle.stair_session.specs.Leading.{IsAmidRedo, led_to, rebuild_in, rebuilt_words, IsOpenAmid}
 use Rattle.stair_session.specs.Rebuilding.{IsRebuiltTo, Rebuild}
 use Rattle.stair_session.specs.Session.{ArrayState, IsLiveIn, IsOpenWith, IsRebuiltIn}
 use Rattle.stair_session.specs.UnderWay.{IsInUse, IsUnderWay}
@@ -39,7 +39,7 @@ use Rattle.stair_session.proofs.LeftOutLemmas.{start_geometry, why_before}
 use Rattle.stair_session.proofs.OpenLaws.{goes_on_within}
 use Rattle.stair_session.proofs.OpenWithLemmas.{amid_of, epoch_amid, goes_on_from, issued_beside, redone_amid}
 use Rattle.stair_session.proofs.RebuildingLemmas.{rebuilt_beside, rebuilt_placed}
-use Rattle.stair_session.proofs.StageBesideLemmas.{phase_spares, placed, stage_amid}
+use Rattle.stair_session.proofs.StageBesideLemmas.{phase_spares, placed, stage_amid, amid_stage}
 
 -- SLOTS THAT TAKE PART STILL
 
@@ -152,9 +152,7 @@ words_still r Done other = refl
 module _ (r : Redoing) (redoing : IsRedoing r) (before : List Happening) (a : ArrayState) (stage : Stage) (to : Slots) (start : List Happening)
     (x : Telling) (y : Point) (over : IsOver stage a.member to)
     (does : DoesStage (stage_writes r.geometry r.redo (r.new r.redo.stripe) stage) to None (point a.member x) y)
-    (honest : IsTrue y.told.honest) (begun : IsBegun None a.member x.history)
-    (none : NothingReturned before y.told.history) (going : ¬ IsTrue (stopped y.told.history))
-    (is : IsAmidRedo r before a stage start x.history) where
+    (honest : IsTrue y.told.honest) (is : IsAmidRedo r before a stage start x.history) where
   abbrev Still : ℕ → Type 0
   Still j = IsLiveIn y.member j × IsAttached start j
 
@@ -169,7 +167,7 @@ module _ (r : Redoing) (redoing : IsRedoing r) (before : List Happening) (a : Ar
   reached =
       answered r Still start stage (HasSlot to) (HasSlot does.gone) x.history does.mid.history redoing
       (ran_any {allowed = AttachesNone every_slot} is.ran) fewer
-      (placed r redoing before a stage to x y over does honest begun none going is.amid)
+      (placed r redoing before a stage to x y over does honest)
       (λ j on.
       let still = live_still does.gone a.member does.mid y j does.leaves on.0 in inl (over_live a.member to stage over j still.0, still.1))
 
@@ -198,7 +196,7 @@ module _ (r : Redoing) (redoing : IsRedoing r) (before : List Happening) (a : Ar
         (goes_on_from y.member a.rebuild rebuild of).1).2
 
     abbrev phase : Placed (writes_in r stage) (HasSlot to) (HasSlot does.gone) x.history does.mid.history
-    phase = placed r redoing before a stage to x y over does honest begun none going is.amid
+    phase = placed r redoing before a stage to x y over does honest
 
     after_phase : IsRebuiltTo r.geometry (rebuilt_words r (next stage)) rebuild.slot rebuild.stripe start does.mid.history
     after_phase =
@@ -224,24 +222,28 @@ module _ (r : Redoing) (redoing : IsRedoing r) (before : List Happening) (a : Ar
         rebuilt_beside r.geometry (rebuilt_words r (next stage)) rebuild.slot rebuild.stripe start does.mid.history y.told.history after_phase
         (leaves_beside r.geometry rebuild.slot rebuild.stripe does.gone a.member does.mid y does.leaves honest)
 
-  pub redo_goes : IsAmidRedo r before (led_to a y.member) (next stage) start y.told.history × IsBegun None y.member y.told.history
-  redo_goes =
-      let kept = stage_amid r redoing before a stage to x y over does honest begun none going is.amid in (
-        record {
-          amid = kept.0;
-          geometry = is.geometry ∙ sym (leaves_geometry does.gone a.member does.mid y does.leaves);
-          ran =
-              ran_join {allowed = AttachesNone every_slot} is.ran
-              (ran_join {allowed = AttachesNone every_slot}
-              (phase_attaches {live = every_slot}
-              (placed r redoing before a stage to x y over does honest begun none going is.amid))
-              (leaves_attach does.gone a.member does.mid y does.leaves honest));
-          large = λ j live on. is.large j (live_still does.gone a.member does.mid y j does.leaves live).0 on;
-          is_in = led;
-          rebuilt = rebuilt_led;
-        },
-        kept.1,
-      )
+  led_with : IsOpenAmid before (led_to a y.member) y.told.history → IsAmidRedo r before (led_to a y.member) (next stage) start y.told.history
+  led_with amid = record {
+    amid = amid;
+    geometry = is.geometry ∙ sym (leaves_geometry does.gone a.member does.mid y does.leaves);
+    ran =
+        ran_join {allowed = AttachesNone every_slot} is.ran
+        (ran_join {allowed = AttachesNone every_slot} (phase_attaches {live = every_slot} (placed r redoing before a stage to x y over does honest))
+        (leaves_attach does.gone a.member does.mid y does.leaves honest));
+    large = λ j live on. is.large j (live_still does.gone a.member does.mid y j does.leaves live).0 on;
+    is_in = led;
+    rebuilt = rebuilt_led;
+  }
+
+  -- whichever media come back,
+  pub goes_amid : IsHistory x.history → IsAmidRedo r before (led_to a y.member) (next stage) start y.told.history
+  goes_amid history = led_with (amid_stage r redoing before a stage to x y over does honest history is.amid)
+
+  -- and where none does with the epoch
+  pub redo_goes : IsBegun None a.member x.history → NothingReturned before y.told.history → ¬ IsTrue (stopped y.told.history)
+      → IsAmidRedo r before (led_to a y.member) (next stage) start y.told.history × IsBegun None y.member y.told.history
+  redo_goes begun none going =
+      let kept = stage_amid r redoing before a stage to x y over does honest begun none going is.amid in (led_with kept.0, kept.1)
 
 -- ITS END
 

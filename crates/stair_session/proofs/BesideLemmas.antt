@@ -123,19 +123,17 @@ attached_on old new j ran on = (attached_before {some = λ i. i ≡ j} j refl ra
 pub medium_on_it : (old new : List Happening) (j : ℕ) → Ran (AttachesNone (λ i. i ≡ j)) old new → IsAttached new j → ¬ WasPulled old new j
 medium_on_it old new j ran on = (attached_before {some = λ i. i ≡ j} j refl ran on).1
 
-module _ (m : Membership) (old new : List Happening) (is : HasEpoch m old) (ran : Ran (IsBesideEpochs m) old new)
-    (none : NothingReturned old new) where
-  behind : Ran IsBehindPlaces old new
-  behind = ran_weakened {allowed = IsBesideEpochs m} {more = IsBehindPlaces} (λ i c may. may.behind) ran
-
-  pub unattached : (j : ℕ) → IsHere m j → Ran (AttachesNone (λ i. i ≡ j)) old new
-  unattached j here =
+-- Whichever media come back, calls beside the epochs attach no slot that takes part, and leave a closed gate so.
+module _ (m : Membership) (old new : List Happening) (ran : Ran (IsBesideEpochs m) old new) where
+  pub free_of : (j : ℕ) → IsHere m j → Ran (AttachesNone (λ i. i ≡ j)) old new
+  free_of j here =
       ran_weakened {allowed = IsBesideEpochs m} {more = AttachesNone (λ i. i ≡ j)} (λ i c may same. may.attaches (subst (IsHere m) (sym same) here)) ran
 
-  shut_then : (j : ℕ) → j < m.array.geometry.n → why_of m j ≡ why.Rebuilding → IsAttached new j → IsShut m.array.geometry new new j
-  shut_then j below rebuilt on =
+  pub shut_beside : ((j : ℕ) → j < m.array.geometry.n → why_of m j ≡ why.Rebuilding → IsAttached old j → IsShut m.array.geometry old old j)
+      → (j : ℕ) → j < m.array.geometry.n → why_of m j ≡ why.Rebuilding → IsAttached new j → IsShut m.array.geometry new new j
+  shut_beside shut j below rebuilt on =
       let takes : IsHere m j = record { below = below; why = inr rebuilt } in
-      shut_now m.array.geometry j old new (medium_on_it old new j (unattached j takes) on)
+      shut_now m.array.geometry j old new (medium_on_it old new j (free_of j takes) on)
       (leaves_on {allowed = IsBesideEpochs m} {Q = ReadsClosed m.array.geometry} {Base = ReadsClosed m.array.geometry}
       (slot_state old j).pulls j gate_sector (record {
         damage = harmed;
@@ -143,10 +141,18 @@ module _ (m : Membership) (old new : List Happening) (is : HasEpoch m old) (ran 
         write = λ bytes may. absurd (may.gate below rebuilt bytes reply.Done refl);
         cut = λ bytes cell may under. absurd (may.gate below rebuilt bytes reply.Done refl);
         sync = λ cell may holds. holds;
-      }) ran (is.shut j below rebuilt (attached_on old new j (unattached j takes) on)))
+      }) ran (shut j below rebuilt (attached_on old new j (free_of j takes) on)))
     where
       harmed : ReadsClosed m.array.geometry Damaged
       harmed other opened = good_whole opened.good refl
+
+module _ (m : Membership) (old new : List Happening) (is : HasEpoch m old) (ran : Ran (IsBesideEpochs m) old new)
+    (none : NothingReturned old new) where
+  behind : Ran IsBehindPlaces old new
+  behind = ran_weakened {allowed = IsBesideEpochs m} {more = IsBehindPlaces} (λ i c may. may.behind) ran
+
+  pub unattached : (j : ℕ) → IsHere m j → Ran (AttachesNone (λ i. i ≡ j)) old new
+  unattached = free_of m old new ran
 
   -- What a session keeps of its epoch stays so.
   pub epoch_kept : HasEpoch m new
@@ -158,7 +164,7 @@ module _ (m : Membership) (old new : List Happening) (is : HasEpoch m old) (ran 
     marks = is.marks;
     reached = reached_on nothing m old new is.begun behind none (IsHere m) (is.reached (image_now old) (CrashMayLeave-now old));
     own = λ j here. own_on old new j (unattached j here) none (is.own j here);
-    shut = shut_then;
+    shut = shut_beside m old new ran is.shut;
   }
 
 -- A SESSION
@@ -197,13 +203,13 @@ large_on g old new j ran was on large =
       | inr now ↦ now
     ]
 
-module _ (m : Membership) (words : Codewords) (old new : List Happening) (is : IsInSession m words old) (ran : Ran (IsBeside m) old new)
-    (none : NothingReturned old new) where
-  epochs : Ran (IsBesideEpochs m) old new
+-- Whichever media come back, calls beside its epochs and its redos leave a slot serving.
+module _ (m : Membership) (words : Codewords) (old new : List Happening) (ran : Ran (IsBeside m) old new) where
+  pub epochs : Ran (IsBesideEpochs m) old new
   epochs = ran_weakened {allowed = IsBeside m} {more = IsBesideEpochs m} (λ i c may. may.epochs) ran
 
   free : (j : ℕ) → IsHere m j → Ran (AttachesNone (λ i. i ≡ j)) old new
-  free j here = unattached m old new (epoch_of m words old is) epochs none j here
+  free = free_of m old new epochs
 
   pub was_attached : (j : ℕ) → IsHere m j → IsAttached new j → IsAttached old j
   was_attached j here on = attached_on old new j (free j here) on
@@ -222,11 +228,12 @@ module _ (m : Membership) (words : Codewords) (old new : List Happening) (is : I
       spares i (Write k bytes answer) may = λ same. may (subst (λ x. (x < m.array.geometry.n) × (why_of m x ≡ why.Here)) (sym same) (below, here))
       spares i (Sync answer) may = tt
 
-  live_then : (j : ℕ) → j < m.array.geometry.n → why_of m j ≡ why.Here → IsAttached new j → ServesSlot m.array.geometry words new j
-  live_then j below here on =
+  pub live_beside : ((j : ℕ) → j < m.array.geometry.n → why_of m j ≡ why.Here → IsAttached old j → ServesSlot m.array.geometry words old j)
+      → (j : ℕ) → j < m.array.geometry.n → why_of m j ≡ why.Here → IsAttached new j → ServesSlot m.array.geometry words new j
+  live_beside live j below here on =
       let takes : IsHere m j = record { below = below; why = inl here } in
       let was = was_attached j takes on in
-      let serves = is.live j below here was in
+      let serves = live j below here was in
       record {
         rests = λ redo after.
             stage_now (record { geometry = m.array.geometry; redo = redo; old = words; new = after }) AtRest (IsSlot j) (IsSlot j) old new
@@ -236,9 +243,12 @@ module _ (m : Membership) (words : Codewords) (old new : List Happening) (is : I
         large = large_on m.array.geometry old new j (free j takes) was on serves.large;
       }
 
-  -- What a session keeps stays so.
-  pub beside : IsInSession m words new
-  beside = opens m words new (epoch_kept m old new (epoch_of m words old is) epochs none) live_then
+-- What a session keeps stays so.
+pub beside : (m : Membership) (words : Codewords) (old new : List Happening) → IsInSession m words old → Ran (IsBeside m) old new
+    → NothingReturned old new → IsInSession m words new
+beside m words old new is ran none =
+    opens m words new (epoch_kept m old new (epoch_of m words old is) (epochs m words old new ran) none)
+    (live_beside m words old new ran is.live)
 
 -- A REDO
 

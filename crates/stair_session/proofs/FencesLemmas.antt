@@ -1,9 +1,9 @@
 -- What the contract of a fence says, and of slots that are left out, leads the record of a session on.
-use Rattle.std.proofs.Common.{ℕ, ◌<◌, ◌∙◌, ◌≡◌, ◌≤◌, List, None, Option, Result, ap, arith, inl, inr, refl, subst, sym}
+use Rattle.std.proofs.Common.{ℕ, ◌<◌, ◌∙◌, ◌≡◌, ◌≤◌, List, None, Option, Result, ap, arith, inl, inr, refl, subst, sym, Some}
 use Rattle.std.specs.Prelude.{◌^◌, IsTrue, length, slice_index}
 use Rattle.stair_model.specs.Geometry.{Geometry}
 use Rattle.stair_model.specs.Slots.{HasSlot, Slots}
-use Rattle.stair_rack.specs.Answers.{Ran, any_call}
+use Rattle.stair_rack.specs.Answers.{Ran, any_call, IsHistory}
 use Rattle.stair_rack.specs.History.{Happening, stopped}
 use Rattle.stair_rack.specs.Moments.{IsMoment}
 use Rattle.stair_rack.specs.Stretch.{NothingReturned}
@@ -13,11 +13,12 @@ use Rattle.stair_rack.proofs.StretchLemmas.{each_after, each_before}
 use Rattle.stair_super.specs.Label.{IsLabel}
 use Rattle.stair_super.specs.Superblock.{IsConfiguration, mark_in}
 use Rattle.stair_super.specs.declared.configuration.Configuration.{Configuration}
+use Rattle.stair_member.specs.Aims.{admitted}
 use Rattle.stair_member.specs.Epochs.{IsIssuing}
 use Rattle.stair_member.specs.Establishing.{Establishes, Fences, Leaves, refusal_of}
 use Rattle.stair_member.specs.Fencing.{HasStood, IsBegun}
 use Rattle.stair_member.specs.Membership.{IsMarkedFor, IsMembership, Membership, why_of}
-use Rattle.stair_member.specs.declared.aim.Aim.TheVariants.{Fence}
+use Rattle.stair_member.specs.declared.aim.Aim.TheVariants.{Fence, Promote}
 use Rattle.stair_member.specs.declared.fault.FenceFault.{FenceFault}
 use Rattle.stair_member.specs.declared.why.Why.{Why}
 use Rattle.stair_member.proofs.CountingLemmas.{has_or_not}
@@ -27,7 +28,7 @@ use Rattle.stair_session.specs.Courses.{Fenced, LeavesOut, NoneWas, Point, point
 use Rattle.stair_session.specs.Leading.{IsOpenAmid, led_to}
 use Rattle.stair_session.specs.Session.{ArrayState, IsOpenWith}
 use Rattle.stair_session.proofs.LeftOutLemmas.{start_geometry, stood_by}
-use Rattle.stair_session.proofs.OpenWithLemmas.{fenced_amid, fenced_open, goes_on_from, keeps_rebuilds, rebuilds_on}
+use Rattle.stair_session.proofs.OpenWithLemmas.{fenced_amid, goes_on_from, keeps_rebuilds, rebuilds_on, amid_of, amid_after, open_after}
 
 -- the member that slots of its array left is one still
 module _ (leaving : Slots) (m start : Membership) (leaves : Leaves leaving m start) (below : (j : ℕ) → HasSlot leaving j → j < m.array.geometry.n) where
@@ -62,38 +63,67 @@ module _ (leaving : Slots) (m start : Membership) (leaves : Leaves leaving m sta
 
 -- A FENCE THAT WAS DONE, on an honest rack
 
+-- Whichever media come back the record is led on,
 module _ (leaving : Slots) (before : List Happening) (a : ArrayState) (last : Membership) (answer : Result Slots FenceFault) (x y : Telling)
-    (does : Fences leaving a.member last answer x y) (fine : refusal_of answer ≡ None) (honest : IsTrue y.honest)
-    (below : (j : ℕ) → HasSlot leaving j → j < a.member.array.geometry.n) (begun : IsBegun None a.member x.history)
-    (none : NothingReturned before y.history) (going : ¬ IsTrue (stopped y.history)) where
-  establishes : Establishes Fence does.start last None x y
+    (does : Fences leaving a.member last answer x y) (fine : refusal_of answer ≡ None) (honest : IsTrue y.honest) (history : IsHistory x.history) where
+  pub establishes : Establishes Fence does.start last None x y
   establishes = subst (λ (r : Option FenceFault). Establishes Fence does.start last r x y) fine does.establishes
-
-  -- the fence lies in the session
-  at : Ran any_call before x.history → IsMoment before x.history y.history
-  at ran =
-      moment_between {a = any_call} {b = IsIssuing (establishes.issued honest).slots (establishes.issued honest).editions} ran
-      (establishes.issued honest).ran
-
-  stands : Ran any_call before x.history → HasStood Fence establishes.gone does.start last x.history y.history
-  stands ran =
-      stood_by Fence does.start last x y establishes honest
-      (left None leaving a.member does.start does.leaves x.history (start_rules leaving a.member does.start does.leaves below begun.member) begun)
-      (each_after none (at ran)) (λ slot never. absurd (cc))
 
   geometry_kept : last.array.geometry ≡ a.member.array.geometry
   geometry_kept = establishes.geometry ∙ start_geometry leaving a.member does.start does.leaves
 
+  no_join : (j : ℕ) → admitted Fence ≡ Some j → ⊥
+  no_join j never = cc
+
+  no_promotion : (j : ℕ) → Fence ≡ Promote j → ⊥
+  no_promotion j never = cc
+
+  pub amid_fenced : IsOpenAmid before a x.history → IsOpenAmid before (led_to a last) y.history
+  amid_fenced is =
+      amid_after Fence leaving establishes.gone before a (led_to a last) does.start x.history y.history is history does.leaves
+      (λ j joins. absurd (no_join j joins)) (establishes.issued honest) establishes.rules (establishes.done refl) establishes.were_gone.dropped (establishes.on_disk honest refl)
+      (λ j promotes. absurd (no_promotion j promotes)) (keeps_rebuilds a last is.array geometry_kept)
+
+  pub open_fenced : (words : Codewords) → IsOpenWith before a words x.history → IsOpenWith before (led_to a last) words y.history
+  open_fenced words is =
+      open_after Fence leaving establishes.gone before a (led_to a last) does.start x.history y.history (amid_of before a words x.history is) history
+      does.leaves (λ j joins. absurd (no_join j joins)) (establishes.issued honest) establishes.rules (establishes.done refl) establishes.were_gone.dropped
+      (establishes.on_disk honest refl) (λ j promotes. absurd (no_promotion j promotes)) (keeps_rebuilds a last is.array geometry_kept) words is.live
+      (λ j promotes. absurd (no_promotion j promotes)) is.rebuilt
+
+-- and where none does the new epoch is the session's, too.
+module _ (leaving : Slots) (before : List Happening) (a : ArrayState) (last : Membership) (answer : Result Slots FenceFault) (x y : Telling)
+    (does : Fences leaving a.member last answer x y) (fine : refusal_of answer ≡ None) (honest : IsTrue y.honest)
+    (below : (j : ℕ) → HasSlot leaving j → j < a.member.array.geometry.n) (begun : IsBegun None a.member x.history)
+    (none : NothingReturned before y.history) (going : ¬ IsTrue (stopped y.history)) where
+  abbrev established : Establishes Fence does.start last None x y
+  established = establishes leaving before a last answer x y does fine honest begun.history
+
+  -- the fence lies in the session
+  at : Ran any_call before x.history → IsMoment before x.history y.history
+  at ran =
+      moment_between {a = any_call} {b = IsIssuing (established.issued honest).slots (established.issued honest).editions} ran
+      (established.issued honest).ran
+
+  stands : Ran any_call before x.history → HasStood Fence established.gone does.start last x.history y.history
+  stands ran =
+      stood_by Fence does.start last x y established honest
+      (left None leaving a.member does.start does.leaves x.history (start_rules leaving a.member does.start does.leaves below begun.member) begun)
+      (each_after none (at ran)) (λ slot never. absurd (cc))
+
+  begun_fenced : IsOpenAmid before a x.history → IsBegun None last y.history
+  begun_fenced is =
+      (fenced_amid leaving established.gone before a (led_to a last) does.start x.history y.history (each_before none (at is.ran)) does.leaves
+      (stands is.ran) going
+      (keeps_rebuilds a last is.array (established.geometry ∙ start_geometry leaving a.member does.start does.leaves)) is).1
+
   pub fences_amid : IsOpenAmid before a x.history → IsOpenAmid before (led_to a last) y.history × IsBegun None last y.history
-  fences_amid is =
-      fenced_amid leaving establishes.gone before a (led_to a last) does.start x.history y.history (each_before none (at is.ran)) does.leaves
-      (stands is.ran) going (keeps_rebuilds a last is.array geometry_kept) is
+  fences_amid is = (amid_fenced leaving before a last answer x y does fine honest begun.history is, begun_fenced is)
 
   pub fences_open : (words : Codewords) → IsOpenWith before a words x.history
       → IsOpenWith before (led_to a last) words y.history × IsBegun None last y.history
   fences_open words is =
-      fenced_open leaving establishes.gone before a (led_to a last) does.start x.history y.history (each_before none (at is.ran)) does.leaves
-      (stands is.ran) going (keeps_rebuilds a last is.array geometry_kept) words is
+      (open_fenced leaving before a last answer x y does fine honest begun.history words is, begun_fenced (amid_of before a words x.history is))
 
 -- SLOTS THAT ARE LEFT OUT
 
@@ -120,6 +150,26 @@ stays_amid before a h is = record {
   shut = is.shut;
 }
 
+-- Whichever media come back the record is led on without them,
+module _ (leaving : Slots) (before : List Happening) (a : ArrayState) (x : Telling) (y : Point) (leaves : LeavesOut leaving None (point a.member x) y)
+    (honest : IsTrue y.told.honest) (history : IsHistory x.history) where
+  pub open_left : (words : Codewords) → IsOpenWith before a words x.history → IsOpenWith before (led_to a y.member) words y.told.history
+  open_left words is = by leaves
+    where
+      by : LeavesOut leaving None (point a.member x) y → IsOpenWith before (led_to a y.member) words y.told.history
+      by (NoneWas out same quiet) =
+          subst (λ (p : Point). IsOpenWith before (led_to a p.member) words p.told.history) (sym same) (stays_open before a words x.history is)
+      by (Fenced j has answer fine does) = open_fenced leaving before a y.member answer x y.told does (sym fine) honest history words is
+
+  pub amid_left : IsOpenAmid before a x.history → IsOpenAmid before (led_to a y.member) y.told.history
+  amid_left is = by leaves
+    where
+      by : LeavesOut leaving None (point a.member x) y → IsOpenAmid before (led_to a y.member) y.told.history
+      by (NoneWas out same quiet) =
+          subst (λ (p : Point). IsOpenAmid before (led_to a p.member) p.told.history) (sym same) (stays_amid before a x.history is)
+      by (Fenced j has answer fine does) = amid_fenced leaving before a y.member answer x y.told does (sym fine) honest history is
+
+-- and where none does the session has its epoch then.
 module _ (leaving : Slots) (before : List Happening) (a : ArrayState) (x : Telling) (y : Point) (leaves : LeavesOut leaving None (point a.member x) y)
     (honest : IsTrue y.told.honest) (below : (j : ℕ) → HasSlot leaving j → j < a.member.array.geometry.n)
     (begun : IsBegun None a.member x.history) (none : NothingReturned before y.told.history)

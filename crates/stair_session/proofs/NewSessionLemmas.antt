@@ -130,22 +130,22 @@ opens_new m before h whole ran new = record {
 
 -- WHAT A NEW ARRAY NAMES
 
-among_first : {A : Type 0} → (n j : ℕ) (a b : A) → j < n → slice_index_or (replicate n a ++ replicate (32 - n) b) j b ≡ a
+pub among_first : {A : Type 0} → (n j : ℕ) (a b : A) → j < n → slice_index_or (replicate n a ++ replicate (32 - n) b) j b ≡ a
 among_first n j a b below =
     get_or_append_left (replicate n a) (replicate (32 - n) b) b j (omega (arith, length-replicate n a)) ∙ get_or-replicate n j a b below
 
-any_entry : {A : Type 0} → (n j : ℕ) (b : A) → slice_index_or (replicate n b) j b ≡ b
+pub any_entry : {A : Type 0} → (n j : ℕ) (b : A) → slice_index_or (replicate n b) j b ≡ b
 any_entry n j b =
     elim (cases_lt j n) [
       | inl below ↦ get_or-replicate n j b b below
       | inr past ↦ get_or_past (replicate n b) j b (omega (arith, length-replicate n b))
     ]
 
-past_first : {A : Type 0} → (n j : ℕ) (a b : A) → n ≤ j → slice_index_or (replicate n a ++ replicate (32 - n) b) j b ≡ b
+pub past_first : {A : Type 0} → (n j : ℕ) (a b : A) → n ≤ j → slice_index_or (replicate n a ++ replicate (32 - n) b) j b ≡ b
 past_first n j a b past =
     get_or-append_right (replicate n a) (replicate (32 - n) b) n j b (length-replicate n a) past ∙ any_entry (32 - n) (j - n) b
 
-length_first : {A : Type 0} → (n : ℕ) (a b : A) → n ≤ 32 → length (replicate n a ++ replicate (32 - n) b) ≡ 32
+pub length_first : {A : Type 0} → (n : ℕ) (a b : A) → n ≤ 32 → length (replicate n a ++ replicate (32 - n) b) ≡ 32
 length_first n a b small =
     omega (arith, length-append (replicate n a) (replicate (32 - n) b), length-replicate n a, length-replicate (32 - n) b)
 

@@ -3,36 +3,37 @@ use Rattle.std.proofs.Common.{ℕ, ◌<◌, ◌∙◌, ◌≡◌, ◌≢◌, ◌
 use Rattle.std.specs.Prelude.{IsTrue}
 use Rattle.stair_model.specs.Device.{cell_sector, gate_sector}
 use Rattle.stair_model.specs.Geometry.{Geometry}
-use Rattle.stair_model.specs.Slots.{Slots, no_slots}
-use Rattle.stair_rack.specs.Answers.{Ran, any_call}
-use Rattle.stair_rack.specs.Crash.{CrashMayLeave}
+use Rattle.stair_model.specs.Slots.{Slots, no_slots, HasSlot}
+use Rattle.stair_rack.specs.Answers.{Ran, any_call, IsHistory}
+use Rattle.stair_rack.specs.Crash.{CrashMayLeave, image_now}
 use Rattle.stair_rack.specs.History.{Happening, SlotCall, Write, slot_state, stopped}
 use Rattle.stair_rack.specs.Media.{Image}
 use Rattle.stair_rack.specs.Moments.{IsMoment}
 use Rattle.stair_rack.specs.Offline.{IsAttached, IsHeld, WasPulled}
 use Rattle.stair_rack.specs.Placed.{IsSlot}
-use Rattle.stair_rack.specs.Sector.{Damaged, MayLeave}
+use Rattle.stair_rack.specs.Sector.{Damaged, MayLeave, content}
 use Rattle.stair_rack.specs.Stretch.{NothingReturned}
 use Rattle.stair_rack.specs.declared.rack.Reply.{Reply}
 use Rattle.stair_rack.specs.declared.rack.Reply.TheVariants as reply
-use Rattle.stair_rack.proofs.CrashLemmas.{settled_left}
+use Rattle.stair_rack.proofs.CrashLemmas.{settled_left, CrashMayLeave-now}
 use Rattle.stair_rack.proofs.MomentLemmas.{moment_between, ran_any, ran_before, ran_join, ran_weakened}
 use Rattle.stair_rack.proofs.OfflineLemmas.{held_on, stopped_on}
 use Rattle.stair_rack.proofs.StretchLemmas.{each_after, each_before}
+use Rattle.stair_super.specs.Superblock.{Superblock}
 use Rattle.stair_member.specs.Aims.{admitted, aimed}
 use Rattle.stair_member.specs.Counting.{AtMost}
 use Rattle.stair_member.specs.Current.{ByOutside}
 use Rattle.stair_member.specs.Editions.{Edition}
-use Rattle.stair_member.specs.Epochs.{IsIssuing, IsTaken, Issued}
-use Rattle.stair_member.specs.Establishing.{Leaves}
+use Rattle.stair_member.specs.Epochs.{IsIssuing, IsTaken, Issued, StandsOnDisk}
+use Rattle.stair_member.specs.Establishing.{Leaves, IsEstablished}
 use Rattle.stair_member.specs.Fencing.{HasStood, IsBegun, IsFencing}
-use Rattle.stair_member.specs.Membership.{IsHere, IsMissing, Membership, why_of}
+use Rattle.stair_member.specs.Membership.{IsHere, IsMissing, Membership, why_of, IsMembership}
 use Rattle.stair_member.specs.Reserve.{HasReached}
+use Rattle.stair_member.specs.Superblocks.{HoldsSuper}
 use Rattle.stair_member.specs.declared.aim.Aim.{Aim}
 use Rattle.stair_member.specs.declared.aim.Aim.TheVariants.{Fence, Promote}
 use Rattle.stair_member.specs.declared.why.Why.{Why}
 use Rattle.stair_member.specs.declared.why.Why.TheVariants.{Gone, Here, Rebuilding}
-use Rattle.stair_member.proofs.AgainLemmas.{stayed}
 use Rattle.stair_member.proofs.CountingLemmas.{all_but_mapped, has_or_not}
 use Rattle.stair_member.proofs.StoodLemmas.{all_here}
 use Rattle.stair_state.specs.Blocks.{Codewords}
@@ -48,14 +49,14 @@ use Rattle.stair_session.specs.InSession.{HasEpoch, IsAimedContent, IsBehindPlac
 use Rattle.stair_session.specs.Leading.{IsBesideArray, IsOpenAmid, KeepsRebuilds, led_to, rebuild_if, rebuild_in}
 use Rattle.stair_session.specs.Rebuilding.{IsRebuiltTo, Rebuild}
 use Rattle.stair_session.specs.Session.{ArrayState, IsArray, IsLiveIn, IsOpenWith, IsRebuiltIn, ServesSlot}
-use Rattle.stair_session.proofs.AfterLemmas.{serves_on, stood}
-use Rattle.stair_session.proofs.BesideLemmas.{attached_on, beside, epoch_kept, kept_medium, large_on, medium_on_it, served, was_attached}
+use Rattle.stair_session.proofs.AfterLemmas.{serves_issued, shut_issued, stood}
+use Rattle.stair_session.proofs.BesideLemmas.{epochs, attached_on, beside, epoch_kept, kept_medium, large_on, medium_on_it, served, was_attached, live_beside, shut_beside}
 use Rattle.stair_session.proofs.EstablishingLemmas.{issuing_attaches, issuing_writes}
 use Rattle.stair_session.proofs.KnownLemmas.{attached_before}
 use Rattle.stair_session.proofs.LeftOutLemmas.{here_before, live_before, none_leave, rebuilding_before, start_geometry}
-use Rattle.stair_session.proofs.MidwayLemmas.{here_aimed}
+use Rattle.stair_session.proofs.MidwayLemmas.{here_aimed, rebuilt_before}
 use Rattle.stair_session.proofs.OpenLaws.{goes_on_within, in_session}
-use Rattle.stair_session.proofs.OwnLaws.{attached_or_bare, own_beside, own_reached, own_stood}
+use Rattle.stair_session.proofs.OwnLaws.{attached_or_bare, own_beside, own_reached, own_drawn, own_given}
 use Rattle.stair_session.proofs.ReadyLemmas.{ready_plain}
 use Rattle.stair_session.proofs.RebaseLemmas.{rebuilt_now}
 use Rattle.stair_session.proofs.RebuildingLemmas.{rebuilt_none, rebuilt_on}
@@ -101,55 +102,61 @@ module _ (before : List Happening) (a : ArrayState) (words : Codewords) (old : L
 
 -- CALLS THAT ARE BESIDE
 
+-- The record stays so, whichever media come back.
 module _ (before : List Happening) (a : ArrayState) (words : Codewords) (old new : List Happening) (is : IsOpenWith before a words old)
-    (begun : IsBegun None a.member old) (ran : Ran (IsBesideArray a) old new) (none : NothingReturned before new)
-    (going : ¬ IsTrue (stopped new)) where
+    (history : IsHistory old) (ran : Ran (IsBesideArray a) old new) where
   abbrev mine : Membership
   mine = a.member
 
-  between : IsMoment before old new
-  between = moment_between {a = any_call} {b = IsBesideArray a} is.ran ran
-
   beside_session : Ran (IsBeside mine) old new
   beside_session = ran_weakened {allowed = IsBesideArray a} {more = IsBeside mine} (λ i c may. may.session) ran
-
-  session : IsInSession mine words old
-  session =
-      in_session before a words old is (each_before none between)
-      (λ is_stopped. going (stopped_on {allowed = IsBesideArray a} ran is_stopped)) begun
-
-  session_then : IsInSession mine words new
-  session_then = beside mine words old new session beside_session (each_after none between)
 
   rebuilt_then : (rebuild : Rebuild) → a.rebuild ≡ Some rebuild → IsAttached new rebuild.slot
       → IsRebuiltTo mine.array.geometry words rebuild.slot rebuild.stripe new new
   rebuilt_then rebuild same on =
       let slot = (is.array.rebuilds rebuild same).0 in
       let here : IsHere mine rebuild.slot = record { below = slot.below; why = inr slot.why } in
-      let was = was_attached mine words old new session beside_session (each_after none between) rebuild.slot here on in
-      rebuilt_now mine.array.geometry words rebuild.slot rebuild.stripe old new
-      (kept_medium mine words old new session beside_session (each_after none between) rebuild.slot here on)
+      rebuilt_now mine.array.geometry words rebuild.slot rebuild.stripe old new (kept_medium mine words old new beside_session rebuild.slot here on)
       (rebuilt_on {allowed = IsBesideArray a} mine.array.geometry words rebuild.slot rebuild.stripe old
       (λ t i bytes done row may. (may.chunks rebuild same refl).1 t i bytes reply.Done done row refl)
-      (λ c may. (may.chunks rebuild same refl).0) ran (is.rebuilt rebuild same was))
+      (λ c may. (may.chunks rebuild same refl).0) ran
+      (is.rebuilt rebuild same (was_attached mine words old new beside_session rebuild.slot here on)))
 
-  -- The record stays so.
-  pub beside_open : IsOpenWith before a words new × IsBegun None a.member new
-  beside_open = (
-    record {
-      array = is.array;
-      ran = ran_join {allowed = any_call} is.ran (ran_any {allowed = IsBesideArray a} ran);
-      held = λ j here. held_on {allowed = IsBesideArray a} j ran (is.held j here);
-      own = λ j here.
-          own_beside mine old new is.array.member begun.history is.own
-          (ran_weakened {allowed = IsBesideArray a} {more = λ i c. IsBehindPlaces i c × AttachesNone (IsHere mine) i c}
-          (λ i c may. (may.session.epochs.behind, may.session.epochs.attaches)) ran) j here;
-      live = λ j at. session_then.live j at.below at.why;
-      shut = λ j at. session_then.shut j at.below at.why;
-      rebuilt = rebuilt_then;
-    },
-    session_then.begun,
-  )
+  pub open_beside : IsOpenWith before a words new
+  open_beside = record {
+    array = is.array;
+    ran = ran_join {allowed = any_call} is.ran (ran_any {allowed = IsBesideArray a} ran);
+    held = λ j here. held_on {allowed = IsBesideArray a} j ran (is.held j here);
+    own = λ j here.
+        own_beside mine old new is.array.member history is.own
+        (ran_weakened {allowed = IsBesideArray a} {more = λ i c. IsBehindPlaces i c × AttachesNone (IsHere mine) i c}
+        (λ i c may. (may.session.epochs.behind, may.session.epochs.attaches)) ran) j here;
+    live = λ j at.
+        live_beside mine words old new beside_session (λ i below why. is.live i (record { below = below; why = why })) j at.below at.why;
+    shut = λ j at.
+        shut_beside mine old new (epochs mine words old new beside_session) (λ i below why. is.shut i (record { below = below; why = why })) j at.below
+        at.why;
+    rebuilt = rebuilt_then;
+  }
+
+-- and where none does so does what a call that establishes an epoch begins with
+pub beside_open : (before : List Happening) (a : ArrayState) (words : Codewords) (old new : List Happening) → IsOpenWith before a words old
+    → IsBegun None a.member old → Ran (IsBesideArray a) old new → NothingReturned before new → ¬ IsTrue (stopped new)
+    → IsOpenWith before a words new × IsBegun None a.member new
+beside_open before a words old new is begun ran none going = (open_beside before a words old new is begun.history ran, then.begun)
+  where
+    between : IsMoment before old new
+    between = moment_between {a = any_call} {b = IsBesideArray a} is.ran ran
+
+    session : IsInSession a.member words old
+    session =
+        in_session before a words old is (each_before none between)
+        (λ is_stopped. going (stopped_on {allowed = IsBesideArray a} ran is_stopped)) begun
+
+    then : IsInSession a.member words new
+    then =
+        beside a.member words old new session
+        (ran_weakened {allowed = IsBesideArray a} {more = IsBeside a.member} (λ i c may. may.session) ran) (each_after none between)
 
 -- WHAT NO STRIPE HAS A SAY IN
 
@@ -186,32 +193,34 @@ module _ (before : List Happening) (a : ArrayState) (h : List Happening) (is : I
     shut = λ j below why. is.shut j (record { below = below; why = why });
   }
 
--- Calls beside the epochs keep it.
-module _ (before : List Happening) (a : ArrayState) (old new : List Happening) (is : IsOpenAmid before a old) (begun : IsBegun None a.member old)
-    (ran : Ran (IsBesideEpochs a.member) old new) (none : NothingReturned before new) (going : ¬ IsTrue (stopped new)) where
-  amid_between : IsMoment before old new
-  amid_between = moment_between {a = any_call} {b = IsBesideEpochs a.member} is.ran ran
+-- Calls beside the epochs keep it, whichever media come back,
+pub amid_beside : (before : List Happening) (a : ArrayState) (old new : List Happening) → IsOpenAmid before a old → IsHistory old
+    → Ran (IsBesideEpochs a.member) old new → IsOpenAmid before a new
+amid_beside before a old new is history ran = record {
+  array = is.array;
+  ran = ran_join {allowed = any_call} is.ran (ran_any {allowed = IsBesideEpochs a.member} ran);
+  held = λ j here. held_on {allowed = IsBesideEpochs a.member} j ran (is.held j here);
+  own = λ j here.
+      own_beside a.member old new is.array.member history is.own
+      (ran_weakened {allowed = IsBesideEpochs a.member} {more = λ i c. IsBehindPlaces i c × AttachesNone (IsHere a.member) i c}
+      (λ i c may. (may.behind, may.attaches)) ran) j here;
+  shut = λ j at. shut_beside a.member old new ran (λ i below why. is.shut i (record { below = below; why = why })) j at.below at.why;
+}
 
-  epoch_then : HasEpoch a.member new
-  epoch_then =
-      epoch_kept a.member old new
-      (epoch_amid before a old is (each_before none amid_between)
-      (λ is_stopped. going (stopped_on {allowed = IsBesideEpochs a.member} ran is_stopped)) begun) ran (each_after none amid_between)
+-- and where none does the session has its epoch.
+pub beside_amid : (before : List Happening) (a : ArrayState) (old new : List Happening) → IsOpenAmid before a old → IsBegun None a.member old
+    → Ran (IsBesideEpochs a.member) old new → NothingReturned before new → ¬ IsTrue (stopped new)
+    → IsOpenAmid before a new × IsBegun None a.member new
+beside_amid before a old new is begun ran none going = (amid_beside before a old new is begun.history ran, then.begun)
+  where
+    between : IsMoment before old new
+    between = moment_between {a = any_call} {b = IsBesideEpochs a.member} is.ran ran
 
-  pub beside_amid : IsOpenAmid before a new × IsBegun None a.member new
-  beside_amid = (
-    record {
-      array = is.array;
-      ran = ran_join {allowed = any_call} is.ran (ran_any {allowed = IsBesideEpochs a.member} ran);
-      held = λ j here. held_on {allowed = IsBesideEpochs a.member} j ran (is.held j here);
-      own = λ j here.
-          own_beside a.member old new is.array.member begun.history is.own
-          (ran_weakened {allowed = IsBesideEpochs a.member} {more = λ i c. IsBehindPlaces i c × AttachesNone (IsHere a.member) i c}
-          (λ i c may. (may.behind, may.attaches)) ran) j here;
-      shut = λ j at. epoch_then.shut j at.below at.why;
-    },
-    epoch_then.begun,
-  )
+    then : HasEpoch a.member new
+    then =
+        epoch_kept a.member old new
+        (epoch_amid before a old is (each_before none between)
+        (λ is_stopped. going (stopped_on {allowed = IsBesideEpochs a.member} ran is_stopped)) begun) ran (each_after none between)
 
 -- A REDO
 
@@ -289,49 +298,84 @@ module _ (r : Redoing) (before : List Happening) (a : ArrayState) (live : ℕ �
 cells_behind : (g : Geometry) (t i : ℕ) → 2 ≤ cell_sector g t i
 cells_behind g t i = omega arith
 
--- It was established by the member that some slots left; those that took part then, or were to be admitted, were held.
+-- It was established by the member that some slots left; a slot that was to be admitted was held, with its gate closed and no draw that
+-- wasn't seen. Whichever media come back,
 module _ (aim : Aim) (leaving gone : Slots) (before : List Happening) (a b : ArrayState) (start : Membership) (old new : List Happening)
-    (is : IsOpenAmid before a old) (leaves : Leaves leaving a.member start) (held : (j : ℕ) → admitted aim ≡ Some j → IsHeld before old j)
-    (own : (j : ℕ) → IsTaken (admitted aim) start j → IsAttachedOrBare old j)
-    (shut : (j : ℕ) → admitted aim ≡ Some j → IsAttached old j → IsShut a.member.array.geometry old old j)
-    (st : HasStood aim gone start b.member old new) (going : ¬ IsTrue (stopped new)) (keeps : KeepsRebuilds a b) where
+    (is : IsOpenAmid before a old) (history : IsHistory old) (leaves : Leaves leaving a.member start)
+    (joining : (j : ℕ) → admitted aim ≡ Some j → IsHeld before old j × (IsAttached old j
+    → IsShut a.member.array.geometry old old j × ((k : ℕ) (s : Superblock) → k < 2
+    → HoldsSuper (content ((slot_state old j).sector k)) s → s.draw ≤ a.member.drawn)))
+    (issued : Issued aim gone start b.member old new) (rules : IsMembership b.member) (established : IsEstablished aim start b.member gone)
+    (dropped : (j : ℕ) → HasSlot gone j → why_of b.member j ≡ Gone) (on_disk : StandsOnDisk (admitted aim) b.member old new)
+    (promoted : (j : ℕ) → aim ≡ Promote j → IsHere start j) (keeps : KeepsRebuilds a b) where
   abbrev slots : Slots
-  slots = st.fencing.issued.slots
+  slots = issued.slots
 
   abbrev editions : List Edition
-  editions = st.fencing.issued.editions
+  editions = issued.editions
 
-  ran_issuing : Ran (IsIssuing slots editions) old new
-  ran_issuing = st.fencing.issued.ran
+  ran_issuing : Ran (IsIssuing issued.slots issued.editions) old new
+  ran_issuing = issued.ran
 
   geometry_then : b.member.array.geometry ≡ start.array.geometry
-  geometry_then = st.established.stands.geometry
+  geometry_then = established.stands.geometry
 
   same_geometry : b.member.array.geometry ≡ a.member.array.geometry
   same_geometry = geometry_then ∙ start_geometry leaving a.member start leaves
 
-  shut_before : (j : ℕ) → j < start.array.geometry.n → (why_of start j ≡ Rebuilding) ⊎ (admitted aim ≡ Some j) → IsAttached old j
-      → IsShut start.array.geometry old old j
-  shut_before j below which on =
-      subst (λ (g : Geometry). IsShut g old old j) (sym (start_geometry leaving a.member start leaves))
-      (elim which [
-        | inl rebuilt ↦
-            is.shut j
-            (record {
-              below = subst (λ (g : Geometry). j < g.n) (start_geometry leaving a.member start leaves) below;
-              why = rebuilding_before leaving a.member start leaves j rebuilt;
-            }) on
-        | inr joins ↦ shut j joins on
-      ])
+  below_start : (j : ℕ) → j < b.member.array.geometry.n → j < start.array.geometry.n
+  below_start j below = subst (λ (g : Geometry). j < g.n) geometry_then below
 
-  epoch_after : HasEpoch b.member new
-  epoch_after = stood aim gone start b.member old new own st going shut_before
+  below_first : (j : ℕ) → j < b.member.array.geometry.n → j < a.member.array.geometry.n
+  below_first j below = subst (λ (g : Geometry). j < g.n) same_geometry below
+
+  -- the reason of a slot is what the epoch is for
+  aimed_now : (j : ℕ) → j < b.member.array.geometry.n → why_of b.member j ≢ Gone → why_of b.member j ≡ aimed aim j (why_of start j)
+  aimed_now j below stays =
+      elim (has_or_not gone j) [
+        | inl has ↦ absurd (stays (dropped j has))
+        | inr out ↦ established.whys j (below_start j below) out
+      ]
+
+  -- a slot that is live was so, or is promoted, and one that is rebuilt was so, or is admitted
+  live_from : (j : ℕ) → IsLiveIn b.member j → (why_of start j ≡ Here) ⊎ (aim ≡ Promote j)
+  live_from j at =
+      here_aimed aim j (why_of start j)
+      (sym (aimed_now j at.below (λ is_gone. let never : Here ≡ Gone = sym at.why ∙ is_gone in cc)) ∙ at.why)
+
+  rebuilt_from : (j : ℕ) → IsRebuiltIn b.member j → (why_of start j ≡ Rebuilding) ⊎ (admitted aim ≡ Some j)
+  rebuilt_from j at =
+      rebuilt_before aim j (why_of start j)
+      (sym (aimed_now j at.below (λ is_gone. let never : Rebuilding ≡ Gone = sym at.why ∙ is_gone in cc)) ∙ at.why)
+
+  -- so one that takes part did so, or is admitted
+  here_from : (j : ℕ) → IsHere b.member j → IsHere start j ⊎ (admitted aim ≡ Some j)
+  here_from j here =
+      elim here.why [
+        | inl is_live ↦
+            elim (live_from j (record { below = here.below; why = is_live })) [
+              | inl was ↦ inl (record { below = below_start j here.below; why = inl was })
+              | inr promotes ↦ inl (promoted j promotes)
+            ]
+        | inr is_rebuilt ↦
+            elim (rebuilt_from j (record { below = here.below; why = is_rebuilt })) [
+              | inl was ↦ inl (record { below = below_start j here.below; why = inr was })
+              | inr joins ↦ inr joins
+            ]
+      ]
+
+  -- what is attached was so before, to the medium that it has
+  since : (j : ℕ) → IsAttached new j → IsAttached old j × ¬ WasPulled old new j
+  since j =
+      attached_before {some = IsSlot j} j refl
+      (ran_weakened {allowed = IsIssuing slots editions} {more = AttachesNone (IsSlot j)}
+      (λ i c may. issuing_attaches slots editions (IsSlot j) i c may) ran_issuing)
 
   array_after : IsArray b
   array_after = record {
-    member = st.member;
-    marks = λ j below. st.established.stands.marks j (subst (λ (g : Geometry). j < g.n) geometry_then below);
-    enough = subst (λ (g : Geometry). AtMost g.m (IsMissing b.member)) (sym geometry_then) st.established.stands.enough;
+    member = rules;
+    marks = λ j below. established.stands.marks j (below_start j below);
+    enough = subst (λ (g : Geometry). AtMost g.m (IsMissing b.member)) (sym geometry_then) established.stands.enough;
     rebuilds = λ rebuild same. ((keeps rebuild same).slot, most rebuild (keeps rebuild same).stripe);
   }
     where
@@ -342,54 +386,58 @@ module _ (aim : Aim) (leaving gone : Slots) (before : List Happening) (a b : Arr
   held_after : (j : ℕ) → IsHere b.member j → IsHeld before new j
   held_after j here =
       held_on {allowed = IsIssuing slots editions} j ran_issuing
-      (elim (stayed aim gone start b.member old new st j here) [
+      (elim (here_from j here) [
         | inl was ↦ is.held j (here_before leaving a.member start leaves j was)
-        | inr joins ↦ held j joins.0
+        | inr joins ↦ (joining j joins).0
       ])
 
-  -- What no stripe has a say in is that of the new epoch.
-  pub established_amid : IsOpenAmid before b new × IsBegun None b.member new
-  established_amid = (
-    record {
-      array = array_after;
-      ran = ran_join {allowed = any_call} is.ran (ran_any {allowed = IsIssuing slots editions} ran_issuing);
-      held = held_after;
-      own = own_stood aim gone start b.member old new st;
-      shut = λ j at. epoch_after.shut j at.below at.why;
-    },
-    epoch_after.begun,
-  )
+  -- no draw that wasn't seen lay in it
+  seen : (j : ℕ) → IsHere b.member j → IsAttached old j → (k : ℕ) (s : Superblock) → k < 2
+      → HoldsSuper (content ((slot_state old j).sector k)) s → s.draw ≤ start.drawn
+  seen j here was k s place holds =
+      subst (λ (n : ℕ). s.draw ≤ n) (sym leaves.drawn)
+      (elim (here_from j here) [
+        | inl took ↦
+            let first = here_before leaving a.member start leaves j took in
+            own_drawn a.member old j k s is.array.member first (is.own j first was) place holds
+        | inr joins ↦ ((joining j joins).1 was).1 k s place holds
+      ])
 
-  -- what is attached was so before, to the medium that it has
-  since : (j : ℕ) → IsAttached new j → IsAttached old j × ¬ WasPulled old new j
-  since j =
-      attached_before {some = IsSlot j} j refl
-      (ran_weakened {allowed = IsIssuing slots editions} {more = AttachesNone (IsSlot j)}
-      (λ i c may. issuing_attaches slots editions (IsSlot j) i c may) ran_issuing)
+  shut_after : (j : ℕ) → IsRebuiltIn b.member j → IsAttached new j → IsShut b.member.array.geometry new new j
+  shut_after j at on =
+      let medium = since j on in
+      subst (λ (g : Geometry). IsShut g new new j) (sym same_geometry)
+      (shut_issued slots editions a.member.array.geometry old new j ran_issuing medium.1
+      (elim (rebuilt_from j at) [
+        | inl was ↦
+            is.shut j (record { below = below_first j at.below; why = rebuilding_before leaving a.member start leaves j was }) medium.0
+        | inr joins ↦ ((joining j joins).1 medium.0).0
+      ]))
+
+  -- what no stripe has a say in is that of the new epoch,
+  pub amid_after : IsOpenAmid before b new
+  amid_after = record {
+    array = array_after;
+    ran = ran_join {allowed = any_call} is.ran (ran_any {allowed = IsIssuing slots editions} ran_issuing);
+    held = held_after;
+    own = λ j here on.
+        own_given aim gone start b.member old new history issued established.stands rules on_disk j here on (seen j here);
+    shut = shut_after;
+  }
 
   module _ (words : Codewords) (live : (j : ℕ) → IsLiveIn a.member j → IsAttached old j → ServesSlot a.member.array.geometry words old j)
       (serves : (j : ℕ) → aim ≡ Promote j → IsAttached old j → ServesSlot a.member.array.geometry words old j) where
     live_after : (j : ℕ) → IsLiveIn b.member j → IsAttached new j → ServesSlot b.member.array.geometry words new j
     live_after j at on =
-        let below : j < start.array.geometry.n = subst (λ (g : Geometry). j < g.n) geometry_then at.below in
-        let up : aimed aim j (why_of start j) ≡ Here =
-        elim (has_or_not gone j) [
-          | inl has ↦ absurd (let never : Here ≡ Gone = sym at.why ∙ st.dropped j has in cc)
-          | inr out ↦ sym (st.established.whys j below out) ∙ at.why
-        ] in
+        let medium = since j on in
         let was : ServesSlot a.member.array.geometry words old j =
-        elim (here_aimed aim j (why_of start j) up) [
+        elim (live_from j at) [
           | inl was_live ↦
-              live j
-              (record {
-                below = subst (λ (g : Geometry). j < g.n) (start_geometry leaving a.member start leaves) below;
-                why = live_before leaving a.member start leaves j was_live;
-              }) (since j on).0
-          | inr promotes ↦ serves j promotes (since j on).0
+              live j (record { below = below_first j at.below; why = live_before leaving a.member start leaves j was_live }) medium.0
+          | inr promotes ↦ serves j promotes medium.0
         ] in
-        subst (λ (g : Geometry). ServesSlot g words new j) (sym geometry_then)
-        (serves_on aim gone start b.member old new own st going words j (since j on).0 (since j on).1
-        (subst (λ (g : Geometry). ServesSlot g words old j) (sym (start_geometry leaving a.member start leaves)) was))
+        subst (λ (g : Geometry). ServesSlot g words new j) (sym same_geometry)
+        (serves_issued slots editions a.member words old new j ran_issuing medium.0 medium.1 was)
 
     module _ (rebuilt : (rebuild : Rebuild) → a.rebuild ≡ Some rebuild → IsAttached old rebuild.slot
         → IsRebuiltTo a.member.array.geometry words rebuild.slot rebuild.stripe old old) where
@@ -416,9 +464,53 @@ module _ (aim : Aim) (leaving gone : Slots) (before : List Happening) (a b : Arr
               subst (λ (next : ℕ). IsRebuiltTo b.member.array.geometry words rebuild.slot next new new) (sym none)
               (rebuilt_none b.member.array.geometry words rebuild.slot new new)
 
-      -- So is all of the record.
-      pub established_with : IsOpenWith before b words new × IsBegun None b.member new
-      established_with = (ends_with before b words new established_amid.0 live_after rebuilt_after, established_amid.1)
+      -- and so is all of the record.
+      pub open_after : IsOpenWith before b words new
+      open_after = ends_with before b words new amid_after live_after rebuilt_after
+
+-- Where none comes back the new epoch is the session's, too; slots that took part were attached or bore nothing.
+module _ (aim : Aim) (leaving gone : Slots) (before : List Happening) (a b : ArrayState) (start : Membership) (old new : List Happening)
+    (is : IsOpenAmid before a old) (leaves : Leaves leaving a.member start)
+    (own : (j : ℕ) → IsTaken (admitted aim) start j → IsAttachedOrBare old j)
+    (joining : (j : ℕ) → admitted aim ≡ Some j → IsHeld before old j × (IsAttached old j
+    → IsShut a.member.array.geometry old old j × ((k : ℕ) (s : Superblock) → k < 2
+    → HoldsSuper (content ((slot_state old j).sector k)) s → s.draw ≤ a.member.drawn)))
+    (st : HasStood aim gone start b.member old new) (going : ¬ IsTrue (stopped new)) (keeps : KeepsRebuilds a b) where
+  begun_after : IsBegun None b.member new
+  begun_after = (stood aim gone start b.member old new own st going shut_before).begun
+    where
+      shut_before : (j : ℕ) → j < start.array.geometry.n → (why_of start j ≡ Rebuilding) ⊎ (admitted aim ≡ Some j) → IsAttached old j
+          → IsShut start.array.geometry old old j
+      shut_before j below which on =
+          subst (λ (g : Geometry). IsShut g old old j) (sym (start_geometry leaving a.member start leaves))
+          (elim which [
+            | inl rebuilt ↦
+                is.shut j
+                (record {
+                  below = subst (λ (g : Geometry). j < g.n) (start_geometry leaving a.member start leaves) below;
+                  why = rebuilding_before leaving a.member start leaves j rebuilt;
+                }) on
+            | inr joins ↦ ((joining j joins).1 on).0
+          ])
+
+  pub established_amid : IsOpenAmid before b new × IsBegun None b.member new
+  established_amid = (
+    amid_after aim leaving gone before a b start old new is st.fencing.begun.history leaves joining st.fencing.issued st.member st.established st.dropped
+        st.on_disk st.promoted keeps,
+    begun_after,
+  )
+
+  pub established_with : (words : Codewords)
+      → ((j : ℕ) → IsLiveIn a.member j → IsAttached old j → ServesSlot a.member.array.geometry words old j)
+      → ((j : ℕ) → aim ≡ Promote j → IsAttached old j → ServesSlot a.member.array.geometry words old j)
+      → ((rebuild : Rebuild) → a.rebuild ≡ Some rebuild → IsAttached old rebuild.slot
+      → IsRebuiltTo a.member.array.geometry words rebuild.slot rebuild.stripe old old)
+      → IsOpenWith before b words new × IsBegun None b.member new
+  established_with words live serves rebuilt = (
+    open_after aim leaving gone before a b start old new is st.fencing.begun.history leaves joining st.fencing.issued st.member st.established st.dropped
+        st.on_disk st.promoted keeps words live serves rebuilt,
+    begun_after,
+  )
 
 -- by a session that was ready for it
 pub established_open : (aim : Aim) (gone : Slots) (before : List Happening) (a b : ArrayState) (words : Codewords) (old new : List Happening)
@@ -426,8 +518,16 @@ pub established_open : (aim : Aim) (gone : Slots) (before : List Happening) (a b
     → HasStood aim gone a.member b.member old new → ¬ IsTrue (stopped new) → KeepsRebuilds a b
     → IsOpenWith before b words new × IsBegun None b.member new
 established_open aim gone before a b words old new is ready held st going keeps =
-    established_with aim no_slots gone before a b a.member old new (amid_of before a words old is) (none_leave a.member) held
-    (own_taken aim a.member words old ready) (λ j joins. ready.shut j joins) st going keeps words is.live (λ j promotes. ready.serves j promotes) is.rebuilt
+    established_with aim no_slots gone before a b a.member old new (amid_of before a words old is) (none_leave a.member)
+    (own_taken aim a.member words old ready)
+    (λ j joins. (
+      held j joins,
+      λ on. (
+        ready.shut j joins on,
+        λ k s place holds.
+            (ready.begun.known (image_now old) (CrashMayLeave-now old)).drawn j k s (inr (joins, (ready.absent j joins).0)) on place holds,
+      ),
+    )) st going keeps words is.live (λ j promotes. ready.serves j promotes) is.rebuilt
 
 -- A FENCE
 
@@ -447,14 +547,13 @@ module _ (leaving gone : Slots) (before : List Happening) (a b : ArrayState) (st
 
   pub fenced_amid : IsOpenAmid before a old → IsOpenAmid before b new × IsBegun None b.member new
   fenced_amid is =
-      established_amid Fence leaving gone before a b start old new is leaves (λ j joins. absurd (no_join j joins)) (own_then is)
-      (λ j joins. absurd (no_join j joins)) st going keeps
+      established_amid Fence leaving gone before a b start old new is leaves (own_then is) (λ j joins. absurd (no_join j joins)) st going keeps
 
   pub fenced_open : (words : Codewords) → IsOpenWith before a words old → IsOpenWith before b words new × IsBegun None b.member new
   fenced_open words is =
       let amid = amid_of before a words old is in
-      established_with Fence leaving gone before a b start old new amid leaves (λ j joins. absurd (no_join j joins)) (own_then amid)
-      (λ j joins. absurd (no_join j joins)) st going keeps words is.live (λ j never. absurd (cc)) is.rebuilt
+      established_with Fence leaving gone before a b start old new amid leaves (own_then amid) (λ j joins. absurd (no_join j joins)) st going keeps words
+      is.live (λ j never. absurd (cc)) is.rebuilt
 
 -- THE REBUILD
 

@@ -44,6 +44,7 @@ use Rattle.stair_state.specs.Redoing.{AttachesNone}
 use Rattle.stair_state.proofs.SeenLemmas.{whole_places}
 use Rattle.stair_session.specs.Changing.{IsAttachedOrBare}
 use Rattle.stair_session.specs.InSession.{IsBehindPlaces}
+use Rattle.stair_session.specs.Returning.{HasOwnNewest}
 use Rattle.stair_session.specs.Session.{HasOwn, IsOwnSector, own_super}
 
 -- SLOTS THAT WERE PULLED
@@ -351,17 +352,44 @@ module _ (m : Membership) (h new : List Happening) (j : ℕ) (is : IsMembership 
         ];
   }
 
+  -- and where nothing ties with it that's so still
+  pub newest_kept : ((other : Superblock) → HoldsSuper (content ((slot_state h j).sector (place_of m j))) other
+      → (other ≡ own_super m own.draw j) ⊎ IsOlder other (own_super m own.draw j)) → HasOwnNewest m new j
+  unfolding own_kept
+  newest_kept newest = record {
+    own = own_kept;
+    newest = λ other holds.
+        elim (place_kept (place_of m j) next_in) [
+          | inl harmed ↦ absurd (none_held_there (content ((slot_state new j).sector (place_of m j))) other (ap content harmed) holds)
+          | inr same ↦ newest other (subst (λ (s : Sector). HoldsSuper (content s) other) same holds)
+        ];
+  }
+
 -- and each that takes part, through calls that attach none of them
+module _ (m : Membership) (h new : List Happening) (is : IsMembership m) (history : IsHistory h)
+    (ran : Ran (λ i c. IsBehindPlaces i c × AttachesNone (IsHere m) i c) h new) (j : ℕ) (here : IsHere m j) (on : IsAttached new j) where
+  was_attached : IsAttached h j × ((slot_state new j).pulls ≡ (slot_state h j).pulls)
+  was_attached =
+      attached_since h new j
+      (ran_weakened {allowed = λ i c. IsBehindPlaces i c × AttachesNone (IsHere m) i c} {more = IsNoAttach j}
+      (λ i c may at. may.1 (subst (IsHere m) (sym at) here)) ran) on
+
+  ran_behind : Ran IsBehindPlaces h new
+  ran_behind = ran_weakened {allowed = λ i c. IsBehindPlaces i c × AttachesNone (IsHere m) i c} {more = IsBehindPlaces} (λ i c may. may.0) ran
+
+  pub own_beside_of : (IsAttached h j → HasOwn m h j) → HasOwn m new j
+  own_beside_of own =
+      own_kept m h new j is here.below history was_attached.0 (own was_attached.0) ran_behind (λ pulled. omega (arith, pulled, was_attached.1))
+
+  pub newest_beside : (IsAttached h j → HasOwnNewest m h j) → HasOwnNewest m new j
+  newest_beside own =
+      let was = own was_attached.0 in
+      newest_kept m h new j is here.below history was_attached.0 was.own ran_behind (λ pulled. omega (arith, pulled, was_attached.1)) was.newest
+
 pub own_beside : (m : Membership) (h new : List Happening) → IsMembership m → IsHistory h
     → ((j : ℕ) → IsHere m j → IsAttached h j → HasOwn m h j)
     → Ran (λ i c. IsBehindPlaces i c × AttachesNone (IsHere m) i c) h new → (j : ℕ) → IsHere m j → IsAttached new j → HasOwn m new j
-own_beside m h new is history own ran j here on =
-    let since = attached_since h new j
-    (ran_weakened {allowed = λ i c. IsBehindPlaces i c × AttachesNone (IsHere m) i c} {more = IsNoAttach j}
-    (λ i c may at. may.1 (subst (IsHere m) (sym at) here)) ran) on in
-    own_kept m h new j is here.below history since.0 (own j here since.0)
-    (ran_weakened {allowed = λ i c. IsBehindPlaces i c × AttachesNone (IsHere m) i c} {more = IsBehindPlaces} (λ i c may. may.0) ran)
-    (λ pulled. omega (arith, pulled, since.1))
+own_beside m h new is history own ran j here on = own_beside_of m h new is history ran j here on (own j here)
 
 -- ONCE AN EPOCH STANDS
 

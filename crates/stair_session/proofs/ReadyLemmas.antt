@@ -189,9 +189,9 @@ promotable m words j to gone old new is below rebuilt settles done chunks none =
     let ran = ran_weakened {allowed = IsOn to Sync} {more = IsBeside m} (λ i c may. syncs_beside m to i c may) settles.ran in
     ready_promote m j words new (beside m words old new is ran none) here
     (λ on.
-    let was = was_attached m words old new is ran none j here on in
+    let was = was_attached m words old new ran j here on in
     rebuilt_serves m.array.geometry words j to gone old old new is.begun.member.array.limits settles done (chunks was) (is.shut j below rebuilt was) on
-    (kept_medium m words old new is ran none j here on))
+    (kept_medium m words old new ran j here on))
 
 -- A SLOT THAT WAS LOOKED AT AND LAID OUT
 

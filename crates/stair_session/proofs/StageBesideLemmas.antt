@@ -4,7 +4,7 @@ use Rattle.std.specs.Prelude.{IsTrue}
 use Rattle.stair_model.specs.Device.{gate_sector}
 use Rattle.stair_model.specs.Geometry.{Geometry}
 use Rattle.stair_model.specs.Slots.{HasSlot, Slots}
-use Rattle.stair_rack.specs.Answers.{Ran, any_call}
+use Rattle.stair_rack.specs.Answers.{Ran, any_call, IsHistory}
 use Rattle.stair_rack.specs.History.{Happening, SlotCall, Sync, Write, stopped}
 use Rattle.stair_rack.specs.Moments.{IsMoment}
 use Rattle.stair_rack.specs.Placed.{IsSyncOf, IsWriteOf, Placed, Writes}
@@ -13,6 +13,7 @@ use Rattle.stair_rack.specs.Telling.{Telling}
 use Rattle.stair_rack.proofs.MomentLemmas.{moment_between, ran_any, ran_join, ran_none, ran_weakened}
 use Rattle.stair_rack.proofs.OfflineLemmas.{stopped_on}
 use Rattle.stair_rack.proofs.StretchLemmas.{each_before}
+use Rattle.stair_rack.proofs.TidyLemmas.{history_on}
 use Rattle.stair_rack.proofs.WritingLemmas.{beside_syncs, beside_writes}
 use Rattle.stair_member.specs.Epochs.{IsIssuing}
 use Rattle.stair_member.specs.Fencing.{IsBegun}
@@ -26,9 +27,9 @@ use Rattle.stair_session.specs.Courses.{DoesStage, Fenced, IsOver, LeavesOut, No
 use Rattle.stair_session.specs.InSession.{IsBehindPlaces, IsBesideEpochs}
 use Rattle.stair_session.specs.Leading.{IsOpenAmid, led_to}
 use Rattle.stair_session.specs.Session.{ArrayState}
-use Rattle.stair_session.proofs.FencesLemmas.{leaves_amid}
+use Rattle.stair_session.proofs.FencesLemmas.{leaves_amid, amid_left}
 use Rattle.stair_session.proofs.HonestLemmas.{mid_honest}
-use Rattle.stair_session.proofs.OpenWithLemmas.{beside_amid}
+use Rattle.stair_session.proofs.OpenWithLemmas.{beside_amid, amid_beside}
 
 -- A PHASE
 
@@ -112,32 +113,40 @@ leaves_ran leaving m x y (Fenced j has answer fine does) honest =
 module _ (r : Redoing) (redoing : IsRedoing r) (before : List Happening) (a : ArrayState) (stage : Stage) (to : Slots) (x : Telling) (y : Point)
     (over : IsOver stage a.member to)
     (does : DoesStage (stage_writes r.geometry r.redo (r.new r.redo.stripe) stage) to None (point a.member x) y)
-    (honest : IsTrue y.told.honest) (begun : IsBegun None a.member x.history)
-    (none : NothingReturned before y.told.history) (going : ¬ IsTrue (stopped y.told.history))
-    (is : IsOpenAmid before a x.history) where
+    (honest : IsTrue y.told.honest) where
   pub placed : Placed (writes_in r stage) (HasSlot to) (HasSlot does.gone) x.history does.mid.history
   placed =
       subst (λ (w : Writes). Placed w (HasSlot to) (HasSlot does.gone) x.history does.mid.history) (same_writes r stage)
       (does.phase.placed (mid_honest (stage_writes r.geometry r.redo (r.new r.redo.stripe) stage) to None (point a.member x) y does honest))
 
-  ran_phase : Ran (IsBesideEpochs a.member) x.history does.mid.history
+  pub ran_phase : Ran (IsBesideEpochs a.member) x.history does.mid.history
   ran_phase =
       phase_beside r redoing a.member stage (HasSlot to) (over_alone a.member to stage over) {gone = HasSlot does.gone} placed
 
   ran_later : Ran any_call does.mid.history y.told.history
   ran_later = leaves_ran does.gone a.member does.mid y does.leaves honest
 
-  within : IsMoment before does.mid.history y.told.history
-  within =
-      moment_between {a = any_call} {b = any_call} (ran_join {allowed = any_call} is.ran (ran_any {allowed = IsBesideEpochs a.member} ran_phase)) ran_later
+  gone_below : (j : ℕ) → HasSlot does.gone j → j < a.member.array.geometry.n
+  gone_below j has = over_below a.member to stage over j (does.phase.among j has)
 
-  kept_to : IsOpenAmid before a does.mid.history × IsBegun None a.member does.mid.history
-  kept_to =
-      beside_amid before a x.history does.mid.history is begun ran_phase (each_before none within)
-      (λ is_stopped. going (stopped_on {allowed = any_call} ran_later is_stopped))
+  -- What lasts in the midst of a redo is led on by a stage of it, whichever media come back,
+  pub amid_stage : IsHistory x.history → IsOpenAmid before a x.history → IsOpenAmid before (led_to a y.member) y.told.history
+  amid_stage history is =
+      amid_left does.gone before a does.mid y does.leaves honest (history_on {allowed = IsBesideEpochs a.member} history ran_phase)
+      (amid_beside before a x.history does.mid.history is history ran_phase)
 
-  -- What lasts in the midst of a redo is led on by a stage of it.
-  pub stage_amid : IsOpenAmid before (led_to a y.member) y.told.history × IsBegun None y.member y.told.history
-  stage_amid =
-      leaves_amid does.gone before a does.mid y does.leaves honest (λ j has. over_below a.member to stage over j (does.phase.among j has)) kept_to.1
-      none going kept_to.0
+  -- and where none does so is the epoch.
+  module _ (begun : IsBegun None a.member x.history) (none : NothingReturned before y.told.history) (going : ¬ IsTrue (stopped y.told.history))
+      (is : IsOpenAmid before a x.history) where
+    within : IsMoment before does.mid.history y.told.history
+    within =
+        moment_between {a = any_call} {b = any_call} (ran_join {allowed = any_call} is.ran (ran_any {allowed = IsBesideEpochs a.member} ran_phase))
+        ran_later
+
+    kept_to : IsOpenAmid before a does.mid.history × IsBegun None a.member does.mid.history
+    kept_to =
+        beside_amid before a x.history does.mid.history is begun ran_phase (each_before none within)
+        (λ is_stopped. going (stopped_on {allowed = any_call} ran_later is_stopped))
+
+    pub stage_amid : IsOpenAmid before (led_to a y.member) y.told.history × IsBegun None y.member y.told.history
+    stage_amid = leaves_amid does.gone before a does.mid y does.leaves honest gone_below kept_to.1 none going kept_to.0

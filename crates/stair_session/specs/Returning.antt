@@ -1,24 +1,30 @@
 -- What it is for a rack to be an array in a state, and what a session knows of all its media, by whether media that were
 -- pulled may come back.
-use Rattle.std.specs.Prelude.{◌≡◌, ◌≤◌, ℕ, Bool, true, false, List, [], ◌∷◌, Option, None, Some, nat_lt, if◌then◌else◌}
+use Rattle.std.specs.Prelude.{◌≡◌, ◌≤◌, ◌⊎◌, ℕ, Bool, true, false, List, [], ◌∷◌, Option, None, Some, nat_lt, if◌then◌else◌}
+use Rattle.stair_model.specs.Device.{gate_sector}
 use Rattle.stair_model.specs.Geometry.{Geometry}
 use Rattle.stair_rack.specs.Crash.{EachImage}
-use Rattle.stair_rack.specs.History.{Happening, Made}
+use Rattle.stair_rack.specs.History.{Happening, Made, slot_state}
 use Rattle.stair_rack.specs.Media.{Image}
 use Rattle.stair_rack.specs.Offline.{IsAttached}
+use Rattle.stair_rack.specs.Sector.{content}
 use Rattle.stair_rack.specs.Stretch.{NothingReturned}
+use Rattle.stair_super.specs.Newer.{IsOlder}
 use Rattle.stair_super.specs.Superblock.{Superblock, joined_in, mark_in}
 use Rattle.stair_super.specs.declared.mark.Mark.TheVariants.{Down}
 use Rattle.stair_member.specs.Fencing.{IsBegun}
-use Rattle.stair_member.specs.Membership.{IsHere, Membership, why_of}
+use Rattle.stair_member.specs.Membership.{IsHere, Membership, place_of, why_of}
+use Rattle.stair_member.specs.Superblocks.{HoldsSuper}
 use Rattle.stair_member.specs.declared.why.Why.{Why}
 use Rattle.stair_member.specs.declared.why.Why.TheVariants.{Here}
-use Rattle.stair_state.specs.Holding.{Holders, IsConsistentSince, IsConsistentUnderReassembly}
-use Rattle.stair_state.specs.Reassembly.{InSlot, IsBorne, Location}
+use Rattle.stair_journal.specs.Gate.{ReadsClosed}
+use Rattle.stair_state.specs.Holding.{Holders, IsConsistentSince, IsConsistentUnderReassembly, IsHolder}
+use Rattle.stair_state.specs.Reassembly.{InSlot, IsBorne, IsReassembly, Location}
 use Rattle.stair_state.specs.Represents.{Represents}
 use Rattle.stair_state.specs.State.{State}
 use Rattle.stair_state.specs.Tolerance.{ToleratedSince}
 use Rattle.stair_session.specs.Mixed.{IsToleratedMixed}
+use Rattle.stair_session.specs.Session.{HasOwn, own_super}
 
 -- whether a medium that was pulled may be put back into its slot
 pub data Returning : Type 0 where
@@ -68,7 +74,31 @@ abbrev pub holders_of : Membership → Holders
 holders_of m j = if nat_lt j m.array.geometry.n then holder_if (why_of m j) (joined_in m.array j)
     else None
 
+-- in each image that a crash at h may leave no medium, in a slot or outside, bears a greater epoch than this draw
+abbrev pub CoversMedia : Geometry → ℕ → List Happening → Type 0
+CoversMedia g draw h = EachImage (λ image. (i : ℕ) (p : Location) (s : Superblock)
+    → IsBorne g image i p s → s.array.epoch ≤ draw) h
+
+-- Slot j has its own superblock of the member's epoch, and the place that comes next holds the same one, or none that isn't
+-- older.
+pub record HasOwnNewest (m : Membership) (h : List Happening) (j : ℕ) : Type 0 where
+  pub own : HasOwn m h j
+  pub newest : (other : Superblock)
+      → HoldsSuper (content ((slot_state h j).sector (place_of m j))) other
+      → (other ≡ own_super m own.draw j) ⊎ IsOlder other (own_super m own.draw j)
+
+-- What a session is to know of all media, between the calls of an open array: that the rack is consistent however they lie, by
+-- the member's live slots since its epoch, which is the latest; that each slot that takes part and is attached has its own
+-- superblock; and that the gates of holders read closed, wherever they lie.
+pub record KnowsMedia (s : State) (m : Membership) (h : List Happening) : Type 0 where
+  pub known : EachImage (IsKnownWherever None m (IsAttached h)) h
+  pub is : IsConsistentSince s (holders_of m) m.array.epoch h
+  pub latest : CoversMedia s.geometry m.array.epoch h
+  pub own : (j : ℕ) → IsHere m j → IsAttached h j → HasOwnNewest m h j
+  pub closed : EachImage (λ image. (to : Image) (j : ℕ) → IsReassembly image to
+      → IsHolder s.geometry (holders_of m) j ((to j).cell)
+      → ReadsClosed s.geometry ((to j).cell gate_sector)) h
+
 abbrev pub Knows : Returning → State → Membership → List Happening → Type 0
 Knows NoneReturns s m h = IsBegun None m h
-Knows AnyReturns s m h = EachImage (IsKnownWherever None m (IsAttached h)) h
-    × IsConsistentSince s (holders_of m) m.array.epoch h
+Knows AnyReturns s m h = KnowsMedia s m h

@@ -1,7 +1,7 @@
 -- Whatever the outside does, media put back too, and while a rack is only looked at, it stays consistent under reassembly: each
 -- medium came from one before.
 use Rattle.std.proofs.Common.{◌≡◌, ℕ, zero, suc, ◌+◌, ◌<◌, ◌≤◌, List, [], ◌∷◌, ◌++◌, length, ◌⊎◌, inl, inr, refl, sym, ap, ◌∙◌, subst, arith, slice_get}
-use Rattle.std.specs.Prelude.{Option, None, Some, is_some, ◌==◌, nat_lt, if◌then◌else◌, remove}
+use Rattle.std.specs.Prelude.{Option, None, Some, is_some, nat_lt, if◌then◌else◌, remove}
 use Rattle.std.proofs.lemmas.Bool.{cases_Bool, cases_eq, cases_lt, cond-true, cond-false, eq-eqb, ne_eqb, lt-ltb, le-ltb, false≢true}
 use Rattle.std.proofs.lemmas.Option.{slice_get_cases}
 use Rattle.stair_rack.specs.Answers.{Ran}
@@ -18,7 +18,7 @@ use Rattle.stair_member.proofs.CountingLemmas.{all_but_mapped}
 use Rattle.stair_member.proofs.SuperLemmas.{super_cells, super_held}
 use Rattle.stair_state.specs.Degraded.{AreAllDamaged, AreDamagedCopies, Taken, Blank, Stays}
 use Rattle.stair_state.specs.Holding.{HasOvertaken, HolderReserved, Holders, IsBorneSince, IsConsistentBy, IsConsistentSince, IsConsistentUnderReassembly, OfAdmitted}
-use Rattle.stair_state.specs.Reassembly.{Location, InSlot, Outside, IsBorne, IsMediumOf, IsReassembledSlot, OneOf, Unwritten, Empty, IsReassembly}
+use Rattle.stair_state.specs.Reassembly.{Location, InSlot, Outside, IsBorne, IsMediumOf, IsReassembledSlot, OneOf, Unwritten, Empty, IsReassembly, before_pull, before_return}
 use Rattle.stair_state.specs.Represents.{Encodings, no_write}
 use Rattle.stair_state.specs.State.{State, without_seats}
 use Rattle.stair_state.proofs.AloneLemmas.{encodings_without_seats}
@@ -75,32 +75,25 @@ stay b image from same = record {
 -- A MEDIUM THAT IS PULLED
 
 -- it lies behind the others
-pulled_to : ℕ → Location → Location
-pulled_to count InSlot = Outside count
-pulled_to count (Outside i) = if i == count then InSlot else Outside i
-
-pulled_last : (count i : ℕ) → i ≡ count → pulled_to count (Outside i) ≡ InSlot
-unfolding pulled_to
+pub pulled_last : (count i : ℕ) → i ≡ count → before_pull count (Outside i) ≡ InSlot
 pulled_last count i same = cond-true _ _ _ (eq-eqb i count same)
 
-pulled_other : (count i : ℕ) → ¬ (i ≡ count) → pulled_to count (Outside i) ≡ Outside i
-unfolding pulled_to
+pub pulled_other : (count i : ℕ) → ¬ (i ≡ count) → before_pull count (Outside i) ≡ Outside i
 pulled_other count i other = cond-false _ _ _ (ne_eqb i count other)
 
-pulled_twice : (count : ℕ) (p : Location) → pulled_to count (pulled_to count p) ≡ p
-unfolding pulled_to
+pub pulled_twice : (count : ℕ) (p : Location) → before_pull count (before_pull count p) ≡ p
 pulled_twice count InSlot = pulled_last count count refl
 pulled_twice count (Outside i) =
     elim (cases_eq i count) [
-      | inl same ↦ ap (pulled_to count) (pulled_last count i same) ∙ ap Outside (sym same)
-      | inr other ↦ ap (pulled_to count) (pulled_other count i other) ∙ pulled_other count i other
+      | inl same ↦ ap (before_pull count) (pulled_last count i same) ∙ ap Outside (sym same)
+      | inr other ↦ ap (before_pull count) (pulled_other count i other) ∙ pulled_other count i other
     ]
 
-pulled_apart : (count : ℕ) (p q : Location) → pulled_to count p ≡ pulled_to count q → p ≡ q
-pulled_apart count p q same = sym (pulled_twice count p) ∙ ap (pulled_to count) same ∙ pulled_twice count q
+pub pulled_apart : (count : ℕ) (p q : Location) → before_pull count p ≡ before_pull count q → p ≡ q
+pulled_apart count p q same = sym (pulled_twice count p) ∙ ap (before_pull count) same ∙ pulled_twice count q
 
 -- of the list with one more behind it
-pushed_cases : (xs : List Medium) (m x : Medium) (i : ℕ) → slice_get (xs ++ m ∷ []) i ≡ Some x
+pub pushed_cases : (xs : List Medium) (m x : Medium) (i : ℕ) → slice_get (xs ++ m ∷ []) i ≡ Some x
     → ((i ≡ length xs) × (m ≡ x)) ⊎ ((¬ (i ≡ length xs)) × (slice_get xs i ≡ Some x))
 pushed_cases [] m x zero is = inl (refl, some_once is)
   where
@@ -119,13 +112,13 @@ pulled_came : (b : SlotState) (m : Medium) → MayHappen b (Pulled m) → (image
 pulled_came b m settles image left = record {
   was = record { size = b.size; cell = m.cell; removed = b.removed };
   left = record { size = refl; each = settles.each; removed = refl };
-  place = pulled_to (length b.removed);
+  place = before_pull (length b.removed);
   apart = pulled_apart (length b.removed);
   medium = from_there;
 }
   where
     from_there : (p : Location) (x : Medium) → IsMediumOf image p x
-        → IsFrom (record { size = b.size; cell = m.cell; removed = b.removed }) (pulled_to (length b.removed) p) x
+        → IsFrom (record { size = b.size; cell = m.cell; removed = b.removed }) (before_pull (length b.removed) p) x
     from_there InSlot x is = absurd (not_some left.size is.0)
     from_there (Outside i) x is =
         elim (pushed_cases b.removed m x i (subst (λ xs. slice_get xs i ≡ Some x) left.removed is)) [
@@ -142,73 +135,66 @@ pulled_came b m settles image left = record {
 -- A MEDIUM THAT IS PUT BACK
 
 -- those behind it move up
-before_return : ℕ → ℕ → ℕ
-before_return i k = if nat_lt k i then k else k + 1
+abbrev pub before_gap : ℕ → ℕ → ℕ
+before_gap i k = if nat_lt k i then k else k + 1
 
-return_below : (i k : ℕ) → k < i → before_return i k ≡ k
-unfolding before_return
-return_below i k below = cond-true _ _ _ (lt-ltb k i below)
+pub gap_below : (i k : ℕ) → k < i → before_gap i k ≡ k
+gap_below i k below = cond-true _ _ _ (lt-ltb k i below)
 
-return_behind : (i k : ℕ) → i ≤ k → before_return i k ≡ k + 1
-unfolding before_return
-return_behind i k behind = cond-false _ _ _ (le-ltb k i behind)
+pub gap_behind : (i k : ℕ) → i ≤ k → before_gap i k ≡ k + 1
+gap_behind i k behind = cond-false _ _ _ (le-ltb k i behind)
 
-return_other : (i k : ℕ) → ¬ (before_return i k ≡ i)
-return_other i k same =
+gap_other : (i k : ℕ) → ¬ (before_gap i k ≡ i)
+gap_other i k same =
     elim (cases_lt k i) [
-      | inl below ↦ omega (arith, same, return_below i k below)
-      | inr behind ↦ omega (arith, same, return_behind i k behind)
+      | inl below ↦ omega (arith, same, gap_below i k below)
+      | inr behind ↦ omega (arith, same, gap_behind i k behind)
     ]
 
-return_once : (i k l : ℕ) → before_return i k ≡ before_return i l → k ≡ l
-return_once i k l same =
+pub gap_once : (i k l : ℕ) → before_gap i k ≡ before_gap i l → k ≡ l
+gap_once i k l same =
     elim (cases_lt k i) [
       | inl below ↦
           elim (cases_lt l i) [
-            | inl also ↦ omega (arith, same, return_below i k below, return_below i l also)
-            | inr behind ↦ omega (arith, same, return_below i k below, return_behind i l behind)
+            | inl also ↦ omega (arith, same, gap_below i k below, gap_below i l also)
+            | inr behind ↦ omega (arith, same, gap_below i k below, gap_behind i l behind)
           ]
       | inr behind ↦
           elim (cases_lt l i) [
-            | inl below ↦ omega (arith, same, return_behind i k behind, return_below i l below)
-            | inr also ↦ omega (arith, same, return_behind i k behind, return_behind i l also)
+            | inl below ↦ omega (arith, same, gap_behind i k behind, gap_below i l below)
+            | inr also ↦ omega (arith, same, gap_behind i k behind, gap_behind i l also)
           ]
     ]
 
-returned_to : ℕ → Location → Location
-returned_to i InSlot = Outside i
-returned_to i (Outside k) = Outside (before_return i k)
-
-outside_once : {a b : ℕ} → Outside a ≡ Outside b → a ≡ b
+pub outside_once : {a b : ℕ} → Outside a ≡ Outside b → a ≡ b
 outside_once same = cc
 
-returned_apart : (i : ℕ) (p q : Location) → returned_to i p ≡ returned_to i q → p ≡ q
-unfolding returned_to
+pub returned_apart : (i : ℕ) (p q : Location) → before_return i p ≡ before_return i q → p ≡ q
 returned_apart i InSlot InSlot same = refl
-returned_apart i InSlot (Outside l) same = absurd (return_other i l (sym (outside_once same)))
-returned_apart i (Outside k) InSlot same = absurd (return_other i k (outside_once same))
-returned_apart i (Outside k) (Outside l) same = ap Outside (return_once i k l (outside_once same))
+returned_apart i InSlot (Outside l) same = absurd (gap_other i l (sym (outside_once same)))
+returned_apart i (Outside k) InSlot same = absurd (gap_other i k (outside_once same))
+returned_apart i (Outside k) (Outside l) same = ap Outside (gap_once i k l (outside_once same))
 
 -- of the list without one
-removed_was : (xs : List Medium) (i k : ℕ) → i < length xs → slice_get (remove xs i) k ≡ slice_get xs (before_return i k)
+pub removed_was : (xs : List Medium) (i k : ℕ) → i < length xs → slice_get (remove xs i) k ≡ slice_get xs (before_gap i k)
 removed_was [] i k below = absurd (omega (arith, below))
 removed_was (y ∷ xs) zero k below = ap (slice_get (y ∷ xs)) next
   where
-    next : suc k ≡ before_return 0 k
-    next = omega (arith, return_behind 0 k (omega arith))
-removed_was (y ∷ xs) (suc i) zero below = ap (slice_get (y ∷ xs)) (sym (return_below (suc i) 0 (omega arith)))
+    next : suc k ≡ before_gap 0 k
+    next = omega (arith, gap_behind 0 k (omega arith))
+removed_was (y ∷ xs) (suc i) zero below = ap (slice_get (y ∷ xs)) (sym (gap_below (suc i) 0 (omega arith)))
 removed_was (y ∷ xs) (suc i) (suc k) below =
     removed_was xs i k (omega (arith, below)) ∙ ap (slice_get (y ∷ xs)) further
   where
-    further : suc (before_return i k) ≡ before_return (suc i) (suc k)
+    further : suc (before_gap i k) ≡ before_gap (suc i) (suc k)
     further =
         elim (cases_lt k i) [
-          | inl under ↦ omega (arith, return_below i k under, return_below (suc i) (suc k) (omega arith))
-          | inr behind ↦ omega (arith, return_behind i k behind, return_behind (suc i) (suc k) (omega arith))
+          | inl under ↦ omega (arith, gap_below i k under, gap_below (suc i) (suc k) (omega arith))
+          | inr behind ↦ omega (arith, gap_behind i k behind, gap_behind (suc i) (suc k) (omega arith))
         ]
 
 -- of its cells nothing is left past its end
-sectors_left : (size : Option ℕ) (cell : ℕ → Cell) (k : ℕ) (found : Cell) → MayLeave (sectors_of size cell k) found
+pub sectors_left : (size : Option ℕ) (cell : ℕ → Cell) (k : ℕ) (found : Cell) → MayLeave (sectors_of size cell k) found
     → (found ≡ cell k) ⊎ (found ≡ Damaged)
 sectors_left size cell k found may =
     elim (cases_Bool (has_sector size k)) [
@@ -218,16 +204,15 @@ sectors_left size cell k found may =
 
 returned_came : (b : SlotState) (i : ℕ) (m : Medium) → i < length b.removed → slice_get b.removed i ≡ Some m → (image : SlotImage)
     → SlotMayLeave (with_old i (Some m) b) image → MediaCameFrom b image
-unfolding returned_to
 returned_came b i m below at image left = record {
   was = slot_now b;
   left = slot_now_left b;
-  place = returned_to i;
+  place = before_return i;
   apart = returned_apart i;
   medium = from_there;
 }
   where
-    from_there : (p : Location) (x : Medium) → IsMediumOf image p x → IsFrom (slot_now b) (returned_to i p) x
+    from_there : (p : Location) (x : Medium) → IsMediumOf image p x → IsFrom (slot_now b) (before_return i p) x
     from_there InSlot x is =
         Same m at (size_once (sym left.size ∙ is.0))
         (copies_again (λ k. sectors_left (Some m.size) m.cell k (image.cell k) (left.each k)) (cells_same is.1))
@@ -364,6 +349,7 @@ module _ (s : State) (encodings : Encodings s) (holders : Holders) (since : ℕ)
         (λ x above i q t borne. above i ((from i).place q) t (borne_before i q t borne)) (reserved joined holder))
         it.reserved;
     live = λ j a borne. it.live j a (since_before a borne);
+    rebuilt = λ j joined a borne. it.rebuilt j joined a (since_before a borne);
     frozen = λ a borne. it.frozen a (since_before a borne);
     label = λ a borne. it.label a (since_before a borne);
     forms = λ to some reassembly. it.forms to some (whole_before to reassembly);
@@ -382,6 +368,7 @@ without s encodings holders since image it = record {
   overtaken = it.overtaken;
   reserved = it.reserved;
   live = it.live;
+  rebuilt = it.rebuilt;
   frozen = it.frozen;
   label = it.label;
   forms = it.forms;

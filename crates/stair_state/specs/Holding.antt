@@ -71,6 +71,9 @@ pub record IsConsistentBy (s : State) (encodings : Encodings s) (holders : Holde
   -- since then a slot is marked live with its holder alone
   pub live : (j : ℕ) (a : Superblock) → IsBorneSince s.geometry since image a
       → mark_at a j ≡ Live → holders j ≡ Some (joined_at a j)
+  -- and as one that is rebuilt, if it has one, with that alone too
+  pub rebuilt : (j joined : ℕ) (a : Superblock) → IsBorneSince s.geometry since image a
+      → mark_at a j ≡ Rebuilding → holders j ≡ Some joined → joined ≡ joined_at a j
   -- and frozen mark and label are the state's
   pub frozen : (a : Superblock) → IsBorneSince s.geometry since image a
       → (a.array.frozen ≡ s.content.frozen) ⊎ (a.array.frozen ≡ (new_content s).frozen)

@@ -1,5 +1,5 @@
 -- Media that lie in other ways: each slot may get any of its own.
-use Rattle.std.specs.Prelude.{◌≡◌, ◌≤◌, ℕ, false, None, Some, slice_get}
+use Rattle.std.specs.Prelude.{◌≡◌, ◌+◌, ◌==◌, ◌≤◌, ℕ, false, if◌then◌else◌, None, Some, nat_lt, slice_get}
 use Rattle.stair_model.specs.Geometry.{Geometry}
 use Rattle.stair_rack.specs.Media.{Image, Medium, SlotImage, has_sector}
 use Rattle.stair_rack.specs.Sector.{Damaged}
@@ -21,6 +21,16 @@ pub data Location : Type 0 where
 abbrev pub IsMediumOf : SlotImage → Location → Medium → Type 0
 IsMediumOf slot InSlot medium = (slot.size ≡ Some medium.size) × (slot.cell ≡ medium.cell)
 IsMediumOf slot (Outside i) medium = slice_get slot.removed i ≡ Some medium
+
+-- where the medium lay, before the slot's one was pulled and put behind so many others, that lies there after it
+abbrev pub before_pull : ℕ → Location → Location
+before_pull count InSlot = Outside count
+before_pull count (Outside i) = if i == count then InSlot else Outside i
+
+-- and before this one of them was put back, and those behind it moved up
+abbrev pub before_return : ℕ → Location → Location
+before_return i InSlot = Outside i
+before_return i (Outside k) = Outside (if nat_lt k i then k else k + 1)
 
 -- a slot gets one of its media, some of whose cells may be damaged, a blank one, or none
 pub data IsReassembledSlot (from to : SlotImage) : Type 0 where

@@ -89,7 +89,7 @@ returns-clause-redo_begins c = redo_begins
 
 pub returns-clause-redo_goes : goal.returns-clause-redo_goes
 returns-clause-redo_goes c = λ r before a stage to start old y redoing is begun over does honest none going.
-    redo_goes r redoing before a stage to start old y over does honest begun none going is
+    redo_goes r redoing before a stage to start old y over does honest is begun none going
 
 pub returns-clause-redo_ends : goal.returns-clause-redo_ends
 returns-clause-redo_ends c = redo_ends
