@@ -62,3 +62,4 @@ pub mod RecoveryEndLemmas
 pub mod FirstEpochLemmas
 pub mod DecidedLemmas
 pub mod CutOffLemmas
+pub mod Serving
