@@ -26,6 +26,9 @@ pub record DoesPhase (what : Writes) (to gone : Slots) (old new : Telling) : Typ
   -- on an honest rack a slot that answered gone to a write or a sync is one of them
   pub told : IsTrue new.honest → (j : ℕ) (call : SlotCall)
       → WasAnswered j call old.history new.history → AnswersGone call → HasSlot gone j
+  -- and one that isn't answered Done to its sync, so it was attached then
+  pub synced : IsTrue new.honest → (j : ℕ) → HasSlot to j → ¬ HasSlot gone j
+      → WasAnswered j (Sync reply.Done) old.history new.history
   pub among : (j : ℕ) → HasSlot gone j → HasSlot to j
   pub rose : (j : ℕ) → HasSlot gone j → Rose (old.gones j) (new.gones j)
   pub formed : IsSlotSet gone

@@ -2,7 +2,7 @@
 use Rattle.stair_model.specs.Device.{gate_sector}
 use Rattle.stair_rack.proofs.PhaseLemmas.{Placed-ended, writing_pass}
 use Rattle.stair_journal.specs.Journalling.{gate_writes}
-use Rattle.stair_journal.proofs.DoesLemmas.{does_phase}
+use Rattle.stair_journal.proofs.DoesLemmas.{does_phase, synced_ended}
 use Rattle.stair_journal.proofs.ToldLemmas.{are_gone_ended, are_gone_wrote}
 use Rattle.stair_journal.proofs.WritesLemmas.{gate_writes_is, gate_writes_there}
 use Rattle.stair_journal.proofs.phases.write_gates.Goals as goal
@@ -28,3 +28,4 @@ returns-clause-told g c =
     Placed-ended (writing_pass (gate_writes gate) c.args.live unwritten.result gate_sector gate _ _ (unwritten.ensures.told honest) (λ j on. gate_writes_there gate j))
     (λ j k bytes on fine one. (on, (gate_writes_is gate j k bytes one).at)) (c.sync_rest.ensures.told honest))
     (λ honest. are_gone_ended (unwritten.ensures.told honest).ran (are_gone_wrote (unwritten.ensures.told honest)) (c.sync_rest.ensures.told honest))
+    (λ honest. synced_ended (unwritten.ensures.told honest).ran (c.sync_rest.ensures.told honest))
