@@ -45,7 +45,7 @@ use Rattle.stair_session.proofs.StageBesideLemmas.{phase_spares, placed, stage_a
 
 -- a slot that isn't gone once slots are left out had the reason that it has, and isn't one of these
 module _ (leaving : Slots) (m : Membership) (x : Telling) (y : Point) (j : ℕ) (w : Why) (other : w ≢ Gone) where
-  still_for : LeavesOut leaving None (point m x) y → j < y.member.array.geometry.n → why_of y.member j ≡ w
+  pub still_for : LeavesOut leaving None (point m x) y → j < y.member.array.geometry.n → why_of y.member j ≡ w
       → (j < m.array.geometry.n) × (why_of m j ≡ w) × ¬ HasSlot leaving j
   still_for (NoneWas out same quiet) below is =
       subst (λ (p : Point). j < p.member.array.geometry.n → why_of p.member j ≡ w
@@ -63,7 +63,7 @@ module _ (leaving : Slots) (m : Membership) (x : Telling) (y : Point) (j : ℕ) 
         λ left. other (sym was ∙ does.leaves.left j left),
       )
 
-live_still : (leaving : Slots) (m : Membership) (x : Telling) (y : Point) (j : ℕ) → LeavesOut leaving None (point m x) y → IsLiveIn y.member j
+pub live_still : (leaving : Slots) (m : Membership) (x : Telling) (y : Point) (j : ℕ) → LeavesOut leaving None (point m x) y → IsLiveIn y.member j
     → IsLiveIn m j × ¬ HasSlot leaving j
 live_still leaving m x y j leaves live =
     let was = still_for leaving m x y j Here (λ same. cc) leaves live.below live.why in (record { below = was.0; why = was.1 }, was.2)
@@ -77,7 +77,7 @@ leaves_attach leaving m x y (Fenced j has answer fine does) honest =
     ran_weakened {allowed = IsIssuing issued.slots issued.editions} {more = AttachesNone every_slot}
     (λ i c may. issuing_attaches issued.slots issued.editions every_slot i c may) issued.ran
 
-leaves_write : (live : ℕ → Type 0) (leaving : Slots) (m : Membership) (x : Telling) (y : Point) → LeavesOut leaving None (point m x) y
+pub leaves_write : (live : ℕ → Type 0) (leaving : Slots) (m : Membership) (x : Telling) (y : Point) → LeavesOut leaving None (point m x) y
     → IsTrue y.told.honest → Ran (WritesNone live) x.history y.told.history
 leaves_write live leaving m x y (NoneWas out same quiet) honest =
     subst (λ (p : Point). Ran (WritesNone live) x.history p.told.history) (sym same) (ran_none {allowed = WritesNone live} x.history)
@@ -101,7 +101,7 @@ leaves_beside g j next leaving m x y (Fenced i has answer fine does) honest =
     issued_beside Fence does.establishes.gone does.start y.member x.history y.told.history (does.establishes.issued honest) g j next
 
 -- a phase is over each live slot
-over_live : (m : Membership) (to : Slots) (stage : Stage) → IsOver stage m to → (j : ℕ) → IsLiveIn m j → HasSlot to j
+pub over_live : (m : Membership) (to : Slots) (stage : Stage) → IsOver stage m to → (j : ℕ) → IsLiveIn m j → HasSlot to j
 over_live m to Placing over j live = (over.are j).1 (record { below = live.below; why = inl live.why })
 over_live m to stage over j live = (over.are j).1 live
 

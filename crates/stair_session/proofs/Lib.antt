@@ -63,3 +63,7 @@ pub mod FirstEpochLemmas
 pub mod DecidedLemmas
 pub mod CutOffLemmas
 pub mod Serving
+pub mod EnoughLeft
+pub mod Stamping
+pub mod Mending
+pub mod NotBegunLemmas

@@ -13,13 +13,14 @@ use Rattle.stair_member.specs.declared.why.Why.{Why}
 use Rattle.stair_member.proofs.CountingLemmas.{at_most_fewer}
 use Rattle.stair_member.proofs.SeeingLemmas.{saw}
 use Rattle.stair_state.specs.Blocks.{Codewords}
+use Rattle.stair_session.specs.Returning.{HasOwnNewest}
 use Rattle.stair_session.specs.Session.{ArrayState, HasOwn, IsOpenWith, IsOwnSector, own_super}
 
-abbrev with_member : ArrayState → Membership → ArrayState
+abbrev pub with_member : ArrayState → Membership → ArrayState
 with_member a m = record a { member = m }
 
 -- a member of these parts
-abbrev of_parts : Configuration → ℕ → List Why → List ℕ → Membership
+abbrev pub of_parts : Configuration → ℕ → List Why → List ℕ → Membership
 of_parts array drawn whys places = record { array = array; drawn = drawn; whys = whys; places = places }
 
 module _ (before : List Happening) (a : ArrayState) (slot : ℕ) (first second : Option Superblock) (s : Membership) (words : Codewords)
@@ -29,7 +30,7 @@ module _ (before : List Happening) (a : ArrayState) (slot : ℕ) (first second :
   m = a.member
 
   -- with what it saw, and all else as it was
-  abbrev then : Membership
+  abbrev pub then : Membership
   then = of_parts m.array s.drawn m.whys s.places
 
   rules_then : IsMembership then
@@ -58,6 +59,17 @@ module _ (before : List Happening) (a : ArrayState) (slot : ℕ) (first second :
     settled_both = own.settled_both;
   }
 
+  pub newest_then : (j : ℕ) → IsHere m j → HasOwnNewest m h j → HasOwnNewest then h j
+  unfolding own_then
+  newest_then j here newest = record {
+    own = own_then j here newest.own;
+    newest =
+        subst
+        (λ (k : ℕ). (other : Superblock) → HoldsSuper (content ((slot_state h j).sector k)) other
+        → (other ≡ own_super m newest.own.draw j) ⊎ IsOlder other (own_super m newest.own.draw j))
+        (same_place j here) newest.newest;
+  }
+
   open_then : IsOpenWith before (with_member a then) words h
   open_then = record {
     array = record {
@@ -76,9 +88,10 @@ module _ (before : List Happening) (a : ArrayState) (slot : ℕ) (first second :
   }
 
   -- So the record is that with what the member saw.
+  pub open_more : IsOpenWith before (with_member a s) words h
+  open_more =
+      subst (λ (whys : List Why). IsOpenWith before (with_member a (of_parts s.array s.drawn whys s.places)) words h) (sym looks.whys)
+      (subst (λ (array : Configuration). IsOpenWith before (with_member a (of_parts array s.drawn m.whys s.places)) words h) (sym looks.array) open_then)
+
   pub saw_more : IsBegun None m h → IsOpenWith before (with_member a s) words h × IsBegun None s h
-  saw_more begun = (
-    subst (λ (whys : List Why). IsOpenWith before (with_member a (of_parts s.array s.drawn whys s.places)) words h) (sym looks.whys)
-        (subst (λ (array : Configuration). IsOpenWith before (with_member a (of_parts array s.drawn m.whys s.places)) words h) (sym looks.array) open_then),
-    saw None slot first second m s looks out h rules begun,
-  )
+  saw_more begun = (open_more, saw None slot first second m s looks out h rules begun)

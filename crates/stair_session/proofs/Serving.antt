@@ -8,7 +8,7 @@ use Rattle.stair_model.specs.Slots.{HasSlot, Slots}
 use Rattle.stair_model.specs.Stripe.{Stripe, cell}
 use Rattle.stair_rack.specs.Answers.{IsHistory, Ran, any_call}
 use Rattle.stair_rack.specs.Crash.{CrashMayLeave}
-use Rattle.stair_rack.specs.History.{Happening, Made, stopped, SlotCall}
+use Rattle.stair_rack.specs.History.{Attach, Happening, Made, Read, Sectors, SlotCall, Sync, Write, stopped}
 use Rattle.stair_rack.specs.Media.{Image}
 use Rattle.stair_rack.specs.Moments.{IsMoment}
 use Rattle.stair_rack.specs.Offline.{IsOfflineUntilAttached}
@@ -31,7 +31,7 @@ use Rattle.stair_state.specs.State.{Change, Content, State, changed_if}
 use Rattle.stair_state.specs.Tolerance.{IsTolerated, ToleratedSince}
 use Rattle.stair_session.specs.Courses.{LeavesOut, Point, Redoes, point}
 use Rattle.stair_session.specs.InSession.{IsOfContent, state_with}
-use Rattle.stair_session.specs.Leading.{led_to}
+use Rattle.stair_session.specs.Leading.{IsBesideArray, led_to}
 use Rattle.stair_session.specs.Returning.{AnyReturns, IsCalm, Knows, NoneReturns, Returning, StandsFor, StandsForAlone}
 use Rattle.stair_session.specs.SeatSteps.{EachMayDrop}
 use Rattle.stair_session.specs.Session.{ArrayState, IsLiveIn, IsOpenWith, seats_in}
@@ -93,6 +93,20 @@ alone_seats AnyReturns s image is = is.is.seats
 -- reads, of whichever sectors
 abbrev pub any_read : ℕ → SlotCall → Type 0
 any_read = IsReadOf (λ j. ⊤) (λ k. ⊤)
+
+-- they are beside all that an array has
+pub read_beside : (a : ArrayState) (j : ℕ) (c : SlotCall) → any_read j c → IsBesideArray a j c
+read_beside a j (Attach answer) may = absurd may
+read_beside a j (Sectors size) may = absurd may
+read_beside a j (Read k answer) may = record {
+  session = record {
+    epochs = record { behind = tt; attaches = λ here. tt; gate = λ below rebuilt bytes given same. absurd (cc) };
+    spares = tt;
+  };
+  chunks = λ rebuild of same. (tt, λ t row bytes given done inside wrote. absurd (cc));
+}
+read_beside a j (Write k bytes answer) may = absurd may
+read_beside a j (Sync answer) may = absurd may
 
 pub record LeadsReads (returning : Returning) : Type 0 where
   -- what serves is an array in its state, as long as that is within tolerance,

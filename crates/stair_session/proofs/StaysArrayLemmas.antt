@@ -11,7 +11,7 @@ use Rattle.stair_super.specs.declared.configuration.Configuration.{Configuration
 use Rattle.stair_super.specs.declared.mark.Mark.{Mark}
 use Rattle.stair_super.specs.declared.mark.Mark.TheVariants.{Down}
 use Rattle.stair_member.specs.Aims.{IsAimed, mark_for}
-use Rattle.stair_member.specs.Establishing.{Did, Fences, HasBegun, NotYet}
+use Rattle.stair_member.specs.Establishing.{Did, Fences, HasBegun, Leaves, NotYet}
 use Rattle.stair_member.specs.Membership.{IsMarkedFor, IsMembership, Membership, why_of}
 use Rattle.stair_member.specs.Seats.{Seat, Seats}
 use Rattle.stair_member.specs.declared.aim.Aim.TheVariants.{Fence}
@@ -95,6 +95,24 @@ stays_again a b c first second = record {
   seats = drops_twice (seats_in a.array) (seats_in b.array) (seats_in c.array) first.seats second.seats;
 }
 
+-- an epoch that is for a fence by the member that some slots left drops slots at most
+pub fence_drops : (leaving : Slots) (gone : ℕ → Type 0) (m start : Membership) (named : Configuration) → Leaves leaving m start → IsMembership m
+    → IsListed named → IsAimed Fence gone start named → EachMayDrop (seats_in m.array) (seats_in named)
+fence_drops leaving gone m start named leaves rules listed is =
+    subst (λ (c : Configuration). EachMayDrop (seats_in c) (seats_in named)) leaves.array
+    (fence_seats gone start named (subst IsListed (sym leaves.array) (listed_member m rules)) listed is marked)
+  where
+    marked : (j : ℕ) → j < start.array.geometry.n → (IsMarkedFor (why_of start j) (mark_in start.array j)) ⊎ (why_of start j ≡ why.Gone)
+    marked j below =
+        elim (has_or_not leaving j) [
+          | inl has ↦ inr (leaves.left j has)
+          | inr out ↦
+              inl
+              (subst (λ (c : Configuration). IsMarkedFor (why_of start j) (mark_in c j)) (sym leaves.array)
+              (subst (λ (w : Why). IsMarkedFor w (mark_in m.array j)) (sym (leaves.others j out))
+              (rules.marked j (subst (λ (c : Configuration). j < c.geometry.n) leaves.array below))))
+        ]
+
 -- whether the epoch stands or not
 pub fence_stays : (leaving : Slots) (x y : Point) (answer : Result Slots FenceFault) → Fences leaving x.member y.member answer x.told y.told
     → IsMembership x.member → StaysArray x.member y.member
@@ -102,17 +120,6 @@ fence_stays leaving x y answer e rules = by e.establishes.began
   where
     array : e.start.array ≡ x.member.array
     array = e.leaves.array
-
-    marked : (j : ℕ) → j < e.start.array.geometry.n → (IsMarkedFor (why_of e.start j) (mark_in e.start.array j)) ⊎ (why_of e.start j ≡ why.Gone)
-    marked j below =
-        elim (has_or_not leaving j) [
-          | inl has ↦ inr (e.leaves.left j has)
-          | inr out ↦
-              inl
-              (subst (λ (c : Configuration). IsMarkedFor (why_of e.start j) (mark_in c j)) (sym array)
-              (subst (λ (w : Why). IsMarkedFor w (mark_in x.member.array j)) (sym (e.leaves.others j out))
-              (rules.marked j (subst (λ (c : Configuration). j < c.geometry.n) array below))))
-        ]
 
     by : HasBegun Fence e.establishes.gone e.start y.member → StaysArray x.member y.member
     by (NotYet same whys) =
@@ -130,9 +137,8 @@ fence_stays leaving x y answer e rules = by e.establishes.began
       frozen = named.frozen ∙ ap (λ (c : Configuration). c.frozen) array;
       label = named.label ∙ ap (λ (c : Configuration). c.label) array;
       seats =
-          subst (λ (c : Configuration). EachMayDrop (seats_in c) (seats_in y.member.array)) array
-          (fence_seats (HasSlot e.establishes.gone) e.start y.member.array (subst IsListed (sym array) (listed_member x.member rules))
-          (listed_member y.member e.establishes.rules) named marked);
+          fence_drops leaving (HasSlot e.establishes.gone) x.member e.start y.member.array e.leaves rules
+          (listed_member y.member e.establishes.rules) named;
     }
 
 -- THE PARTS

@@ -49,11 +49,10 @@ unwritten_ran ran = ran_weakened {allowed = LeavesSectors} {more = no_write} lea
 -- SUPERBLOCK PLACES STAY SETTLED
 
 -- of the slot nothing is unsynced in this sector
-IsSettled : ℕ → SlotState → Type 0
+abbrev pub IsSettled : ℕ → SlotState → Type 0
 IsSettled k b = (b.sector k).since ≡ []
 
-settled_act : (k : ℕ) (b : SlotState) (a : SlotAct) → MayHappen b a → IsSettled k b → IsSettled k (after_act a b)
-unfolding IsSettled
+pub settled_act : (k : ℕ) (b : SlotState) (a : SlotAct) → MayHappen b a → IsSettled k b → IsSettled k (after_act a b)
 settled_act k b (Pulled m) may is = refl
 settled_act k b (InsertedBlank size) may is = refl
 settled_act k b (InsertedOld i) may is =
@@ -66,7 +65,6 @@ settled_act k b (InsertedOld i) may is =
 settled_act k b (SectorDamaged l) may is = with_sector_cases (λ s. s.since ≡ []) l k damaged b (λ at. refl) is
 
 settled_call : (k : ℕ) (b : SlotState) (j : ℕ) (c : SlotCall) → no_write j c → IsSettled k b → IsSettled k (after_call c b)
-unfolding IsSettled
 settled_call k b j (Attach reply.Done) may is = is
 settled_call k b j (Attach reply.Gone) may is = is
 settled_call k b j (Sectors size) may is = is
@@ -76,7 +74,6 @@ settled_call k b j (Sync reply.Done) may is = refl
 settled_call k b j (Sync reply.Gone) may is = is
 
 pub steady_looks : (g : Geometry) (old new : List Happening) → Ran no_write old new → AreSteady g old → AreSteady g new
-unfolding IsSettled
 steady_looks g old new ran steady j k below place =
     kept {allowed = no_write} {P = λ h. IsSettled k (slot_state h j)}
     (keeps_slot {allowed = no_write} {j = j} {R = IsSettled k} (record {
