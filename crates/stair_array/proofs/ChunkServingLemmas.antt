@@ -1,4 +1,4 @@
--- An open array while the chunk of a slot that it rebuilds is written, and while that slot is synced, where no medium comes back.
+-- An open array while the chunk of a slot that it rebuilds is written, and while that slot is synced, whether media come back or not.
 use Rattle.std.proofs.Common.{List, ap, arith, refl, subst, sym, ℕ, ◌+◌, ◌<◌, ◌∙◌, ◌≡◌}
 use Rattle.std.specs.Prelude.{IsTrue}
 use Rattle.stair_model.specs.Device.{gate_sector}
@@ -12,10 +12,8 @@ use Rattle.stair_rack.specs.Placed.{IsGoneSlot, IsSlot, IsWriteOf, Writes}
 use Rattle.stair_rack.specs.Telling.{Telling}
 use Rattle.stair_rack.specs.declared.rack.Reply.{Reply}
 use Rattle.stair_rack.specs.declared.rack.Reply.TheVariants as reply
-use Rattle.stair_rack.proofs.MomentLemmas.{IsThis, calls_ran, moment_between, ran_none, ran_weakened}
-use Rattle.stair_rack.proofs.StretchLemmas.{each_after}
+use Rattle.stair_rack.proofs.MomentLemmas.{IsThis, calls_ran, ran_none, ran_weakened}
 use Rattle.stair_member.specs.Membership.{Membership, why_of}
-use Rattle.stair_member.specs.declared.aim.Aim.TheVariants.{Promote}
 use Rattle.stair_member.specs.declared.why.Why.TheVariants as why
 use Rattle.stair_stripes.specs.Placing.{cell_writes}
 use Rattle.stair_stripes.proofs.PlacingLemmas.{cell_writes_is}
@@ -23,24 +21,25 @@ use Rattle.stair_state.specs.Blocks.{Codewords}
 use Rattle.stair_state.specs.Redoing.{AttachesNone}
 use Rattle.stair_state.specs.State.{Content}
 use Rattle.stair_session.specs.Courses.{Point, point}
-use Rattle.stair_session.specs.InSession.{IsOfContent, IsReadyFor}
 use Rattle.stair_session.specs.Leading.{IsBesideArray}
 use Rattle.stair_session.specs.Opening.{opened_with}
 use Rattle.stair_session.specs.Rebuilding.{IsRebuiltTo}
+use Rattle.stair_session.specs.Returning.{Returning}
 use Rattle.stair_session.specs.Session.{IsRebuiltIn}
 use Rattle.stair_session.proofs.KnownLemmas.{attached_before}
-use Rattle.stair_session.proofs.OpenLaws.{in_session}
-use Rattle.stair_session.proofs.ReadyLemmas.{promotable}
+use Rattle.stair_session.proofs.Mending.{IsRebuiltWhole, LeadsBeside, rebuilt_wholly}
 use Rattle.stair_session.proofs.RebaseLemmas.{rebuilt_now}
 use Rattle.stair_session.proofs.RebuildingLemmas.{rebuilt_more}
+use Rattle.stair_session.proofs.Serving.{IsGoing, IsServing, LeadsReads}
 use Rattle.stair_array.specs.Mends.{SyncsSlot, WritesChunk}
-use Rattle.stair_array.proofs.BesideServingLemmas.{beside_serves, beside_stands}
+use Rattle.stair_array.proofs.BesideServingLemmas.{beside_moments}
 use Rattle.stair_array.proofs.LeftServingLemmas.{StandsAt}
-use Rattle.stair_array.proofs.ServingLemmas.{IsGoing, IsServing, going_sooner}
 use Rattle.stair_array.proofs.SlotSyncLemmas.{alone, is_done, synced_alone}
 
-module _ (before : List Happening) (m : Membership) (words : Codewords) (kept : Content) (of : IsOfContent m words kept) (j : ℕ)
-    (rebuilt : IsRebuiltIn m j) (old : Telling) (is : IsServing before (opened_with m) words old.history) (z : Point) (honest : IsTrue z.told.honest) where
+module _ (returning : Returning) (laws : LeadsReads returning) (besides : LeadsBeside returning) (before : List Happening) (m : Membership)
+    (words : Codewords) (kept : Content) (j : ℕ)
+    (rebuilt : IsRebuiltIn m j) (old : Telling) (is : IsServing returning before (opened_with m) words kept old.history) (z : Point)
+    (honest : IsTrue z.told.honest) where
   not_live : (i : ℕ) → i ≡ j → ¬ (why_of m i ≡ why.Here)
   not_live i at live =
       let never : why.Here ≡ why.Rebuilding = sym live ∙ ap (why_of m) at ∙ rebuilt.why in
@@ -78,11 +77,12 @@ module _ (before : List Happening) (m : Membership) (words : Codewords) (kept : 
     chunk_beside : Ran (IsBesideArray (opened_with m)) old.history z.told.history
     chunk_beside = ran_weakened {allowed = IsWriteOf what (IsSlot j)} {more = IsBesideArray (opened_with m)} write_beside writes
 
-    pub chunk_serves : IsGoing before z.told.history → IsServing before (opened_with m) words z.told.history
-    chunk_serves on = beside_serves before (opened_with m) words old.history z.told.history is chunk_beside on
+    pub chunk_serves : IsGoing returning m.array.geometry before z.told.history
+        → IsServing returning before (opened_with m) words kept z.told.history
+    chunk_serves on = besides.beside before (opened_with m) words kept old.history z.told.history is chunk_beside on
 
-    pub chunk_stands : AtEveryMoment (StandsAt before (opened_with m) words kept of) old.history z.told.history
-    chunk_stands = beside_stands before (opened_with m) words kept of old.history z.told.history is chunk_beside
+    pub chunk_stands : AtEveryMoment (StandsAt returning before m kept) old.history z.told.history
+    chunk_stands = beside_moments returning laws besides before (opened_with m) words kept old.history z.told.history is chunk_beside
 
     -- where it was written the rebuild has come one stripe further
     pub chunk_more : answer ≡ reply.Done → into ≡ words t → t < m.array.geometry.stripes
@@ -93,7 +93,7 @@ module _ (before : List Happening) (m : Membership) (words : Codewords) (kept : 
         (rebuilt_more m.array.geometry words wrote.redo into j t old.history old.history z.told.history (IsGoneSlot j answer) wrote.cells
         wrote.of_stripe below (λ i row. ap (λ (s : Stripe). cell s i j) same) (wrote.wrote honest)
         (λ gone. let never : reply.Done ≡ reply.Gone = sym done ∙ gone.1 in absurd (cc)) (ran_none {allowed = any_call} old.history)
-        is.begun.history (chunks was.0))
+        is.history (chunks was.0))
       where
         was : IsAttached old.history j × ¬ WasPulled old.history z.told.history j
         was =
@@ -118,28 +118,23 @@ module _ (before : List Happening) (m : Membership) (words : Codewords) (kept : 
     sync_beside : Ran (IsBesideArray (opened_with m)) old.history z.told.history
     sync_beside = ran_weakened {allowed = IsThis j (Sync answer)} {more = IsBesideArray (opened_with m)} sync_one (calls_ran (syncs.synced honest))
 
-    pub sync_serves : IsGoing before z.told.history → IsServing before (opened_with m) words z.told.history
-    sync_serves on = beside_serves before (opened_with m) words old.history z.told.history is sync_beside on
+    pub sync_serves : IsGoing returning m.array.geometry before z.told.history
+        → IsServing returning before (opened_with m) words kept z.told.history
+    sync_serves on = besides.beside before (opened_with m) words kept old.history z.told.history is sync_beside on
 
-    pub sync_stands : AtEveryMoment (StandsAt before (opened_with m) words kept of) old.history z.told.history
-    sync_stands = beside_stands before (opened_with m) words kept of old.history z.told.history is sync_beside
+    pub sync_stands : AtEveryMoment (StandsAt returning before m kept) old.history z.told.history
+    sync_stands = beside_moments returning laws besides before (opened_with m) words kept old.history z.told.history is sync_beside
 
-    -- with all chunks written the slot may be promoted then
-    pub sync_ready : answer ≡ reply.Done
+    -- with all chunks written the slot is rebuilt whole then
+    pub sync_whole : answer ≡ reply.Done
         → (IsAttached old.history j → IsRebuiltTo m.array.geometry words j m.array.geometry.stripes old.history old.history)
-        → IsGoing before z.told.history → IsReadyFor (Promote j) m words z.told.history
-    sync_ready done chunks on =
-        promotable m words j (alone j small) no_slots old.history z.told.history
-        (in_session before (opened_with m) words old.history is.is_open old_on.none old_on.going is.begun) rebuilt.below rebuilt.why
-        (synced_alone j small old.history z.told.history
-        (subst (λ (r : Reply). Calls old.history z.told.history j (Sync r)) done (syncs.synced honest))) (is_done j small) chunks
-        (each_after on.none (moment_between {a = any_call} {b = any_call} is.is_open.ran later))
+        → IsRebuiltWhole (opened_with m) words z.told.history j
+    sync_whole done chunks =
+        rebuilt_wholly before (opened_with m) words j (alone j small) no_slots old.history z.told.history is.is_open rebuilt
+        (synced_alone j small old.history z.told.history called) (is_done j small) chunks called
       where
         small : j < 32
-        small = let limit = is.begun.member.array.limits.devices in let below = rebuilt.below in omega (arith, limit, below)
+        small = let limit = is.is_open.array.member.array.limits.devices in let below = rebuilt.below in omega (arith, limit, below)
 
-        later : Ran any_call old.history z.told.history
-        later = syncs.later.ran honest
-
-        old_on : IsGoing before old.history
-        old_on = going_sooner before old.history z.told.history is.is_open.ran later on
+        called : Calls old.history z.told.history j (Sync reply.Done)
+        called = subst (λ (r : Reply). Calls old.history z.told.history j (Sync r)) done (syncs.synced honest)

@@ -1,7 +1,7 @@
--- Within tolerance the cells of a stripe that couldn't be had are covered, and no epoch is refused for want of slots, where no medium
--- comes back.
+-- Within tolerance the cells of a stripe that couldn't be had are covered, and no epoch is refused for want of slots, whether media
+-- come back or not.
 use Rattle.std.proofs.Common.{◌≡◌, ℕ, ◌<◌, ◌≤◌, List, [], ◌∷◌, inl, inr, refl, sym, ap, ◌∙◌, subst, arith, None, Some, Option, false}
-use Rattle.std.specs.Prelude.{◌⊎◌, IsTrue, IsSome, Ok, Err, ⊤, not}
+use Rattle.std.specs.Prelude.{◌⊎◌, IsTrue, IsSome, Ok, Err, not}
 use Rattle.std.proofs.lemmas.Bool.{cases_Bool}
 use Rattle.stair_model.specs.CellSet.{HasCell}
 use Rattle.stair_model.specs.Coverage.{IsCovered}
@@ -10,8 +10,8 @@ use Rattle.stair_model.specs.Geometry.{Geometry}
 use Rattle.stair_model.specs.Slots.{HasSlot, Slots}
 use Rattle.stair_model.specs.Stripe.{Stripe}
 use Rattle.stair_rack.specs.Answers.{IsBesideAttach, IsHistory, Ran, any_call, is_good}
-use Rattle.stair_rack.specs.Crash.{CrashMayLeave, image_now}
-use Rattle.stair_rack.specs.History.{Happening, Made, SlotCall, Attach, Sectors, Read, Write, Sync, slot_state, stopped}
+use Rattle.stair_rack.specs.Crash.{image_now}
+use Rattle.stair_rack.specs.History.{Happening, SlotCall, Attach, Sectors, Read, Write, Sync, slot_state, stopped}
 use Rattle.stair_rack.specs.Media.{Image}
 use Rattle.stair_rack.specs.Offline.{ButForOutside, IsAttached, IsKept, IsOffline}
 use Rattle.stair_rack.specs.Reading.{WasRead}
@@ -22,11 +22,10 @@ use Rattle.stair_rack.proofs.KeptLemmas.{SectorKeeps, keeps_sector}
 use Rattle.stair_rack.proofs.MomentLemmas.{at_last, ran_after, ran_any, ran_join, ran_none, ran_weakened}
 use Rattle.stair_rack.proofs.OfflineLemmas.{and-true_left, offline_now, offline_on, pulls_on}
 use Rattle.stair_rack.proofs.StepLemmas.{kept}
-use Rattle.stair_rack.proofs.TidyLemmas.{history_on, history_tidy, left_past_end}
+use Rattle.stair_rack.proofs.TidyLemmas.{history_on}
 use Rattle.stair_super.specs.Superblock.{Superblock}
 use Rattle.stair_member.specs.Current.{IsCurrent, IsFailed, IsLive}
 use Rattle.stair_member.specs.Membership.{why_of}
-use Rattle.stair_member.specs.Seats.{Seat, seats_of}
 use Rattle.stair_member.specs.declared.aim.Aim.TheVariants.{Fence}
 use Rattle.stair_member.specs.declared.fault.FenceFault.{FenceFault}
 use Rattle.stair_member.specs.declared.fault.FenceFault.TheVariants.{TooFew}
@@ -41,17 +40,16 @@ use Rattle.stair_state.specs.Tolerance.{IsWithinTolerance}
 use Rattle.stair_state.proofs.RedoPhaseLemmas.{large_some}
 use Rattle.stair_state.proofs.ToleranceLemmas.{exactly_covered}
 use Rattle.stair_session.specs.Courses.{Fenced, LeavesOut, NoneWas, Point, point}
-use Rattle.stair_session.specs.InSession.{IsOfContent}
 use Rattle.stair_session.specs.Rebuilding.{Rebuild}
-use Rattle.stair_session.specs.Session.{IsLiveIn, seats_in}
+use Rattle.stair_session.specs.Returning.{Returning}
+use Rattle.stair_session.specs.Session.{IsLiveIn}
 use Rattle.stair_session.proofs.BesideLemmas.{medium_on_it}
-use Rattle.stair_session.proofs.EachAloneLemmas.{made_left}
 use Rattle.stair_session.proofs.OpenWithLemmas.{issued_apart}
+use Rattle.stair_session.proofs.Serving.{IsGoing, IsServing, StandsIn, any_read, tolerated_now, LeadsReads, IsCalmTo}
 use Rattle.stair_array.proofs.EnoughLemmas.{never_few}
-use Rattle.stair_array.proofs.LedOnLemmas.{live_still}
-use Rattle.stair_array.proofs.LeftServingLemmas.{StandsIn}
-use Rattle.stair_array.proofs.ReadPartLemmas.{Calm, HasLoaded, Stands, all_ran, calm_going_mid, any_read, array_here, gone_off, honest_mid, live_of, loading_moments, ran_gathering, ran_leaving, ran_reading, serves_first, serves_mid, to_mid}
-use Rattle.stair_array.proofs.ServingLemmas.{IsGoing, IsServing, cell_then, read_bad, tolerated_now}
+use Rattle.stair_array.proofs.LeftServingLemmas.{StandsAt, stands_live}
+use Rattle.stair_array.proofs.ReadPartLemmas.{HasLoaded, all_ran, array_with, calm_going_mid, gone_off, honest_mid, live_of, loading_moments, ran_gathering, ran_leaving, ran_reading, serves_first, serves_mid, to_mid}
+use Rattle.stair_array.proofs.ServingLemmas.{cell_then, read_bad}
 
 -- CALLS THAT LEAVE WHAT LIES FROM THE GATE ON, and attach nothing
 
@@ -98,10 +96,12 @@ stays_damaged start old new j k from ran before =
 
 -- WHAT A STRIPE WAS GATHERED FOR
 
-module _ (before : List Happening) (rebuild : Option Rebuild) (stopped_by : Option FenceFault) (words : Codewords) (held : Content) (x : Point)
-    (of : IsOfContent x.member words held) (is : IsServing before (array_here before rebuild stopped_by words held x of) words x.told.history)
+module _ (returning : Returning) (laws : LeadsReads returning) (before : List Happening) (rebuild : Option Rebuild) (stopped_by : Option FenceFault)
+    (words : Codewords) (held : Content) (x : Point)
+    (is : IsServing returning before (array_with rebuild stopped_by x) words held x.told.history)
     (t : ℕ) {wanted : ℕ → ℕ → Type 0} (gathered : Gathered) (read : Stripe) (refusal : Option FenceFault) (z : Point)
-    (l : HasLoaded t wanted gathered read refusal x z) (honest : IsTrue z.told.honest) (calm : Calm before rebuild stopped_by words held x of z.told.history) where
+    (l : HasLoaded t wanted gathered read refusal x z) (honest : IsTrue z.told.honest)
+    (calm : IsCalmTo returning x.member.array.geometry before z.told.history) where
   abbrev g : Geometry
   g = x.member.array.geometry
 
@@ -109,49 +109,40 @@ module _ (before : List Happening) (rebuild : Option Rebuild) (stopped_by : Opti
   now = image_now z.told.history
 
   ran_all : Ran any_call before z.told.history
-  ran_all = all_ran before rebuild stopped_by words held x of is t gathered read refusal z l honest
+  ran_all = all_ran returning laws before rebuild stopped_by words held x is t gathered read refusal z l honest
 
   ran_out : Ran any_call l.mid.history z.told.history
-  ran_out = ran_leaving before rebuild stopped_by words held x of is t gathered read refusal z l honest
+  ran_out = ran_leaving returning laws before rebuild stopped_by words held x is t gathered read refusal z l honest
 
-  calm_mid : Calm before rebuild stopped_by words held x of l.mid.history
-  calm_mid = to_mid before rebuild stopped_by words held x of is t gathered read refusal z l honest z.told.history ran_out calm
+  calm_mid : IsCalmTo returning x.member.array.geometry before l.mid.history
+  calm_mid = to_mid returning laws before rebuild stopped_by words held x is t gathered read refusal z l honest z.told.history ran_out calm
 
-  on_mid : IsGoing before l.mid.history
-  on_mid = calm_going_mid before rebuild stopped_by words held x of is t gathered read refusal z l honest calm_mid
+  on_mid : IsGoing returning x.member.array.geometry before l.mid.history
+  on_mid = calm_going_mid returning laws before rebuild stopped_by words held x is t gathered read refusal z l honest calm_mid
 
-  mid_serves : IsServing before (array_here before rebuild stopped_by words held x of) words l.mid.history
-  mid_serves = serves_mid before rebuild stopped_by words held x of is t gathered read refusal z l honest on_mid
+  mid_serves : IsServing returning before (array_with rebuild stopped_by x) words held l.mid.history
+  mid_serves = serves_mid returning laws before rebuild stopped_by words held x is t gathered read refusal z l honest on_mid
 
   within : IsWithinTolerance (IsOffline before z.told.history) x.member.array.geometry (image_now z.told.history)
   within =
-      tolerated_now x.member.array.geometry before z.told.history ran_all calm (image_now z.told.history) (CrashMayLeave-now z.told.history)
+      tolerated_now returning x.member.array.geometry before z.told.history ran_all calm (image_now z.told.history) (CrashMayLeave-now z.told.history)
 
-  stands : StandsIn before (array_here before rebuild stopped_by words held x of) words held of (image_now z.told.history)
+  stands : StandsIn returning x.member held None (image_now z.told.history)
   stands =
-      at_last {P = Stands before rebuild stopped_by words held x of}
-      (loading_moments before rebuild stopped_by words held x of is t gathered read refusal z l honest) calm (image_now z.told.history)
+      at_last {P = StandsAt returning before x.member held}
+      (loading_moments returning laws before rebuild stopped_by words held x is t gathered read refusal z l honest) calm (image_now z.told.history)
       (CrashMayLeave-now z.told.history)
 
   history : IsHistory z.told.history
   history =
-      history_on {allowed = any_call} is.begun.history
+      history_on {allowed = any_call} is.history
       (ran_join {allowed = any_call}
-      (ran_any {allowed = any_read} (ran_reading before rebuild stopped_by words held x of is t gathered read refusal z l honest)) ran_out)
+      (ran_any {allowed = any_read} (ran_reading returning laws before rebuild stopped_by words held x is t gathered read refusal z l honest)) ran_out)
 
   -- a slot that is live in the end was so to the member
   live_was : (current : Superblock) → IsCurrent x.member.array.geometry (image_now z.told.history) current → (j : ℕ)
       → IsLive x.member.array.geometry (image_now z.told.history) current j → why_of x.member j ≡ why.Here
-  live_was current is_current j live =
-      live_still x.member is.is_open.array.marks stands.array j live.below (stands.dropped j) (sym (ap (λ (s : Seat). s.mark) seat) ∙ live.marked)
-    where
-      alone : CrashMayLeave (Made (image_now z.told.history) ∷ []) (image_now z.told.history)
-      alone =
-          made_left (image_now z.told.history)
-          (left_past_end z.told.history (history_tidy history) (image_now z.told.history) (CrashMayLeave-now z.told.history))
-
-      seat : seats_of current j ≡ seats_in stands.array j
-      seat = stands.stands.seats (image_now z.told.history) alone current j within.identity is_current
+  live_was = stands_live returning before x.member held z.told.history history within stands is.is_open.array.marks
 
   -- NO EPOCH IS REFUSED FOR WANT OF SLOTS
 
@@ -164,10 +155,10 @@ module _ (before : List Happening) (rebuild : Option Rebuild) (stopped_by : Opti
       by (Fenced j has (Err fault) fine does) =
           let one : fault ≡ TooFew whys = (let both : Some fault ≡ Some (TooFew whys) = sym fine ∙ at in cc) in
           never_few before x.member gathered.gone z.member fault l.mid z.told does honest x.member.array.geometry refl
-          (tolerated_now x.member.array.geometry before z.told.history ran_all calm) live_was
+          (tolerated_now returning x.member.array.geometry before z.told.history ran_all calm) live_was
           (λ i live. mid_serves.is_open.held i (record { below = live.below; why = inl live.why }))
           (λ i live on. (mid_serves.is_open.live i live on).large 1 (omega arith))
-          (λ i live left. gone_off before rebuild stopped_by words held x of is t gathered read refusal z l honest i left) whys one
+          (λ i live left. gone_off returning laws before rebuild stopped_by words held x is t gathered read refusal z l honest i left) whys one
 
   -- WHAT IS ERASED IS COVERED
 
@@ -181,14 +172,14 @@ module _ (before : List Happening) (rebuild : Option Rebuild) (stopped_by : Opti
     k = cell_sector x.member.array.geometry t i
 
     gathering : Ran any_read l.first.history l.mid.history
-    gathering = ran_gathering before rebuild stopped_by words held x of is t gathered read refusal z l honest
+    gathering = ran_gathering returning laws before rebuild stopped_by words held x is t gathered read refusal z l honest
 
-    first_serves : IsServing before (array_here before rebuild stopped_by words held x of) words l.first.history
-    first_serves = serves_first before rebuild stopped_by words held x of is t gathered read refusal z l honest on_mid
+    first_serves : IsServing returning before (array_with rebuild stopped_by x) words held l.first.history
+    first_serves = serves_first returning laws before rebuild stopped_by words held x is t gathered read refusal z l honest on_mid
 
-    then : IsServing before (array_here before rebuild stopped_by words held x of) words was.moment
+    then : IsServing returning before (array_with rebuild stopped_by x) words held was.moment
     then =
-        (cell_then before (array_here before rebuild stopped_by words held x of) words (λ s. ⊤) (λ s. ⊤) l.first.history l.mid.history first_serves
+        (cell_then returning laws before (array_with rebuild stopped_by x) words held l.first.history l.mid.history first_serves
         gathering on_mid t i j on stripe row was).0
 
     attached : IsAttached was.moment j
@@ -207,7 +198,7 @@ module _ (before : List Happening) (rebuild : Option Rebuild) (stopped_by : Opti
         stays_damaged was.moment was.moment z.told.history j (cell_sector x.member.array.geometry t i) (omega arith) apart
         (IsKept.Here refl some
         (inr (damaged_content ((slot_state was.moment j).sector (cell_sector x.member.array.geometry t i))
-        (read_bad before (array_here before rebuild stopped_by words held x of) words (λ s. ⊤) (λ s. ⊤) l.first.history l.mid.history first_serves
+        (read_bad returning laws before (array_with rebuild stopped_by x) words held l.first.history l.mid.history first_serves
         gathering on_mid t i j on stripe row was))))
 
     upto : (slot_state before j).pulls ≤ (slot_state was.moment j).pulls
@@ -252,11 +243,12 @@ module _ (before : List Happening) (rebuild : Option Rebuild) (stopped_by : Opti
           (IsFailed.Offline inside.1
           (offline_now
           (offline_on {allowed = untouching} j (λ c may. may.0 tt) apart_out
-          (gone_off before rebuild stopped_by words held x of is t gathered read refusal z l honest j gone))))
+          (gone_off returning laws before rebuild stopped_by words held x is t gathered read refusal z l honest j gone))))
       by (inl on) (inr stays) =
-          damaged_or_offline i j (live_of before rebuild stopped_by words held x of is t gathered read refusal z l honest j on) stripe inside.0
+          damaged_or_offline i j (live_of returning laws before rebuild stopped_by words held x is t gathered read refusal z l honest j on) stripe
+          inside.0
           ((l.gathers.bad i j has (λ away. elim away [ inl out ↦ out on | inr gone ↦ stays gone ])).0.1
-          (honest_mid before rebuild stopped_by words held x of is t gathered read refusal z l honest))
+          (honest_mid returning laws before rebuild stopped_by words held x is t gathered read refusal z l honest))
 
   pub covered : t < x.member.array.geometry.stripes → IsCovered x.member.array.geometry gathered.erased
   covered stripe =

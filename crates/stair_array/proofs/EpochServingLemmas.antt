@@ -21,7 +21,7 @@ use Rattle.stair_rack.proofs.TidyLemmas.{history_on}
 use Rattle.stair_super.specs.Superblock.{Superblock, mark_in}
 use Rattle.stair_super.specs.declared.configuration.Configuration.{Configuration}
 use Rattle.stair_super.specs.declared.mark.Mark.TheVariants as mark
-use Rattle.stair_member.specs.Aims.{admitted, aimed, frozen_then, label_then}
+use Rattle.stair_member.specs.Aims.{admitted, aimed}
 use Rattle.stair_member.specs.Current.{IsCurrent, IsFailed}
 use Rattle.stair_member.specs.Epochs.{IsIssuing}
 use Rattle.stair_member.specs.Establishing.{Establishes}
@@ -34,32 +34,33 @@ use Rattle.stair_member.specs.declared.fault.FenceFault.TheVariants as fence
 use Rattle.stair_member.specs.declared.why.Why.{Why}
 use Rattle.stair_member.specs.declared.why.Why.TheVariants as why
 use Rattle.stair_member.proofs.SuperLemmas.{one_current}
-use Rattle.stair_state.specs.Blocks.{AreEncodingsOf, Codewords}
+use Rattle.stair_state.specs.Blocks.{Codewords}
 use Rattle.stair_state.specs.Represents.{AreSteady, Represents, RepresentsAlone}
 use Rattle.stair_state.specs.State.{Change, Content}
 use Rattle.stair_state.specs.Tolerance.{IsTolerated, IsToleratedAlone}
 use Rattle.stair_state.proofs.OutsideLemmas.{tolerated_alone}
 use Rattle.stair_session.specs.InSession.{IsAimedContent, IsOfContent, IsReadyFor, state_with}
 use Rattle.stair_session.specs.Leading.{led_to}
+use Rattle.stair_session.specs.Returning.{NoneReturns}
 use Rattle.stair_session.specs.SeatSteps.{EachMayDrop, MayDrop, SeatsMove}
 use Rattle.stair_session.specs.Session.{ArrayState, IsLiveIn, IsOpenWith, IsRebuiltIn, seats_in}
-use Rattle.stair_session.proofs.LeftOutLemmas.{stood_where}
+use Rattle.stair_session.proofs.EnoughLeft.{epoch_never_few}
+use Rattle.stair_session.proofs.LeftOutLemmas.{none_leave, stood_where}
 use Rattle.stair_session.proofs.OpenWithLemmas.{established_open, keeps_rebuilds}
-use Rattle.stair_session.proofs.SeatLemmas.{seats_meanwhile, seats_stood}
+use Rattle.stair_session.proofs.SeatLemmas.{seats_meanwhile}
+use Rattle.stair_session.proofs.Serving.{IsCalmTo, IsGoing, IsServing, tolerated_now}
 use Rattle.stair_session.proofs.SessionLemmas.{meanwhile}
 use Rattle.stair_session.proofs.SteadyEndLemmas.{epoch_steady}
-use Rattle.stair_array.proofs.EnoughLemmas.{epoch_never_few}
-use Rattle.stair_array.proofs.LedOnLemmas.{live_still}
-use Rattle.stair_array.proofs.PartsLemmas.{leaves_none}
+use Rattle.stair_session.proofs.Stamping.{live_before}
 use Rattle.stair_array.proofs.SeatedLemmas.{seated}
-use Rattle.stair_array.proofs.ServingLemmas.{IsCalmTo, IsGoing, IsServing, goes_on, tolerated_now}
+use Rattle.stair_array.proofs.ServingLemmas.{goes_on}
 
 module _ (before : List Happening) (a : ArrayState) (words : Codewords) (kept : Content) (doubt : Option Change) (of : IsOfContent a.member words kept)
     (aim : Aim) (aims : IsAimedContent aim a.member words kept doubt) (last : Membership) (refusal : Option FenceFault) (old new : Telling)
     (e : Establishes aim a.member last refusal old new) (honest : IsTrue new.honest) (ran_old : Ran any_call before old.history)
     (ready : IsReadyFor aim a.member words old.history) (rebuilt : (slot : ℕ) → aim ≡ Promote slot → IsRebuiltIn a.member slot) where
   abbrev CalmTo : List Happening → Type 0
-  CalmTo = IsCalmTo a.member.array.geometry before
+  CalmTo = IsCalmTo NoneReturns a.member.array.geometry before
 
   -- seats are as they were, or as the aim has them
   abbrev pub SeatsGo : Configuration → Type 0
@@ -72,7 +73,7 @@ module _ (before : List Happening) (a : ArrayState) (words : Codewords) (kept : 
   pub not_raised : (array : Configuration) (j : ℕ) → MayDrop (seats_in a.member.array j) (seats_in array j) → ¬ (why_of a.member j ≡ why.Here)
       → IsMissing last j → ¬ (mark_in array j ≡ mark.Live)
   not_raised array j may other missing live =
-      other (live_still a.member ready.session.marks array j (subst (λ (g : Geometry). j < g.n) e.geometry missing.below) may live)
+      other (live_before a.member ready.session.marks array j (subst (λ (g : Geometry). j < g.n) e.geometry missing.below) may live)
 
   -- nor does any by an aim that drops slots at most
   pub none_raised : ((array : Configuration) → SeatsGo array → EachMayDrop (seats_in a.member.array) (seats_in array)) → (array : Configuration)
@@ -80,7 +81,7 @@ module _ (before : List Happening) (a : ArrayState) (words : Codewords) (kept : 
       → (¬ (mark_in array j ≡ mark.Live)) ⊎ IsOfflineUntilAttached before new.history j
   none_raised drops array go j other missing = inl (not_raised array j (drops array go j) other missing)
 
-  pub epoch_ran : Ran any_call before new.history
+  epoch_ran : Ran any_call before new.history
   epoch_ran = ran_join {allowed = any_call} ran_old ran
 
   -- AT EACH MOMENT an image represents the array, with the change in doubt and the seats that its own current superblock has.
@@ -95,7 +96,7 @@ module _ (before : List Happening) (a : ArrayState) (words : Codewords) (kept : 
     fencing = record { begun = ready.begun; moment = at; issued = e.issued honest; returned = each_after calm.1 to_old }
 
     going : ¬ IsTrue (stopped c)
-    going = goes_on before a words c upto calm
+    going = goes_on NoneReturns a.member.array.geometry before c upto calm
 
     alone_stands : (image : Image) → CrashMayLeave c image → (alone : IsToleratedAlone a.member.array.geometry image)
         → RepresentsAlone (state_with a.member kept doubt alone.current.array) image × SeatsGo alone.current.array
@@ -108,7 +109,8 @@ module _ (before : List Happening) (a : ArrayState) (words : Codewords) (kept : 
     pub epoch_stands : (image : Image) → CrashMayLeave c image
         → (array : Configuration) × RepresentsAlone (state_with a.member kept doubt array) image × SeatsGo array
     epoch_stands image left =
-        let alone = tolerated_alone a.member.array.geometry before c image (tolerated_now a.member.array.geometry before c upto calm) left in
+        let alone = tolerated_alone a.member.array.geometry before c image (tolerated_now NoneReturns a.member.array.geometry before c upto calm) left
+        in
         let is = alone_stands image left alone in
         (alone.current.array, is.0, is.1)
 
@@ -129,7 +131,7 @@ module _ (before : List Happening) (a : ArrayState) (words : Codewords) (kept : 
       history = history_on {allowed = any_call} ready.begun.history ran
 
       tolerated : IsTolerated a.member.array.geometry before new.history
-      tolerated = tolerated_now a.member.array.geometry before new.history epoch_ran calm
+      tolerated = tolerated_now NoneReturns a.member.array.geometry before new.history epoch_ran calm
 
       now : IsToleratedAlone a.member.array.geometry (image_now new.history)
       now = tolerated_alone a.member.array.geometry before new.history (image_now new.history) tolerated (CrashMayLeave-now new.history)
@@ -137,37 +139,24 @@ module _ (before : List Happening) (a : ArrayState) (words : Codewords) (kept : 
       steady : AreSteady a.member.array.geometry new.history
       steady =
           epoch_steady aim (admitted aim) a.member a.member last refusal old new e ready.begun honest
-          (each_after calm.1 (moment_between {a = any_call} {b = any_call} ran_old ran)) (goes_on before a words new.history epoch_ran calm)
+          (each_after calm.1 (moment_between {a = any_call} {b = any_call} ran_old ran))
+          (goes_on NoneReturns a.member.array.geometry before new.history epoch_ran calm)
 
-  -- Where it isn't refused the new epoch says of the content what it is for.
-  pub epoch_content : refusal ≡ None → frozen_then aim a.member.array ≡ a.member.array.frozen → label_then aim a.member.array ≡ a.member.array.label
-      → IsOfContent last words kept
-  epoch_content fine frozen label =
-      let named = (e.done fine).aimed_at in record {
-        encodings = subst (λ (g : Geometry). AreEncodingsOf g kept.blocks words) (sym e.geometry) of.encodings;
-        frozen = named.frozen ∙ frozen ∙ of.frozen;
-        label = named.label ∙ label ∙ of.label;
-      }
-
-  -- and the array serves on
-  module _ (fine : refusal ≡ None) (on : IsGoing before new.history) where
+  -- Where it isn't refused the array serves on.
+  module _ (fine : refusal ≡ None) (on : IsGoing NoneReturns a.member.array.geometry before new.history) where
     none : NothingReturned old.history new.history
-    none = each_after on.none (moment_between {a = any_call} {b = any_call} ran_old ran)
+    none = each_after on.0 (moment_between {a = any_call} {b = any_call} ran_old ran)
 
-    pub epoch_stood : HasStood aim e.gone a.member last old.history new.history
+    epoch_stood : HasStood aim e.gone a.member last old.history new.history
     epoch_stood = stood_where aim a.member last refusal old new e fine honest ready.begun none ready.promoted
 
-    pub epoch_serves : IsOpenWith before a words old.history → ((j : ℕ) → admitted aim ≡ Some j → IsHeld before old.history j)
-        → IsServing before (led_to a last) words new.history
-    epoch_serves is held =
+    pub epoch_serves : (content : Content) → IsOfContent last words content → IsOpenWith before a words old.history
+        → ((j : ℕ) → admitted aim ≡ Some j → IsHeld before old.history j) → IsServing NoneReturns before (led_to a last) words content new.history
+    epoch_serves content of_last is held =
         let then =
-        established_open aim e.gone before a (led_to a last) words old.history new.history is ready held epoch_stood on.going
+        established_open aim e.gone before a (led_to a last) words old.history new.history is ready held epoch_stood on.1
         (keeps_rebuilds a last is.array e.geometry) in
-        record { is_open = then.0; begun = then.1 }
-
-    -- with seats as the aim has them
-    pub epoch_seats : SeatsMove aim (HasSlot e.gone) (seats_in a.member.array) (seats_in last.array)
-    epoch_seats = seats_stood aim e.gone a.member words old.history ready rebuilt last new.history epoch_stood
+        record { is_open = then.0; history = then.1.history; of = of_last; knows = then.1 }
 
   -- Where it is, it isn't for want of slots, if it is for an aim by which live slots stay so, and a slot that it misses becomes live
   -- only where it is offline.
@@ -176,7 +165,7 @@ module _ (before : List Happening) (a : ArrayState) (words : Codewords) (kept : 
       → (¬ (mark_in array j ≡ mark.Live)) ⊎ IsOfflineUntilAttached before new.history j)
       (is : IsOpenWith before a words old.history) (calm : CalmTo new.history) where
     tolerated_then : IsTolerated a.member.array.geometry before new.history
-    tolerated_then = tolerated_now a.member.array.geometry before new.history epoch_ran calm
+    tolerated_then = tolerated_now NoneReturns a.member.array.geometry before new.history epoch_ran calm
 
     unlive : (current : Superblock) → IsCurrent a.member.array.geometry (image_now new.history) current → (j : ℕ)
         → j < a.member.array.geometry.n → ¬ (why_of a.member j ≡ why.Here) → IsMissing last j
@@ -195,7 +184,7 @@ module _ (before : List Happening) (a : ArrayState) (words : Codewords) (kept : 
 
     pub never_few : (fault : FenceFault) → refusal ≡ Some fault → (whys : List Why) → ¬ (fault ≡ fence.TooFew whys)
     never_few fault failed =
-        epoch_never_few aim before a.member a.member no_slots (leaves_none a.member) last fault old new
+        epoch_never_few aim before a.member a.member no_slots (none_leave a.member) last fault old new
         (subst (λ (r : Option FenceFault). Establishes aim a.member last r old new) failed e) honest stays_live a.member.array.geometry refl
         tolerated_then unlive (λ j live. is.held j (record { below = live.below; why = inl live.why }))
         (λ j live on. (is.live j live on).large 1 (omega arith)) (λ j live has. absurd (true≢false (sym has ∙ has_slot-none j)))

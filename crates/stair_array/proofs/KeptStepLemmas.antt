@@ -1,7 +1,8 @@
--- A step that leaves what the array holds as it was, where no medium comes back: what it comes to, and that it is one of the machine, and
+-- A step that leaves what the array holds as it was, whether media come back or not: what it comes to, and that it is one of the machine, and
 -- what a crash leaves in the midst of it what one within the step leaves.
 use Rattle.std.proofs.Common.{◌≡◌, List, inr, refl, sym, ◌∙◌, subst, None, Some, Option}
 use Rattle.std.specs.Prelude.{Result, Ok, Err}
+use Rattle.stair_rack.specs.Answers.{IsHistory}
 use Rattle.stair_rack.specs.Crash.{EachImage}
 use Rattle.stair_rack.specs.History.{Happening}
 use Rattle.stair_rack.specs.Moments.{AtEveryMoment, IsMoment}
@@ -12,37 +13,36 @@ use Rattle.stair_member.specs.Membership.{Membership}
 use Rattle.stair_member.specs.Seats.{Seats}
 use Rattle.stair_member.specs.declared.fault.FenceFault.{FenceFault}
 use Rattle.stair_state.specs.Blocks.{Codewords}
-use Rattle.stair_state.specs.Represents.{Represents}
 use Rattle.stair_state.specs.State.{Content, State}
 use Rattle.stair_session.specs.Courses.{Point, point}
-use Rattle.stair_session.specs.InSession.{IsOfContent, state_with}
+use Rattle.stair_session.specs.InSession.{state_with}
 use Rattle.stair_session.specs.Leading.{led_to}
 use Rattle.stair_session.specs.Opening.{StaysArray}
 use Rattle.stair_session.specs.Rebuilding.{Rebuild}
-use Rattle.stair_session.specs.Returning.{IsCalm, NoneReturns}
+use Rattle.stair_session.specs.Returning.{IsCalm, Returning, StandsFor}
 use Rattle.stair_session.specs.SeatSteps.{EachMayDrop}
 use Rattle.stair_session.specs.Session.{ArrayState, seats_in}
+use Rattle.stair_session.proofs.Serving.{IsCalmTo, IsServing, LeadsReads, StandsAs}
 use Rattle.stair_array.specs.Calls.{refused}
 use Rattle.stair_array.specs.Machine.{Answer, AreKnown, GivenBy, Gone, HoldsAfter, IsAsItWas, IsFinal, MayBegin, PassesTests, Recover, Refusal, Row, SeatsAfter, Step, WasBegun}
 use Rattle.stair_array.specs.Promise.{BeginsWith, IsInState, IsLed, IsLeftBy, IsOpenFor, Keeps, KeepsProgress, KeepsRebuild, Performs, Seen, is_open}
-use Rattle.stair_array.proofs.LedOnLemmas.{still_of}
+use Rattle.stair_array.proofs.LeftServingLemmas.{StandsAt}
 use Rattle.stair_array.proofs.LoadingLemmas.{ServesOn}
-use Rattle.stair_array.proofs.OpenStepLemmas.{calm_for, goes_on_as, kept_fault, of_state, open_first, serves_as, serves_first, stops_as}
-use Rattle.stair_array.proofs.ReadPartLemmas.{Stands}
-use Rattle.stair_array.proofs.ServingLemmas.{IsCalmTo, IsServing}
+use Rattle.stair_array.proofs.OpenStepLemmas.{goes_on_as, kept_fault, open_first, serves_as, serves_first, stops_as, calm_first}
 
 -- WHAT IT COMES TO
 
 -- The array serves on, and this is given; or it serves on and is refused what isn't an epoch; or an epoch was refused, and the rack
--- represents the array.
-pub data Outcome (before : List Happening) (rebuild : Option Rebuild) (stopped : Option FenceFault) (words : Codewords) (kept : Content) (x : Point)
-    (of : IsOfContent x.member words kept) (T Inside : Type 0) (Right : T → Type 0) : Result T Refusal → Point → Type 0 where
-  Gives : (given : T) (y : Point) → ServesOn before rebuild stopped words kept x of y → StaysArray x.member y.member → Inside → Right given
-      → Outcome before rebuild stopped words kept x of T Inside Right (Ok given) y
-  Lacks : (refusal : Refusal) (y : Point) → ServesOn before rebuild stopped words kept x of y → StaysArray x.member y.member → ¬ IsFinal refusal
-      → Outcome before rebuild stopped words kept x of T Inside Right (Err refusal) y
-  Stops : (fault : FenceFault) (y : Point) (array : Configuration) → Inside → Represents (state_with x.member kept None array) y.told.history
-      → EachMayDrop (seats_in x.member.array) (seats_in array) → Outcome before rebuild stopped words kept x of T Inside Right (Err (refused fault)) y
+-- stands for the array.
+pub data Outcome (returning : Returning) (before : List Happening) (rebuild : Option Rebuild) (stopped : Option FenceFault) (words : Codewords)
+    (kept : Content) (x : Point)
+    (T Inside : Type 0) (Right : T → Type 0) : Result T Refusal → Point → Type 0 where
+  Gives : (given : T) (y : Point) → ServesOn returning before rebuild stopped words kept x y → StaysArray x.member y.member → Inside → Right given
+      → Outcome returning before rebuild stopped words kept x T Inside Right (Ok given) y
+  Lacks : (refusal : Refusal) (y : Point) → ServesOn returning before rebuild stopped words kept x y → StaysArray x.member y.member → ¬ IsFinal refusal
+      → Outcome returning before rebuild stopped words kept x T Inside Right (Err refusal) y
+  Stops : (fault : FenceFault) (y : Point) → Inside → StandsAs returning x.member kept None y.told.history
+      → Outcome returning before rebuild stopped words kept x T Inside Right (Err (refused fault)) y
 
 -- THE STEP
 
@@ -56,16 +56,18 @@ pub record IsKeeping (step : Step) : Type 0 where
   pub drops : (answer : Answer step) (old new : Seats) → EachMayDrop old new → SeatsAfter step answer old new
   pub rebuilds : (answer : Answer step) (was is : ArrayState) → KeepsRebuild step answer was is → KeepsProgress was is
 
-module _ (step : Step) (keeping : IsKeeping step) (answer : Answer step) (events : List Event) (x y : Seen) (p : Performs step answer events x y)
-    (before : List Happening) (s : State) (state : IsInState NoneReturns before s x) where
-  abbrev pub begins : IsOpenFor NoneReturns before s p.was x.told.history
-  begins = open_first step keeping.no_opening answer events x y p before s state
+module _ (returning : Returning) (laws : LeadsReads returning) (step : Step) (keeping : IsKeeping step) (answer : Answer step) (events : List Event)
+    (x y : Seen) (p : Performs step answer events x y)
+    (before : List Happening) (s : State) (history : IsHistory x.told.history) (state : IsInState returning before s x) where
+  abbrev pub begins : IsOpenFor returning before s p.was x.told.history
+  begins = open_first returning laws step keeping.no_opening answer events x y p before s state
 
-  pub of_kept : IsOfContent p.was.member begins.words s.content
-  of_kept = of_state step keeping.no_opening answer events x y p before s state
+  pub serves : IsServing returning before p.was begins.words s.content x.told.history
+  serves = serves_first returning laws step keeping.no_opening answer events x y p before s state history
 
-  pub serves : IsServing before p.was begins.words x.told.history
-  serves = serves_first step keeping.no_opening answer events x y p before s state
+  pub calm_begun : (h : List Happening) → IsCalm returning s.geometry (is_open x.session) before h
+      → IsCalmTo returning p.was.member.array.geometry before h
+  calm_begun = calm_first returning laws step keeping.no_opening answer events x y p before s state
 
   as_it_was : (now : State) → now.content ≡ s.content → now.in_doubt ≡ None → IsAsItWas s now
   as_it_was now content certain = record { content = content; in_doubt = certain ∙ sym begins.certain }
@@ -90,9 +92,9 @@ module _ (step : Step) (keeping : IsKeeping step) (answer : Answer step) (events
       (holds : (given : GivenBy step) (now : State) → Right given → IsAsItWas s now → HoldsAfter step (Ok given) s now) where
     -- the array serves on
     went : (given : Answer step) (v : Point) → v ≡ point p.is.member y.told → given ≡ answer
-        → ServesOn before p.was.rebuild p.was.stopped begins.words s.content (point p.was.member x.told) of_kept v → StaysArray p.was.member v.member
+        → ServesOn returning before p.was.rebuild p.was.stopped begins.words s.content (point p.was.member x.told) v → StaysArray p.was.member v.member
         → (WasBegun step given → PassesTests step s (seats_in p.was.member.array)) → ((now : State) → IsAsItWas s now → HoldsAfter step given s now)
-        → IsCalmTo p.was.member.array.geometry before y.told.history → IsLed NoneReturns p.was.member before s step answer y
+        → IsCalmTo returning p.was.member.array.geometry before y.told.history → IsLed returning p.was.member before s step answer y
     went given v at is_answer serves_on stays passes_so holds_so calm =
         let last : Membership = p.is.member in
         let now : State = state_with last s.content None last.array in
@@ -107,21 +109,20 @@ module _ (step : Step) (keeping : IsKeeping step) (answer : Answer step) (events
                 (row given now last.array (stays_y.geometry ∙ begins.geometry) passes_so (holds_so now (as_it_was now refl refl)) refl stays_y.seats);
           };
           is_in =
-              serves_as step keeping.no_opening answer events x y p before s state begins.words s.content stays_y
-              (still_of p.was.member last begins.words s.content stays_y of_kept)
-              (subst (λ (u : Point). IsServing before (led_to p.was u.member) begins.words u.told.history) at serves_on)
+              serves_as returning laws step keeping.no_opening answer events x y p before s state begins.words s.content stays_y
+              (subst (λ (u : Point). IsServing returning before (led_to p.was u.member) begins.words s.content u.told.history) at serves_on)
               (keeping.rebuilds answer p.was p.is p.rebuild) calm;
         }
 
     pub led : (given : Answer step) (v : Point) → v ≡ point p.is.member y.told → given ≡ answer
-        → Outcome before p.was.rebuild p.was.stopped begins.words s.content (point p.was.member x.told) of_kept (GivenBy step) Inside Right given v
-        → IsCalmTo p.was.member.array.geometry before y.told.history → IsLed NoneReturns p.was.member before s step answer y
+        → Outcome returning before p.was.rebuild p.was.stopped begins.words s.content (point p.was.member x.told) (GivenBy step) Inside Right given v
+        → IsCalmTo returning p.was.member.array.geometry before y.told.history → IsLed returning p.was.member before s step answer y
     led _ _ at is_answer (Gives given v serves_on stays inside right) calm =
         went (Ok given) v at is_answer serves_on stays (λ begun. passes inside) (λ now was. holds given now right was) calm
     led _ _ at is_answer (Lacks refusal v serves_on stays not_final) calm =
         went (Err refusal) v at is_answer serves_on stays (λ begun. absurd (not_final begun)) (λ now was. keeping.refuses refusal s now was) calm
-    led _ _ at is_answer (Stops fault v array inside stands dropped) calm =
-        let now : State = state_with p.was.member s.content None array in
+    led _ _ at is_answer (Stops fault v inside is) calm =
+        let now : State = state_with p.was.member s.content None is.array in
         record {
           state = now;
           is_step = record {
@@ -129,25 +130,25 @@ module _ (step : Step) (keeping : IsKeeping step) (answer : Answer step) (events
             begins = keeping.begins p.was.member before y.told.history s (seats_in p.was.member.array) begins.seats;
             row =
                 subst (λ (r : Answer step). Row step r (seats_in p.was.member.array) s now) is_answer
-                (row (Err (refused fault)) now array begins.geometry (λ begun. passes inside)
-                (keeping.refuses (refused fault) s now (as_it_was now refl refl)) refl dropped);
+                (row (Err (refused fault)) now is.array begins.geometry (λ begun. passes inside)
+                (keeping.refuses (refused fault) s now (as_it_was now refl refl)) refl is.dropped);
           };
           is_in =
-              stops_as step keeping.no_opening answer events x y p before s state now
-              (subst (λ (u : Point). Represents now u.told.history) at stands)
+              stops_as returning laws step keeping.no_opening answer events x y p before s state now
+              (subst (λ (u : Point). StandsFor returning now u.told.history) at is.stands)
               (kept_fault (GivenBy step) fault p.is.stopped
               (subst (λ (r : Answer step). Keeps r p.is.stopped) (sym is_answer)
-              (goes_on_as step keeping.no_opening answer events x y p before s state).1));
+              (goes_on_as returning laws step keeping.no_opening answer events x y p before s state).1));
         }
 
   -- WHAT A CRASH LEAVES
 
-  pub cuts : AtEveryMoment (Stands before p.was.rebuild p.was.stopped begins.words s.content (point p.was.member x.told) of_kept) x.told.history
+  pub cuts : AtEveryMoment (StandsAt returning before p.was.member s.content) x.told.history
       y.told.history → (c : List Happening) → IsMoment x.told.history c y.told.history
-      → IsCalm NoneReturns s.geometry (is_open x.session) before c → EachImage (IsLeftBy NoneReturns step p.was.member before c s) c
+      → IsCalm returning s.geometry (is_open x.session) before c → EachImage (IsLeftBy returning step p.was.member before c s) c
   cuts every c at calm image left =
       let is =
-      at_moment {P = Stands before p.was.rebuild p.was.stopped begins.words s.content (point p.was.member x.told) of_kept} every at (calm_for begins c calm)
+      at_moment {P = StandsAt returning before p.was.member s.content} every at (calm_begun c calm)
       image left in
       let now : State = state_with p.was.member s.content None is.array in
       record {

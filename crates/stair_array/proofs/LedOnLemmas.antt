@@ -1,6 +1,6 @@
 -- An array that is led on by epochs without some of its slots: what it says of its content, how far its rebuild is, and the seats that
 -- it is left with.
-use Rattle.std.proofs.Common.{◌≡◌, ◌<◌, ◌≤◌, List, inl, inr, refl, sym, ap, ◌∙◌, subst, None, Some, Option, ℕ}
+use Rattle.std.proofs.Common.{◌≡◌, ◌<◌, ◌≤◌, List, inl, inr, refl, sym, ap, ◌∙◌, subst, None, Some, Option}
 use Rattle.std.proofs.lemmas.Bool.{cases_lt}
 use Rattle.stair_model.specs.Geometry.{Geometry}
 use Rattle.stair_rack.specs.History.{Happening}
@@ -21,10 +21,9 @@ use Rattle.stair_session.specs.InSession.{IsOfContent}
 use Rattle.stair_session.specs.Leading.{IsOpenAmid, led_to, rebuild_if, rebuild_in}
 use Rattle.stair_session.specs.Opening.{IsOpening, StaysArray}
 use Rattle.stair_session.specs.Rebuilding.{Rebuild}
-use Rattle.stair_session.specs.SeatSteps.{EachMayDrop, MayDrop}
+use Rattle.stair_session.specs.SeatSteps.{EachMayDrop}
 use Rattle.stair_session.specs.Session.{ArrayState, IsArray, IsOpenWith, seats_in}
 use Rattle.stair_session.specs.UnderWay.{AreKept}
-use Rattle.stair_session.proofs.ChangingLemmas.{live_here}
 use Rattle.stair_session.proofs.OpenWithLemmas.{goes_on_from, rebuilds_on}
 use Rattle.stair_session.proofs.SeatLemmas.{IsListed, down_or_not, down_seat, past_down, same_seat}
 use Rattle.stair_array.specs.Promise.{Ended, KeepsProgress, Stays}
@@ -128,11 +127,3 @@ kept_drops was now of_was of_now same kept j =
                 ]
           ]
     ]
-
--- where slots were dropped at most, one that is marked live was live to the member
-pub live_still : (m : Membership) → ((i : ℕ) → i < m.array.geometry.n → mark_in m.array i ≡ mark_for (why_of m i)) → (now : Configuration) (j : ℕ)
-    → j < m.array.geometry.n → MayDrop (seats_in m.array j) (seats_in now j) → mark_in now j ≡ mark.Live → why_of m j ≡ why.Here
-live_still m marked now j below (inr fell) live =
-    absurd (let never : mark.Live ≡ mark.Down = sym live ∙ ap (λ (s : Seat). s.mark) fell.1 in cc)
-live_still m marked now j below (inl same) live =
-    live_here (why_of m j) (sym (marked j below) ∙ sym (ap (λ (s : Seat). s.mark) same) ∙ live)

@@ -29,6 +29,7 @@ pub mod RecoverLemmas
 pub mod ServingLemmas
 pub mod SeatedLemmas
 pub mod LeftServingLemmas
+pub mod NoneReturnsLemmas
 pub mod LedOnLemmas
 pub mod ReadPartLemmas
 pub mod LoadingLemmas
@@ -97,3 +98,5 @@ pub mod RebuildStepLemmas
 pub mod NewJournalLemmas
 pub mod RebuildingLemmas
 pub mod ReplacingLemmas
+pub mod StampsLeadLemmas
+pub mod MendsLeadLemmas

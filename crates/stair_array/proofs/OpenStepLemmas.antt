@@ -1,34 +1,38 @@
--- Where a step of an open array begins and ends, where no medium comes back: the array serves a state's stripes, and goes on or stops.
-use Rattle.std.proofs.Common.{◌≡◌, ◌⊎◌, List, inl, inr, refl, sym, ap, ◌∙◌, subst, None, Option}
+-- Where a step of an open array begins and ends, whether media come back or not: the array serves a state's stripes, and goes on or stops.
+use Rattle.std.proofs.Common.{◌≡◌, ◌⊎◌, List, inl, inr, refl, sym, ap, ◌∙◌, subst, None, Option, true}
 use Rattle.std.specs.Prelude.{IsSome, Err}
 use Rattle.stair_model.specs.Geometry.{Geometry}
+use Rattle.stair_rack.specs.Answers.{IsHistory}
 use Rattle.stair_rack.specs.History.{Happening}
 use Rattle.stair_rack.specs.declared.watcher.Event.{Event}
 use Rattle.stair_member.specs.declared.fault.FenceFault.{FenceFault}
 use Rattle.stair_member.specs.declared.fault.FenceFault.TheVariants as fence
 use Rattle.stair_state.specs.Blocks.{AreEncodingsOf, Codewords}
-use Rattle.stair_state.specs.Represents.{Represents}
 use Rattle.stair_state.specs.State.{Content, State}
-use Rattle.stair_state.specs.Tolerance.{ToleratedSince}
 use Rattle.stair_session.specs.InSession.{IsOfContent, state_with}
 use Rattle.stair_session.specs.Leading.{led_to}
 use Rattle.stair_session.specs.Opening.{StaysArray}
-use Rattle.stair_session.specs.Returning.{NoneReturns}
+use Rattle.stair_session.specs.Returning.{Returning, IsCalm, StandsFor, Knows}
 use Rattle.stair_session.specs.Session.{ArrayState}
+use Rattle.stair_session.proofs.Serving.{IsCalmTo, IsServing, IsGoing, LeadsReads}
 use Rattle.stair_array.specs.Calls.{refused}
 use Rattle.stair_array.specs.Machine.{Answer, Recover, Step}
-use Rattle.stair_array.specs.Promise.{EndsIn, IsInState, IsOpenFor, Keeps, KeepsProgress, Opened, Performs, Seen, ServesState, Session, StartsFrom}
-use Rattle.stair_array.proofs.LeftServingLemmas.{represents_serving}
+use Rattle.stair_array.specs.Promise.{EndsIn, IsInState, IsOpenFor, Keeps, KeepsProgress, Opened, Performs, Seen, ServesState, Session, StartsFrom, is_open}
 use Rattle.stair_array.proofs.LedOnLemmas.{led_open}
-use Rattle.stair_array.proofs.ServingLemmas.{IsCalmTo, IsServing}
 
-pub calm_over : (g f : Geometry) (before h : List Happening) → g ≡ f → IsCalmTo f before h → IsCalmTo g before h
-calm_over g f before h same calm = (subst (λ (k : Geometry). ToleratedSince k before h) (sym same) calm.0, calm.1)
+pub calm_over : (returning : Returning) (g f : Geometry) (before h : List Happening) → g ≡ f → IsCalmTo returning f before h
+    → IsCalmTo returning g before h
+calm_over returning g f before h same = subst (λ (k : Geometry). IsCalmTo returning k before h) (sym same)
+
+pub going_over : (returning : Returning) (g f : Geometry) (before h : List Happening) → g ≡ f → IsGoing returning f before h
+    → IsGoing returning g before h
+going_over returning g f before h same = subst (λ (k : Geometry). IsGoing returning k before h) (sym same)
 
 -- what is calm to a state is calm to the array that is open for it
-pub calm_for : {before now : List Happening} {s : State} {was : ArrayState} → IsOpenFor NoneReturns before s was now → (h : List Happening)
-    → IsCalmTo s.geometry before h → IsCalmTo was.member.array.geometry before h
-calm_for {before} {now} {s} {was} begins h calm = calm_over was.member.array.geometry s.geometry before h begins.geometry calm
+pub calm_for : {returning : Returning} {before now : List Happening} {s : State} {was : ArrayState} → IsOpenFor returning before s was now
+    → (h : List Happening) → IsCalm returning s.geometry true before h → IsCalmTo returning was.member.array.geometry before h
+calm_for {returning} {before} {now} {s} {was} begins h calm =
+    calm_over returning was.member.array.geometry s.geometry before h begins.geometry calm
 
 -- a refusal for good is kept
 pub kept_fault : (T : Type 0) (fault : FenceFault) (kept : Option FenceFault) → Keeps {T = T} (Err (refused fault)) kept → IsSome kept
@@ -58,16 +62,17 @@ starts_open step other was session starts =
     ]
 
 -- A step but an opening:
-module _ (step : Step) (other : ¬ (step ≡ Recover)) (answer : Answer step) (events : List Event) (x y : Seen) (p : Performs step answer events x y)
-    (before : List Happening) (s : State) (state : IsInState NoneReturns before s x) where
+module _ (returning : Returning) (laws : LeadsReads returning) (step : Step) (other : ¬ (step ≡ Recover)) (answer : Answer step) (events : List Event)
+    (x y : Seen) (p : Performs step answer events x y)
+    (before : List Happening) (s : State) (state : IsInState returning before s x) where
   opens : IsOpened p.was x.session
   opens = starts_open step other p.was x.session p.starts
 
   -- the array that it begins with is open, and wasn't stopped
-  pub open_first : IsOpenFor NoneReturns before s p.was x.told.history
-  open_first = by (subst (λ (e : Session). ServesState NoneReturns before s e x.told) opens.is_open state.serves)
+  pub open_first : IsOpenFor returning before s p.was x.told.history
+  open_first = by (subst (λ (e : Session). ServesState returning before s e x.told) opens.is_open state.serves)
     where
-      by : ServesState NoneReturns before s (Opened p.was) x.told → IsOpenFor NoneReturns before s p.was x.told.history
+      by : ServesState returning before s (Opened p.was) x.told → IsOpenFor returning before s p.was x.told.history
       by (inl is) = is
       by (inr stops) = absurd (let never = subst IsSome opens.unstopped stops in cc)
 
@@ -79,8 +84,29 @@ module _ (step : Step) (other : ¬ (step ≡ Recover)) (answer : Answer step) (e
     label = open_first.label;
   }
 
-  pub serves_first : IsServing before p.was open_first.words x.told.history
-  serves_first = record { is_open = open_first.is_open; begun = open_first.knows }
+  -- the state is that of the array
+  same_state : s ≡ state_with p.was.member s.content None p.was.member.array
+  same_state = λ i. record {
+    geometry = sym open_first.geometry i;
+    content = s.content;
+    in_doubt = open_first.certain i;
+    seats = open_first.seats i;
+  }
+
+  pub serves_first : IsHistory x.told.history → IsServing returning before p.was open_first.words s.content x.told.history
+  serves_first history = record {
+    is_open = open_first.is_open;
+    history = history;
+    of = of_state;
+    knows = subst (λ (r : State). Knows returning r p.was.member x.told.history) same_state open_first.knows;
+  }
+
+  -- what is calm to a state is calm to the array
+  pub calm_first : (h : List Happening) → IsCalm returning s.geometry (is_open x.session) before h
+      → IsCalmTo returning p.was.member.array.geometry before h
+  calm_first h calm =
+      calm_over returning p.was.member.array.geometry s.geometry before h open_first.geometry
+      (subst (λ (e : Session). IsCalm returning s.geometry (is_open e) before h) opens.is_open calm)
 
   -- the session goes on with the array that it ends with
   pub goes_on_as : y.session ≡ Opened p.is × Keeps answer p.is.stopped
@@ -93,44 +119,48 @@ module _ (step : Step) (other : ¬ (step ≡ Recover)) (answer : Answer step) (e
   -- IN THE END it serves these stripes, or it was stopped
 
   pub serves_now : (words : Codewords) (content : Content) → p.is.member.array.geometry ≡ p.was.member.array.geometry
-      → IsOfContent p.is.member words content → IsServing before p.is words y.told.history
-      → IsCalmTo p.was.member.array.geometry before y.told.history
-      → IsInState NoneReturns before (state_with p.is.member content None p.is.member.array) y
-  serves_now words content same of serves calm = record {
+      → IsServing returning before p.is words content y.told.history → IsCalmTo returning p.was.member.array.geometry before y.told.history
+      → IsInState returning before (state_with p.is.member content None p.is.member.array) y
+  serves_now words content same is calm = record {
     stands =
-        represents_serving before p.is words content of y.told.history serves
-        (calm_over p.is.member.array.geometry p.was.member.array.geometry before y.told.history same calm);
+        laws.stands before p.is words content y.told.history is
+        (calm_over returning p.is.member.array.geometry p.was.member.array.geometry before y.told.history same calm);
     serves =
-        subst (λ (e : Session). ServesState NoneReturns before (state_with p.is.member content None p.is.member.array) e y.told) (sym goes_on_as.0)
+        subst (λ (e : Session). ServesState returning before (state_with p.is.member content None p.is.member.array) e y.told) (sym goes_on_as.0)
         (inl (record {
           words = words;
-          encodings = of.encodings;
-          is_open = serves.is_open;
+          encodings = is.of.encodings;
+          is_open = is.is_open;
           geometry = refl;
-          frozen = of.frozen;
-          label = of.label;
+          frozen = is.of.frozen;
+          label = is.of.label;
           seats = refl;
           certain = refl;
-          knows = serves.begun;
+          knows = is.knows;
         }));
   }
 
   pub serves_over : (words : Codewords) (content : Content) → p.is.member.array.geometry ≡ p.was.member.array.geometry
-      → IsOfContent p.is.member words content → IsServing before (led_to p.was p.is.member) words y.told.history → KeepsProgress p.was p.is
-      → IsCalmTo p.was.member.array.geometry before y.told.history
-      → IsInState NoneReturns before (state_with p.is.member content None p.is.member.array) y
-  serves_over words content same of serves progress =
-      serves_now words content same of
-      (record { is_open = led_open before p.was p.is words y.told.history serves.is_open progress; begun = serves.begun })
+      → IsServing returning before (led_to p.was p.is.member) words content y.told.history → KeepsProgress p.was p.is
+      → IsCalmTo returning p.was.member.array.geometry before y.told.history
+      → IsInState returning before (state_with p.is.member content None p.is.member.array) y
+  serves_over words content same is progress =
+      serves_now words content same
+      (record {
+        is_open = led_open before p.was p.is words y.told.history is.is_open progress;
+        history = is.history;
+        of = is.of;
+        knows = is.knows;
+      })
 
-  pub serves_as : (words : Codewords) (content : Content) → StaysArray p.was.member p.is.member → IsOfContent p.is.member words content
-      → IsServing before (led_to p.was p.is.member) words y.told.history → KeepsProgress p.was p.is
-      → IsCalmTo p.was.member.array.geometry before y.told.history
-      → IsInState NoneReturns before (state_with p.is.member content None p.is.member.array) y
+  pub serves_as : (words : Codewords) (content : Content) → StaysArray p.was.member p.is.member
+      → IsServing returning before (led_to p.was p.is.member) words content y.told.history → KeepsProgress p.was p.is
+      → IsCalmTo returning p.was.member.array.geometry before y.told.history
+      → IsInState returning before (state_with p.is.member content None p.is.member.array) y
   serves_as words content stays = serves_over words content stays.geometry
 
-  pub stops_as : (now : State) → Represents now y.told.history → IsSome p.is.stopped → IsInState NoneReturns before now y
+  pub stops_as : (now : State) → StandsFor returning now y.told.history → IsSome p.is.stopped → IsInState returning before now y
   stops_as now stands stopped = record {
     stands = stands;
-    serves = subst (λ (e : Session). ServesState NoneReturns before now e y.told) (sym goes_on_as.0) (inr stopped);
+    serves = subst (λ (e : Session). ServesState returning before now e y.told) (sym goes_on_as.0) (inr stopped);
   }

@@ -29,7 +29,7 @@ use Rattle.stair_member.proofs.CountingLemmas.{has_or_not}
 use Rattle.stair_session.specs.Courses.{Fenced, LeavesOut, NoneWas, Point, point}
 use Rattle.stair_session.specs.Session.{IsLiveIn}
 use Rattle.stair_session.proofs.EstablishingLemmas.{issuing_attaches}
-use Rattle.stair_session.proofs.LeftOutLemmas.{here_before, start_geometry}
+use Rattle.stair_session.proofs.LeftOutLemmas.{here_before, none_leave, start_geometry}
 use Rattle.stair_array.specs.Causes.{WasGoneTo}
 use Rattle.stair_array.specs.Draws.{weight, weights}
 use Rattle.stair_array.proofs.GoneToLemmas.{IsAfter, after_join, after_none, attaches_none, gone_to_by, gone_to_earlier, gone_to_wider}
@@ -363,22 +363,11 @@ first_part m last answer old new e rules =
     fence_part no_slots m last answer old old new e rules (after_none old) (λ j has. absurd (no_slot j has)) (λ j has. absurd (no_slot j has)) 1
     (omega arith)
 
--- none leaves
-pub leaves_none : (m : Membership) → Leaves no_slots m m
-leaves_none m = record {
-  array = refl;
-  drawn = refl;
-  size = refl;
-  places = refl;
-  left = λ j has. absurd (no_slot j has);
-  others = λ j out. refl;
-}
-
 -- A frozen mark and a label are an epoch's own.
 pub stamp_part : (frozen : Bool) (label : List ℕ) (m last : Membership) (answer : Result Slots FenceFault) (old new : Telling)
     → Stamps frozen label m last answer old new → IsMembership m → IsPart 1 (point m old) (point last new)
 stamp_part frozen label m last answer old new e rules =
-    epoch_part (Stamp frozen label) (λ j w. refl) refl no_slots m m last (leaves_none m) (refusal_of answer) old old new e.establishes rules
+    epoch_part (Stamp frozen label) (λ j w. refl) refl no_slots m m last (none_leave m) (refusal_of answer) old old new e.establishes rules
     (after_none old) (λ j has. absurd (no_slot j has)) (λ j has. absurd (no_slot j has)) 1 (omega arith)
 
 -- SLOTS THAT ARE LEFT OUT

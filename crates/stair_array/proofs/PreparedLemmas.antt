@@ -1,57 +1,42 @@
--- A slot that is prepared for its admission, where no medium comes back: the calls are beside the array, and at their end it is ready
--- for the epoch.
-use Rattle.std.proofs.Common.{◌≡◌, ◌≢◌, ℕ, ◌<◌, ◌≤◌, List, inl, inr, refl, sym, ap, ◌∙◌, subst, arith, true≢false, None, Some, Option}
-use Rattle.std.specs.Prelude.{◌⊎◌, Err, IsTrue, Result, max}
-use Rattle.std.proofs.lemmas.Bool.{cases_eq}
+-- A slot that is prepared for its admission: the calls are beside the array, and it was looked at by them.
+use Rattle.std.proofs.Common.{◌≡◌, ℕ, ◌<◌, ◌≤◌, List, inl, inr, refl, sym, ap, ◌∙◌, subst, arith, true≢false, None, Some, Option}
+use Rattle.std.specs.Prelude.{Err, IsTrue, Result}
 use Rattle.stair_model.specs.Device.{gate_sector}
 use Rattle.stair_model.specs.Geometry.{Geometry}
-use Rattle.stair_rack.specs.Answers.{Calls, IsBesideAttach, Ran, any_call, is_good}
+use Rattle.stair_rack.specs.Answers.{Calls, IsBesideAttach, Ran, is_good}
 use Rattle.stair_rack.specs.History.{Attach, Happening, Read, Sectors, SlotCall, Sync, Write, slot_state}
 use Rattle.stair_rack.specs.Moments.{AtSomeMoment}
-use Rattle.stair_rack.specs.Offline.{IsAttached, IsHeld}
+use Rattle.stair_rack.specs.Offline.{IsAttached}
 use Rattle.stair_rack.specs.Placed.{IsSlot, IsSyncOf, IsWriteOf, Placed}
 use Rattle.stair_rack.specs.Sector.{Cell, Damaged, Good, Torn, TornOverDamage, content}
-use Rattle.stair_rack.specs.Stretch.{NothingReturned}
 use Rattle.stair_rack.specs.Telling.{IsReading, Telling}
 use Rattle.stair_rack.specs.declared.rack.Reply.TheVariants as reply
-use Rattle.stair_rack.proofs.CallLemmas.{attach_done}
-use Rattle.stair_rack.proofs.MomentLemmas.{IsThis, at_some_wider, calls_ran, moment_between, ran_any, ran_join, ran_weakened}
-use Rattle.stair_rack.proofs.OfflineLemmas.{held_on, pulls_on}
-use Rattle.stair_rack.proofs.StretchLemmas.{each_after}
+use Rattle.stair_rack.proofs.MomentLemmas.{IsThis, calls_ran, ran_join, ran_weakened}
 use Rattle.stair_super.specs.Superblock.{Superblock, mark_in}
-use Rattle.stair_super.specs.declared.configuration.Configuration.{Configuration}
 use Rattle.stair_super.specs.declared.mark.Mark.TheVariants.{Down, Live, Rebuilding}
 use Rattle.stair_member.specs.Aims.{mark_for}
-use Rattle.stair_member.specs.Fencing.{MayJoin}
 use Rattle.stair_member.specs.Membership.{IsHere, Membership, why_of}
 use Rattle.stair_member.specs.Seeing.{Sees, draw_in}
 use Rattle.stair_member.specs.Superblocks.{HoldsSuper, HoldsThis}
-use Rattle.stair_member.specs.declared.aim.Aim.TheVariants.{Admit}
 use Rattle.stair_member.specs.declared.why.Why.TheVariants as why
 use Rattle.stair_member.proofs.SuperLemmas.{holds_once}
 use Rattle.stair_journal.specs.Gate.{closed_gate}
-use Rattle.stair_state.specs.Blocks.{Codewords}
 use Rattle.stair_state.specs.Recovering.{IsShut}
 use Rattle.stair_state.specs.Redoing.{AttachesNone, WritesNone}
 use Rattle.stair_session.specs.Chunks.{IsBesideChunks}
-use Rattle.stair_session.specs.Changing.{IsAttachedOrBare}
 use Rattle.stair_session.specs.Courses.{Point, point}
-use Rattle.stair_session.specs.InSession.{IsBehindPlaces, IsReadyFor}
+use Rattle.stair_session.specs.InSession.{IsBehindPlaces}
 use Rattle.stair_session.specs.Leading.{IsBesideArray}
 use Rattle.stair_session.specs.Rebuilding.{Rebuild}
 use Rattle.stair_session.specs.Session.{ArrayState, IsArray}
 use Rattle.stair_session.proofs.KnownLemmas.{attached_before}
-use Rattle.stair_session.proofs.OpenLaws.{in_session}
-use Rattle.stair_session.proofs.OwnLaws.{attached_or_bare}
-use Rattle.stair_session.proofs.ReadyLemmas.{laid, looked, ready_admit}
+use Rattle.stair_session.proofs.Mending.{IsLookedAt}
+use Rattle.stair_session.proofs.ReadyLemmas.{laid}
 use Rattle.stair_session.proofs.RebaseLemmas.{shut_now}
-use Rattle.stair_session.proofs.SawMoreLemmas.{saw_more}
 use Rattle.stair_array.specs.Mends.{IsPreparing, IsSecondLook, Looks, Prepared, PreparesSlot, WasGone, WasOther, WasSmall, new_journal}
 use Rattle.stair_array.specs.Machine.{Refusal}
-use Rattle.stair_array.proofs.BesideServingLemmas.{beside_serves}
 use Rattle.stair_array.proofs.NewJournalLemmas.{journal_gate, journal_is}
 use Rattle.stair_array.proofs.PreparedSlotLemmas.{IsReady}
-use Rattle.stair_array.proofs.ServingLemmas.{IsGoing, IsServing, going_sooner}
 
 -- THE CALLS
 
@@ -153,7 +138,7 @@ unprepared_member slot _ _ _ (Prepared first second mid x y z looks fit later pl
 -- READY for the admission
 
 -- a cell that was read, and so at the moment at which it was, holds no draw above this
-read_below : (slot k draw : ℕ) (old new : Telling) (cell : Cell) → IsReading slot k old new cell → IsTrue new.honest
+pub read_below : (slot k draw : ℕ) (old new : Telling) (cell : Cell) → IsReading slot k old new cell → IsTrue new.honest
     → ((s : Superblock) → HoldsSuper cell s → s.draw ≤ draw)
     → AtSomeMoment (λ h. (s : Superblock) → HoldsSuper (content ((slot_state h slot).sector k)) s → s.draw ≤ draw) old.history new.history
 read_below slot k draw old new (Good bytes) reading honest most =
@@ -171,129 +156,64 @@ read_below slot k draw old new Damaged reading honest most =
 read_below slot k draw old new Torn reading honest most = absurd reading
 read_below slot k draw old new TornOverDamage reading honest most = absurd reading
 
-held_below : (cell : Cell) (found : Option Superblock) → HoldsThis cell found → (s : Superblock) → HoldsSuper cell s → s.draw ≤ draw_in found
+pub held_below : (cell : Cell) (found : Option Superblock) → HoldsThis cell found → (s : Superblock) → HoldsSuper cell s → s.draw ≤ draw_in found
 held_below cell None none s holds = absurd (none s holds)
 held_below cell (Some t) is s holds =
     let same : s ≡ t = holds_once cell s t holds is in
     let at : s.draw ≡ t.draw = ap (λ (u : Superblock). u.draw) same in
     omega (arith, at)
 
-module _ (before : List Happening) (a : ArrayState) (words : Codewords) (slot : ℕ) (old : Telling) (z : Point)
-    (prep : IsReady slot (point a.member old) z) (honest : IsTrue z.told.honest) (is : IsServing before a words old.history)
-    (on : IsGoing before z.told.history) (below : slot < a.member.array.geometry.n) (down : mark_in a.member.array slot ≡ Down) where
-  -- the array, by what the look saw
-  abbrev pub saw : ArrayState
-  saw = record a { member = z.member }
-
-  pub looks_at : Sees slot prep.first prep.second a.member z.member
-  looks_at = subst (λ (m : Membership). Sees slot prep.first prep.second m z.member) prep.looks.member prep.sees
-
-  out : ¬ IsHere a.member slot
-  out = down_out a is.is_open.array slot down
-
+module _ (a : ArrayState) (array : IsArray a) (slot : ℕ) (old : Telling) (z : Point) (prep : IsReady slot (point a.member old) z)
+    (honest : IsTrue z.told.honest) (below : slot < a.member.array.geometry.n) (down : mark_in a.member.array slot ≡ Down) where
   honest_y : IsTrue prep.seen.told.honest
   honest_y = subst IsTrue (sym prep.later.honest) honest
 
-  first_ran : Ran (IsPreparing a.member.array.geometry slot) old.history prep.seen.told.history
-  first_ran = looks_ran a.member.array.geometry slot prep.mid (point a.member old) prep.seen prep.looks honest_y
+  honest_mid : IsTrue prep.mid.honest
+  honest_mid = subst IsTrue (sym prep.looks.later.honest) honest_y
 
   ran : Ran (IsPreparing a.member.array.geometry slot) old.history z.told.history
   ran =
-      ran_join {allowed = IsPreparing a.member.array.geometry slot} first_ran
+      ran_join {allowed = IsPreparing a.member.array.geometry slot}
+      (looks_ran a.member.array.geometry slot prep.mid (point a.member old) prep.seen prep.looks honest_y)
       (laid_ran a.member.array.geometry slot prep.seen.told.history z.told.history (prep.placed honest))
 
-  going_old : IsGoing before old.history
-  going_old = going_sooner before old.history z.told.history is.is_open.ran (ran_any {allowed = IsPreparing a.member.array.geometry slot} ran) on
-
-  -- by it the array serves at first,
-  saw_first : IsServing before saw words old.history
-  saw_first =
-      let both = saw_more before a slot prep.first prep.second z.member words old.history is.is_open looks_at prep.rules out is.begun in
-      record { is_open = both.0; begun = both.1 }
-
-  saw_geometry : z.member.array.geometry ≡ a.member.array.geometry
-  saw_geometry = ap (λ (c : Configuration). c.geometry) looks_at.array
-
-  saw_below : slot < z.member.array.geometry.n
-  saw_below = subst (λ (g : Geometry). slot < g.n) (sym saw_geometry) below
-
-  saw_out : ¬ IsHere z.member slot
-  saw_out = down_out saw saw_first.is_open.array slot (ap (λ (c : Configuration). mark_in c slot) looks_at.array ∙ down)
-
-  -- and in the end
-  pub prepared_serves : IsServing before saw words z.told.history
-  prepared_serves =
-      beside_serves before saw words old.history z.told.history saw_first
-      (ran_weakened {allowed = IsPreparing a.member.array.geometry slot} {more = IsBesideArray saw}
-      (λ j c may.
-      preparing_beside saw saw_first.is_open.array slot saw_out j c
-      (subst (λ (g : Geometry). IsPreparing g slot j c) (sym saw_geometry) may)) ran) on
-
-  none_since : NothingReturned old.history z.told.history
-  none_since = each_after on.none (moment_between {a = any_call} {b = IsPreparing a.member.array.geometry slot} is.is_open.ran ran)
-
-  most : (k : ℕ) → k < 2 → (s : Superblock) → HoldsSuper (prep.fit.cell k) s → s.draw ≤ z.member.drawn
-  most k small s holds = by (cases_eq k 0)
-    where
-      drawn : z.member.drawn ≡ max (max a.member.drawn (draw_in prep.first)) (draw_in prep.second)
-      drawn = looks_at.drawn
-
-      by : (k ≡ 0) ⊎ (k ≢ 0) → s.draw ≤ z.member.drawn
-      by (inl zero) =
-          let least = held_below (prep.fit.cell 0) prep.first prep.fit.in_first s (subst (λ (i : ℕ). HoldsSuper (prep.fit.cell i) s) zero holds) in
-          omega (arith, least, drawn)
-      by (inr other) =
-          let one : k ≡ 1 = omega (arith, small, other) in
-          let least = held_below (prep.fit.cell 1) prep.second prep.fit.in_second s (subst (λ (i : ℕ). HoldsSuper (prep.fit.cell i) s) one holds) in
-          omega (arith, least, drawn)
-
-  joins : MayJoin (Some slot) z.member z.told.history
-  joins =
-      looked z.member slot old.history z.told.history saw_first.begun saw_below saw_out
-      (ran_weakened {allowed = IsPreparing a.member.array.geometry slot} {more = IsBehindPlaces} behind ran) none_since
-      (λ k small.
-      at_some_wider {a = any_call} {b = any_call}
-      {P = λ h. (s : Superblock) → HoldsSuper (content ((slot_state h slot).sector k)) s → s.draw ≤ z.member.drawn}
-      (ran_any {allowed = IsPreparing a.member.array.geometry slot}
-      (attaching a.member.array.geometry slot old.history prep.mid.history (prep.looks.attached (subst IsTrue (sym prep.looks.later.honest) honest_y))))
-      (prep.later.ran honest)
-      (read_below slot k z.member.drawn prep.mid prep.seen.told (prep.fit.cell k) (prep.fit.reading k small) honest_y (most k small)))
-    where
-      behind : (j : ℕ) (c : SlotCall) → IsPreparing a.member.array.geometry slot j c → IsBehindPlaces j c
-      behind j c may = (preparing_beside a is.is_open.array slot out j c may).session.epochs.behind
-
-  -- since its attach the session holds the slot
-  pub prepared_held : IsHeld before z.told.history slot
-  prepared_held =
-      held_on {allowed = any_call} {before = before} slot
-      (ran_join {allowed = any_call} (prep.looks.later.ran honest_y) (prep.later.ran honest))
-      (attach_done old.history prep.mid.history slot before (pulls_on {allowed = any_call} slot is.is_open.ran)
-      (prep.looks.attached (subst IsTrue (sym prep.looks.later.honest) honest_y)))
-
-  own : IsAttachedOrBare z.told.history slot
-  own =
-      elim
-      (attached_or_bare before z.told.history slot
-      (ran_join {allowed = any_call} is.is_open.ran (ran_any {allowed = IsPreparing a.member.array.geometry slot} ran)) on.none prepared_held) [
-        | inl stops ↦ absurd (on.going stops)
-        | inr so ↦ so
-      ]
-
-  shut : IsAttached z.told.history slot → IsShut z.member.array.geometry z.told.history z.told.history slot
-  shut attached =
-      let there =
-      attached_before {some = IsSlot slot} slot refl
-      (ran_join {allowed = AttachesNone (IsSlot slot)}
+  -- what lays the journal out attaches nothing
+  laid_apart : Ran (AttachesNone (IsSlot slot)) prep.seen.told.history z.told.history
+  laid_apart =
+      ran_join {allowed = AttachesNone (IsSlot slot)}
       (ran_weakened {allowed = IsWriteOf (new_journal a.member.array.geometry) (IsSlot slot)} {more = AttachesNone (IsSlot slot)}
       (λ j c may at. subst IsBesideAttach (sym may.is) tt) (prep.placed honest).writes)
       (ran_weakened {allowed = IsSyncOf (IsSlot slot)} {more = AttachesNone (IsSlot slot)}
-      (λ j c may at. subst IsBesideAttach (sym may.is) tt) (prep.placed honest).syncs)) attached in
-      shut_now z.member.array.geometry slot prep.seen.told.history z.told.history there.1
-      (laid z.member.array.geometry slot prep.seen.told.history z.told.history
+      (λ j c may at. subst IsBesideAttach (sym may.is) tt) (prep.placed honest).syncs)
+
+  shut : IsAttached z.told.history slot → IsShut a.member.array.geometry z.told.history z.told.history slot
+  shut attached =
+      let there = attached_before {some = IsSlot slot} slot refl laid_apart attached in
+      shut_now a.member.array.geometry slot prep.seen.told.history z.told.history there.1
+      (laid a.member.array.geometry slot prep.seen.told.history z.told.history
       ((prep.placed honest).done slot gate_sector closed_gate refl (λ never. never) (journal_gate a.member.array.geometry slot)))
 
-  -- So it is ready for the epoch that admits it.
-  pub prepared_ready : IsReadyFor (Admit slot) z.member words z.told.history
-  prepared_ready =
-      ready_admit z.member slot words z.told.history
-      (in_session before saw words z.told.history prepared_serves.is_open on.none on.going prepared_serves.begun) saw_below saw_out joins own shut
+  -- So it was looked at, as its admission wants it.
+  pub prepared_looked : IsLookedAt a slot z.member old.history z.told.history
+  prepared_looked = record {
+    below = below;
+    down = down;
+    ran =
+        ran_weakened {allowed = IsPreparing a.member.array.geometry slot} {more = IsBesideArray a}
+        (preparing_beside a array slot (down_out a array slot down)) ran;
+    start = prep.mid;
+    end = prep.seen.told;
+    attached = prep.looks.attached honest_mid;
+    honest = honest_y;
+    later = laid_apart;
+    none = ran_weakened {allowed = IsSecondLook slot} {more = AttachesNone (IsSlot slot)} (λ j c is at. is.1) (prep.looks.ran honest_y);
+    cell = prep.fit.cell;
+    reading = prep.fit.reading;
+    first = prep.first;
+    second = prep.second;
+    in_first = prep.fit.in_first;
+    in_second = prep.fit.in_second;
+    sees = subst (λ (m : Membership). Sees slot prep.first prep.second m z.member) prep.looks.member prep.sees;
+    rules = prep.rules;
+    shut = shut;
+  }

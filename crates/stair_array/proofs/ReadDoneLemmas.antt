@@ -1,9 +1,10 @@
--- A read of a block keeps what is promised of a step, where no medium comes back: it is done where it can be.
+-- A read of a block keeps what is promised of a step, whether media come back or not: it is done where it can be.
 use Rattle.std.proofs.Common.{◌≡◌, ℕ, ◌<◌, ◌≤◌, List, refl, sym, ap, ◌∙◌, subst, arith, None, Some, Option}
 use Rattle.std.specs.Prelude.{IsOk, IsTrue, Result, Err}
 use Rattle.stair_model.specs.Coverage.{IsCovered}
 use Rattle.stair_model.specs.Geometry.{Geometry, block_count}
 use Rattle.stair_model.specs.Stripe.{Stripe}
+use Rattle.stair_rack.specs.Answers.{IsHistory}
 use Rattle.stair_rack.specs.History.{Happening}
 use Rattle.stair_rack.specs.declared.watcher.Event.{Event}
 use Rattle.stair_member.specs.Membership.{Membership}
@@ -13,42 +14,42 @@ use Rattle.stair_stripes.specs.declared.gathering.Gathered.{Gathered}
 use Rattle.stair_state.specs.Blocks.{Codewords}
 use Rattle.stair_state.specs.State.{Content, State}
 use Rattle.stair_session.specs.Courses.{Point, point}
-use Rattle.stair_session.specs.InSession.{IsOfContent}
 use Rattle.stair_session.specs.Rebuilding.{Rebuild}
-use Rattle.stair_session.specs.Returning.{IsCalm, NoneReturns}
+use Rattle.stair_session.specs.Returning.{IsCalm, Returning}
+use Rattle.stair_session.proofs.Serving.{IsServing, LeadsReads, IsCalmTo}
 use Rattle.stair_array.specs.Calls.{IsInPlace, IsLoaded, LoadsStripe, Reads, refused}
 use Rattle.stair_array.specs.Machine.{Answer, ReadBlock, Refusal}
 use Rattle.stair_array.specs.Promise.{CanBeDone, IsInState, LeadsStep, Performs, Seen, is_open}
 use Rattle.stair_array.proofs.CoveredLemmas.{covered, never_too_few}
 use Rattle.stair_array.proofs.DrawsLemmas.{done_with_room}
-use Rattle.stair_array.proofs.OpenStepLemmas.{calm_for}
-use Rattle.stair_array.proofs.ReadPartLemmas.{Calm, HasAsked, HasLoaded, array_here, has_asked, placed_in, whole_loaded}
-use Rattle.stair_array.proofs.ReadStepLemmas.{begins, cuts, leads, of_kept, serves}
-use Rattle.stair_array.proofs.ServingLemmas.{IsServing}
+use Rattle.stair_array.proofs.ReadPartLemmas.{HasAsked, HasLoaded, array_with, has_asked, placed_in, whole_loaded}
+use Rattle.stair_array.proofs.ReadStepLemmas.{begins, calm_begun, cuts, leads, serves}
 
 -- NOTHING IS REFUSED but an epoch of which no number is left to draw
 
-module _ (before : List Happening) (rebuild : Option Rebuild) (stopped : Option FenceFault) (words : Codewords) (kept : Content) (x : Point)
-    (of : IsOfContent x.member words kept) (is : IsServing before (array_here before rebuild stopped words kept x of) words x.told.history) where
+module _ (returning : Returning) (laws : LeadsReads returning) (before : List Happening) (rebuild : Option Rebuild) (stopped : Option FenceFault)
+    (words : Codewords) (kept : Content) (x : Point)
+    (is : IsServing returning before (array_with rebuild stopped x) words kept x.told.history) where
   pub load_refused : (t : ℕ) {wanted : ℕ → ℕ → Type 0} (gathered : Gathered) (read : Stripe) (fault : FenceFault) (z : Point)
-      → HasLoaded t wanted gathered read (Some fault) x z → IsTrue z.told.honest → Calm before rebuild stopped words kept x of z.told.history
+      → HasLoaded t wanted gathered read (Some fault) x z → IsTrue z.told.honest → IsCalmTo returning x.member.array.geometry before z.told.history
       → refused fault ≡ refused fence.EpochsSpent
   load_refused t gathered read fault z l honest calm = by fault refl
     where
       by : (given : FenceFault) → fault ≡ given → refused fault ≡ refused fence.EpochsSpent
       by (fence.TooFew whys) few =
           absurd
-          (never_too_few before rebuild stopped words kept x of is t gathered read (Some fault) z l honest calm whys (ap (λ (f : FenceFault). Some f) few))
+          (never_too_few returning laws before rebuild stopped words kept x is t gathered read (Some fault) z l honest calm whys
+          (ap (λ (f : FenceFault). Some f) few))
       by fence.EpochsSpent spent = ap refused spent
 
   pub stripe_refused : (t : ℕ) (into : Stripe) (y : Point) → HasAsked x y → t < x.member.array.geometry.stripes → (answer : Result (Unit {0}) Refusal)
-      (u z : Point) → LoadsStripe t into answer u z → u ≡ y → IsTrue z.told.honest → Calm before rebuild stopped words kept x of z.told.history
+      (u z : Point) → LoadsStripe t into answer u z → u ≡ y → IsTrue z.told.honest → IsCalmTo returning x.member.array.geometry before z.told.history
       → (refusal : Refusal) → answer ≡ Err refusal → refusal ≡ refused fence.EpochsSpent
   stripe_refused t into y asked stripe _ _ _ (LoadsStripe.Loaded was read gathered answer u z loads loaded) at honest calm refusal same =
       let now = subst (HasAsked x) (sym at) asked in
       let l = whole_loaded t gathered was read None x u z now loads in
       let all : IsCovered x.member.array.geometry gathered.erased =
-      covered before rebuild stopped words kept x of is t gathered read None z l honest calm stripe in
+      covered returning laws before rebuild stopped words kept x is t gathered read None z l honest calm stripe in
       let lost : IsLoaded u.member.array.geometry t gathered.erased read into (Err refusal) =
       subst (IsLoaded u.member.array.geometry t gathered.erased read into) same loaded in
       absurd (lost.0 (subst (λ (m : Membership). IsCovered m.array.geometry gathered.erased) (sym now.member) all))
@@ -58,7 +59,7 @@ module _ (before : List Happening) (rebuild : Option Rebuild) (stopped : Option 
       ∙ load_refused t gathered read fault z (whole_loaded t gathered was read (Some fault) x u z (subst (HasAsked x) (sym at) asked) loads) honest calm
 
   pub only_spent : (b : ℕ) (answer : Result (List ℕ) Refusal) (v z : Point) → Reads b answer v z → v ≡ x → IsTrue z.told.honest
-      → Calm before rebuild stopped words kept x of z.told.history → b < block_count x.member.array.geometry → (refusal : Refusal)
+      → IsCalmTo returning x.member.array.geometry before z.told.history → b < block_count x.member.array.geometry → (refusal : Refusal)
       → answer ≡ Err refusal → refusal ≡ refused fence.EpochsSpent
   only_spent b _ _ _ (Reads.OutOf v past) at honest calm inside refusal same =
       let out : block_count x.member.array.geometry ≤ b = subst (λ (p : Point). block_count p.member.array.geometry ≤ b) at past in
@@ -73,28 +74,33 @@ module _ (before : List Happening) (rebuild : Option Rebuild) (stopped : Option 
 
 -- THE STEP
 
-module _ (b : ℕ) (answer : Answer (ReadBlock b)) (events : List Event) (x y : Seen) (p : Performs (ReadBlock b) answer events x y)
-    (honest : IsTrue y.told.honest) (before : List Happening) (s : State) (state : IsInState NoneReturns before s x)
-    (calm : IsCalm NoneReturns s.geometry (is_open x.session) before y.told.history) where
+module _ (returning : Returning) (laws : LeadsReads returning) (b : ℕ) (answer : Answer (ReadBlock b)) (events : List Event) (x y : Seen)
+    (p : Performs (ReadBlock b) answer events x y)
+    (honest : IsTrue y.told.honest) (before : List Happening) (s : State) (history : IsHistory x.told.history) (state : IsInState returning before s x)
+    (calm : IsCalm returning s.geometry (is_open x.session) before y.told.history) where
   pub none_refused : b < block_count s.geometry → (refusal : Refusal) → answer ≡ Err refusal → refusal ≡ refused fence.EpochsSpent
   none_refused below refusal same =
-      only_spent before p.was.rebuild p.was.stopped (begins b answer events x y p honest before s state).words s.content
-      (point p.was.member x.told) (of_kept b answer events x y p honest before s state) (serves b answer events x y p honest before s state) b answer
+      only_spent returning laws before p.was.rebuild p.was.stopped (begins returning laws b answer events x y p honest before s history state).words
+      s.content
+      (point p.was.member x.told) (serves returning laws b answer events x y p honest before s history state) b answer
       (point p.was.member x.told) (point p.is.member y.told) p.does refl honest
-      (calm_for (begins b answer events x y p honest before s state) y.told.history calm)
-      (subst (λ (g : Geometry). b < block_count g) (sym (begins b answer events x y p honest before s state).geometry) below) refusal same
+      (calm_begun returning laws b answer events x y p honest before s history state y.told.history calm)
+      (subst (λ (g : Geometry). b < block_count g) (sym (begins returning laws b answer events x y p honest before s history state).geometry) below)
+      refusal same
 
   -- so it is done
   complete : CanBeDone (ReadBlock b) s p.was.member x.told.history y.told.history → IsOk answer
   complete can =
-      done_with_room (ReadBlock b) (λ j same. cc) answer events x y p (serves b answer events x y p honest before s state).is_open.array.member can.draws
-      (λ cause. cause.1) (none_refused (can.passes _ (begins b answer events x y p honest before s state).seats))
+      done_with_room (ReadBlock b) (λ j same. cc) answer events x y p (serves returning laws b answer events x y p honest before s history
+      state).is_open.array.member can.draws
+      (λ cause. cause.1) (none_refused (can.passes _ (begins returning laws b answer events x y p honest before s history state).seats))
 
 -- So it is what is promised of a step.
-pub promise : (b : ℕ) (answer : Answer (ReadBlock b)) (events : List Event) (x y : Seen) → (p : Performs (ReadBlock b) answer events x y)
-    → LeadsStep NoneReturns p.was.member (ReadBlock b) answer x y
-promise b answer events x y p = record {
-  leads = λ honest before s history state calm. leads b answer events x y p honest before s state calm;
-  cuts = λ honest before s history state c at calm. cuts b answer events x y p honest before s state c at calm;
-  complete = λ honest before s history state calm can. complete b answer events x y p honest before s state calm can;
+pub promise : (returning : Returning) → LeadsReads returning → (b : ℕ) (answer : Answer (ReadBlock b)) (events : List Event) (x y : Seen)
+    → (p : Performs (ReadBlock b) answer events x y)
+    → LeadsStep returning p.was.member (ReadBlock b) answer x y
+promise returning laws b answer events x y p = record {
+  leads = λ honest before s history state calm. leads returning laws b answer events x y p honest before s history state calm;
+  cuts = λ honest before s history state c at calm. cuts returning laws b answer events x y p honest before s history state c at calm;
+  complete = λ honest before s history state calm can. complete returning laws b answer events x y p honest before s history state calm can;
 }

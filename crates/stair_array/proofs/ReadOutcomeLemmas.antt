@@ -1,6 +1,6 @@
--- What a read of a block comes to, where no medium comes back.
+-- What a read of a block comes to, whether media come back or not.
 use Rattle.std.proofs.Common.{◌≡◌, ℕ, ◌<◌, List, refl, sym, ap, ◌∙◌, subst, Option}
-use Rattle.std.specs.Prelude.{IsTrue, Result, Ok, Err, ⊤}
+use Rattle.std.specs.Prelude.{IsTrue, Result, Ok, Err}
 use Rattle.stair_model.specs.Geometry.{block_count}
 use Rattle.stair_model.specs.Stripe.{Stripe, cell}
 use Rattle.stair_rack.specs.Answers.{any_call}
@@ -12,17 +12,19 @@ use Rattle.stair_state.specs.Blocks.{Codewords}
 use Rattle.stair_state.specs.State.{Content}
 use Rattle.stair_state.proofs.BlockLemmas as blocks
 use Rattle.stair_session.specs.Courses.{Point}
-use Rattle.stair_session.specs.InSession.{IsOfContent}
 use Rattle.stair_session.specs.Rebuilding.{Rebuild}
+use Rattle.stair_session.specs.Returning.{Returning}
+use Rattle.stair_session.proofs.Serving.{any_read, LeadsReads, IsCalmTo}
+use Rattle.stair_session.proofs.Mending.{calm_going}
 use Rattle.stair_array.specs.Calls.{Reads, refused}
 use Rattle.stair_array.specs.Machine.{IsFinal, Refusal}
 use Rattle.stair_array.proofs.KeptStepLemmas.{Gives, Lacks, Outcome, Stops}
-use Rattle.stair_array.proofs.LeftServingLemmas.{reading_stands, serving_stands}
-use Rattle.stair_array.proofs.LoadingLemmas.{CalmIn, Comes, Serves, refused_stands, same_serves, same_stays, stripe_comes, stripe_moments}
+use Rattle.stair_array.proofs.LeftServingLemmas.{reading_stands, serving_stands, StandsAt}
+use Rattle.stair_array.proofs.LoadingLemmas.{Comes, Serves, refused_stands, same_serves, same_stays, stripe_comes, stripe_moments}
 use Rattle.stair_array.proofs.PartsLemmas.{part_join}
 use Rattle.stair_array.proofs.ReadCourseLemmas.{cannot_part, loaded_part}
-use Rattle.stair_array.proofs.ReadPartLemmas.{Stands, any_read, array_here, asked_of, has_asked, placed_in}
-use Rattle.stair_array.proofs.ServingLemmas.{calm_going, read_good, reads_serve}
+use Rattle.stair_array.proofs.ReadPartLemmas.{array_with, asked_of, has_asked, placed_in}
+use Rattle.stair_array.proofs.ServingLemmas.{read_good}
 
 -- what is asked of a block before it is read, and what is read of it
 abbrev pub IsInside : ℕ → Point → Type 0
@@ -31,94 +33,94 @@ IsInside b x = b < block_count x.member.array.geometry
 abbrev pub IsBlock : ℕ → Content → List ℕ → Type 0
 IsBlock b kept bytes = bytes ≡ kept.blocks b
 
-module _ (before : List Happening) (rebuild : Option Rebuild) (stopped : Option FenceFault) (words : Codewords) (kept : Content) where
+module _ (returning : Returning) (laws : LeadsReads returning) (before : List Happening) (rebuild : Option Rebuild) (stopped : Option FenceFault)
+    (words : Codewords) (kept : Content) where
   module _ (b : ℕ) where
-    abbrev pub ReadOutcome : (x : Point) → IsOfContent x.member words kept → Result (List ℕ) Refusal → Point → Type 0
-    ReadOutcome x of answer y = Outcome before rebuild stopped words kept x of (List ℕ) (IsInside b x) (IsBlock b kept) answer y
+    abbrev pub ReadOutcome : Point → Result (List ℕ) Refusal → Point → Type 0
+    ReadOutcome x answer y = Outcome returning before rebuild stopped words kept x (List ℕ) (IsInside b x) (IsBlock b kept) answer y
 
-    abbrev ServesAt : (x : Point) → IsOfContent x.member words kept → List Happening → Type 0
-    ServesAt x of h = Serves before rebuild stopped words kept x of h
+    abbrev ServesAt : Point → List Happening → Type 0
+    ServesAt x h = Serves returning before rebuild stopped words kept x h
 
-    abbrev CalmAt : (x : Point) → IsOfContent x.member words kept → List Happening → Type 0
-    CalmAt x of h = CalmIn before rebuild stopped words kept x of h
+    abbrev CalmAt : Point → List Happening → Type 0
+    CalmAt x h = IsCalmTo returning x.member.array.geometry before h
 
     -- by its stripe, which was loaded
-    module _ (x : Point) (of : IsOfContent x.member words kept) (inside : b < block_count x.member.array.geometry) (t : ℕ) (into : Stripe) (u : Point)
-        (honest : IsTrue u.told.honest) (calm : CalmAt x of u.told.history) where
+    module _ (x : Point) (inside : b < block_count x.member.array.geometry) (t : ℕ) (into : Stripe) (u : Point)
+        (honest : IsTrue u.told.honest) (calm : CalmAt x u.told.history) where
       abbrev Loading : Result (Unit {0}) Refusal → Point → Type 0
-      Loading = Comes before rebuild stopped words kept (into ≡ words t) x of
+      Loading = Comes returning before rebuild stopped words kept (into ≡ words t) x
 
       was_had : (bytes : List ℕ) → (into ≡ words t → bytes ≡ kept.blocks b) → (answer : Result (Unit {0}) Refusal) (z : Point) → Loading answer z
-          → answer ≡ Ok tt → ReadOutcome x of (Ok bytes) z
+          → answer ≡ Ok tt → ReadOutcome x (Ok bytes) z
       was_had bytes right _ _ (Comes.Has z serves stays live same) fine = Gives bytes z serves stays inside (right same)
       was_had bytes right _ _ (Comes.Lacks refusal z serves stays not_final) fine = absurd (cc)
       was_had bytes right _ _ (Comes.Stops fault z at) fine = absurd (cc)
 
       was_refused : (refusal : Refusal) (answer : Result (Unit {0}) Refusal) (z : Point) → Loading answer z → z ≡ u → answer ≡ Err refusal
-          → ReadOutcome x of (Err refusal) z
+          → ReadOutcome x (Err refusal) z
       was_refused refusal _ _ (Comes.Has z serves stays live same) ends fine = absurd (cc)
       was_refused refusal _ _ (Comes.Lacks other z serves stays not_final) ends fine =
           Lacks refusal z serves stays (λ final. not_final (subst IsFinal (let one : refusal ≡ other = cc in one) final))
       was_refused refusal _ _ (Comes.Stops fault z at) ends fine =
           let stands =
-          refused_stands before words kept x.member fault z of at (subst (λ (p : Point). IsTrue p.told.honest) (sym ends) honest)
-          (subst (λ (p : Point). CalmAt x of p.told.history) (sym ends) calm) in
-          subst (λ (r : Refusal). ReadOutcome x of (Err r) z) (let one : refused fault ≡ refusal = cc in one)
-          (Stops fault z stands.0 inside stands.1 stands.2)
+          refused_stands returning laws before words kept x.member fault z at (subst (λ (p : Point). IsTrue p.told.honest) (sym ends) honest)
+          (subst (λ (p : Point). CalmAt x p.told.history) (sym ends) calm) in
+          subst (λ (r : Refusal). ReadOutcome x (Err r) z) (let one : refused fault ≡ refusal = cc in one) (Stops fault z inside stands)
 
     -- ALL OF IT
 
-    pub moments : (answer : Result (List ℕ) Refusal) (x z : Point) → Reads b answer x z → (of : IsOfContent x.member words kept)
-        → ServesAt x of x.told.history → IsTrue z.told.honest
-        → AtEveryMoment (Stands before rebuild stopped words kept x of) x.told.history z.told.history
-    moments _ _ _ (Reads.OutOf x past) of is honest =
-        at_every_none {P = Stands before rebuild stopped words kept x of} x.told.history
-        (serving_stands before (array_here before rebuild stopped words kept x of) words kept of x.told.history (λ calm. is))
-    moments _ _ _ (Reads.Own t i j bytes x y place asks reading) of is honest =
-        reading_stands before (array_here before rebuild stopped words kept x of) words kept of (λ j. ⊤) (λ k. ⊤) x.told.history y.told.history is
+    pub moments : (answer : Result (List ℕ) Refusal) (x z : Point) → Reads b answer x z → ServesAt x x.told.history → IsTrue z.told.honest
+        → AtEveryMoment (StandsAt returning before x.member kept) x.told.history z.told.history
+    moments _ _ _ (Reads.OutOf x past) is honest =
+        at_every_none {P = StandsAt returning before x.member kept} x.told.history
+        (serving_stands returning laws before (array_with rebuild stopped x) words kept x.told.history (λ calm. is))
+    moments _ _ _ (Reads.Own t i j bytes x y place asks reading) is honest =
+        reading_stands returning laws before (array_with rebuild stopped x) words kept x.told.history y.told.history is
         ((asked_of t i j x y asks).ran honest)
-    moments _ _ _ (Reads.Restored t i j into x y z place cannot loads) of is honest =
-        stripe_moments before rebuild stopped words kept x of is t into y (has_asked t i j x y cannot) (Ok tt) y z loads refl honest
-    moments _ _ _ (Reads.Refused t i j into refusal x y z place cannot loads) of is honest =
-        stripe_moments before rebuild stopped words kept x of is t into y (has_asked t i j x y cannot) (Err refusal) y z loads refl honest
+    moments _ _ _ (Reads.Restored t i j into x y z place cannot loads) is honest =
+        stripe_moments returning laws before rebuild stopped words kept x is t into y (has_asked t i j x y cannot) (Ok tt) y z loads refl honest
+    moments _ _ _ (Reads.Refused t i j into refusal x y z place cannot loads) is honest =
+        stripe_moments returning laws before rebuild stopped words kept x is t into y (has_asked t i j x y cannot) (Err refusal) y z loads refl honest
 
-    pub outcome : (answer : Result (List ℕ) Refusal) (x z : Point) → Reads b answer x z → (of : IsOfContent x.member words kept)
-        → ServesAt x of x.told.history → IsTrue z.told.honest → CalmAt x of z.told.history → ReadOutcome x of answer z
-    outcome _ _ _ (Reads.OutOf x past) of is honest calm =
+    pub outcome : (answer : Result (List ℕ) Refusal) (x z : Point) → Reads b answer x z → ServesAt x x.told.history → IsTrue z.told.honest
+        → CalmAt x z.told.history → ReadOutcome x answer z
+    outcome _ _ _ (Reads.OutOf x past) is honest calm =
         Lacks _ x
-        (same_serves before rebuild stopped words kept x x of refl honest is
-        (calm_going x.member.array.geometry before x.told.history is.is_open.ran calm))
-        (same_stays before rebuild stopped words kept x x of refl is) (λ final. absurd final)
-    outcome _ _ _ (Reads.Own t i j bytes x y place asks reading) of is honest calm =
+        (same_serves returning laws before rebuild stopped words kept x x refl honest is
+        (calm_going returning x.member.array.geometry before x.told.history is.is_open.ran calm))
+        (same_stays returning laws before rebuild stopped words kept x x refl is) (λ final. absurd final)
+    outcome _ _ _ (Reads.Own t i j bytes x y place asks reading) is honest calm =
         let asked = asked_of t i j x y asks in
         let limits = is.is_open.array.member.array.limits in
         let stripe = placed_in x.member.array.geometry b t i j limits place.below place.place in
         let on =
-        calm_going x.member.array.geometry before y.told.history
+        calm_going returning x.member.array.geometry before y.told.history
         (ran_join {allowed = any_call} is.is_open.ran (ran_any {allowed = any_read} (asked.ran honest))) calm in
         Gives bytes y
-        (same_serves before rebuild stopped words kept x y of asked.member honest
-        (reads_serve before (array_here before rebuild stopped words kept x of) words (λ j. ⊤) (λ k. ⊤) x.told.history y.told.history is (asked.ran honest) on)
-        on) (same_stays before rebuild stopped words kept x y of asked.member is) place.below
-        (read_good before (array_here before rebuild stopped words kept x of) words (λ j. ⊤) (λ k. ⊤) x.told.history y.told.history is (asked.ran honest) on
+        (same_serves returning laws before rebuild stopped words kept x y asked.member honest
+        (laws.reads before (array_with rebuild stopped x) words kept x.told.history y.told.history is (asked.ran honest) on)
+        on) (same_stays returning laws before rebuild stopped words kept x y asked.member is) place.below
+        (read_good returning laws before (array_with rebuild stopped x) words kept x.told.history y.told.history is (asked.ran honest) on
         t i j asks.live stripe place.place.row_in bytes (reading honest)
-        ∙ blocks.at x.member.array.geometry kept.blocks words b t i j limits of.encodings place.below place.place)
-    outcome _ _ _ (Reads.Restored t i j into x y z place cannot loads) of is honest calm =
+        ∙ blocks.at x.member.array.geometry kept.blocks words b t i j limits is.of.encodings place.below place.place)
+    outcome _ _ _ (Reads.Restored t i j into x y z place cannot loads) is honest calm =
         let limits = is.is_open.array.member.array.limits in
         let stripe = placed_in x.member.array.geometry b t i j limits place.below place.place in
         let first = cannot_part t i j x y cannot is.is_open.array.member in
         let ran = (part_join 0 0 x y z first (loaded_part t into (Ok tt) y z loads first.rules)).after.later.ran honest in
-        was_had x of place.below t into z honest calm (cell into i j)
+        was_had x place.below t into z honest calm (cell into i j)
         (λ same.
         ap (λ (s : Stripe). cell s i j) same
-        ∙ blocks.at x.member.array.geometry kept.blocks words b t i j limits of.encodings place.below place.place) (Ok tt) z
-        (stripe_comes before rebuild stopped words kept x of is t into y (has_asked t i j x y cannot) stripe (Ok tt) y z loads refl honest
-        (calm_going x.member.array.geometry before z.told.history (ran_join {allowed = any_call} is.is_open.ran ran) calm)) refl
-    outcome _ _ _ (Reads.Refused t i j into refusal x y z place cannot loads) of is honest calm =
+        ∙ blocks.at x.member.array.geometry kept.blocks words b t i j limits is.of.encodings place.below place.place) (Ok tt) z
+        (stripe_comes returning laws before rebuild stopped words kept x is t into y (has_asked t i j x y cannot) stripe (Ok tt) y z loads refl honest
+        (calm_going returning x.member.array.geometry before z.told.history (ran_join {allowed = any_call} is.is_open.ran ran) calm)) refl
+    outcome _ _ _ (Reads.Refused t i j into refusal x y z place cannot loads) is honest calm =
         let limits = is.is_open.array.member.array.limits in
         let stripe = placed_in x.member.array.geometry b t i j limits place.below place.place in
         let first = cannot_part t i j x y cannot is.is_open.array.member in
         let ran = (part_join 0 0 x y z first (loaded_part t into (Err refusal) y z loads first.rules)).after.later.ran honest in
-        was_refused x of place.below t into z honest calm refusal (Err refusal) z
-        (stripe_comes before rebuild stopped words kept x of is t into y (has_asked t i j x y cannot) stripe (Err refusal) y z loads refl honest
-        (calm_going x.member.array.geometry before z.told.history (ran_join {allowed = any_call} is.is_open.ran ran) calm)) refl refl
+        was_refused x place.below t into z honest calm refusal (Err refusal) z
+        (stripe_comes returning laws before rebuild stopped words kept x is t into y (has_asked t i j x y cannot) stripe
+        (Err refusal) y z loads refl honest
+        (calm_going returning x.member.array.geometry before z.told.history (ran_join {allowed = any_call} is.is_open.ran ran) calm)) refl refl

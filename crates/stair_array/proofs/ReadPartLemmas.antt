@@ -1,6 +1,6 @@
 -- What a read of a block did: cells were read, and slots that were gone are left out.
 use Rattle.std.proofs.Common.{◌≡◌, ℕ, ◌<◌, List, inl, inr, refl, sym, ap, subst, arith, Option}
-use Rattle.std.specs.Prelude.{◌⊎◌, IsTrue, Ok, ⊤}
+use Rattle.std.specs.Prelude.{◌⊎◌, IsTrue, Ok}
 use Rattle.std.proofs.lemmas.Nat.{div_below}
 use Rattle.stair_model.specs.Cell.{IsPlaceOf}
 use Rattle.stair_model.specs.CellSet.{HasCell}
@@ -26,16 +26,18 @@ use Rattle.stair_stripes.specs.declared.gathering.Gathered.{Gathered}
 use Rattle.stair_state.specs.Blocks.{Codewords}
 use Rattle.stair_state.specs.State.{Content}
 use Rattle.stair_session.specs.Courses.{AreLive, LeavesOut, Loads, Point, point}
-use Rattle.stair_session.specs.InSession.{IsOfContent}
 use Rattle.stair_session.specs.Opening.{StaysArray}
 use Rattle.stair_session.specs.Rebuilding.{Rebuild}
+use Rattle.stair_session.specs.Returning.{Returning}
 use Rattle.stair_session.specs.Session.{ArrayState, IsLiveIn}
 use Rattle.stair_session.proofs.HonestLemmas.{left_honest}
 use Rattle.stair_session.proofs.RedoingLemmas.{out_ran}
+use Rattle.stair_session.proofs.Serving.{IsCalmTo, IsGoing, IsServing, calm_sooner, any_read, LeadsReads}
 use Rattle.stair_session.proofs.StaysArrayLemmas.{left_stays}
+use Rattle.stair_session.proofs.Mending.{calm_going}
 use Rattle.stair_array.specs.Calls.{AsksFor, CannotHave, IsLoaded, NotLive, WasBad, WasGone}
 use Rattle.stair_array.proofs.LeftServingLemmas.{StandsAt, leaving_stands, reading_stands}
-use Rattle.stair_array.proofs.ServingLemmas.{IsCalmTo, IsGoing, IsServing, calm_going, calm_sooner, going_sooner, read_good, reads_serve}
+use Rattle.stair_array.proofs.ServingLemmas.{going_sooner, read_good}
 
 -- a block that is in range lies in a stripe of the array
 pub placed_in : (g : Geometry) (b t i j : ℕ) → IsWithinLimits g → b < block_count g → IsPlaceOf g b t i j → t < g.stripes
@@ -43,9 +45,6 @@ placed_in g b t i j limits b_in place =
     subst (λ (s : ℕ). s < g.stripes) (sym place.in_stripe) (div_below b (data_cells g) g.stripes limits.blocks (omega arith))
 
 -- READS, of whichever sectors
-
-abbrev pub any_read : ℕ → SlotCall → Type 0
-any_read = IsReadOf (λ j. ⊤) (λ k. ⊤)
 
 any_of : (slots sectors : ℕ → Type 0) {old new : List Happening} → Ran (IsReadOf slots sectors) old new → Ran any_read old new
 any_of slots sectors ran = ran_weakened {allowed = IsReadOf slots sectors} {more = any_read} is_one ran
@@ -139,18 +138,25 @@ none_asked x = record { member = refl; honest = refl; ran = λ honest. ran_none 
 
 -- AN ARRAY THAT SERVES at x
 
-module _ (before : List Happening) (rebuild : Option Rebuild) (stopped : Option FenceFault) (words : Codewords) (kept : Content) (x : Point)
-    (of : IsOfContent x.member words kept) where
-  abbrev pub array_here : ArrayState
-  array_here = record { member = x.member; rebuild = rebuild; stopped = stopped }
+-- an array with this member
+abbrev pub array_with : Option Rebuild → Option FenceFault → Point → ArrayState
+array_with rebuild stopped x = record { member = x.member; rebuild = rebuild; stopped = stopped }
 
-  abbrev pub Calm : List Happening → Type 0
-  Calm = IsCalmTo x.member.array.geometry before
+module _ (returning : Returning) (laws : LeadsReads returning) (before : List Happening) (rebuild : Option Rebuild) (stopped : Option FenceFault)
+    (words : Codewords) (kept : Content) (x : Point) where
+  abbrev Calm : List Happening → Type 0
+  Calm = IsCalmTo returning x.member.array.geometry before
 
-  abbrev pub Stands : List Happening → Type 0
-  Stands = StandsAt before array_here words kept of
+  abbrev Going : List Happening → Type 0
+  Going = IsGoing returning x.member.array.geometry before
 
-  module _ (is : IsServing before array_here words x.told.history) where
+  abbrev Stands : List Happening → Type 0
+  Stands = StandsAt returning before x.member kept
+
+  abbrev Serves : List Happening → Type 0
+  Serves = IsServing returning before (array_with rebuild stopped x) words kept
+
+  module _ (is : Serves x.told.history) where
     -- A STRIPE THAT WAS LOADED
 
     module _ (t : ℕ) {wanted : ℕ → ℕ → Type 0} (gathered : Gathered) (read : Stripe) (refusal : Option FenceFault) (z : Point)
@@ -181,7 +187,7 @@ module _ (before : List Happening) (rebuild : Option Rebuild) (stopped : Option 
 
       pub to_mid : (c : List Happening) → Ran any_call l.mid.history c → Calm c → Calm l.mid.history
       to_mid c ran calm =
-          calm_sooner x.member.array.geometry before l.mid.history c (moment_between {a = any_call} {b = any_call} upto_mid ran) calm
+          calm_sooner returning x.member.array.geometry before l.mid.history c (moment_between {a = any_call} {b = any_call} upto_mid ran) calm
 
       pub live_of : (j : ℕ) → HasSlot l.live j → IsLiveIn x.member j
       live_of j has = (l.are_live.are j).0 has
@@ -192,19 +198,20 @@ module _ (before : List Happening) (rebuild : Option Rebuild) (stopped : Option 
       pub gone_off : (j : ℕ) → HasSlot gathered.gone j → IsOfflineUntilAttached before l.mid.history j
       gone_off j has = (l.gathers.gone j has).shut honest_mid before (held_on {allowed = any_read} j ran_first (is.is_open.held j (gone_here j has)))
 
-      pub going_mid : IsGoing before z.told.history → IsGoing before l.mid.history
-      going_mid on = going_sooner before l.mid.history z.told.history upto_mid ran_leaving on
+      pub going_mid : Going z.told.history → Going l.mid.history
+      going_mid on = going_sooner returning x.member.array.geometry before l.mid.history z.told.history upto_mid ran_leaving on
 
-      pub calm_going_mid : Calm l.mid.history → IsGoing before l.mid.history
-      calm_going_mid calm = calm_going x.member.array.geometry before l.mid.history upto_mid calm
+      pub calm_going_mid : Calm l.mid.history → Going l.mid.history
+      calm_going_mid calm = calm_going returning x.member.array.geometry before l.mid.history upto_mid calm
 
-      pub serves_mid : IsGoing before l.mid.history → IsServing before array_here words l.mid.history
-      serves_mid on = reads_serve before array_here words (λ j. ⊤) (λ k. ⊤) x.told.history l.mid.history is ran_reading on
+      pub serves_mid : Going l.mid.history → Serves l.mid.history
+      serves_mid on = laws.reads before (array_with rebuild stopped x) words kept x.told.history l.mid.history is ran_reading on
 
-      pub serves_first : IsGoing before l.mid.history → IsServing before array_here words l.first.history
+      pub serves_first : Going l.mid.history → Serves l.first.history
       serves_first on =
-          reads_serve before array_here words (λ j. ⊤) (λ k. ⊤) x.told.history l.first.history is ran_first
-          (going_sooner before l.first.history l.mid.history (ran_join {allowed = any_call} is.is_open.ran (ran_any {allowed = any_read} ran_first))
+          laws.reads before (array_with rebuild stopped x) words kept x.told.history l.first.history is ran_first
+          (going_sooner returning x.member.array.geometry before l.first.history l.mid.history
+          (ran_join {allowed = any_call} is.is_open.ran (ran_any {allowed = any_read} ran_first))
           (ran_any {allowed = any_read} ran_gathering) on)
 
       pub stays_so : StaysArray x.member z.member
@@ -214,22 +221,23 @@ module _ (before : List Happening) (rebuild : Option Rebuild) (stopped : Option 
       pub loading_moments : AtEveryMoment Stands x.told.history z.told.history
       loading_moments =
           at_every_join {P = Stands}
-          (reading_stands before array_here words kept of (λ j. ⊤) (λ k. ⊤) x.told.history l.mid.history is ran_reading)
+          (reading_stands returning laws before (array_with rebuild stopped x) words kept x.told.history l.mid.history is ran_reading)
           (at_every_from {P = Stands} ran_leaving.more ran_leaving.is
           (λ c at calm.
           at_moment {P = Stands}
-          (leaving_stands before array_here words kept of gathered.gone refusal l.mid z l.leaves honest
+          (leaving_stands returning laws before (array_with rebuild stopped x) words kept gathered.gone refusal l.mid z l.leaves honest
           (serves_mid (calm_going_mid (to_mid c (ran_before {allowed = any_call} ran_leaving at) calm))) gone_here (λ j has live. gone_off j has)) at calm))
 
       -- each wanted cell that isn't erased was read as that of the stripe
-      pub read_same : IsGoing before l.mid.history → t < x.member.array.geometry.stripes → (i j : ℕ) → wanted i j → ¬ HasCell gathered.erased i j
+      pub read_same : Going l.mid.history → t < x.member.array.geometry.stripes → (i j : ℕ) → wanted i j → ¬ HasCell gathered.erased i j
           → cell (words t) i j ≡ cell read i j
       read_same on stripe i j is_wanted out =
           elim (has_or_not l.live j) [
             | inr off ↦ absurd (given.0 (inl off))
             | inl has ↦
                 sym
-                (read_good before array_here words (λ s. ⊤) (λ k. ⊤) l.first.history l.mid.history (serves_first on) ran_gathering on t i j
+                (read_good returning laws before (array_with rebuild stopped x) words kept l.first.history l.mid.history
+                (serves_first on) ran_gathering on t i j
                 (live_of j has) stripe (l.inside i j is_wanted).0 (cell read i j) (given.1 honest_mid))
           ]
         where
@@ -238,8 +246,8 @@ module _ (before : List Happening) (rebuild : Option Rebuild) (stopped : Option 
           given = l.gathers.given i j is_wanted out
 
       -- so that a whole stripe is restored as it is
-      pub restored : ((i j : ℕ) → IsCellOf x.member.array.geometry i j → wanted i j) → IsGoing before l.mid.history → t < x.member.array.geometry.stripes
+      pub restored : ((i j : ℕ) → IsCellOf x.member.array.geometry i j → wanted i j) → Going l.mid.history → t < x.member.array.geometry.stripes
           → (into : Stripe) → IsLoaded x.member.array.geometry t gathered.erased read into (Ok tt) → into ≡ words t
       restored whole on stripe into loaded =
-          let word = of.encodings.each t stripe in
+          let word = is.of.encodings.each t stripe in
           loaded.2 (words t) word.of word.formed word.codeword (λ i j row slot out. read_same on stripe i j (whole i j (row, slot)) out)

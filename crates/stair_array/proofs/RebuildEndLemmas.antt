@@ -1,4 +1,4 @@
--- How a step of a rebuild ends, where no medium comes back: a slot is dropped, or promoted; and which chunks a rebuild has come to.
+-- How a step of a rebuild ends, whether media come back or not: a slot is dropped, or promoted; and which chunks a rebuild has come to.
 use Rattle.std.proofs.Common.{List, None, Option, Some, ap, inl, inr, refl, subst, sym, ℕ, ◌<◌, ◌∙◌, ◌≡◌}
 use Rattle.std.specs.Prelude.{IsTrue, Result}
 use Rattle.stair_model.specs.Geometry.{Geometry}
@@ -22,163 +22,178 @@ use Rattle.stair_member.specs.declared.fault.FenceFault.TheVariants as fence
 use Rattle.stair_state.specs.Blocks.{Codewords}
 use Rattle.stair_state.specs.State.{Content}
 use Rattle.stair_session.specs.Courses.{Point, point}
-use Rattle.stair_session.specs.InSession.{IsOfContent}
 use Rattle.stair_session.specs.Opening.{StaysArray, opened_with}
 use Rattle.stair_session.specs.Rebuilding.{IsRebuiltTo, Rebuild}
+use Rattle.stair_session.specs.Returning.{Returning}
 use Rattle.stair_session.specs.Session.{ArrayState, IsRebuiltIn, seats_in}
 use Rattle.stair_session.proofs.OpenWithLemmas.{rebuilds_on}
 use Rattle.stair_session.proofs.RebuildingLemmas.{rebuilt_none}
+use Rattle.stair_session.proofs.Serving.{IsCalmTo, IsGoing, IsServing, LeadsReads}
+use Rattle.stair_session.proofs.Mending.{calm_going, LeadsBeside, LeadsPromotions}
 use Rattle.stair_array.specs.Calls.{answer_of}
 use Rattle.stair_array.specs.Causes.{IsNextChunk}
 use Rattle.stair_array.specs.Machine.{Dropped, Progress, Refusal}
 use Rattle.stair_array.specs.Mends.{Drops, Joined, Promotes, SyncsSlot, Unsynced}
-use Rattle.stair_array.proofs.ChunkServingLemmas.{sync_ready, sync_serves, sync_stands}
+use Rattle.stair_array.proofs.ChunkServingLemmas.{sync_serves, sync_stands, sync_whole}
 use Rattle.stair_array.proofs.DropServingLemmas.{drop_enough, drop_later, drop_refused, drop_serves, drop_stands, drop_stays, drop_why}
-use Rattle.stair_array.proofs.LedOnLemmas.{still_of}
 use Rattle.stair_array.proofs.LeftServingLemmas.{StandsAt}
 use Rattle.stair_array.proofs.PartsLemmas.{epoch_after, out_after}
 use Rattle.stair_array.proofs.PromoteServingLemmas.{none_rebuilt, promotion_ends, promotion_stands}
 use Rattle.stair_array.proofs.RebuildSeatLemmas.{Goes, MovesAt, Outcome, Spent, goes_by}
-use Rattle.stair_array.proofs.ServingLemmas.{IsCalmTo, IsGoing, IsServing, calm_going, going_sooner}
+use Rattle.stair_array.proofs.ServingLemmas.{going_sooner}
 
 -- the array serves without its rebuild too
-pub plain : (before : List Happening) (a : ArrayState) (words : Codewords) (h : List Happening) → IsServing before a words h
-    → IsServing before (opened_with a.member) words h
-plain before a words h is = record {
+pub plain : (returning : Returning) (before : List Happening) (a : ArrayState) (words : Codewords) (kept : Content) (h : List Happening)
+    → IsServing returning before a words kept h → IsServing returning before (opened_with a.member) words kept h
+plain returning before a words kept h is = record {
   is_open = rebuilds_on before a (opened_with a.member) words h is.is_open refl (λ rebuild never. absurd (cc));
-  begun = is.begun;
+  history = is.history;
+  of = is.of;
+  knows = is.knows;
 }
 
-pub stands_moved : (before : List Happening) (a : ArrayState) (words : Codewords) (kept : Content) (of : IsOfContent a.member words kept)
-    (old new : List Happening) → AtEveryMoment (StandsAt before a words kept of) old new → AtEveryMoment (MovesAt before kept a.member) old new
-stands_moved before a words kept of old new =
-    at_every_mapped {P = StandsAt before a words kept of} {Q = MovesAt before kept a.member}
+pub stands_moved : (returning : Returning) (before : List Happening) (m : Membership) (kept : Content) (old new : List Happening)
+    → AtEveryMoment (StandsAt returning before m kept) old new → AtEveryMoment (MovesAt returning before kept m) old new
+stands_moved returning before m kept old new =
+    at_every_mapped {P = StandsAt returning before m kept} {Q = MovesAt returning before kept m}
     (λ c stands calm image left. let is = stands calm image left in (is.array, is.stands, inl is.dropped))
 
 -- In turn: what is so at each moment of the one part, and of the other one where nothing has come back before it.
-pub moments_join : (before : List Happening) (kept : Content) (m : Membership) (old mid new : List Happening) → Ran any_call before mid
-    → AtEveryMoment (MovesAt before kept m) old mid → Ran any_call mid new
-    → (IsGoing before mid → AtEveryMoment (MovesAt before kept m) mid new) → AtEveryMoment (MovesAt before kept m) old new
-moments_join before kept m old mid new upto first later second =
-    at_every_join {P = MovesAt before kept m} first
-    (at_every_from {P = MovesAt before kept m} later.more later.is
+pub moments_join : (returning : Returning) (before : List Happening) (kept : Content) (m : Membership) (old mid new : List Happening)
+    → Ran any_call before mid
+    → AtEveryMoment (MovesAt returning before kept m) old mid → Ran any_call mid new
+    → (IsGoing returning m.array.geometry before mid → AtEveryMoment (MovesAt returning before kept m) mid new)
+    → AtEveryMoment (MovesAt returning before kept m) old new
+moments_join returning before kept m old mid new upto first later second =
+    at_every_join {P = MovesAt returning before kept m} first
+    (at_every_from {P = MovesAt returning before kept m} later.more later.is
     (λ c at calm.
     let so_far = ran_before {allowed = any_call} later at in
-    at_moment {P = MovesAt before kept m}
+    at_moment {P = MovesAt returning before kept m}
     (second
-    (going_sooner before mid c upto so_far
-    (calm_going m.array.geometry before c (ran_join {allowed = any_call} upto so_far) calm))) at calm))
+    (going_sooner returning m.array.geometry before mid c upto so_far
+    (calm_going returning m.array.geometry before c (ran_join {allowed = any_call} upto so_far) calm))) at calm))
 
 -- THE END of a step: a slot that is rebuilt is dropped, or promoted.
-module _ (before : List Happening) (was : ArrayState) (words : Codewords) (kept : Content) (m : Membership) (of : IsOfContent m words kept) (j : ℕ)
-    (rebuilt : IsRebuiltIn m j) (old : Telling) (is : IsServing before (opened_with m) words old.history) (z : Point) (honest : IsTrue z.told.honest) where
+module _ (returning : Returning) (laws : LeadsReads returning) (before : List Happening) (was : ArrayState) (words : Codewords) (kept : Content)
+    (m : Membership) (j : ℕ) (rebuilt : IsRebuiltIn m j) (old : Telling) (is : IsServing returning before (opened_with m) words kept old.history)
+    (z : Point)
+    (honest : IsTrue z.told.honest) where
   marked_so : mark_in m.array j ≡ mark.Rebuilding
   marked_so = is.is_open.array.marks j rebuilt.below ∙ ap mark_for rebuilt.why
 
   module _ (refusal : Option FenceFault) (drops : Drops j refusal (point m old) z) where
-    pub drop_moments : AtEveryMoment (MovesAt before kept m) old.history z.told.history
+    pub drop_moments : AtEveryMoment (MovesAt returning before kept m) old.history z.told.history
     drop_moments =
-        stands_moved before (opened_with m) words kept of old.history z.told.history
-        (drop_stands before m words kept of j rebuilt old is z honest refusal drops)
+        stands_moved returning before m kept old.history z.told.history
+        (drop_stands returning laws before m words kept j rebuilt old is z honest refusal drops)
 
-    pub drop_ends : IsCalmTo m.array.geometry before z.told.history → Outcome before was words kept m (answer_of (Dropped j) refusal) z
+    pub drop_ends : IsCalmTo returning m.array.geometry before z.told.history
+        → Outcome returning before was words kept m (answer_of (Dropped j) refusal) z
     drop_ends calm = by refusal refl
       where
         later : Ran any_call old.history z.told.history
-        later = (drop_later before m words kept of j rebuilt old is z honest refusal drops).ran honest
+        later = (drop_later returning laws before m words kept j rebuilt old is z honest refusal drops).ran honest
 
-        on : IsGoing before z.told.history
-        on = calm_going m.array.geometry before z.told.history (ran_join {allowed = any_call} is.is_open.ran later) calm
+        on : IsGoing returning m.array.geometry before z.told.history
+        on = calm_going returning m.array.geometry before z.told.history (ran_join {allowed = any_call} is.is_open.ran later) calm
 
         stays : StaysArray m z.member
-        stays = drop_stays before m words kept of j rebuilt old is z honest refusal drops
+        stays = drop_stays returning laws before m words kept j rebuilt old is z honest refusal drops
 
-        by : (given : Option FenceFault) → refusal ≡ given → Outcome before was words kept m (answer_of (Dropped j) given) z
+        by : (given : Option FenceFault) → refusal ≡ given → Outcome returning before was words kept m (answer_of (Dropped j) given) z
         by (Some (fence.TooFew whys)) at =
-            absurd (drop_enough before m words kept of j rebuilt old is z honest refusal drops calm whys at)
+            absurd (drop_enough returning laws before m words kept j rebuilt old is z honest refusal drops calm whys at)
         by (Some fence.EpochsSpent) at =
-            let found = drop_refused before m words kept of j rebuilt old is z honest refusal drops fence.EpochsSpent at calm in
-            Spent z found.0 found.1 (inl found.2)
+            let found = drop_refused returning laws before m words kept j rebuilt old is z honest refusal drops fence.EpochsSpent at calm in
+            Spent z found.array found.stands (inl found.dropped)
         by None at =
-            let serves = drop_serves before m words kept of j rebuilt old is z honest refusal drops at on in
+            let serves = drop_serves returning laws before m words kept j rebuilt old is z honest refusal drops at on in
             let below = subst (λ (g : Geometry). j < g.n) (sym stays.geometry) rebuilt.below in
             let down : mark_in z.member.array j ≡ mark.Down =
             serves.is_open.array.marks j below
-            ∙ ap mark_for (drop_why before m words kept of j rebuilt old is z honest refusal drops) in
-            Goes (Dropped j) z serves (still_of m z.member words kept stays of) stays.geometry
+            ∙ ap mark_for (drop_why returning laws before m words kept j rebuilt old is z honest refusal drops) in
+            Goes (Dropped j) z serves stays.geometry
             (goes_by j mark.Down (seats_in m.array) (seats_in z.member.array) stays.seats marked_so down (inr refl))
             (λ b same keeps. none_rebuilt before z.member words z.told.history serves.is_open b same keeps.0)
 
-module _ (before : List Happening) (was : ArrayState) (words : Codewords) (kept : Content) (j : ℕ) where
+module _ (returning : Returning) (laws : LeadsReads returning) (besides : LeadsBeside returning) (promotions : LeadsPromotions returning)
+    (before : List Happening) (was : ArrayState) (words : Codewords) (kept : Content) (j : ℕ) where
   -- after a sync
-  module _ (x y : Point) (answer : Reply) (syncs : SyncsSlot j answer x y) (of : IsOfContent x.member words kept) (rebuilt : IsRebuiltIn x.member j)
-      (is : IsServing before (opened_with x.member) words x.told.history) (honest : IsTrue y.told.honest) where
+  module _ (x y : Point) (answer : Reply) (syncs : SyncsSlot j answer x y) (rebuilt : IsRebuiltIn x.member j)
+      (is : IsServing returning before (opened_with x.member) words kept x.told.history) (honest : IsTrue y.told.honest) where
     synced_upto : Ran any_call before y.told.history
     synced_upto = ran_join {allowed = any_call} is.is_open.ran (syncs.later.ran honest)
 
-    synced_moments : AtEveryMoment (MovesAt before kept x.member) x.told.history y.told.history
+    synced_moments : AtEveryMoment (MovesAt returning before kept x.member) x.told.history y.told.history
     synced_moments =
-        stands_moved before (opened_with x.member) words kept of x.told.history y.told.history
-        (sync_stands before x.member words kept of j rebuilt x.told is y honest answer syncs)
+        stands_moved returning before x.member kept x.told.history y.told.history
+        (sync_stands returning laws besides before x.member words kept j rebuilt x.told is y honest answer syncs)
 
-    synced_serves : IsGoing before y.told.history → IsServing before (opened_with x.member) words y.told.history
-    synced_serves = sync_serves before x.member words kept of j rebuilt x.told is y honest answer syncs
+    synced_serves : IsGoing returning x.member.array.geometry before y.told.history
+        → IsServing returning before (opened_with x.member) words kept y.told.history
+    synced_serves = sync_serves returning laws besides before x.member words kept j rebuilt x.told is y honest answer syncs
 
-  pub promote_moments : (answer : Result Progress Refusal) (x z : Point) → Promotes j answer x z → (of : IsOfContent x.member words kept)
-      → IsRebuiltIn x.member j → IsServing before (opened_with x.member) words x.told.history
+  pub promote_moments : (answer : Result Progress Refusal) (x z : Point) → Promotes j answer x z
+      → IsRebuiltIn x.member j → IsServing returning before (opened_with x.member) words kept x.told.history
       → (IsAttached x.told.history j → IsRebuiltTo x.member.array.geometry words j x.member.array.geometry.stripes x.told.history x.told.history)
-      → IsTrue z.told.honest → AtEveryMoment (MovesAt before kept x.member) x.told.history z.told.history
-  promote_moments _ _ _ (Unsynced refusal x y z syncs drops) of rebuilt is chunks honest =
+      → IsTrue z.told.honest → AtEveryMoment (MovesAt returning before kept x.member) x.told.history z.told.history
+  promote_moments _ _ _ (Unsynced refusal x y z syncs drops) rebuilt is chunks honest =
       let after = (out_after drops.gone refusal y z drops.leaves).later in
       let honest_y = subst IsTrue (sym after.honest) honest in
-      moments_join before kept x.member x.told.history y.told.history z.told.history (synced_upto x y reply.Gone syncs of rebuilt is honest_y)
-      (synced_moments x y reply.Gone syncs of rebuilt is honest_y) (after.ran honest)
+      moments_join returning before kept x.member x.told.history y.told.history z.told.history (synced_upto x y reply.Gone syncs rebuilt is honest_y)
+      (synced_moments x y reply.Gone syncs rebuilt is honest_y) (after.ran honest)
       (λ on.
-      drop_moments before was words kept x.member of j rebuilt y.told (synced_serves x y reply.Gone syncs of rebuilt is honest_y on) z honest refusal
+      drop_moments returning laws before was words kept x.member j rebuilt y.told (synced_serves x y reply.Gone syncs rebuilt is honest_y on) z
+      honest refusal
       (subst (λ (m : Membership). Drops j refusal (point m y.told) z) syncs.member drops))
-  promote_moments _ _ _ (Joined given x y z syncs joins) of rebuilt is chunks honest =
+  promote_moments _ _ _ (Joined given x y z syncs joins) rebuilt is chunks honest =
       let after = (epoch_after (Promote j) y.member z.member (refusal_in given) y.told z.told joins.establishes).later in
       let honest_y = subst IsTrue (sym after.honest) honest in
-      moments_join before kept x.member x.told.history y.told.history z.told.history (synced_upto x y reply.Done syncs of rebuilt is honest_y)
-      (synced_moments x y reply.Done syncs of rebuilt is honest_y) (after.ran honest)
+      moments_join returning before kept x.member x.told.history y.told.history z.told.history (synced_upto x y reply.Done syncs rebuilt is honest_y)
+      (synced_moments x y reply.Done syncs rebuilt is honest_y) (after.ran honest)
       (λ on.
-      promotion_stands before x.member words kept of j rebuilt y.told (synced_serves x y reply.Done syncs of rebuilt is honest_y on)
-      (sync_ready before x.member words kept of j rebuilt x.told is y honest_y reply.Done syncs refl chunks on) z honest given
+      promotion_stands returning promotions before x.member words kept j y.told (synced_serves x y reply.Done syncs rebuilt is honest_y on)
+      (sync_whole returning laws besides before x.member words kept j rebuilt x.told is y honest_y reply.Done syncs refl chunks) z honest given
       (subst (λ (m : Membership). Joins (Promote j) j m z.member given y.told z.told) syncs.member joins))
 
-  pub promote_ends : (answer : Result Progress Refusal) (x z : Point) → Promotes j answer x z → (of : IsOfContent x.member words kept)
-      → IsRebuiltIn x.member j → IsServing before (opened_with x.member) words x.told.history
+  pub promote_ends : (answer : Result Progress Refusal) (x z : Point) → Promotes j answer x z
+      → IsRebuiltIn x.member j → IsServing returning before (opened_with x.member) words kept x.told.history
       → (IsAttached x.told.history j → IsRebuiltTo x.member.array.geometry words j x.member.array.geometry.stripes x.told.history x.told.history)
-      → IsTrue z.told.honest → IsCalmTo x.member.array.geometry before z.told.history → Outcome before was words kept x.member answer z
-  promote_ends _ _ _ (Unsynced refusal x y z syncs drops) of rebuilt is chunks honest calm =
+      → IsTrue z.told.honest → IsCalmTo returning x.member.array.geometry before z.told.history
+      → Outcome returning before was words kept x.member answer z
+  promote_ends _ _ _ (Unsynced refusal x y z syncs drops) rebuilt is chunks honest calm =
       let after = (out_after drops.gone refusal y z drops.leaves).later in
       let honest_y = subst IsTrue (sym after.honest) honest in
-      let upto = synced_upto x y reply.Gone syncs of rebuilt is honest_y in
+      let upto = synced_upto x y reply.Gone syncs rebuilt is honest_y in
       let on =
-      going_sooner before y.told.history z.told.history upto (after.ran honest)
-      (calm_going x.member.array.geometry before z.told.history (ran_join {allowed = any_call} upto (after.ran honest)) calm) in
-      drop_ends before was words kept x.member of j rebuilt y.told (synced_serves x y reply.Gone syncs of rebuilt is honest_y on) z honest refusal
+      going_sooner returning x.member.array.geometry before y.told.history z.told.history upto (after.ran honest)
+      (calm_going returning x.member.array.geometry before z.told.history (ran_join {allowed = any_call} upto (after.ran honest)) calm) in
+      drop_ends returning laws before was words kept x.member j rebuilt y.told (synced_serves x y reply.Gone syncs rebuilt is honest_y on) z honest
+      refusal
       (subst (λ (m : Membership). Drops j refusal (point m y.told) z) syncs.member drops) calm
-  promote_ends _ _ _ (Joined given x y z syncs joins) of rebuilt is chunks honest calm =
+  promote_ends _ _ _ (Joined given x y z syncs joins) rebuilt is chunks honest calm =
       let after = (epoch_after (Promote j) y.member z.member (refusal_in given) y.told z.told joins.establishes).later in
       let honest_y = subst IsTrue (sym after.honest) honest in
-      let upto = synced_upto x y reply.Done syncs of rebuilt is honest_y in
+      let upto = synced_upto x y reply.Done syncs rebuilt is honest_y in
       let on =
-      going_sooner before y.told.history z.told.history upto (after.ran honest)
-      (calm_going x.member.array.geometry before z.told.history (ran_join {allowed = any_call} upto (after.ran honest)) calm) in
-      promotion_ends before x.member words kept of j rebuilt y.told (synced_serves x y reply.Done syncs of rebuilt is honest_y on)
-      (sync_ready before x.member words kept of j rebuilt x.told is y honest_y reply.Done syncs refl chunks on) z honest given
-      (subst (λ (m : Membership). Joins (Promote j) j m z.member given y.told z.told) syncs.member joins) was calm
+      going_sooner returning x.member.array.geometry before y.told.history z.told.history upto (after.ran honest)
+      (calm_going returning x.member.array.geometry before z.told.history (ran_join {allowed = any_call} upto (after.ran honest)) calm) in
+      promotion_ends returning promotions before x.member words kept j y.told (synced_serves x y reply.Done syncs rebuilt is honest_y on)
+      (sync_whole returning laws besides before x.member words kept j rebuilt x.told is y honest_y reply.Done syncs refl chunks) z honest was given
+      (subst (λ (m : Membership). Joins (Promote j) j m z.member given y.told z.told) syncs.member joins) calm
 
 -- WHICH CHUNKS a rebuild has come to
-pub chunks_next : (before : List Happening) (was a : ArrayState) (words : Codewords) (h : List Happening) (j t : ℕ) → IsServing before a words h
+pub chunks_next : (returning : Returning) (before : List Happening) (was a : ArrayState) (words : Codewords) (kept : Content) (h : List Happening)
+    (j t : ℕ)
+    → IsServing returning before a words kept h
     → IsNextChunk was j t → ((r : Rebuild) → was.rebuild ≡ Some r → r.slot ≡ j → a.rebuild ≡ Some r) → IsAttached h j
     → IsRebuiltTo a.member.array.geometry words j t h h
-chunks_next before was a words h j t is (IsNextChunk.UnderWay r same slot stripe) goes attached =
+chunks_next returning before was a words kept h j t is (IsNextChunk.UnderWay r same slot stripe) goes attached =
     subst (λ (k : ℕ). IsRebuiltTo a.member.array.geometry words k t h h) slot
     (subst (λ (k : ℕ). IsRebuiltTo a.member.array.geometry words r.slot k h h) stripe
     (is.is_open.rebuilt r (goes r same slot) (subst (IsAttached h) (sym slot) attached)))
-chunks_next before was a words h j t is (IsNextChunk.First none lowest first) goes attached =
+chunks_next returning before was a words kept h j t is (IsNextChunk.First none lowest first) goes attached =
     subst (λ (k : ℕ). IsRebuiltTo a.member.array.geometry words j k h h) (sym first) (rebuilt_none a.member.array.geometry words j h h)
 
 pub promotes_later : (j : ℕ) (answer : Result Progress Refusal) (x z : Point) → Promotes j answer x z → IsLater x.told z.told

@@ -13,18 +13,18 @@ use Rattle.stair_super.specs.declared.mark.Mark.TheVariants as mark
 use Rattle.stair_member.specs.Membership.{Membership}
 use Rattle.stair_member.specs.Seats.{Seat, Seats}
 use Rattle.stair_state.specs.Blocks.{Codewords}
-use Rattle.stair_state.specs.Represents.{Represents, RepresentsAlone}
 use Rattle.stair_state.specs.State.{Content}
 use Rattle.stair_session.specs.Courses.{Point}
-use Rattle.stair_session.specs.InSession.{IsOfContent, state_with}
+use Rattle.stair_session.specs.InSession.{state_with}
 use Rattle.stair_session.specs.Opening.{StaysArray, opened_with}
+use Rattle.stair_session.specs.Returning.{Returning, StandsFor, StandsForAlone}
 use Rattle.stair_session.specs.SeatSteps.{EachMayDrop, MayDrop, SeatGoes}
 use Rattle.stair_session.specs.Session.{ArrayState, IsOpenWith, seats_in}
 use Rattle.stair_session.proofs.StaysArrayLemmas.{drops_twice}
+use Rattle.stair_session.proofs.Serving.{IsCalmTo, IsServing}
 use Rattle.stair_array.specs.Machine.{Chunk, Dropped, EpochsSpent, Nothing, Progress, Promoted, RebuildNext, Refusal, SeatsRebuilt}
 use Rattle.stair_array.specs.Promise.{KeepsRebuild}
 use Rattle.stair_array.proofs.OpenStepLemmas.{calm_over}
-use Rattle.stair_array.proofs.ServingLemmas.{IsCalmTo, IsServing}
 
 -- SEATS
 
@@ -85,40 +85,42 @@ module _ (old mid new : Seats) (first : EachMayDrop old mid) where
       by (Dropped j) moved = inr (Dropped j, goes_sooner j mark.Down moved)
 
 -- AT EACH MOMENT an image represents the array, with seats that the step may leave it with.
-module _ (before : List Happening) (kept : Content) where
+module _ (returning : Returning) (before : List Happening) (kept : Content) where
   abbrev pub MovesAt : Membership → List Happening → Type 0
-  MovesAt m c = IsCalmTo m.array.geometry before c → (image : Image) → CrashMayLeave c image
-      → (array : Configuration) × RepresentsAlone (state_with m kept None array) image × MayMove (seats_in m.array) (seats_in array)
+  MovesAt m c = IsCalmTo returning m.array.geometry before c → (image : Image) → CrashMayLeave c image
+      → (array : Configuration) × StandsForAlone returning (state_with m kept None array) image × MayMove (seats_in m.array) (seats_in array)
 
   pub moments_sooner : (m last : Membership) → StaysArray m last → (old new : List Happening) → AtEveryMoment (MovesAt last) old new
       → AtEveryMoment (MovesAt m) old new
   moments_sooner m last stays old new =
       at_every_mapped {P = MovesAt last} {Q = MovesAt m}
       (λ c moves calm image left.
-      let is = moves (calm_over last.array.geometry m.array.geometry before c stays.geometry calm) image left in (
+      let is = moves (calm_over returning last.array.geometry m.array.geometry before c stays.geometry calm) image left in (
         is.0,
-        subst (λ (g : Geometry). RepresentsAlone (record { geometry = g; content = kept; in_doubt = None; seats = Some (seats_in is.0) }) image)
+        subst (λ (g : Geometry). StandsForAlone returning (record { geometry = g; content = kept; in_doubt = None; seats = Some (seats_in is.0) })
+            image)
             stays.geometry is.1,
         moves_sooner (seats_in m.array) (seats_in last.array) (seats_in is.0) stays.seats is.2,
       ))
 
 -- WHAT IT COMES TO: the array serves on, whatever rebuild it has by that; or an epoch was refused since no number is left to draw.
-module _ (before : List Happening) (was : ArrayState) (words : Codewords) (kept : Content) where
+module _ (returning : Returning) (before : List Happening) (was : ArrayState) (words : Codewords) (kept : Content) where
   pub data Outcome (m : Membership) : Result Progress Refusal → Point → Type 0 where
-    Goes : (progress : Progress) (y : Point) → IsServing before (opened_with y.member) words y.told.history → IsOfContent y.member words kept
+    Goes : (progress : Progress) (y : Point) → IsServing returning before (opened_with y.member) words kept y.told.history
         → y.member.array.geometry ≡ m.array.geometry → SeatsRebuilt progress (seats_in m.array) (seats_in y.member.array)
         → ((b : ArrayState) → b.member ≡ y.member → KeepsRebuild RebuildNext (Ok progress) was b → IsOpenWith before b words y.told.history)
         → Outcome m (Ok progress) y
-    Spent : (y : Point) (array : Configuration) → Represents (state_with m kept None array) y.told.history
+    Spent : (y : Point) (array : Configuration) → StandsFor returning (state_with m kept None array) y.told.history
         → MayMove (seats_in m.array) (seats_in array) → Outcome m (Err EpochsSpent) y
 
   pub outcome_sooner : (m last : Membership) → StaysArray m last → (answer : Result Progress Refusal) (y : Point) → ¬ (answer ≡ Ok Nothing)
       → Outcome last answer y → Outcome m answer y
   outcome_sooner m last stays _ _ some (Spent y array stands moved) =
       Spent y array
-      (subst (λ (g : Geometry). Represents (record { geometry = g; content = kept; in_doubt = None; seats = Some (seats_in array) }) y.told.history)
+      (subst (λ (g : Geometry). StandsFor returning (record { geometry = g; content = kept; in_doubt = None; seats = Some (seats_in array) })
+      y.told.history)
       stays.geometry stands) (moves_sooner (seats_in m.array) (seats_in last.array) (seats_in array) stays.seats moved)
-  outcome_sooner m last stays _ _ some (Goes progress y serves of same moved on) =
-      Goes progress y serves of (same ∙ stays.geometry)
+  outcome_sooner m last stays _ _ some (Goes progress y serves same moved on) =
+      Goes progress y serves (same ∙ stays.geometry)
       (progress_sooner (seats_in m.array) (seats_in last.array) (seats_in y.member.array) stays.seats progress
       (λ none. some (ap (λ (p : Progress). Ok p) none)) moved) on

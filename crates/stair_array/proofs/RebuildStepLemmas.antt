@@ -1,7 +1,8 @@
--- A step of a rebuild is one of the array's machine, and what a crash leaves in the midst of it is what one within the step leaves, where
--- no medium comes back.
+-- A step of a rebuild is one of the array's machine, and what a crash leaves in the midst of it is what one within the step leaves, whether
+-- media come back or not.
 use Rattle.std.proofs.Common.{List, None, Some, ap, inl, inr, refl, subst, sym, ◌∙◌, ◌≡◌}
 use Rattle.std.specs.Prelude.{Err, IsOk, IsTrue, Ok}
+use Rattle.stair_rack.specs.Answers.{IsHistory}
 use Rattle.stair_rack.specs.Crash.{EachImage}
 use Rattle.stair_rack.specs.History.{Happening}
 use Rattle.stair_rack.specs.Moments.{IsMoment}
@@ -10,24 +11,25 @@ use Rattle.stair_rack.proofs.MomentLemmas.{at_moment}
 use Rattle.stair_super.specs.declared.configuration.Configuration.{Configuration}
 use Rattle.stair_member.specs.Membership.{Membership}
 use Rattle.stair_member.specs.declared.fault.FenceFault.TheVariants as fence
-use Rattle.stair_state.specs.Represents.{Represents}
 use Rattle.stair_state.specs.State.{State}
 use Rattle.stair_session.specs.Courses.{Point, point}
-use Rattle.stair_session.specs.InSession.{IsOfContent, state_with}
+use Rattle.stair_session.specs.InSession.{state_with}
 use Rattle.stair_session.specs.Opening.{opened_with}
-use Rattle.stair_session.specs.Returning.{IsCalm, NoneReturns}
+use Rattle.stair_session.specs.Returning.{IsCalm, Returning, StandsFor}
 use Rattle.stair_session.specs.Session.{IsOpenWith, seats_in}
+use Rattle.stair_session.proofs.Mending.{LeadsBeside, LeadsPromotions}
+use Rattle.stair_session.proofs.Serving.{IsCalmTo, IsServing, LeadsReads}
 use Rattle.stair_array.specs.Machine.{Answer, EpochsSpent, HoldsAfter, Progress, RebuildNext, Recover, Refusal, Row, SeatsAfter, SeatsRebuilt}
-use Rattle.stair_array.specs.Promise.{CanBeDone, IsInState, IsLed, IsLeftBy, IsOpenFor, Keeps, KeepsRebuild, Performs, Seen, is_open}
+use Rattle.stair_array.specs.Promise.{CanBeDone, IsInState, IsLed, IsLeftBy, IsOpenFor, Keeps, KeepsRebuild, Performs, Seen, is_open, LeadsStep}
 use Rattle.stair_array.proofs.DrawsLemmas.{done_with_room}
-use Rattle.stair_array.proofs.OpenStepLemmas.{calm_for, goes_on_as, kept_fault, of_state, open_first, serves_first, serves_now, stops_as}
+use Rattle.stair_array.proofs.OpenStepLemmas.{calm_first, goes_on_as, kept_fault, open_first, serves_first, serves_now, stops_as}
 use Rattle.stair_array.proofs.RebuildCourseLemmas.{NextIsRebuilt, next_rebuilt}
 use Rattle.stair_array.proofs.RebuildOutcomeLemmas.{moments, outcome}
 use Rattle.stair_array.proofs.RebuildSeatLemmas.{Goes, MayMove, MovesAt, Outcome, Spent}
-use Rattle.stair_array.proofs.ServingLemmas.{IsCalmTo, IsServing}
 
-module _ (answer : Answer RebuildNext) (events : List Event) (x y : Seen) (p : Performs RebuildNext answer events x y) (honest : IsTrue y.told.honest)
-    (before : List Happening) (s : State) (state : IsInState NoneReturns before s x) where
+module _ (returning : Returning) (laws : LeadsReads returning) (besides : LeadsBeside returning) (promotions : LeadsPromotions returning)
+    (answer : Answer RebuildNext) (events : List Event) (x y : Seen) (p : Performs RebuildNext answer events x y) (honest : IsTrue y.told.honest)
+    (before : List Happening) (s : State) (history : IsHistory x.told.history) (state : IsInState returning before s x) where
   pub no_opening : ¬ (RebuildNext ≡ Recover)
   no_opening same = cc
 
@@ -37,14 +39,14 @@ module _ (answer : Answer RebuildNext) (events : List Event) (x y : Seen) (p : P
   abbrev last : Membership
   last = p.is.member
 
-  abbrev pub begins : IsOpenFor NoneReturns before s p.was x.told.history
-  begins = open_first RebuildNext no_opening answer events x y p before s state
+  abbrev pub begins : IsOpenFor returning before s p.was x.told.history
+  begins = open_first returning laws RebuildNext no_opening answer events x y p before s state
 
-  pub of_kept : IsOfContent m begins.words s.content
-  of_kept = of_state RebuildNext no_opening answer events x y p before s state
+  pub serves : IsServing returning before p.was begins.words s.content x.told.history
+  serves = serves_first returning laws RebuildNext no_opening answer events x y p before s state history
 
-  pub serves : IsServing before p.was begins.words x.told.history
-  serves = serves_first RebuildNext no_opening answer events x y p before s state
+  calm_begun : (h : List Happening) → IsCalm returning s.geometry (is_open x.session) before h → IsCalmTo returning m.array.geometry before h
+  calm_begun = calm_first returning laws RebuildNext no_opening answer events x y p before s state
 
   next : NextIsRebuilt p.was (point m x.told)
   next = next_rebuilt p.was x.told serves.is_open.array
@@ -77,12 +79,14 @@ module _ (answer : Answer RebuildNext) (events : List Event) (x y : Seen) (p : P
   -- WHERE IT LEADS
 
   led : (given : Answer RebuildNext) (v : Point) → v ≡ point last y.told → given ≡ answer
-      → Outcome before p.was begins.words s.content m given v → IsCalmTo m.array.geometry before y.told.history
-      → IsLed NoneReturns m before s RebuildNext answer y
-  led _ _ at is_answer (Goes progress v serves_v of same moved on) calm =
+      → Outcome returning before p.was begins.words s.content m given v → IsCalmTo returning m.array.geometry before y.told.history
+      → IsLed returning m before s RebuildNext answer y
+  led _ _ at is_answer (Goes progress v serves_v same moved on) calm =
       let geometry : last.array.geometry ≡ m.array.geometry =
       subst (λ (u : Point). u.member.array.geometry ≡ m.array.geometry) at same in
       let now : State = state_with last s.content None last.array in
+      let now_serves =
+      subst (λ (u : Point). IsServing returning before (opened_with u.member) begins.words s.content u.told.history) at serves_v in
       record {
         state = now;
         is_step = record {
@@ -94,14 +98,15 @@ module _ (answer : Answer RebuildNext) (events : List Event) (x y : Seen) (p : P
               (subst (λ (u : Point). SeatsRebuilt progress (seats_in m.array) (seats_in u.member.array)) at moved));
         };
         is_in =
-            serves_now RebuildNext no_opening answer events x y p before s state begins.words s.content geometry
-            (subst (λ (u : Point). IsOfContent u.member begins.words s.content) at of)
+            serves_now returning laws RebuildNext no_opening answer events x y p before s state begins.words s.content geometry
             (record {
               is_open =
                   subst (λ (u : Point). IsOpenWith before p.is begins.words u.told.history) at
                   (on p.is (sym (ap (λ (u : Point). u.member) at))
                   (subst (λ (r : Answer RebuildNext). KeepsRebuild RebuildNext r p.was p.is) (sym is_answer) p.rebuild));
-              begun = (subst (λ (u : Point). IsServing before (opened_with u.member) begins.words u.told.history) at serves_v).begun;
+              history = now_serves.history;
+              of = now_serves.of;
+              knows = now_serves.knows;
             }) calm;
       }
   led _ _ at is_answer (Spent v array stands moved) calm =
@@ -116,41 +121,44 @@ module _ (answer : Answer RebuildNext) (events : List Event) (x y : Seen) (p : P
               (row (Err EpochsSpent) now array begins.geometry refl refl refl (spent_moves array moved));
         };
         is_in =
-            stops_as RebuildNext no_opening answer events x y p before s state now (subst (λ (u : Point). Represents now u.told.history) at stands)
+            stops_as returning laws RebuildNext no_opening answer events x y p before s state now
+            (subst (λ (u : Point). StandsFor returning now u.told.history) at stands)
             (kept_fault Progress fence.EpochsSpent p.is.stopped
             (subst (λ (r : Answer RebuildNext). Keeps r p.is.stopped) (sym is_answer)
-            (goes_on_as RebuildNext no_opening answer events x y p before s state).1));
+            (goes_on_as returning laws RebuildNext no_opening answer events x y p before s state).1));
       }
 
   -- what it comes to
-  module _ (calm : IsCalm NoneReturns s.geometry (is_open x.session) before y.told.history) where
+  module _ (calm : IsCalm returning s.geometry (is_open x.session) before y.told.history) where
     abbrev ends : Point
     ends = point last y.told
 
-    comes : Outcome before p.was begins.words s.content m answer ends
+    comes : Outcome returning before p.was begins.words s.content m answer ends
     comes =
-        outcome before p.was begins.words s.content answer (point m x.told) ends p.does refl of_kept serves next honest (calm_for begins y.told.history calm)
+        outcome returning laws besides promotions before p.was begins.words s.content answer (point m x.told) ends p.does refl serves next honest
+        (calm_begun y.told.history calm)
 
-    pub leads : IsLed NoneReturns m before s RebuildNext answer y
-    leads = led answer ends refl refl comes (calm_for begins y.told.history calm)
+    pub leads : IsLed returning m before s RebuildNext answer y
+    leads = led answer ends refl refl comes (calm_begun y.told.history calm)
 
     -- so that it isn't refused, unless no epoch is left
     pub only_spent : (refusal : Refusal) → answer ≡ Err refusal → refusal ≡ EpochsSpent
     only_spent refusal = by answer ends comes
       where
-        by : (given : Answer RebuildNext) (v : Point) → Outcome before p.was begins.words s.content m given v → given ≡ Err refusal
+        by : (given : Answer RebuildNext) (v : Point) → Outcome returning before p.was begins.words s.content m given v → given ≡ Err refusal
             → refusal ≡ EpochsSpent
-        by _ _ (Goes progress v serves_v of same moved on) is = absurd (cc)
+        by _ _ (Goes progress v serves_v same moved on) is = absurd (cc)
         by _ _ (Spent v array stands moved) is = cc
 
   -- WHAT A CRASH LEAVES
 
-  pub cuts : (c : List Happening) → IsMoment x.told.history c y.told.history → IsCalm NoneReturns s.geometry (is_open x.session) before c
-      → EachImage (IsLeftBy NoneReturns RebuildNext m before c s) c
+  pub cuts : (c : List Happening) → IsMoment x.told.history c y.told.history → IsCalm returning s.geometry (is_open x.session) before c
+      → EachImage (IsLeftBy returning RebuildNext m before c s) c
   cuts c at calm image left =
       let is =
-      at_moment {P = MovesAt before s.content m}
-      (moments before p.was begins.words s.content answer (point m x.told) (point last y.told) p.does of_kept serves next honest) at (calm_for begins c calm)
+      at_moment {P = MovesAt returning before s.content m}
+      (moments returning laws besides promotions before p.was begins.words s.content answer (point m x.told) (point last y.told) p.does serves next
+      honest) at (calm_begun c calm)
       image left in
       record {
         state = state_with m s.content None is.0;
@@ -167,7 +175,18 @@ module _ (answer : Answer RebuildNext) (events : List Event) (x y : Seen) (p : P
 
   -- IT IS DONE where numbers are left to draw
 
-  pub complete : IsCalm NoneReturns s.geometry (is_open x.session) before y.told.history
+  pub complete : IsCalm returning s.geometry (is_open x.session) before y.told.history
       → CanBeDone RebuildNext s m x.told.history y.told.history → IsOk answer
   complete calm can =
       done_with_room RebuildNext (λ j same. cc) answer events x y p serves.is_open.array.member can.draws (λ cause. cause.1) (only_spent calm)
+
+-- So it is what is promised of a step.
+pub promise : (returning : Returning) → LeadsReads returning → LeadsBeside returning → LeadsPromotions returning → (answer : Answer RebuildNext)
+    (events : List Event) (x y : Seen) (p : Performs RebuildNext answer events x y) → LeadsStep returning p.was.member RebuildNext answer x y
+promise returning laws besides promotions answer events x y p = record {
+  leads = λ honest before s history state calm. leads returning laws besides promotions answer events x y p honest before s history state calm;
+  cuts = λ honest before s history state c at calm.
+      cuts returning laws besides promotions answer events x y p honest before s history state c at calm;
+  complete = λ honest before s history state calm can.
+      complete returning laws besides promotions answer events x y p honest before s history state calm can;
+}

@@ -1,10 +1,10 @@
--- The replacement of a slot keeps what is promised of a step, where no medium comes back: it is done where its medium is fit.
+-- The replacement of a slot keeps what is promised of a step, whether media come back or not: it is done where its medium is fit.
 use Rattle.std.proofs.Common.{◌≡◌, ℕ, ◌<◌, ◌≤◌, List, refl, sym, ap, ◌∙◌, subst, arith, true, true≢false, Some, Option}
 use Rattle.std.specs.Prelude.{IfErr, IsOk, IsTrue, Result, Ok, Err}
 use Rattle.std.proofs.lemmas.Bool.{le-ltb}
 use Rattle.stair_model.specs.Geometry.{Geometry, sectors_needed}
 use Rattle.stair_model.specs.Slots.{Slots}
-use Rattle.stair_rack.specs.Answers.{Ran, any_call}
+use Rattle.stair_rack.specs.Answers.{Ran, any_call, IsHistory}
 use Rattle.stair_rack.specs.History.{Attach, Happening, slot_state}
 use Rattle.stair_rack.specs.Media.{has_sector}
 use Rattle.stair_rack.specs.Moments.{IsMoment}
@@ -18,39 +18,44 @@ use Rattle.stair_member.specs.Membership.{Membership}
 use Rattle.stair_member.specs.Superblocks.{HoldsSuper}
 use Rattle.stair_member.specs.declared.fault.AdmitFault.{AdmitFault}
 use Rattle.stair_member.specs.declared.fault.AdmitFault.TheVariants as admit
-use Rattle.stair_member.specs.declared.fault.FenceFault.TheVariants as fence
 use Rattle.stair_member.specs.declared.why.Why.{Why}
 use Rattle.stair_state.specs.State.{State}
 use Rattle.stair_session.specs.Courses.{Point, point}
-use Rattle.stair_session.specs.Returning.{IsCalm, NoneReturns}
+use Rattle.stair_session.specs.Returning.{IsCalm, Returning}
 use Rattle.stair_session.specs.Session.{seats_in}
+use Rattle.stair_session.proofs.Mending.{LeadsAdmissions, LeadsBeside}
+use Rattle.stair_session.proofs.Serving.{LeadsReads}
 use Rattle.stair_array.specs.Causes.{HasCause, IsFree, IsSmall}
 use Rattle.stair_array.specs.Draws.{Before, HadSeen, OnMedium, most_drawn}
 use Rattle.stair_array.specs.Looking.{cells_at}
 use Rattle.stair_array.specs.Machine.{AlreadyArray, Answer, EpochsSpent, Frozen, Gone, JournalLost, Lost, OutOfRange, Refusal, ReplaceSlot, SlotBusy, SmallDevice, TooFew}
 use Rattle.stair_array.specs.Mends.{Admitted, Busy, IsSecondLook, OutOf, PreparesSlot, Prepared, Replaces, Unprepared, WasGone, WasOther, WasSmall, joined_as}
-use Rattle.stair_array.specs.Promise.{CanBeDone, IsInState, LeadsStep, Performs, Seen, is_open}
+use Rattle.stair_array.specs.Promise.{CanBeDone, IsInState, LeadsStep, Performs, Seen, is_open, IsOpenFor}
 use Rattle.stair_array.proofs.CreateLemmas.{size_kept}
 use Rattle.stair_array.proofs.DrawsLemmas.{never_spent}
-use Rattle.stair_array.proofs.OpenStepLemmas.{calm_for}
 use Rattle.stair_array.proofs.PreparedSlotLemmas.{HeldThen, held_then, looks_unwritten}
-use Rattle.stair_array.proofs.ReplaceStepLemmas.{admission_enough, begins, cuts, leads, serves, unprepared_goes_on}
+use Rattle.stair_array.proofs.ReplaceStepLemmas.{admission_enough, begins, calm_begun, cuts, leads, serves, unprepared_goes_on}
 
-module _ (slot : ℕ) (answer : Answer (ReplaceSlot slot)) (events : List Event) (x y : Seen) (p : Performs (ReplaceSlot slot) answer events x y)
-    (honest : IsTrue y.told.honest) (before : List Happening) (s : State) (state : IsInState NoneReturns before s x)
-    (calm : IsCalm NoneReturns s.geometry (is_open x.session) before y.told.history)
+module _ (returning : Returning) (laws : LeadsReads returning) (besides : LeadsBeside returning) (admissions : LeadsAdmissions returning)
+    (slot : ℕ) (answer : Answer (ReplaceSlot slot)) (events : List Event) (x y : Seen) (p : Performs (ReplaceSlot slot) answer events x y)
+    (honest : IsTrue y.told.honest) (before : List Happening) (s : State) (history : IsHistory x.told.history)
+    (state : IsInState returning before s x)
+    (calm : IsCalm returning s.geometry (is_open x.session) before y.told.history)
     (can : CanBeDone (ReplaceSlot slot) s p.was.member x.told.history y.told.history) where
   abbrev m : Membership
   m = p.was.member
 
+  abbrev start : IsOpenFor returning before s p.was x.told.history
+  start = begins returning laws besides admissions slot answer events x y p honest before s history state
+
   same_geometry : m.array.geometry ≡ s.geometry
-  same_geometry = (begins slot answer events x y p honest before s state).geometry
+  same_geometry = start.geometry
 
   -- THE SLOT is free, and its medium in use all along, as large as it was
 
   free : IsFree m slot
   free =
-      let passes = can.passes (seats_in m.array) (begins slot answer events x y p honest before s state).seats in
+      let passes = can.passes (seats_in m.array) start.seats in
       (subst (λ (g : Geometry). slot < g.n) (sym same_geometry) passes.0, passes.1)
 
   ran : Ran any_call x.told.history y.told.history
@@ -69,7 +74,8 @@ module _ (slot : ℕ) (answer : Answer (ReplaceSlot slot)) (events : List Event)
   not_small has needs is =
       let had = is.had honest in
       let size : (slot_state x.told.history slot).size ≡ Some has = sym (size_at had.moment had.is_one) ∙ had.holds in
-      let below : has < sectors_needed s.geometry = subst (λ (g : Geometry). has < sectors_needed g) same_geometry (subst (λ (n : ℕ). has < n) is.needs_is is.small) in
+      let below : has < sectors_needed s.geometry = subst (λ (g : Geometry). has < sectors_needed g) same_geometry
+      (subst (λ (n : ℕ). has < n) is.needs_is is.small) in
       let within : has_sector (Some has) has ≡ true = subst (λ (o : Option ℕ). has_sector o has ≡ true) size (can.fit.large has below) in
       true≢false (sym within ∙ le-ltb has has (omega arith))
 
@@ -96,7 +102,8 @@ module _ (slot : ℕ) (answer : Answer (ReplaceSlot slot)) (events : List Event)
       at =
           subst (λ (w : Point). IsMoment w.told.history held.moment y.told.history) at_u
           (subst (λ (w : Point). IsMoment u.told.history held.moment w.told.history) at_v
-          (moment_wider {a = IsThis slot (Attach reply.Done)} {b = any_call} (calls_ran (looks.attached honest_mid)) (ran_none v.told.history) held.is_one))
+          (moment_wider {a = IsThis slot (Attach reply.Done)} {b = any_call} (calls_ran (looks.attached honest_mid)) (ran_none v.told.history)
+          held.is_one))
 
       own : (other.super.array.geometry ≡ s.geometry) × (other.super.draw ≤ most_drawn)
       own =
@@ -133,8 +140,9 @@ module _ (slot : ℕ) (answer : Answer (ReplaceSlot slot)) (events : List Event)
       by (Err admit.EpochsSpent) same never = absurd (cc)
       by (Err (admit.Gone k)) same never = absurd (cc)
       by (Err (admit.TooFew other)) same never =
-          admission_enough slot answer events x y p honest before s state joined u z v free prepares joins at_u at_v
-          (calm_for (begins slot answer events x y p honest before s state) y.told.history calm) (fence.TooFew other) (ap refusal_in same) other refl
+          admission_enough returning laws besides admissions slot answer events x y p honest before s history state joined u z v free prepares
+          joins at_u at_v (calm_begun returning laws besides admissions slot answer events x y p honest before s history state y.told.history calm)
+          other (ap refusal_in same)
 
   -- AND A DRAW is
 
@@ -166,8 +174,9 @@ module _ (slot : ℕ) (answer : Answer (ReplaceSlot slot)) (events : List Event)
       refused (AlreadyArray i) same cause = not_other i answer (point m x.told) (point p.is.member y.told) p.does same refl refl
       refused (TooFew whys) same cause = not_few whys answer (point m x.told) (point p.is.member y.told) p.does same refl refl
       refused EpochsSpent same cause =
-          never_spent (ReplaceSlot slot) m p.is.member x.told y.told (serves slot answer events x y p honest before s state).is_open.array.member
-          p.draws_few room cause.1.spent
+          never_spent (ReplaceSlot slot) m p.is.member x.told y.told
+          (serves returning laws besides admissions slot answer events x y p honest before s history state).is_open.array.member p.draws_few room
+          cause.1.spent
       refused Frozen same cause = cause
       refused (Lost t counts) same cause = cause
       refused (JournalLost sector) same cause = cause
@@ -177,10 +186,13 @@ module _ (slot : ℕ) (answer : Answer (ReplaceSlot slot)) (events : List Event)
       by (Err refusal) same = absurd (refused refusal same (caused refusal same))
 
 -- So it is what is promised of a step.
-pub promise : (slot : ℕ) (answer : Answer (ReplaceSlot slot)) (events : List Event) (x y : Seen) (p : Performs (ReplaceSlot slot) answer events x y)
-    → LeadsStep NoneReturns p.was.member (ReplaceSlot slot) answer x y
-promise slot answer events x y p = record {
-  leads = λ honest before s history state calm. leads slot answer events x y p honest before s state calm;
-  cuts = λ honest before s history state c at calm. cuts slot answer events x y p honest before s state c at calm;
-  complete = λ honest before s history state calm can. complete slot answer events x y p honest before s state calm can;
+pub promise : (returning : Returning) → LeadsReads returning → LeadsBeside returning → LeadsAdmissions returning → (slot : ℕ)
+    (answer : Answer (ReplaceSlot slot)) (events : List Event) (x y : Seen) (p : Performs (ReplaceSlot slot) answer events x y)
+    → LeadsStep returning p.was.member (ReplaceSlot slot) answer x y
+promise returning laws besides admissions slot answer events x y p = record {
+  leads = λ honest before s history state calm. leads returning laws besides admissions slot answer events x y p honest before s history state calm;
+  cuts = λ honest before s history state c at calm.
+      cuts returning laws besides admissions slot answer events x y p honest before s history state c at calm;
+  complete = λ honest before s history state calm can.
+      complete returning laws besides admissions slot answer events x y p honest before s history state calm can;
 }

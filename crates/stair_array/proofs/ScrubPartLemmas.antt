@@ -1,4 +1,4 @@
--- What a scrub of a stripe comes to, where no medium comes back.
+-- What a scrub of a stripe comes to, whether media come back or not.
 use Rattle.std.proofs.Common.{◌≡◌, ℕ, ◌<◌, List, inr, refl, sym, ap, ◌∙◌, subst, None, Some, Option}
 use Rattle.std.specs.Prelude.{IsTrue, Result, Ok, ⊤}
 use Rattle.stair_model.specs.CellSet.{cell_count}
@@ -16,19 +16,21 @@ use Rattle.stair_state.specs.Blocks.{Codewords}
 use Rattle.stair_state.specs.Redoing.{AtRest}
 use Rattle.stair_state.specs.State.{Content}
 use Rattle.stair_session.specs.Courses.{Loads, Point, Redoes}
-use Rattle.stair_session.specs.InSession.{IsOfContent}
 use Rattle.stair_session.specs.Rebuilding.{Rebuild}
+use Rattle.stair_session.specs.Returning.{Returning}
 use Rattle.stair_session.proofs.HonestLemmas.{honest_first}
+use Rattle.stair_session.proofs.Serving.{IsGoing, LeadsReads, IsCalmTo, LeadsRedos}
+use Rattle.stair_session.proofs.Mending.{calm_going}
 use Rattle.stair_array.specs.Calls.{IsLoaded, answer_of}
 use Rattle.stair_array.specs.Machine.{IsFinal, Refusal}
 use Rattle.stair_array.specs.Mends.{Scrubs}
 use Rattle.stair_array.proofs.KeptStepLemmas.{Gives, Lacks, Outcome, Stops}
-use Rattle.stair_array.proofs.LeftServingLemmas.{serving_stands}
-use Rattle.stair_array.proofs.LoadingLemmas.{CalmIn, Serves, load_serves, load_stops, refused_stands, same_serves, same_stays}
-use Rattle.stair_array.proofs.ReadPartLemmas.{HasLoaded, Stands, all_ran, array_here, going_mid, loading_moments, none_asked, restored, stays_so, whole_loaded}
+use Rattle.stair_array.proofs.LeftServingLemmas.{serving_stands, StandsAt}
+use Rattle.stair_array.proofs.LoadingLemmas.{Serves, load_serves, load_stops, refused_stands, same_serves, same_stays}
+use Rattle.stair_array.proofs.ReadPartLemmas.{HasLoaded, all_ran, going_mid, loading_moments, none_asked, restored, stays_so, whole_loaded, array_with}
 use Rattle.stair_array.proofs.RecoveredLemmas.{redoes_ran}
 use Rattle.stair_array.proofs.RedoDoubtLemmas as redo_doubt
-use Rattle.stair_array.proofs.ServingLemmas.{IsGoing, calm_going, going_sooner}
+use Rattle.stair_array.proofs.ServingLemmas.{going_sooner}
 
 -- what is asked of a stripe before it is scrubbed, and nothing of how many cells were written
 abbrev pub IsInside : ℕ → Point → Type 0
@@ -37,9 +39,13 @@ IsInside t x = t < x.member.array.geometry.stripes
 abbrev pub AnyCount : ℕ → Type 0
 AnyCount count = ⊤
 
-module _ (before : List Happening) (rebuild : Option Rebuild) (stopped : Option FenceFault) (words : Codewords) (kept : Content) (t : ℕ) where
-  abbrev pub ScrubOutcome : (x : Point) → IsOfContent x.member words kept → Result ℕ Refusal → Point → Type 0
-  ScrubOutcome x of answer y = Outcome before rebuild stopped words kept x of ℕ (IsInside t x) AnyCount answer y
+module _ (returning : Returning) (laws : LeadsReads returning) (before : List Happening) (rebuild : Option Rebuild) (stopped : Option FenceFault)
+    (words : Codewords) (kept : Content) (t : ℕ) where
+  abbrev pub ScrubOutcome : Point → Result ℕ Refusal → Point → Type 0
+  ScrubOutcome x answer y = Outcome returning before rebuild stopped words kept x ℕ (IsInside t x) AnyCount answer y
+
+  abbrev ServesAt : Point → List Happening → Type 0
+  ServesAt x h = Serves returning before rebuild stopped words kept x h
 
   abbrev loaded_all : (was read : Stripe) (gathered : Gathered) (refusal : Option FenceFault) (x y : Point)
       → Loads t (IsCellOf x.member.array.geometry) gathered was read refusal x y
@@ -50,7 +56,7 @@ module _ (before : List Happening) (rebuild : Option Rebuild) (stopped : Option 
 
   -- The redo leads from the stripes to the same ones, since what was restored is the stripe.
   module _ (was read into : Stripe) (gathered : Gathered) (redo : Redo) (refusal : Option FenceFault) (x y z : Point)
-      (of : IsOfContent x.member words kept) (is : Serves before rebuild stopped words kept x of x.told.history)
+      (is : ServesAt x x.told.history)
       (below : t < x.member.array.geometry.stripes) (loads : Loads t (IsCellOf x.member.array.geometry) gathered was read None x y)
       (loaded : IsLoaded x.member.array.geometry t gathered.erased read into (Ok tt)) (here : redo.stripe ≡ t)
       (formed : IsRedo x.member.array.geometry redo) (run : Redoes x.member.array.geometry redo into AtRest refusal y z)
@@ -60,7 +66,7 @@ module _ (before : List Happening) (rebuild : Option Rebuild) (stopped : Option 
 
     upto : Ran any_call before y.told.history
     upto =
-        all_ran before rebuild stopped words kept x of is t gathered read None y (loaded_all was read gathered None x y loads) honest_y
+        all_ran returning laws before rebuild stopped words kept x is t gathered read None y (loaded_all was read gathered None x y loads) honest_y
 
     later : Ran any_call y.told.history z.told.history
     later = redoes_ran x.member.array.geometry redo into AtRest refusal y z run honest
@@ -71,15 +77,16 @@ module _ (before : List Happening) (rebuild : Option Rebuild) (stopped : Option 
     ran_to : (c : List Happening) → IsMoment y.told.history c z.told.history → Ran any_call before c
     ran_to c at = ran_join {allowed = any_call} upto (ran_before {allowed = any_call} later at)
 
-    pub going_at : (c : List Happening) → IsMoment y.told.history c z.told.history → CalmIn before rebuild stopped words kept x of c → IsGoing before c
-    going_at c at calm = calm_going x.member.array.geometry before c (ran_to c at) calm
+    pub going_at : (c : List Happening) → IsMoment y.told.history c z.told.history → IsCalmTo returning x.member.array.geometry before c
+        → IsGoing returning x.member.array.geometry before c
+    going_at c at calm = calm_going returning x.member.array.geometry before c (ran_to c at) calm
 
-    pub begins : (c : List Happening) → IsMoment y.told.history c z.told.history → IsGoing before c
-        → redo_doubt.Begins before rebuild stopped words words kept None redo into x of y
+    pub begins : (c : List Happening) → IsMoment y.told.history c z.told.history → IsGoing returning x.member.array.geometry before c
+        → redo_doubt.Begins returning before rebuild stopped words words kept None redo into x y
     begins c at on = record {
       array = is.is_open.array;
-      serves = load_serves before rebuild stopped words kept x of is t gathered read y l honest_y on_y;
-      stays = stays_so before rebuild stopped words kept x of is t gathered read None y l honest_y;
+      serves = load_serves returning laws before rebuild stopped words kept x is t gathered read y l honest_y on_y;
+      stays = stays_so returning laws before rebuild stopped words kept x is t gathered read None y l honest_y;
       redoing = record {
         limits = is.is_open.array.member.array.limits;
         formed = formed;
@@ -87,10 +94,10 @@ module _ (before : List Happening) (rebuild : Option Rebuild) (stopped : Option 
       };
       cells = λ i c has. ap (λ (s : Stripe). cell s i c) same;
       becomes = record {
-        old_are = of.encodings;
-        new_are = of.encodings;
-        frozen = of.frozen;
-        label = of.label;
+        old_are = is.of.encodings;
+        new_are = is.of.encodings;
+        frozen = is.of.frozen;
+        label = is.of.label;
         frozen_new = refl;
         label_new = refl;
       };
@@ -99,91 +106,92 @@ module _ (before : List Happening) (rebuild : Option Rebuild) (stopped : Option 
         l : HasLoaded t (IsCellOf x.member.array.geometry) gathered read None x y
         l = loaded_all was read gathered None x y loads
 
-        on_y : IsGoing before y.told.history
-        on_y = going_sooner before y.told.history c upto (ran_before {allowed = any_call} later at) on
+        on_y : IsGoing returning x.member.array.geometry before y.told.history
+        on_y = going_sooner returning x.member.array.geometry before y.told.history c upto (ran_before {allowed = any_call} later at) on
 
         same : into ≡ words redo.stripe
         same =
-            restored before rebuild stopped words kept x of is t gathered read None y l honest_y (λ i j inside. inside)
-            (going_mid before rebuild stopped words kept x of is t gathered read None y l honest_y on_y) below into loaded
+            restored returning laws before rebuild stopped words kept x is t gathered read None y l honest_y (λ i j inside. inside)
+            (going_mid returning laws before rebuild stopped words kept x is t gathered read None y l honest_y on_y) below into loaded
             ∙ ap words (sym here)
 
-    rewrote_moments : AtEveryMoment (Stands before rebuild stopped words kept x of) x.told.history z.told.history
-    rewrote_moments =
-        at_every_join {P = Stands before rebuild stopped words kept x of}
-        (loading_moments before rebuild stopped words kept x of is t gathered read None y (loaded_all was read gathered None x y loads) honest_y)
-        (at_every_from {P = Stands before rebuild stopped words kept x of} later.more later.is
+    rewrote_moments : LeadsRedos returning → AtEveryMoment (StandsAt returning before x.member kept) x.told.history z.told.history
+    rewrote_moments redos =
+        at_every_join {P = StandsAt returning before x.member kept}
+        (loading_moments returning laws before rebuild stopped words kept x is t gathered read None y
+        (loaded_all was read gathered None x y loads) honest_y)
+        (at_every_from {P = StandsAt returning before x.member kept} later.more later.is
         (λ c at calm image left.
-        let stands =
-        redo_doubt.redo_stands before rebuild stopped words words kept None redo into x y of (begins c at (going_at c at calm)) refusal z run honest c at
-        calm image left in
-        record { array = stands.0; stands = stands.1; dropped = stands.2 }))
+        redo_doubt.redo_stands returning before rebuild stopped words words kept None redo into redos x y
+        (begins c at (going_at c at calm)) refusal z run
+        honest c at calm image left))
 
   -- ALL OF IT
 
-  pub moments : (answer : Result ℕ Refusal) (x z : Point) → Scrubs t answer x z → (of : IsOfContent x.member words kept)
-      → Serves before rebuild stopped words kept x of x.told.history → IsTrue z.told.honest
-      → AtEveryMoment (Stands before rebuild stopped words kept x of) x.told.history z.told.history
-  moments _ _ _ (Scrubs.OutOf x past) of is honest =
-      at_every_none {P = Stands before rebuild stopped words kept x of} x.told.history
-      (serving_stands before (array_here before rebuild stopped words kept x of) words kept of x.told.history (λ calm. is))
-  moments _ _ _ (Scrubs.Stops was read gathered fault x y below loads) of is honest =
-      loading_moments before rebuild stopped words kept x of is t gathered read (Some fault) y (loaded_all was read gathered (Some fault) x y loads) honest
-  moments _ _ _ (Scrubs.Sound was read gathered x y below loads none) of is honest =
-      loading_moments before rebuild stopped words kept x of is t gathered read None y (loaded_all was read gathered None x y loads) honest
-  moments _ _ _ (Scrubs.Unrestored was read into gathered refusal x y below loads lost) of is honest =
-      loading_moments before rebuild stopped words kept x of is t gathered read None y (loaded_all was read gathered None x y loads) honest
-  moments _ _ _ (Scrubs.Rewrote was read into gathered redo refusal x y z below loads loaded here formed cells run) of is honest =
-      rewrote_moments was read into gathered redo refusal x y z of is below loads loaded here formed run honest
+  module _ (redos : LeadsRedos returning) where
+    pub moments : (answer : Result ℕ Refusal) (x z : Point) → Scrubs t answer x z → ServesAt x x.told.history → IsTrue z.told.honest
+        → AtEveryMoment (StandsAt returning before x.member kept) x.told.history z.told.history
+    moments _ _ _ (Scrubs.OutOf x past) is honest =
+        at_every_none {P = StandsAt returning before x.member kept} x.told.history
+        (serving_stands returning laws before (array_with rebuild stopped x) words kept x.told.history (λ calm. is))
+    moments _ _ _ (Scrubs.Stops was read gathered fault x y below loads) is honest =
+        loading_moments returning laws before rebuild stopped words kept x is t gathered read (Some fault) y
+        (loaded_all was read gathered (Some fault) x y loads) honest
+    moments _ _ _ (Scrubs.Sound was read gathered x y below loads none) is honest =
+        loading_moments returning laws before rebuild stopped words kept x is t gathered read None y
+        (loaded_all was read gathered None x y loads) honest
+    moments _ _ _ (Scrubs.Unrestored was read into gathered refusal x y below loads lost) is honest =
+        loading_moments returning laws before rebuild stopped words kept x is t gathered read None y
+        (loaded_all was read gathered None x y loads) honest
+    moments _ _ _ (Scrubs.Rewrote was read into gathered redo refusal x y z below loads loaded here formed cells run) is honest =
+        rewrote_moments was read into gathered redo refusal x y z is below loads loaded here formed run honest redos
 
-  pub outcome : (answer : Result ℕ Refusal) (x z : Point) → Scrubs t answer x z → (of : IsOfContent x.member words kept)
-      → Serves before rebuild stopped words kept x of x.told.history → IsTrue z.told.honest
-      → CalmIn before rebuild stopped words kept x of z.told.history → ScrubOutcome x of answer z
-  outcome _ _ _ (Scrubs.OutOf x past) of is honest calm =
-      Lacks _ x
-      (same_serves before rebuild stopped words kept x x of refl honest is
-      (calm_going x.member.array.geometry before x.told.history is.is_open.ran calm))
-      (same_stays before rebuild stopped words kept x x of refl is) (λ final. absurd final)
-  outcome _ _ _ (Scrubs.Stops was read gathered fault x y below loads) of is honest calm =
-      let l = loaded_all was read gathered (Some fault) x y loads in
-      let on =
-      calm_going x.member.array.geometry before y.told.history
-      (all_ran before rebuild stopped words kept x of is t gathered read (Some fault) y l honest) calm in
-      let stands =
-      refused_stands before words kept x.member fault y of
-      (load_stops before rebuild stopped words kept x of is t gathered read fault y l honest on) honest calm in
-      Stops fault y stands.0 below stands.1 stands.2
-  outcome _ _ _ (Scrubs.Sound was read gathered x y below loads none) of is honest calm =
-      let l = loaded_all was read gathered None x y loads in
-      let on =
-      calm_going x.member.array.geometry before y.told.history
-      (all_ran before rebuild stopped words kept x of is t gathered read None y l honest) calm in
-      Gives 0 y (load_serves before rebuild stopped words kept x of is t gathered read y l honest on)
-      (stays_so before rebuild stopped words kept x of is t gathered read None y l honest) below tt
-  outcome _ _ _ (Scrubs.Unrestored was read into gathered refusal x y below loads lost) of is honest calm =
-      let l = loaded_all was read gathered None x y loads in
-      let on =
-      calm_going x.member.array.geometry before y.told.history
-      (all_ran before rebuild stopped words kept x of is t gathered read None y l honest) calm in
-      Lacks refusal y (load_serves before rebuild stopped words kept x of is t gathered read y l honest on)
-      (stays_so before rebuild stopped words kept x of is t gathered read None y l honest) (λ final. subst IsFinal lost.1.1 final)
-  outcome _ _ _ (Scrubs.Rewrote was read into gathered redo refusal x y z below loads loaded here formed cells run) of is honest calm = by refusal run
-    where
-      on : IsGoing before z.told.history
-      on =
-          going_at was read into gathered redo refusal x y z of is below loads loaded here formed run honest z.told.history
-          (to_end was read into gathered redo refusal x y z of is below loads loaded here formed run honest) calm
+    pub outcome : (answer : Result ℕ Refusal) (x z : Point) → Scrubs t answer x z → ServesAt x x.told.history → IsTrue z.told.honest
+        → IsCalmTo returning x.member.array.geometry before z.told.history → ScrubOutcome x answer z
+    outcome _ _ _ (Scrubs.OutOf x past) is honest calm =
+        Lacks _ x
+        (same_serves returning laws before rebuild stopped words kept x x refl honest is
+        (calm_going returning x.member.array.geometry before x.told.history is.is_open.ran calm))
+        (same_stays returning laws before rebuild stopped words kept x x refl is) (λ final. absurd final)
+    outcome _ _ _ (Scrubs.Stops was read gathered fault x y below loads) is honest calm =
+        let l = loaded_all was read gathered (Some fault) x y loads in
+        let on =
+        calm_going returning x.member.array.geometry before y.told.history
+        (all_ran returning laws before rebuild stopped words kept x is t gathered read (Some fault) y l honest) calm in
+        Stops fault y below
+        (refused_stands returning laws before words kept x.member fault y
+        (load_stops returning laws before rebuild stopped words kept x is t gathered read fault y l honest on) honest calm)
+    outcome _ _ _ (Scrubs.Sound was read gathered x y below loads none) is honest calm =
+        let l = loaded_all was read gathered None x y loads in
+        let on =
+        calm_going returning x.member.array.geometry before y.told.history
+        (all_ran returning laws before rebuild stopped words kept x is t gathered read None y l honest) calm in
+        Gives 0 y (load_serves returning laws before rebuild stopped words kept x is t gathered read y l honest on)
+        (stays_so returning laws before rebuild stopped words kept x is t gathered read None y l honest) below tt
+    outcome _ _ _ (Scrubs.Unrestored was read into gathered refusal x y below loads lost) is honest calm =
+        let l = loaded_all was read gathered None x y loads in
+        let on =
+        calm_going returning x.member.array.geometry before y.told.history
+        (all_ran returning laws before rebuild stopped words kept x is t gathered read None y l honest) calm in
+        Lacks refusal y (load_serves returning laws before rebuild stopped words kept x is t gathered read y l honest on)
+        (stays_so returning laws before rebuild stopped words kept x is t gathered read None y l honest) (λ final. subst IsFinal lost.1.1 final)
+    outcome _ _ _ (Scrubs.Rewrote was read into gathered redo refusal x y z below loads loaded here formed cells run) is honest calm = by refusal run
+      where
+        on : IsGoing returning x.member.array.geometry before z.told.history
+        on =
+            going_at was read into gathered redo refusal x y z is below loads loaded here formed run honest z.told.history
+            (to_end was read into gathered redo refusal x y z is below loads loaded here formed run honest) calm
 
-      start : redo_doubt.Begins before rebuild stopped words words kept None redo into x of y
-      start =
-          begins was read into gathered redo refusal x y z of is below loads loaded here formed run honest z.told.history
-          (to_end was read into gathered redo refusal x y z of is below loads loaded here formed run honest) on
+        start : redo_doubt.Begins returning before rebuild stopped words words kept None redo into x y
+        start =
+            begins was read into gathered redo refusal x y z is below loads loaded here formed run honest z.told.history
+            (to_end was read into gathered redo refusal x y z is below loads loaded here formed run honest) on
 
-      by : (given : Option FenceFault) → Redoes x.member.array.geometry redo into AtRest given y z
-          → ScrubOutcome x of (answer_of (cell_count redo.cells) given) z
-      by None run =
-          let ends = redo_doubt.done before rebuild stopped words words kept None redo into x y of start z run honest on in
-          Gives (cell_count redo.cells) z ends.0 ends.1 below tt
-      by (Some fault) run =
-          let ends = redo_doubt.stops before rebuild stopped words words kept None redo into x y of start fault z run honest calm in
-          Stops fault z ends.0 below ends.1 ends.2
+        by : (given : Option FenceFault) → Redoes x.member.array.geometry redo into AtRest given y z
+            → ScrubOutcome x (answer_of (cell_count redo.cells) given) z
+        by None run =
+            let ends = redo_doubt.done returning before rebuild stopped words words kept None redo into redos x y start z run honest on in
+            Gives (cell_count redo.cells) z ends.0 ends.1 below tt
+        by (Some fault) run =
+            Stops fault z below (redo_doubt.stops returning before rebuild stopped words words kept None redo into redos x y start fault z run honest
+            calm)

@@ -1,6 +1,7 @@
--- A look at the seats of an open array is what is promised of a step, on any rack, and one of the machine, where no medium comes back.
-use Rattle.std.proofs.Common.{◌≡◌, inr, refl, sym, ap, ◌∙◌, subst, List, None, Option, Some}
+-- A look at the seats of an open array is what is promised of a step, on any rack, and one of the machine, whether media come back or not.
+use Rattle.std.proofs.Common.{◌≡◌, inr, refl, sym, ap, ◌∙◌, subst, List, None, Option, Some, IsTrue}
 use Rattle.std.specs.Prelude.{Err, IfErr, IsOk, Ok}
+use Rattle.stair_rack.specs.Answers.{IsHistory, Ran, any_call}
 use Rattle.stair_rack.specs.Crash.{EachImage}
 use Rattle.stair_rack.specs.History.{Happening}
 use Rattle.stair_rack.specs.Moments.{AtEveryMoment, IsMoment}
@@ -11,24 +12,23 @@ use Rattle.stair_rack.proofs.TellingLemmas.{later_none}
 use Rattle.stair_member.specs.Membership.{Membership}
 use Rattle.stair_member.specs.Seats.{Seats}
 use Rattle.stair_state.specs.State.{State}
-use Rattle.stair_state.proofs.AloneLemmas.{left_stands}
 use Rattle.stair_session.specs.Courses.{Point, point}
-use Rattle.stair_session.specs.InSession.{IsOfContent, state_with}
+use Rattle.stair_session.specs.InSession.{state_with}
 use Rattle.stair_session.specs.Leading.{led_to}
 use Rattle.stair_session.specs.Rebuilding.{Rebuild}
-use Rattle.stair_session.specs.Returning.{IsCalm, NoneReturns}
+use Rattle.stair_session.specs.Returning.{IsCalm, Returning}
 use Rattle.stair_session.specs.Session.{IsArray, seats_in}
-use Rattle.stair_session.proofs.FencesLemmas.{stays_open}
+use Rattle.stair_session.proofs.Serving.{IsCalmTo, IsServing, LeadsReads}
+use Rattle.stair_session.proofs.Mending.{calm_going}
 use Rattle.stair_array.specs.Causes.{IsAllowed}
 use Rattle.stair_array.specs.Events.{events_of}
 use Rattle.stair_array.specs.Machine.{Answer, LookAtSeats, Recover, Row}
 use Rattle.stair_array.specs.Promise.{EndsIn, IsInState, IsLed, IsLeftBy, IsOpenFor, KeepsProgress, LeadsStep, Opened, Performs, Seen, is_open, running}
 use Rattle.stair_array.proofs.AnsweredLemmas.{never_answered}
 use Rattle.stair_array.proofs.GoesOnLemmas.{draws_few, member_goes_on}
-use Rattle.stair_array.proofs.LeftServingLemmas.{represents_serving}
-use Rattle.stair_array.proofs.OpenStepLemmas.{calm_for, of_state, open_first, serves_first, serves_over}
+use Rattle.stair_array.proofs.LoadingLemmas.{same_serves}
+use Rattle.stair_array.proofs.OpenStepLemmas.{open_first, serves_first, serves_over, calm_first}
 use Rattle.stair_array.proofs.PartsLemmas.{IsPart, part_none}
-use Rattle.stair_array.proofs.ServingLemmas.{IsCalmTo, IsServing}
 
 -- ON ANY RACK
 
@@ -66,22 +66,23 @@ module _ (m : Membership) (rebuild : Option Rebuild) (x : Telling) (array : IsAr
 no_opening : ¬ (LookAtSeats ≡ Recover)
 no_opening same = cc
 
-module _ (answer : Answer LookAtSeats) (events : List Event) (x y : Seen) (p : Performs LookAtSeats answer events x y) (before : List Happening)
-    (s : State) (state : IsInState NoneReturns before s x) where
+module _ (returning : Returning) (laws : LeadsReads returning) (answer : Answer LookAtSeats) (events : List Event) (x y : Seen)
+    (p : Performs LookAtSeats answer events x y) (honest : IsTrue y.told.honest) (before : List Happening)
+    (s : State) (history : IsHistory x.told.history) (state : IsInState returning before s x) where
   abbrev m : Membership
   m = p.was.member
 
   abbrev last : Membership
   last = p.is.member
 
-  abbrev begins : IsOpenFor NoneReturns before s p.was x.told.history
-  begins = open_first LookAtSeats no_opening answer events x y p before s state
+  abbrev begins : IsOpenFor returning before s p.was x.told.history
+  begins = open_first returning laws LookAtSeats no_opening answer events x y p before s state
 
-  of_kept : IsOfContent m begins.words s.content
-  of_kept = of_state LookAtSeats no_opening answer events x y p before s state
+  serves : IsServing returning before p.was begins.words s.content x.told.history
+  serves = serves_first returning laws LookAtSeats no_opening answer events x y p before s state history
 
-  serves : IsServing before p.was begins.words x.told.history
-  serves = serves_first LookAtSeats no_opening answer events x y p before s state
+  calm_begun : (h : List Happening) → IsCalm returning s.geometry (is_open x.session) before h → IsCalmTo returning m.array.geometry before h
+  calm_begun = calm_first returning laws LookAtSeats no_opening answer events x y p before s state
 
   -- nothing was called, and nothing is changed
   same_member : last ≡ m
@@ -110,7 +111,7 @@ module _ (answer : Answer LookAtSeats) (events : List Event) (x y : Seen) (p : P
     marks = (refl, refl);
   }
 
-  leads : IsCalm NoneReturns s.geometry (is_open x.session) before y.told.history → IsLed NoneReturns m before s LookAtSeats answer y
+  leads : IsCalm returning s.geometry (is_open x.session) before y.told.history → IsLed returning m before s LookAtSeats answer y
   leads calm = record {
     state = state_with last s.content None last.array;
     is_step = record {
@@ -122,19 +123,21 @@ module _ (answer : Answer LookAtSeats) (events : List Event) (x y : Seen) (p : P
           (ap (λ (k : Membership). Some (seats_in k.array)) same_member));
     };
     is_in =
-        serves_over LookAtSeats no_opening answer events x y p before s state begins.words s.content
+        serves_over returning laws LookAtSeats no_opening answer events x y p before s state begins.words s.content
         (ap (λ (k : Membership). k.array.geometry) same_member)
-        (subst (λ (k : Membership). IsOfContent k begins.words s.content) (sym same_member) of_kept)
-        (subst (λ (k : Membership). IsServing before (led_to p.was k) begins.words y.told.history) (sym same_member)
-        (record { is_open = stays_open before p.was begins.words y.told.history here.is_open; begun = here.begun })) p.rebuild
-        (calm_for begins y.told.history calm);
+        (subst (λ (k : Membership). IsServing returning before (led_to p.was k) begins.words s.content y.told.history) (sym same_member) here) p.rebuild
+        (calm_begun y.told.history calm);
   }
     where
-      here : IsServing before p.was begins.words y.told.history
-      here = subst (λ (t : Telling). IsServing before p.was begins.words t.history) (sym same_told) serves
+      here : IsServing returning before (led_to p.was m) begins.words s.content y.told.history
+      here =
+          same_serves returning laws before p.was.rebuild p.was.stopped begins.words s.content (point m y.told) (point m y.told) refl honest
+          (subst (λ (t : Telling). IsServing returning before p.was begins.words s.content t.history) (sym same_told) serves)
+          (calm_going returning m.array.geometry before y.told.history
+          (subst (λ (t : Telling). Ran any_call before t.history) (sym same_told) serves.is_open.ran) (calm_begun y.told.history calm))
 
   abbrev LeavesAt : List Happening → Type 0
-  LeavesAt c = IsCalmTo m.array.geometry before c → EachImage (IsLeftBy NoneReturns LookAtSeats m before c s) c
+  LeavesAt c = IsCalmTo returning m.array.geometry before c → EachImage (IsLeftBy returning LookAtSeats m before c s) c
 
   at_once : LeavesAt x.told.history
   at_once calm image left =
@@ -146,23 +149,24 @@ module _ (answer : Answer LookAtSeats) (events : List Event) (x y : Seen) (p : P
           within = inr (Ok (seats_in m.array), row (state_with m s.content None m.array) refl refl refl refl);
         };
         stands =
-            left_stands (state_with m s.content None m.array) x.told.history image serves.begun.history
-            (represents_serving before p.was begins.words s.content of_kept x.told.history serves calm) left;
+            laws.alone (state_with m s.content None m.array) x.told.history image serves.history
+            (laws.stands before p.was begins.words s.content x.told.history serves calm) left;
       }
 
-  cuts : (c : List Happening) → IsMoment x.told.history c y.told.history → IsCalm NoneReturns s.geometry (is_open x.session) before c
-      → EachImage (IsLeftBy NoneReturns LookAtSeats m before c s) c
+  cuts : (c : List Happening) → IsMoment x.told.history c y.told.history → IsCalm returning s.geometry (is_open x.session) before c
+      → EachImage (IsLeftBy returning LookAtSeats m before c s) c
   cuts c at calm =
       at_moment {P = LeavesAt}
       (subst (λ (t : Telling). AtEveryMoment LeavesAt x.told.history t.history) (sym same_told) (at_every_none {P = LeavesAt} x.told.history at_once)) at
-      (calm_for begins c calm)
+      (calm_begun c calm)
 
 -- So it is what is promised of a step.
-pub promise : (answer : Answer LookAtSeats) (events : List Event) (x y : Seen) (p : Performs LookAtSeats answer events x y)
-    → LeadsStep NoneReturns p.was.member LookAtSeats answer x y
-promise answer events x y p = record {
-  leads = λ honest before s history state calm. leads answer events x y p before s state calm;
-  cuts = λ honest before s history state c at calm. cuts answer events x y p before s state c at calm;
+pub promise : (returning : Returning) → LeadsReads returning → (answer : Answer LookAtSeats) (events : List Event) (x y : Seen)
+    (p : Performs LookAtSeats answer events x y)
+    → LeadsStep returning p.was.member LookAtSeats answer x y
+promise returning laws answer events x y p = record {
+  leads = λ honest before s history state calm. leads returning laws answer events x y p honest before s history state calm;
+  cuts = λ honest before s history state c at calm. cuts returning laws answer events x y p honest before s history state c at calm;
   complete = λ honest before s history state calm can.
-      subst (λ (given : Answer LookAtSeats). IsOk given) (sym (answered answer events x y p before s state)) refl;
+      subst (λ (given : Answer LookAtSeats). IsOk given) (sym (answered returning laws answer events x y p honest before s history state)) refl;
 }

@@ -24,9 +24,9 @@ use Rattle.stair_state.specs.Redoing.{AtRest, AttachesNone, Done, InPlace, IsRed
 use Rattle.stair_state.specs.State.{BlocksAre, Change, Content, State, changed_if}
 use Rattle.stair_session.specs.Courses.{Fenced, LeavesOut, NoneWas, Point, point}
 use Rattle.stair_session.specs.CutOff.{IsStillThere}
-use Rattle.stair_session.specs.InSession.{IsOfContent}
 use Rattle.stair_session.specs.Leading.{IsOpenAmid}
 use Rattle.stair_session.specs.Opening.{StaysArray}
+use Rattle.stair_session.specs.Returning.{NoneReturns}
 use Rattle.stair_session.specs.Session.{ArrayState, HasOwn, IsLiveIn, seats_in}
 use Rattle.stair_session.specs.UnderWay.{IsOfRedo, IsUnderWay, content_in, doubt_in}
 use Rattle.stair_session.proofs.BesideLemmas.{attached_on}
@@ -37,14 +37,15 @@ use Rattle.stair_session.proofs.OpenWithLemmas.{amid_of}
 use Rattle.stair_session.proofs.OwnLaws.{attached_or_bare}
 use Rattle.stair_session.proofs.RedoingLemmas.{no_redo, out_ran, resting, way_begins}
 use Rattle.stair_session.proofs.SeatLemmas.{listed_member, listed_super}
+use Rattle.stair_session.proofs.Serving.{IsGoing}
 use Rattle.stair_session.proofs.StaysArrayLemmas.{drops_twice}
 use Rattle.stair_array.specs.Machine.{InDoubt, IsAsItWas, Made, MayBeCut}
 use Rattle.stair_array.specs.Writes.{IsCutOffIn}
 use Rattle.stair_array.proofs.GoneToLemmas.{attaches_none}
-use Rattle.stair_array.proofs.LedOnLemmas.{kept_drops, still_of}
+use Rattle.stair_array.proofs.LedOnLemmas.{kept_drops}
 use Rattle.stair_array.proofs.LoadingLemmas.{IsRefusedAt}
 use Rattle.stair_array.proofs.PartsLemmas.{out_after}
-use Rattle.stair_array.proofs.ServingLemmas.{IsGoing, going_sooner}
+use Rattle.stair_array.proofs.ServingLemmas.{going_sooner}
 
 -- no change, or the write
 abbrev pub IsNoneOrWrite : ℕ → List (List ℕ) → Option Change → Type 0
@@ -74,9 +75,9 @@ pub record IsRefusedIn (before : List Happening) (kept : Content) (first : ℕ) 
 
 -- as it was while cells were read
 pub rest_refused : (before : List Happening) (words : Codewords) (kept : Content) (first : ℕ) (contents : List (List ℕ)) (m : Membership)
-    (fault : FenceFault) (z : Point) → IsOfContent m words kept → IsRefusedAt before words m fault z → IsTrue z.told.honest
-    → IsGoing before z.told.history → IsRefusedIn before kept first contents m fault z
-rest_refused before words kept first contents m fault z of at honest on = record {
+    (fault : FenceFault) (z : Point) → IsRefusedAt NoneReturns before words kept m fault z → IsTrue z.told.honest
+    → IsGoing NoneReturns m.array.geometry before z.told.history → IsRefusedIn before kept first contents m fault z
+rest_refused before words kept first contents m fault z at honest on = record {
   array = at.array;
   mid = at.mid;
   gone = at.gone;
@@ -87,15 +88,15 @@ rest_refused before words kept first contents m fault z of at honest on = record
   begun = inl refl;
   way =
       way_begins (resting at.array.member.array.geometry words no_redo words) at.array.member at.mid.history
-      (in_session before at.array words at.mid.history at.serves.is_open on_mid.none on_mid.going at.serves.begun) refl;
+      (in_session before at.array words at.mid.history at.serves.is_open on_mid.0 on_mid.1 at.serves.knows) refl;
   amid = amid_of before at.array words at.mid.history at.serves.is_open;
   change = None;
   is_write = inl refl;
   of = record {
-    old_are = of_next.encodings;
-    new_are = of_next.encodings;
-    frozen = of_next.frozen;
-    label = of_next.label;
+    old_are = at.serves.of.encodings;
+    new_are = at.serves.of.encodings;
+    frozen = at.serves.of.frozen;
+    label = at.serves.of.label;
     frozen_new = refl;
     label_new = refl;
   };
@@ -105,13 +106,10 @@ rest_refused before words kept first contents m fault z of at honest on = record
   live = at.live;
 }
   where
-    on_mid : IsGoing before at.mid.history
+    on_mid : IsGoing NoneReturns m.array.geometry before at.mid.history
     on_mid =
-        going_sooner before at.mid.history z.told.history at.serves.is_open.ran
+        going_sooner NoneReturns m.array.geometry before at.mid.history z.told.history at.serves.is_open.ran
         (out_ran at.gone (Some fault) (point at.array.member at.mid) z at.leaves honest) on
-
-    of_next : IsOfContent at.array.member words kept
-    of_next = still_of m at.array.member words kept at.stays of
 
 -- WHAT A STAGE LEAVES
 
@@ -154,7 +152,8 @@ module _ (first : ℕ) (contents : List (List ℕ)) (g : Geometry) (kept : Conte
 -- THE RACK
 
 module _ (before : List Happening) (kept : Content) (first : ℕ) (contents : List (List ℕ)) (m : Membership) (fault : FenceFault) (z : Point)
-    (at : IsRefusedIn before kept first contents m fault z) (honest : IsTrue z.told.honest) (on : IsGoing before z.told.history)
+    (at : IsRefusedIn before kept first contents m fault z) (honest : IsTrue z.told.honest)
+    (on : IsGoing NoneReturns m.array.geometry before z.told.history)
     (held : (j : ℕ) → IsLiveIn m j → IsHeld before z.told.history j)
     (still : (image : Image) → CrashMayLeave z.told.history image → IsStillThere (IsOffline before z.told.history) m.array.geometry (IsLiveIn m) image)
   where
@@ -167,24 +166,24 @@ module _ (before : List Happening) (kept : Content) (first : ℕ) (contents : Li
     all : Ran any_call before z.told.history
     all = ran_join {allowed = any_call} at.amid.ran ran
 
-    on_mid : IsGoing before at.mid.history
-    on_mid = going_sooner before at.mid.history z.told.history at.amid.ran ran on
+    on_mid : IsGoing NoneReturns m.array.geometry before at.mid.history
+    on_mid = going_sooner NoneReturns m.array.geometry before at.mid.history z.told.history at.amid.ran ran on
 
     returned : NothingReturned at.mid.history z.told.history
-    returned = each_after on.none (moment_between {a = any_call} {b = any_call} at.amid.ran ran)
+    returned = each_after on.0 (moment_between {a = any_call} {b = any_call} at.amid.ran ran)
 
     -- a live slot that is to be left out bears nothing
     bare : (j : ℕ) → HasSlot at.gone j → why_of p j ≡ why.Here
         → ((slot_state at.mid.history j).attached ≡ false) × ((k : ℕ) → (slot_state at.mid.history j).sector k ≡ damaged)
     bare j has up =
-        elim (attached_or_bare before at.mid.history j at.amid.ran on_mid.none (at.amid.held j (at.here j has))) [
-          | inl stops ↦ absurd (on_mid.going stops)
+        elim (attached_or_bare before at.mid.history j at.amid.ran on_mid.0 (at.amid.held j (at.here j has))) [
+          | inl stops ↦ absurd (on_mid.1 stops)
           | inr (inr off) ↦ off
           | inr (inl attached) ↦ absurd (by attached.0 (at.off j (record { below = (at.here j has).below; why = up }) has))
         ]
       where
         by : IsAttached at.mid.history j → IsOfflineUntilAttached before at.mid.history j → ⊥
-        by attached (IsOfflineUntilAttached.RackStopped stops) = on_mid.going stops
+        by attached (IsOfflineUntilAttached.RackStopped stops) = on_mid.1 stops
         by attached (IsOfflineUntilAttached.Unattached off pulled) = true≢false (sym attached ∙ off)
 
     -- the slot that serves was live to the array then, and is attached
@@ -197,8 +196,8 @@ module _ (before : List Happening) (kept : Content) (first : ℕ) (contents : Li
 
       attached_z : IsAttached z.told.history j
       attached_z =
-          elim (attached_or_bare before z.told.history j all on.none (held j is.among)) [
-            | inl stops ↦ absurd (on.going stops)
+          elim (attached_or_bare before z.told.history j all on.0 (held j is.among)) [
+            | inl stops ↦ absurd (on.1 stops)
             | inr (inl attached) ↦ attached.0
             | inr (inr off) ↦
                 absurd
@@ -242,14 +241,14 @@ module _ (before : List Happening) (kept : Content) (first : ℕ) (contents : Li
           unseated = refl;
           stands =
               represents_still at.redoing at.stage at.begun limits at.start at.gone p z.member answer at.mid z.told at.way at.here bare e honest returned
-              on.going own (IsOffline before z.told.history) still_p kept at.change at.of;
+              on.1 own (IsOffline before z.told.history) still_p kept at.change at.of;
           marks = λ image left current is_current.
               let is_so : IsCurrent p.array.geometry image current =
               subst (λ (g : Geometry). IsCurrent g image current) (same ∙ sym at.stays.geometry) is_current in
               drops_twice (seats_in m.array) (seats_in p.array) (seats_in current.array) at.stays.seats
               (kept_drops p.array current.array (listed_member p at.stays.rules)
               (listed_super current (super_formed _ current is_current.counts.super)) is_so.counts.identity
-              (keeps at.redoing at.stage at.begun limits at.start at.gone p z.member answer at.mid z.told at.way at.here bare e honest returned on.going own
+              (keeps at.redoing at.stage at.begun limits at.start at.gone p z.member answer at.mid z.told at.way at.here bare e honest returned on.1 own
               (IsOffline before z.told.history) still_p image left current is_so));
         }
           where

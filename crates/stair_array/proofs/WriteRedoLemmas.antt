@@ -24,7 +24,7 @@ use Rattle.stair_session.specs.InSession.{IsBesideEpochs}
 use Rattle.stair_session.specs.Leading.{IsAmidRedo, IsOpenAmid, led_to, rebuild_in}
 use Rattle.stair_session.specs.Opening.{StaysArray}
 use Rattle.stair_session.specs.Rebuilding.{Rebuild}
-use Rattle.stair_session.specs.Session.{ArrayState, IsLiveIn}
+use Rattle.stair_session.specs.Session.{IsLiveIn, IsOpenWith}
 use Rattle.stair_session.specs.UnderWay.{IsUnderWay}
 use Rattle.stair_session.proofs.AmidRedoLemmas.{redo_ends, redo_goes, redo_under_way}
 use Rattle.stair_session.proofs.BesideLemmas.{attached_on}
@@ -41,11 +41,7 @@ use Rattle.stair_array.proofs.CourseLemmas.{redo_part}
 use Rattle.stair_array.proofs.GoneToLemmas.{attaches_none}
 use Rattle.stair_array.proofs.LedOnLemmas.{led_again}
 use Rattle.stair_array.proofs.PartsLemmas.{out_after}
-use Rattle.stair_array.proofs.ServingLemmas.{IsServing}
-
--- an array with this member
-abbrev pub array_with : Option Rebuild → Option FenceFault → Point → ArrayState
-array_with rebuild stopped p = record { member = p.member; rebuild = rebuild; stopped = stopped }
+use Rattle.stair_array.proofs.ReadPartLemmas.{array_with}
 
 module _ (before : List Happening) (r : Redoing) (redoing : IsRedoing r) (stripe : Stripe)
     (cells : (i c : ℕ) → HasCell r.redo.cells i c → cell stripe i c ≡ cell (r.new r.redo.stripe) i c) (start : List Happening) where
@@ -96,24 +92,21 @@ module _ (before : List Happening) (r : Redoing) (redoing : IsRedoing r) (stripe
   pub redo_serves : (stage : Stage) (refusal : Option FenceFault) (p z : Point) → Redoes r.geometry r.redo stripe stage refusal p z → refusal ≡ None
       → IsTrue z.told.honest → NothingReturned before z.told.history → ¬ IsTrue (stopped z.told.history) → (rebuild : Option Rebuild)
       (stopped_by : Option FenceFault) → IsAmid stage rebuild stopped_by p
-      → IsServing before (led_to (array_with rebuild stopped_by p) z.member) r.new z.told.history
-  redo_serves _ _ _ _ (Redoes.Ends p) fine honest none going rebuild stopped_by is = record {
-    is_open =
-        stays_open before (array_with rebuild stopped_by p) r.new p.told.history
-        (redo_ends r before (array_with rebuild stopped_by p) start p.told.history is.amid);
-    begun = is.begun;
-  }
+      → IsOpenWith before (led_to (array_with rebuild stopped_by p) z.member) r.new z.told.history × IsBegun None z.member z.told.history
+  redo_serves _ _ _ _ (Redoes.Ends p) fine honest none going rebuild stopped_by is = (
+    stays_open before (array_with rebuild stopped_by p) r.new p.told.history
+        (redo_ends r before (array_with rebuild stopped_by p) start p.told.history is.amid),
+    is.begun,
+  )
   redo_serves _ _ _ _ (Redoes.Stops stage to fault p y not_done over does) fine honest none going rebuild stopped_by is = absurd (cc)
   redo_serves _ _ _ _ (Redoes.Goes stage to refusal p y z not_done over does more) fine honest none going rebuild stopped_by is =
       let then = next_amid stage to refusal rebuild stopped_by p y z over does more honest none going is in
       let serves = redo_serves (next stage) refusal y z more fine honest none going (rebuild_in y.member rebuild) None then in
-      let first : StaysArray p.member y.member = stage_stays _ to None p y does is.amid.amid.array.member in
-      record {
-        is_open =
-            led_again before (array_with rebuild stopped_by p) y.member z.member r.new z.told.history is.amid.amid.array first
-            then.amid.amid.array (redo_stays r.geometry r.redo stripe (next stage) refusal y z more first.rules) serves.is_open;
-        begun = serves.begun;
-      }
+      let first : StaysArray p.member y.member = stage_stays _ to None p y does is.amid.amid.array.member in (
+        led_again before (array_with rebuild stopped_by p) y.member z.member r.new z.told.history is.amid.amid.array first
+            then.amid.amid.array (redo_stays r.geometry r.redo stripe (next stage) refusal y z more first.rules) serves.0,
+        serves.1,
+      )
 
   -- A PHASE, and what is left out after it
 

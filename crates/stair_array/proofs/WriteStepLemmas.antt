@@ -1,8 +1,9 @@
 -- A write of blocks is a step of the array's machine, and what a crash leaves in the midst of it is what one within the step leaves,
--- where no medium comes back.
+-- whether media come back or not.
 use Rattle.std.proofs.Common.{◌≡◌, ℕ, ◌<◌, List, [], inl, inr, refl, sym, ◌∙◌, subst, None, Some, Option}
 use Rattle.std.specs.Prelude.{IsTrue, Ok, Err, length}
 use Rattle.stair_model.specs.Geometry.{Geometry, block_count}
+use Rattle.stair_rack.specs.Answers.{IsHistory}
 use Rattle.stair_rack.specs.Crash.{EachImage}
 use Rattle.stair_rack.specs.History.{Happening}
 use Rattle.stair_rack.specs.Moments.{IsMoment}
@@ -13,23 +14,21 @@ use Rattle.stair_member.specs.Membership.{Membership}
 use Rattle.stair_member.specs.Seats.{Seats}
 use Rattle.stair_member.specs.declared.fault.FenceFault.{FenceFault}
 use Rattle.stair_member.specs.declared.fault.FenceFault.TheVariants as fence
-use Rattle.stair_state.specs.Blocks.{AreEncodingsOf, AreOfOneStripe, with_blocks}
-use Rattle.stair_state.specs.Represents.{Represents}
-use Rattle.stair_state.specs.State.{BlocksAre, Change, Content, State}
+use Rattle.stair_state.specs.Blocks.{AreOfOneStripe}
+use Rattle.stair_state.specs.State.{BlocksAre, Change, Content, State, changed_if}
 use Rattle.stair_session.specs.Courses.{Point, point}
-use Rattle.stair_session.specs.InSession.{IsOfContent, state_with}
+use Rattle.stair_session.specs.InSession.{state_with}
 use Rattle.stair_session.specs.Leading.{led_to}
 use Rattle.stair_session.specs.Opening.{StaysArray}
-use Rattle.stair_session.specs.Returning.{IsCalm, NoneReturns}
+use Rattle.stair_session.specs.Returning.{IsCalm, Returning, StandsFor}
 use Rattle.stair_session.specs.SeatSteps.{EachMayDrop}
 use Rattle.stair_session.specs.Session.{seats_in}
+use Rattle.stair_session.proofs.Serving.{IsCalmTo, IsServing, LeadsReads, LeadsRedos}
 use Rattle.stair_array.specs.Calls.{refused}
 use Rattle.stair_array.specs.Machine.{Answer, CutWithin, Gone, HoldsAfter, InDoubt, IsAsItWas, IsFinal, PassesTests, Recover, Refusal, Row, TooFew, WasBegun, WriteBlocks}
 use Rattle.stair_array.specs.Promise.{IsInState, IsLed, IsLeftBy, IsOpenFor, Keeps, Performs, Seen, is_open}
-use Rattle.stair_array.proofs.LedOnLemmas.{still_of}
-use Rattle.stair_array.proofs.OpenStepLemmas.{calm_for, goes_on_as, kept_fault, of_state, open_first, serves_as, serves_first, stops_as}
-use Rattle.stair_array.proofs.ServingLemmas.{IsCalmTo, IsServing}
-use Rattle.stair_array.proofs.WriteDoubtLemmas.{Certain, Doubtful, MayDoubt, MayWrite}
+use Rattle.stair_array.proofs.OpenStepLemmas.{goes_on_as, kept_fault, open_first, serves_as, serves_first, stops_as, calm_first}
+use Rattle.stair_array.proofs.WriteDoubtLemmas.{Certain, Doubtful, MayDoubt, MayWrite, written}
 use Rattle.stair_array.proofs.WriteOutcomeLemmas.{Outcome, Refused, StandsWith, Stopped, Written, moments, outcome}
 
 -- what refuses an epoch is for good
@@ -37,20 +36,22 @@ refused_final : (fault : FenceFault) → IsFinal (refused fault)
 refused_final (fence.TooFew whys) = tt
 refused_final fence.EpochsSpent = tt
 
-module _ (first : ℕ) (contents : List (List ℕ)) (answer : Answer (WriteBlocks first contents)) (events : List Event) (x y : Seen)
+module _ (returning : Returning) (laws : LeadsReads returning) (redos : LeadsRedos returning) (first : ℕ) (contents : List (List ℕ))
+    (answer : Answer (WriteBlocks first contents)) (events : List Event) (x y : Seen)
     (p : Performs (WriteBlocks first contents) answer events x y) (honest : IsTrue y.told.honest) (before : List Happening) (s : State)
-    (state : IsInState NoneReturns before s x) where
+    (history : IsHistory x.told.history) (state : IsInState returning before s x) where
   pub no_opening : ¬ (WriteBlocks first contents ≡ Recover)
   no_opening same = cc
 
-  abbrev pub begins : IsOpenFor NoneReturns before s p.was x.told.history
-  begins = open_first (WriteBlocks first contents) no_opening answer events x y p before s state
+  abbrev pub begins : IsOpenFor returning before s p.was x.told.history
+  begins = open_first returning laws (WriteBlocks first contents) no_opening answer events x y p before s state
 
-  pub of_kept : IsOfContent p.was.member begins.words s.content
-  of_kept = of_state (WriteBlocks first contents) no_opening answer events x y p before s state
+  pub serves : IsServing returning before p.was begins.words s.content x.told.history
+  serves = serves_first returning laws (WriteBlocks first contents) no_opening answer events x y p before s state history
 
-  pub serves : IsServing before p.was begins.words x.told.history
-  serves = serves_first (WriteBlocks first contents) no_opening answer events x y p before s state
+  pub calm_begun : (h : List Happening) → IsCalm returning s.geometry (is_open x.session) before h
+      → IsCalmTo returning p.was.member.array.geometry before h
+  calm_begun = calm_first returning laws (WriteBlocks first contents) no_opening answer events x y p before s state
 
   -- by the tests of an array that may be written
   passes : (seats : Seats) → MayWrite first contents p.was.member
@@ -93,13 +94,14 @@ module _ (first : ℕ) (contents : List (List ℕ)) (answer : Answer (WriteBlock
 
   -- what the array holds once it is done
   abbrev set_content : Content
-  set_content = record s.content { blocks = with_blocks s.content.blocks first contents }
+  set_content = changed_if (written first contents) s.content
 
   led : (given : Answer (WriteBlocks first contents)) (v : Point) → v ≡ point p.is.member y.told → given ≡ answer
-      → Outcome before p.was.rebuild p.was.stopped begins.words s.content first contents (point p.was.member x.told) of_kept given v
-      → IsCalmTo p.was.member.array.geometry before y.told.history → IsLed NoneReturns p.was.member before s (WriteBlocks first contents) answer y
-  led _ _ at is_answer (Stopped fault v array doubt writes may stands drops) calm =
-      let now : State = state_with p.was.member s.content doubt array in
+      → Outcome returning before p.was.rebuild p.was.stopped begins.words s.content first contents (point p.was.member x.told) given v
+      → IsCalmTo returning p.was.member.array.geometry before y.told.history
+      → IsLed returning p.was.member before s (WriteBlocks first contents) answer y
+  led _ _ at is_answer (Stopped fault v doubt writes may is) calm =
+      let now : State = state_with p.was.member s.content doubt is.array in
       record {
         state = now;
         is_step = record {
@@ -107,15 +109,15 @@ module _ (first : ℕ) (contents : List (List ℕ)) (answer : Answer (WriteBlock
           begins = begins.seats;
           row =
               subst (λ (r : Answer (WriteBlocks first contents)). Row (WriteBlocks first contents) r (seats_in p.was.member.array) s now) is_answer
-              (row (Err (refused fault)) now array begins.geometry (λ begun. passes (seats_in p.was.member.array) writes)
-              (held (refused fault) (refused_final fault) array doubt may) refl drops);
+              (row (Err (refused fault)) now is.array begins.geometry (λ begun. passes (seats_in p.was.member.array) writes)
+              (held (refused fault) (refused_final fault) is.array doubt may) refl is.dropped);
         };
         is_in =
-            stops_as (WriteBlocks first contents) no_opening answer events x y p before s state now
-            (subst (λ (u : Point). Represents now u.told.history) at stands)
+            stops_as returning laws (WriteBlocks first contents) no_opening answer events x y p before s state now
+            (subst (λ (u : Point). StandsFor returning now u.told.history) at is.stands)
             (kept_fault (Unit {0}) fault p.is.stopped
             (subst (λ (r : Answer (WriteBlocks first contents)). Keeps r p.is.stopped) (sym is_answer)
-            (goes_on_as (WriteBlocks first contents) no_opening answer events x y p before s state).1));
+            (goes_on_as returning laws (WriteBlocks first contents) no_opening answer events x y p before s state).1));
       }
   led _ _ at is_answer (Refused refusal v serves_on stays not_final) calm =
       let last : Membership = p.is.member in
@@ -132,9 +134,9 @@ module _ (first : ℕ) (contents : List (List ℕ)) (answer : Answer (WriteBlock
               (inl (as_it_was now refl refl)) refl stays_y.seats);
         };
         is_in =
-            serves_as (WriteBlocks first contents) no_opening answer events x y p before s state begins.words s.content stays_y
-            (still_of p.was.member last begins.words s.content stays_y of_kept)
-            (subst (λ (u : Point). IsServing before (led_to p.was u.member) begins.words u.told.history) at serves_on) p.rebuild calm;
+            serves_as returning laws (WriteBlocks first contents) no_opening answer events x y p before s state begins.words s.content stays_y
+            (subst (λ (u : Point). IsServing returning before (led_to p.was u.member) begins.words s.content u.told.history) at serves_on) p.rebuild
+            calm;
       }
   led _ _ at is_answer (Written v writes is) calm =
       let last : Membership = p.is.member in
@@ -151,21 +153,17 @@ module _ (first : ℕ) (contents : List (List ℕ)) (answer : Answer (WriteBlock
               (record { content = refl; in_doubt = refl }) refl stays_y.seats);
         };
         is_in =
-            serves_as (WriteBlocks first contents) no_opening answer events x y p before s state is.new set_content stays_y
-            (record {
-              encodings = subst (λ (g : Geometry). AreEncodingsOf g set_content.blocks is.new) (sym stays_y.geometry) is.are;
-              frozen = stays_y.frozen ∙ of_kept.frozen;
-              label = stays_y.label ∙ of_kept.label;
-            }) (subst (λ (u : Point). IsServing before (led_to p.was u.member) is.new u.told.history) at is.serves) p.rebuild calm;
+            serves_as returning laws (WriteBlocks first contents) no_opening answer events x y p before s state is.new set_content stays_y
+            (subst (λ (u : Point). IsServing returning before (led_to p.was u.member) is.new set_content u.told.history) at is.serves) p.rebuild calm;
       }
 
-  pub leads : IsCalm NoneReturns s.geometry (is_open x.session) before y.told.history
-      → IsLed NoneReturns p.was.member before s (WriteBlocks first contents) answer y
+  pub leads : IsCalm returning s.geometry (is_open x.session) before y.told.history
+      → IsLed returning p.was.member before s (WriteBlocks first contents) answer y
   leads calm =
-      let here = calm_for begins y.told.history calm in
+      let here = calm_begun y.told.history calm in
       led answer (point p.is.member y.told) refl refl
-      (outcome before p.was.rebuild p.was.stopped begins.words s.content first contents answer (point p.was.member x.told) (point p.is.member y.told)
-      p.does of_kept serves honest here) here
+      (outcome returning laws before p.was.rebuild p.was.stopped begins.words s.content first contents redos answer (point p.was.member x.told)
+      (point p.is.member y.told) p.does serves honest here) here
 
   -- WHAT A CRASH LEAVES
 
@@ -183,19 +181,19 @@ module _ (first : ℕ) (contents : List (List ℕ)) (answer : Answer (WriteBlock
             (held (TooFew []) tt array (Some (BlocksAre first contents)) (Doubtful writes)) refl drops,
       )
 
-  pub cuts : (c : List Happening) → IsMoment x.told.history c y.told.history → IsCalm NoneReturns s.geometry (is_open x.session) before c
-      → EachImage (IsLeftBy NoneReturns (WriteBlocks first contents) p.was.member before c s) c
+  pub cuts : (c : List Happening) → IsMoment x.told.history c y.told.history → IsCalm returning s.geometry (is_open x.session) before c
+      → EachImage (IsLeftBy returning (WriteBlocks first contents) p.was.member before c s) c
   cuts c at calm image left =
       let is =
-      at_moment {P = StandsWith before p.was.rebuild p.was.stopped begins.words s.content first contents (point p.was.member x.told) of_kept}
-      (moments before p.was.rebuild p.was.stopped begins.words s.content first contents answer (point p.was.member x.told) (point p.is.member y.told)
-      p.does of_kept serves honest) at (calm_for begins c calm) image left in
+      at_moment {P = StandsWith returning before p.was.rebuild p.was.stopped begins.words s.content first contents p.was.member}
+      (moments returning laws before p.was.rebuild p.was.stopped begins.words s.content first contents redos answer (point p.was.member x.told)
+      (point p.is.member y.told) p.does serves honest) at (calm_begun c calm) image left in
       record {
-        state = state_with p.was.member s.content is.doubt is.array;
+        state = state_with p.was.member s.content is.doubt is.is.array;
         cut = record {
           begun = seats_in p.was.member.array;
           begins = begins.seats;
-          within = cut_within is.array is.dropped is.doubt is.may;
+          within = cut_within is.is.array is.is.dropped is.doubt is.may;
         };
-        stands = is.stands;
+        stands = is.is.stands;
       }

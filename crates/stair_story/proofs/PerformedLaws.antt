@@ -5,6 +5,8 @@ use Rattle.stair_session.specs.Returning.{NoneReturns}
 use Rattle.stair_session.specs.Session.{ArrayState}
 use Rattle.stair_array.specs.Machine.{LookAtSeats, ReadBlock, RebuildNext, Recover, ReplaceSlot, ScrubStripe, SetFrozen, SetLabel, WriteBlocks}
 use Rattle.stair_array.specs.Promise.{Begun, Found, Session, StartsFrom}
+use Rattle.stair_array.proofs.MendsLeadLemmas.{admissions_lead, beside_leads, promotions_lead}
+use Rattle.stair_array.proofs.NoneReturnsLemmas.{reads_lead, redos_lead}
 use Rattle.stair_array.proofs.RecoverLemmas as recover
 use Rattle.stair_array.proofs.ReadDoneLemmas as read
 use Rattle.stair_array.proofs.RebuildStepLemmas as rebuild
@@ -12,6 +14,7 @@ use Rattle.stair_array.proofs.ReplaceDoneLemmas as replace
 use Rattle.stair_array.proofs.ScrubDoneLemmas as scrub
 use Rattle.stair_array.proofs.SeatsLookLemmas as look
 use Rattle.stair_array.proofs.StampStepLemmas.{freezing, labelling, stamp_leads}
+use Rattle.stair_array.proofs.StampsLeadLemmas.{stamps_lead}
 use Rattle.stair_array.proofs.WriteDoneLemmas as write
 use Rattle.stair_story.specs.Devices.{DeviceView, KeepsRules, MeansWhole, devices}
 use Rattle.stair_story.specs.Headline.{IsBorneOut, PerformedLeads}
@@ -27,18 +30,16 @@ found_rules was _ starts rules = absurd starts
 pub step_leads : PerformedLeads NoneReturns
 step_leads Recover = λ answer events x y performs rules.
     recover.promise answer events x y performs (found_rules performs.was x.session performs.starts rules)
-step_leads (ReadBlock b) = λ answer events x y performs rules. read.promise b answer events x y performs
-step_leads (WriteBlocks first contents) = λ answer events x y performs rules. write.promise first contents answer events x y performs
-step_leads (ScrubStripe t) = λ answer events x y performs rules. scrub.promise t answer events x y performs
-step_leads (ReplaceSlot j) = λ answer events x y performs rules. replace.promise j answer events x y performs
-step_leads RebuildNext = λ answer events x y performs rules. record {
-  leads = λ honest before s history state calm. rebuild.leads answer events x y performs honest before s state calm;
-  cuts = λ honest before s history state c at calm. rebuild.cuts answer events x y performs honest before s state c at calm;
-  complete = λ honest before s history state calm can. rebuild.complete answer events x y performs honest before s state calm can;
-}
-step_leads (SetFrozen frozen) = λ answer events x y performs rules. stamp_leads _ _ _ (freezing frozen) answer events x y performs
-step_leads (SetLabel label) = λ answer events x y performs rules. stamp_leads _ _ _ (labelling label) answer events x y performs
-step_leads LookAtSeats = λ answer events x y performs rules. look.promise answer events x y performs
+step_leads (ReadBlock b) = λ answer events x y performs rules. read.promise NoneReturns reads_lead b answer events x y performs
+step_leads (WriteBlocks first contents) = λ answer events x y performs rules. write.promise NoneReturns reads_lead redos_lead first contents answer events x y performs
+step_leads (ScrubStripe t) = λ answer events x y performs rules. scrub.promise NoneReturns reads_lead redos_lead t answer events x y performs
+step_leads (ReplaceSlot j) = λ answer events x y performs rules.
+    replace.promise NoneReturns reads_lead beside_leads admissions_lead j answer events x y performs
+step_leads RebuildNext = λ answer events x y performs rules.
+    rebuild.promise NoneReturns reads_lead beside_leads promotions_lead answer events x y performs
+step_leads (SetFrozen frozen) = λ answer events x y performs rules. stamp_leads NoneReturns reads_lead stamps_lead _ _ _ (freezing frozen) answer events x y performs
+step_leads (SetLabel label) = λ answer events x y performs rules. stamp_leads NoneReturns reads_lead stamps_lead _ _ _ (labelling label) answer events x y performs
+step_leads LookAtSeats = λ answer events x y performs rules. look.promise NoneReturns reads_lead answer events x y performs
 
 -- a call is borne out
 pub borne_whole : {R W S K : Type 0} (view : DeviceView R W) (streams : Views S K) (plan rest : Plan) (a b : Outside S K) (x y : R)

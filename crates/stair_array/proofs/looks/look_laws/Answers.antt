@@ -1,6 +1,8 @@
 -- The law is a lemma.
+use Rattle.stair_session.specs.Returning.{NoneReturns}
+use Rattle.stair_array.proofs.NoneReturnsLemmas.{reads_lead}
 use Rattle.stair_array.proofs.SeatsLookLemmas.{promise}
 use Rattle.stair_array.proofs.looks.look_laws.Goals as goal
 
 pub returns : goal.returns
-returns c = record { promise = λ answer events x y p. promise answer events x y p }
+returns c = record { promise = promise NoneReturns reads_lead }
