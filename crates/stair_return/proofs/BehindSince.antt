@@ -42,7 +42,7 @@ use Rattle.stair_return.proofs.NameLemmas.{name_apart}
 use Rattle.stair_return.proofs.MediaSince.{IsCellSince, IsHarmed, IsMediumSince, IsStill, IsWritten, New, Same, medium_since}
 
 -- nothing can be read past the end of a reassembled slot
-reassembled_past : (from to : SlotImage) → IsReassembledSlot from to → (k : ℕ) → has_sector to.size k ≡ false → to.cell k ≡ Damaged
+pub reassembled_past : (from to : SlotImage) → IsReassembledSlot from to → (k : ℕ) → has_sector to.size k ≡ false → to.cell k ≡ Damaged
 reassembled_past from to (OneOf place medium is size copies past) k none = past k none
 reassembled_past from to (Unwritten size is all) k none = all k
 reassembled_past from to (Empty is all) k none = all k
@@ -71,22 +71,22 @@ module _ (medium : Medium) (to : SlotImage) where
 -- SLOTS THAT HOLD MEDIA OF BEFORE
 
 -- how the medium that lay there had this joined number when the call began
-data HadNumber (g : Geometry) (m : Membership) (old : List Happening) (j n : ℕ) (place : Location) (medium : Medium) : Type 0 where
+pub data HadNumber (g : Geometry) (m : Membership) (old : List Happening) (j n : ℕ) (place : Location) (medium : Medium) : Type 0 where
   Bore : (s : Superblock) (bears : Bears g j medium.cell s) → s.joined ≡ n → has_sector (Some medium.size) bears.place ≡ true
       → HadNumber g m old j n place medium
   WasInUse : place ≡ InSlot → IsHere m j → IsAttached old j → n ≡ joined_in m.array j → HadNumber g m old j n place medium
 
 -- the slot holds, from the gate on, a copy of a medium that had this joined number then
-record IsStillSlot (g : Geometry) (m : Membership) (old : List Happening) (j n : ℕ) (to : SlotImage) : Type 0 where
-  was : SlotImage
-  left : SlotMayLeave (slot_state old j) was
-  place : Location
-  medium : Medium
-  is_one : IsMediumOf was place medium
-  number : HadNumber g m old j n place medium
-  size : to.size ≡ Some medium.size
-  past : (k : ℕ) → has_sector (Some medium.size) k ≡ false → to.cell k ≡ Damaged
-  copies : (k : ℕ) → gate_sector ≤ k → (to.cell k ≡ medium.cell k) ⊎ (to.cell k ≡ Damaged)
+pub record IsStillSlot (g : Geometry) (m : Membership) (old : List Happening) (j n : ℕ) (to : SlotImage) : Type 0 where
+  pub was : SlotImage
+  pub left : SlotMayLeave (slot_state old j) was
+  pub place : Location
+  pub medium : Medium
+  pub is_one : IsMediumOf was place medium
+  pub number : HadNumber g m old j n place medium
+  pub size : to.size ≡ Some medium.size
+  pub past : (k : ℕ) → has_sector (Some medium.size) k ≡ false → to.cell k ≡ Damaged
+  pub copies : (k : ℕ) → gate_sector ≤ k → (to.cell k ≡ medium.cell k) ⊎ (to.cell k ≡ Damaged)
 
 module _ (g : Geometry) (m : Membership) (old : List Happening) (n : ℕ → ℕ) (to : Image) (some : ℕ → Bool)
     (still : (j : ℕ) → some j ≡ true → IsStillSlot g m old j (n j) (to j)) where
@@ -186,9 +186,74 @@ module _ (g : Geometry) (m : Membership) (old : List Happening) (n : ℕ → ℕ
   back_size : (j : ℕ) → some j ≡ true → (back j).size ≡ (to j).size
   back_size j on = size_then j (some j) refl on
 
+-- WHAT SUCH SLOTS HOLD, by what was known behind the places
+
+module _ (s : State) (encodings : Encodings s) (holders : Holders) (since : ℕ) (aim : Aim) (m : Membership) (old : List Happening)
+    (behind : IsKnownBehind s encodings holders since aim m old) where
+  -- one slot by itself
+  module _ (to : Image) (j n : ℕ) (still : IsStillSlot s.geometry m old j n (to j)) where
+    only : ℕ → Bool
+    only i = i == j
+
+    here : only j ≡ true
+    unfolding only
+    here = eq-eqb j j refl
+
+    still_only : (i : ℕ) → only i ≡ true → IsStillSlot s.geometry m old i n (to i)
+    unfolding only
+    still_only i on = subst (λ (l : ℕ). IsStillSlot s.geometry m old l n (to l)) (sym (eqb-true i j on)) still
+
+    pub large_still : holders j ≡ Some n → IsLargeEnough s.geometry (to j).size
+    large_still holder =
+        subst (λ (o : Option ℕ). IsLargeEnough s.geometry o) (back_size s.geometry m old (λ i. n) to only still_only j here)
+        (behind.full (first s.geometry m old (λ i. n) to only still_only) (first_left s.geometry m old (λ i. n) to only still_only)
+        (back s.geometry m old (λ i. n) to only still_only) j (back_reassembled s.geometry m old (λ i. n) to only still_only)
+        (record { joined = n; holder = holder; number = back_number s.geometry m old (λ i. n) to only still_only j here }))
+
+    pub closed_still : holders j ≡ Some n → AreHoldersClosed s.geometry holders m old → ReadsClosed s.geometry ((to j).cell gate_sector)
+    closed_still holder closed redo opened =
+        closed (first s.geometry m old (λ i. n) to only still_only) (first_left s.geometry m old (λ i. n) to only still_only)
+        (back s.geometry m old (λ i. n) to only still_only) j (back_reassembled s.geometry m old (λ i. n) to only still_only)
+        (record { joined = n; holder = holder; number = back_number s.geometry m old (λ i. n) to only still_only j here }) redo
+        (subst (λ (c : Cell). IsOpenWith s.geometry c redo)
+        (sym (back_behind s.geometry m old (λ i. n) to only still_only j gate_sector here (omega arith))) opened)
+
+    -- its gate isn't open where it is rebuilt
+    pub shut_still : IsRebuiltAs s.geometry since m old j n → (redo : Redo) → ¬ IsOpen s.geometry to j redo
+    shut_still rebuilt redo opened =
+        behind.rebuilding (first s.geometry m old (λ i. n) to only still_only) (first_left s.geometry m old (λ i. n) to only still_only)
+        (back s.geometry m old (λ i. n) to only still_only) j n redo (back_reassembled s.geometry m old (λ i. n) to only still_only) rebuilt
+        (back_number s.geometry m old (λ i. n) to only still_only j here)
+        (subst (λ (c : Cell). IsOpenWith s.geometry c redo)
+        (sym (back_behind s.geometry m old (λ i. n) to only still_only j gate_sector here (omega arith))) opened)
+
+  -- slots that have their holders' numbers
+  pub forms_still : (to : Image) (some : Slots) (number : ℕ → ℕ) → ((j : ℕ) → has_slot some j ≡ true → IsStillSlot s.geometry m old j (number j) (to j))
+      → ((j : ℕ) → HasSlot some j → holders j ≡ Some (number j)) → HasGate (HasSlot some) to
+      → RepresentsBy s.geometry encodings.old encodings.new (HasSlot some) to
+  forms_still to some number still holder gate =
+      represents_still s.geometry (HasSlot some) (HasSlot some) (back s.geometry m old number to (has_slot some) still) to (λ j on. on)
+      (record { each = λ j k on behind_places. inl (sym (back_behind s.geometry m old number to (has_slot some) still j k on behind_places)) })
+      encodings.old encodings.new gate
+      (behind.forms (first s.geometry m old number to (has_slot some) still) (first_left s.geometry m old number to (has_slot some) still)
+      (back s.geometry m old number to (has_slot some) still) some (back_reassembled s.geometry m old number to (has_slot some) still)
+      (λ j on. record {
+        joined = number j;
+        holder = holder j on;
+        number = back_number s.geometry m old number to (has_slot some) still j on;
+      })
+      (record {
+        slot = gate.slot;
+        among = gate.among;
+        kept = λ lost.
+            gate.kept
+            (subst (λ (c : Cell). IsLost c)
+            (back_behind s.geometry m old number to (has_slot some) still gate.slot gate_sector gate.among (omega arith)) lost);
+      }))
+
 -- AT A MOMENT OF THE CALL
 
-abbrev number_of : Option ℕ → ℕ
+abbrev pub number_of : Option ℕ → ℕ
 number_of None = 0
 number_of (Some n) = n
 
@@ -199,7 +264,7 @@ module _ (s : State) (encodings : Encodings s) (holders : Holders) (since : ℕ)
   IsStillAt j n to = IsStillSlot s.geometry m old j n to
 
   -- A slot that bears a superblock holds a medium of before, where one that was given to it names what the member means.
-  still_at : (to : Image) → IsReassembly image to → (j : ℕ) (b : Superblock) → Bears s.geometry j ((to j).cell) b
+  pub still_at : (to : Image) → IsReassembly image to → (j : ℕ) (b : Superblock) → Bears s.geometry j ((to j).cell) b
       → (IsCopy slots editions j b → IsHere m j × (b.joined ≡ joined_in m.array j)) → IsStillAt j b.joined (to j)
   still_at to reassembly j b bears meant = by (medium_since slots editions old h j history ran image left came.place came.medium came.is_one)
     where
@@ -264,47 +329,10 @@ module _ (s : State) (encodings : Encodings s) (holders : Holders) (since : ℕ)
           on (IsWritten inside used wrote) =
               let mine = meant (copy_given slots editions old j k (came.medium.cell k) b wrote holds) in WasInUse inside mine.0 used mine.1
 
-  -- one slot by itself
-  module _ (to : Image) (j n : ℕ) (still : IsStillAt j n (to j)) where
-    only : ℕ → Bool
-    only i = i == j
-
-    here : only j ≡ true
-    unfolding only
-    here = eq-eqb j j refl
-
-    still_only : (i : ℕ) → only i ≡ true → IsStillAt i n (to i)
-    unfolding only
-    still_only i on = subst (λ (l : ℕ). IsStillAt l n (to l)) (sym (eqb-true i j on)) still
-
-    large_still : holders j ≡ Some n → IsLargeEnough s.geometry (to j).size
-    large_still holder =
-        subst (λ (o : Option ℕ). IsLargeEnough s.geometry o) (back_size s.geometry m old (λ i. n) to only still_only j here)
-        (behind.full (first s.geometry m old (λ i. n) to only still_only) (first_left s.geometry m old (λ i. n) to only still_only)
-        (back s.geometry m old (λ i. n) to only still_only) j (back_reassembled s.geometry m old (λ i. n) to only still_only)
-        (record { joined = n; holder = holder; number = back_number s.geometry m old (λ i. n) to only still_only j here }))
-
-    closed_still : holders j ≡ Some n → AreHoldersClosed s.geometry holders m old → ReadsClosed s.geometry ((to j).cell gate_sector)
-    closed_still holder closed redo opened =
-        closed (first s.geometry m old (λ i. n) to only still_only) (first_left s.geometry m old (λ i. n) to only still_only)
-        (back s.geometry m old (λ i. n) to only still_only) j (back_reassembled s.geometry m old (λ i. n) to only still_only)
-        (record { joined = n; holder = holder; number = back_number s.geometry m old (λ i. n) to only still_only j here }) redo
-        (subst (λ (c : Cell). IsOpenWith s.geometry c redo)
-        (sym (back_behind s.geometry m old (λ i. n) to only still_only j gate_sector here (omega arith))) opened)
-
-    -- its gate isn't open where it is rebuilt
-    shut_still : IsRebuiltAs s.geometry since m old j n → (redo : Redo) → ¬ IsOpen s.geometry to j redo
-    shut_still rebuilt redo opened =
-        behind.rebuilding (first s.geometry m old (λ i. n) to only still_only) (first_left s.geometry m old (λ i. n) to only still_only)
-        (back s.geometry m old (λ i. n) to only still_only) j n redo (back_reassembled s.geometry m old (λ i. n) to only still_only) rebuilt
-        (back_number s.geometry m old (λ i. n) to only still_only j here)
-        (subst (λ (c : Cell). IsOpenWith s.geometry c redo)
-        (sym (back_behind s.geometry m old (λ i. n) to only still_only j gate_sector here (omega arith))) opened)
-
   pub shut_since : (to : Image) → IsReassembly image to → (j : ℕ) (b : Superblock) → Bears s.geometry j ((to j).cell) b
       → (IsCopy slots editions j b → IsHere m j × (b.joined ≡ joined_in m.array j)) → IsRebuiltAs s.geometry since m old j b.joined → (redo : Redo)
       → ¬ IsOpen s.geometry to j redo
-  shut_since to reassembly j b bears meant rebuilt redo = shut_still to j b.joined (still_at to reassembly j b bears meant) rebuilt redo
+  shut_since to reassembly j b bears meant rebuilt redo = shut_still s encodings holders since aim m old behind to j b.joined (still_at to reassembly j b bears meant) rebuilt redo
 
   -- nor where it is to be admitted
   pub laid_since : (to : Image) → IsReassembly image to → (j : ℕ) (b : Superblock) → Bears s.geometry j ((to j).cell) b → admitted aim ≡ Some j
@@ -352,13 +380,13 @@ module _ (s : State) (encodings : Encodings s) (holders : Holders) (since : ℕ)
         still_at to reassembly j holder.super holder.bears (λ copy. numbers j holder.super.joined copy.slot holder.joined)
 
     pub full_since : (to : Image) (j : ℕ) → IsReassembly image to → IsHolder s.geometry holders j ((to j).cell) → IsLargeEnough s.geometry (to j).size
-    full_since to j reassembly holder = large_still to j holder.super.joined (holder_still to reassembly j holder) holder.joined
+    full_since to j reassembly holder = large_still s encodings holders since aim m old behind to j holder.super.joined (holder_still to reassembly j holder) holder.joined
 
     -- where their gates read closed they do so still
     pub closed_since : AreHoldersClosed s.geometry holders m old → (to : Image) (j : ℕ) → IsReassembly image to
         → IsHolder s.geometry holders j ((to j).cell) → ReadsClosed s.geometry ((to j).cell gate_sector)
     closed_since closed to j reassembly holder =
-        closed_still to j holder.super.joined (holder_still to reassembly j holder) holder.joined closed
+        closed_still s encodings holders since aim m old behind to j holder.super.joined (holder_still to reassembly j holder) holder.joined closed
 
     module _ (to : Image) (some : Slots) (reassembly : IsReassembly image to) (have : HaveHolders s.geometry holders to (HasSlot some)) where
       abbrev number : ℕ → ℕ
@@ -370,26 +398,6 @@ module _ (s : State) (encodings : Encodings s) (holders : Holders) (since : ℕ)
       still : (j : ℕ) → has_slot some j ≡ true → IsStillAt j (number j) (to j)
       still j on = subst (λ (n : ℕ). IsStillAt j n (to j)) (is_number j on) (holder_still to reassembly j (have j on))
 
-      abbrev earlier : Image
-      earlier = back s.geometry m old number to (has_slot some) still
-
       pub forms_since : HasGate (HasSlot some) to → RepresentsBy s.geometry encodings.old encodings.new (HasSlot some) to
       forms_since gate =
-          represents_still s.geometry (HasSlot some) (HasSlot some) earlier to (λ j on. on)
-          (record { each = λ j k on behind_places. inl (sym (back_behind s.geometry m old number to (has_slot some) still j k on behind_places)) })
-          encodings.old encodings.new gate
-          (behind.forms (first s.geometry m old number to (has_slot some) still) (first_left s.geometry m old number to (has_slot some) still) earlier some
-          (back_reassembled s.geometry m old number to (has_slot some) still)
-          (λ j on. record {
-            joined = number j;
-            holder = (have j on).joined ∙ ap Some (is_number j on);
-            number = back_number s.geometry m old number to (has_slot some) still j on;
-          })
-          (record {
-            slot = gate.slot;
-            among = gate.among;
-            kept = λ lost.
-                gate.kept
-                (subst (λ (c : Cell). IsLost c)
-                (back_behind s.geometry m old number to (has_slot some) still gate.slot gate_sector gate.among (omega arith)) lost);
-          }))
+          forms_still s encodings holders since aim m old behind to some number still (λ j on. (have j on).joined ∙ ap Some (is_number j on)) gate

@@ -36,10 +36,10 @@ use Rattle.stair_rack.proofs.CrashLemmas.{CrashMayLeave-now}
 use Rattle.stair_member.specs.Aims.{admitted}
 
 -- seats aside it is the same state
-reseated : (s : State) (seats : Option Seats) → Encodings s → Encodings (record s { seats = seats })
+pub reseated : (s : State) (seats : Option Seats) → Encodings s → Encodings (record s { seats = seats })
 reseated s seats e = record { old = e.old; new = e.new; old_are = e.old_are; new_are = e.new_are }
 
-by_seats : (s : State) (seats : Option Seats) (e : Encodings s) (holders : Holders) (since : ℕ) (image : Image) → IsConsistentBy s e holders since image
+pub by_seats : (s : State) (seats : Option Seats) (e : Encodings s) (holders : Holders) (since : ℕ) (image : Image) → IsConsistentBy s e holders since image
     → IsConsistentBy (record s { seats = seats }) (reseated s seats e) holders since image
 unfolding reseated
 by_seats s seats e holders since image it = record {

@@ -33,7 +33,7 @@ use Rattle.stair_session.proofs.OpenLaws.{goes_on_within}
 use Rattle.stair_return.proofs.KeptSince.{kept_since}
 use Rattle.stair_return.proofs.StoodSince.{knows_then, latest, stands_since, taken_up}
 
-abbrev with_geometry : State → Geometry → State
+abbrev pub with_geometry : State → Geometry → State
 with_geometry s y = record { geometry = y; content = s.content; in_doubt = s.in_doubt; seats = s.seats }
 
 pub keeps : (s : State) (holders : Holders) (since : ℕ) (aim : Aim) (gone : Slots) (m last : Membership) (old h new : List Happening) (image : Image)
@@ -113,7 +113,7 @@ pub begins : (s : State) (aim : Aim) (before : List Happening) (a : ArrayState) 
     → IsTolerated s.geometry before h → SaysContent s aim a.member
     → BeginsWherever s (holders_of a.member) a.member.array.epoch aim a.member h
 begins s aim before a words h history is_open geometry encoded certain none_joins none_promoted knows tolerated says =
-    session_begins s aim before a words h history is_open geometry none_joins none_promoted knows.known knows.is tolerated knows.own behind says
+    session_begins s aim before a h history is_open.array geometry none_joins none_promoted knows.known knows.is tolerated knows.own behind says
   where
     behind : IsKnownBehind s knows.is.encodings (holders_of a.member) a.member.array.epoch aim a.member h
     behind =

@@ -107,7 +107,7 @@ module _ (holders : Holders) (since : ℕ) (aim : Aim) (m : Membership) (content
     -- WHAT SUPERBLOCKS SAY SINCE THEN
 
     -- what holds of all that were borne, and of what an epoch names that is for this
-    since_kept : (Q : Configuration → Type 0) → ((x : Superblock) → IsBorneSince g since (image_now old) x → Q x.array) → Q m.array
+    pub since_kept : (Q : Configuration → Type 0) → ((x : Superblock) → IsBorneSince g since (image_now old) x → Q x.array) → Q m.array
         → ((named : Configuration) → IsAimed aim (HasSlot gone) m named → Q named) → (x : Superblock) → IsBorneSince g since image x → Q x.array
     since_kept Q first present coming x there = by (borne there.slot there.place x there.borne)
       where

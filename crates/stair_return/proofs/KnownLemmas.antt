@@ -1,41 +1,34 @@
 -- What a survey's member knows of all media, in slots and outside.
 use Rattle.std.specs.Prelude.{IsTrue, Result, Ok}
-use Rattle.std.proofs.Common.{◌≡◌, ℕ, ◌<◌, ◌≤◌, List, inl, inr, refl, sym, ap, ◌∙◌, subst, arith, Option, None, Some, slice_get}
+use Rattle.std.proofs.Common.{◌≡◌, ℕ, ◌<◌, ◌≤◌, List, refl, sym, ap, ◌∙◌, subst, arith, Option, None, Some, slice_get}
 use Rattle.std.specs.Prelude.{IsSome}
-use Rattle.std.proofs.lemmas.Bool.{cases_lt}
 use Rattle.stair_model.specs.Geometry.{Geometry}
-use Rattle.stair_model.specs.Slots.{HasSlot}
-use Rattle.stair_rack.specs.Answers.{IsHistory, IsNoAttach, Ran, any_call}
+use Rattle.stair_rack.specs.Answers.{IsHistory, Ran, any_call}
 use Rattle.stair_rack.specs.Crash.{CrashMayLeave, EachImage, image_now}
 use Rattle.stair_rack.specs.History.{Happening, slot_state}
 use Rattle.stair_rack.specs.Media.{Image, SlotImage}
-use Rattle.stair_rack.specs.Moments.{IsMoment}
 use Rattle.stair_rack.specs.Offline.{IsAttached}
 use Rattle.stair_rack.specs.Sector.{Cell, content}
 use Rattle.stair_rack.specs.Telling.{Telling}
-use Rattle.stair_rack.specs.declared.rack.Got.{Got}
-use Rattle.stair_rack.specs.declared.rack.Got.TheVariants as got
 use Rattle.stair_rack.proofs.CrashLemmas.{CrashMayLeave-now}
 use Rattle.stair_rack.proofs.KeptLemmas.{not_none}
-use Rattle.stair_rack.proofs.MomentLemmas.{calls_ran, moment_between, ran_after, ran_any, ran_before, ran_join}
+use Rattle.stair_rack.proofs.MomentLemmas.{ran_before}
 use Rattle.stair_rack.proofs.TidyLemmas.{history_on, history_tidy}
 use Rattle.stair_super.specs.Superblock.{Superblock, joined_in, mark_at}
 use Rattle.stair_super.specs.declared.configuration.Configuration.{Configuration}
-use Rattle.stair_member.specs.Asked.{FindsSlot, FindsWithin, FoundBoth, FoundNone, IsWhatWasRead}
 use Rattle.stair_member.specs.Current.{HasMark}
 use Rattle.stair_member.specs.Findings.{Findings}
-use Rattle.stair_member.specs.Membership.{IsHere, Membership, why_of}
+use Rattle.stair_member.specs.Membership.{IsHere, Membership}
 use Rattle.stair_member.specs.Reserve.{Bears}
 use Rattle.stair_member.specs.Superblocks.{Counts, HoldsSuper}
 use Rattle.stair_member.specs.Survey.{IsAnswer, IsSurveyed, Surveys}
 use Rattle.stair_member.specs.declared.fault.SurveyFault.{SurveyFault}
 use Rattle.stair_member.proofs.EditionLemmas.{bears_below}
-use Rattle.stair_member.proofs.SuperLemmas.{counts_bears, counts_limits}
+use Rattle.stair_member.proofs.SuperLemmas.{counts_bears}
 use Rattle.stair_state.specs.Holding.{Holders, IsConsistentBy, IsConsistentSince}
 use Rattle.stair_state.specs.Reassembly.{InSlot, IsBorne, IsMediumOf, Location, Outside}
 use Rattle.stair_state.specs.Represents.{AreSteady, no_write}
 use Rattle.stair_state.specs.State.{State}
-use Rattle.stair_state.proofs.AgreeLemmas.{here_late, here_marked}
 use Rattle.stair_state.proofs.DegradedLemmas.{bears_before}
 use Rattle.stair_state.proofs.ExchangedLemmas.{slot_here, slot_left, with_slot}
 use Rattle.stair_state.proofs.FormLemmas.{good_whole}
@@ -47,8 +40,8 @@ use Rattle.stair_session.specs.Mixed.{IsToleratedMixed}
 use Rattle.stair_session.specs.Returning.{CoversMedia, IsKnownWherever}
 use Rattle.stair_return.specs.Following.{AreOfNamed, Blank, Kept, name_of}
 use Rattle.stair_return.specs.Found.{IsToleratedReassembly}
-use Rattle.stair_return.proofs.AttachedOnce.{none_after}
 use Rattle.stair_return.proofs.MixedImages.{mixed_reassembly}
+use Rattle.stair_return.proofs.OpeningBeginsReads.{WasReadAt, found_marked, found_small, found_there, read_at}
 use Rattle.stair_return.proofs.NameLemmas.{attached_name, name_apart, still_attached}
 use Rattle.stair_return.proofs.SurveyLemmas.{counts_same, history, is_mine, ran, same_back, together, together_mixed, together_shown}
 use Rattle.stair_return.proofs.WhereverLemmas.{looked_wherever}
@@ -56,7 +49,7 @@ use Rattle.stair_return.proofs.WhereverLemmas.{looked_wherever}
 -- WHAT MEDIA BEAR
 
 -- images that a crash may leave bear the same, where nothing is unsynced in superblock places
-borne_steady : (g : Geometry) (h : List Happening) (a b : Image) → AreSteady g h → CrashMayLeave h a → CrashMayLeave h b → (i : ℕ) (p : Location)
+pub borne_steady : (g : Geometry) (h : List Happening) (a b : Image) → AreSteady g h → CrashMayLeave h a → CrashMayLeave h b → (i : ℕ) (p : Location)
     (s : Superblock) → IsBorne g a i p s → IsBorne g b i p s
 borne_steady g h a b steady left_a left_b i (Outside k) s borne = record {
   medium = borne.medium;
@@ -118,27 +111,27 @@ module _ (s : State) (holders : Holders) (since : ℕ) (before : List Happening)
   abbrev f : Findings
   f = surveys.findings
 
-  is_history : IsHistory old.history
+  pub is_history : IsHistory old.history
   is_history = history before old new answer surveys honest began
 
-  looked : Ran no_write old.history new.history
+  pub looked : Ran no_write old.history new.history
   looked = unwritten_ran (ran before old new answer surveys honest began)
 
-  surveyed : IsSurveyed f m
+  pub surveyed : IsSurveyed f m
   surveyed = (subst (λ (a : Result Membership SurveyFault). IsAnswer f a) answered surveys.answered).0
 
-  mine : m.array.geometry ≡ g
+  pub mine : m.array.geometry ≡ g
   mine = is_mine before old new answer surveys honest began g tolerated m surveyed
 
   -- the image in which all was seen together
   abbrev to : Image
   to = together before old new answer surveys honest began
 
-  came : IsToleratedReassembly g old.history to
+  pub came : IsToleratedReassembly g old.history to
   came =
       mixed_reassembly before old.history new.history is_history looked g to tolerated (together_mixed before old new answer surveys honest began)
 
-  it : IsConsistentBy s consistent.encodings holders since came.was
+  pub it : IsConsistentBy s consistent.encodings holders since came.was
   it = consistent.each came.was came.left
 
   counts_to : (j : ℕ) (x : Superblock) → Counts g f.image j x → Counts g to j x
@@ -177,86 +170,17 @@ module _ (s : State) (holders : Holders) (since : ℕ) (before : List Happening)
 
   -- A MEDIUM IN USE IS THE ONE THAT THE MEMBER MEANS
 
-  -- a superblock of it was read at some moment, and the slot has that medium still
-  record WasReadOf (j : ℕ) (x : Superblock) : Type 0 where
-    moment : List Happening
-    upto : Ran no_write old.history moment
-    place : ℕ
-    place_in : place < 2
-    holds : HoldsSuper (content ((slot_state moment j).sector place)) x
-    after : Ran (IsNoAttach j) moment new.history
-
-  good_read : (gone : Type 0) (answer' : Got) (h : List Happening) (j k : ℕ) (cell : Cell) (x : Superblock) → IsWhatWasRead gone answer' h j k cell
-      → HoldsSuper cell x → HoldsSuper (content ((slot_state h j).sector k)) x
-  good_read gone got.Good h j k cell x found holds = subst (λ (c : Cell). HoldsSuper c x) found holds
-  good_read gone got.Bad h j k cell x found holds = absurd (good_whole holds.good found)
-  good_read gone got.Gone h j k cell x found holds = absurd (good_whole holds.good found.0)
-
-  was_read : (j k : ℕ) (x : Superblock) → j < 32 → k < 2 → HoldsSuper ((f.image j).cell k) x → WasReadOf j x
-  was_read j k x small k_in holds = by within.finds
-    where
-      within : FindsWithin (HasSlot f.gone j) j ((f.image j).cell) old.history new.history
-      within = (surveys.found.each j small).finds honest
-
-      by : FindsSlot (HasSlot f.gone j) j ((f.image j).cell) within.from within.to → WasReadOf j x
-      by (FoundNone called zero' one' is_gone) =
-          absurd
-          (elim (cases_lt k 1) [
-            | inl first ↦ good_whole holds.good (ap (f.image j).cell (omega (arith, first)) ∙ zero')
-            | inr second ↦ good_whole holds.good (ap (f.image j).cell (omega (arith, second, k_in)) ∙ one')
-          ])
-      by (FoundBoth attached between first second on one two found_one found_two only) =
-          elim (cases_lt k 1) [
-            | inl at ↦ record {
-              moment = between;
-              upto = ran_before looked at_between;
-              place = 0;
-              place_in = omega arith;
-              holds =
-                  good_read (HasSlot f.gone j) first between j 0 ((f.image j).cell 0) x found_one
-                  (subst (λ (i : ℕ). HoldsSuper ((f.image j).cell i) x) (omega (arith, at)) holds);
-              after = ran_after after_attached (moment_between (ran_any (calls_ran one)) rest_between);
-            }
-            | inr at ↦ record {
-              moment = within.to;
-              upto = ran_before looked at_end;
-              place = 1;
-              place_in = omega arith;
-              holds =
-                  good_read (HasSlot f.gone j) second within.to j 1 ((f.image j).cell 1) x found_two
-                  (subst (λ (i : ℕ). HoldsSuper ((f.image j).cell i) x) (omega (arith, at, k_in)) holds);
-              after =
-                  ran_after after_attached (moment_between (ran_join (ran_any (calls_ran one)) (ran_any (calls_ran two))) within.later);
-            }
-          ]
-        where
-          upto_attached : Ran any_call old.history attached
-          upto_attached = ran_join within.sooner (ran_any (calls_ran on))
-
-          upto_between : Ran any_call old.history between
-          upto_between = ran_join upto_attached (ran_any (calls_ran one))
-
-          rest_between : Ran any_call between new.history
-          rest_between = ran_join (ran_any (calls_ran two)) within.later
-
-          at_between : IsMoment old.history between new.history
-          at_between = moment_between upto_between rest_between
-
-          at_end : IsMoment old.history within.to new.history
-          at_end = moment_between (ran_join upto_between (ran_any (calls_ran two))) within.later
-
-          after_attached : Ran (IsNoAttach j) attached new.history
-          after_attached =
-              none_after {a = any_call} {b = any_call} j small (surveys.asked honest) within.sooner on
-              (ran_join (ran_any (calls_ran one)) rest_between)
-
-  -- so it was borne when the survey began by the medium that is in the slot now
-  read_borne : (j : ℕ) (x : Superblock) → IsAttached new.history j → x.slot ≡ j → x.array.geometry ≡ g → WasReadOf j x
+  -- a superblock that was read of a slot was borne when the survey began by the medium that is in the slot now
+  read_borne : (j k : ℕ) (x : Superblock) → IsAttached new.history j → x.slot ≡ j → x.array.geometry ≡ g → k < 2
+      → (read : WasReadAt before old new answer surveys honest began j k) → HoldsSuper (content ((slot_state read.moment j).sector k)) x
       → WasBorne g old.history j (name_of new.history j InSlot) x
-  read_borne j x on slot geometry read = at_name (borne_at (slot_state read.moment j).size refl)
+  read_borne j k x on slot geometry k_in read holds = at_name (borne_at (slot_state read.moment j).size refl)
     where
+      upto : Ran no_write old.history read.moment
+      upto = ran_before looked read.is_one
+
       history_then : IsHistory read.moment
-      history_then = history_on {allowed = no_write} is_history read.upto
+      history_then = history_on {allowed = no_write} is_history upto
 
       name : name_of new.history j InSlot ≡ name_of read.moment j InSlot
       name = attached_name j history_then read.after on
@@ -266,11 +190,11 @@ module _ (s : State) (holders : Holders) (since : ℕ) (before : List Happening)
 
       borne_at : (o : Option ℕ) → (slot_state read.moment j).size ≡ o → WasBorne g old.history j (name_of read.moment j InSlot) x
       borne_at (Some n) has =
-          borne_before g old.history read.moment (image_now read.moment) j InSlot x is_history read.upto (CrashMayLeave-now read.moment)
+          borne_before g old.history read.moment (image_now read.moment) j InSlot x is_history upto (CrashMayLeave-now read.moment)
           (record {
             medium = record { size = n; cell = (image_now read.moment j).cell };
             is_one = (has, refl);
-            bears = record { place = read.place; place_in = read.place_in; holds = read.holds; slot = slot; identity = geometry };
+            bears = record { place = k; place_in = k_in; holds = holds; slot = slot; identity = geometry };
           })
       borne_at None none =
           let some : IsSome (slot_state read.moment j).size = (history_tidy history_then).attached j (still_attached j read.after on).0 in
@@ -289,24 +213,21 @@ module _ (s : State) (holders : Holders) (since : ℕ) (before : List Happening)
   sole image left j p t here on borne joined =
       name_apart new.history j p InSlot
       (one_medium j (name_of new.history j InSlot) (name_of new.history j p) marked.super t
-      (read_borne j marked.super on marked.counts.slot (marked.counts.identity ∙ mine)
-      (was_read j held.place marked.super small held.place_in held.holds))
+      (read_borne j held.place marked.super on marked.counts.slot (marked.counts.identity ∙ mine) held.place_in read
+      ((read.shown.held marked.super).1 held.holds))
       (borne_before g old.history new.history image j p t is_history looked left borne)
       (joined ∙ ap (λ (c : Configuration). joined_in c j) surveyed.array ∙ sym marked.joined))
     where
       marked : HasMark m.array.geometry f.image surveyed.current (mark_at surveyed.current j) j
-      marked =
-          here_marked (HasSlot f.gone) m.array.geometry f.image surveyed.current j (why_of m j) here.below (here_late m j here)
-          (surveyed.reasons j here.below)
+      marked = found_marked before old new answer surveys honest began m surveyed j here
 
       held : Bears m.array.geometry j ((f.image j).cell) marked.super
       held = counts_bears m.array.geometry f.image j marked.super marked.counts
 
-      small : j < 32
-      small =
-          let below : j < m.array.geometry.n = here.below in
-          let few : m.array.geometry.n ≤ 32 = (counts_limits m.array.geometry f.image j marked.super marked.counts).devices.1 in
-          omega arith
+      read : WasReadAt before old new answer surveys honest began j held.place
+      read =
+          read_at before old new answer surveys honest began j held.place (found_small before old new answer surveys honest began m surveyed j here) held.place_in
+          (found_there before old new answer surveys honest began m surveyed j here)
 
   pub known : EachImage (IsKnownWherever None m (IsAttached new.history)) new.history
   known image left = record {

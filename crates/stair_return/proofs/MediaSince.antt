@@ -129,7 +129,7 @@ module _ (slots : Slots) (editions : List Edition) (old : List Happening) (j : �
         by (HasSize.Same pulls is) = sym is ∙ sym left.size ∙ sized
         by (HasSize.Other less) = let same = before.1 in absurd (omega (arith, less, same))
 
-    in_use : IsMediumSince (name_of old j InSlot) size image.cell
+    pub in_use : IsMediumSince (name_of old j InSlot) size image.cell
     in_use =
         Same (record { size = Some size; cell = λ k. cell_then k (image.cell k) (left_since k); removed = (slot_state old j).removed }) InSlot
         (record { size = size; cell = λ k. cell_then k (image.cell k) (left_since k) })

@@ -28,7 +28,7 @@ use Rattle.stair_state.specs.Tolerance.{IsTolerated, IsToleratedAlone}
 use Rattle.stair_state.proofs.HoldingLemmas.{current_since}
 use Rattle.stair_state.proofs.OutsideLemmas.{tolerated_alone}
 use Rattle.stair_session.specs.Returning.{HasOwnNewest, IsKnownWherever, holders_of}
-use Rattle.stair_session.specs.Session.{ArrayState, IsOpenWith, own_super}
+use Rattle.stair_session.specs.Session.{ArrayState, IsArray, own_super}
 use Rattle.stair_session.proofs.ChangingLemmas.{live_here}
 use Rattle.stair_session.proofs.OwnLaws.{own_drawn, own_formed}
 use Rattle.stair_return.specs.Beginning.{AreMeant, BeginsWherever, SaysContent}
@@ -37,7 +37,6 @@ use Rattle.stair_return.specs.Given.{KnowsSuper}
 use Rattle.stair_return.proofs.KeptSince.{up_below}
 use Rattle.stair_return.proofs.StoodSince.{held_here, holders_here}
 use Rattle.stair_return.proofs.SessionBehind.{left_reassembled}
-use Rattle.stair_state.specs.Blocks.{Codewords}
 
 -- THE SUPERBLOCK OF A SLOT
 
@@ -110,8 +109,8 @@ own_known m h j history rules here on is = record {
 
 -- A SESSION
 
-module _ (s : State) (aim : Aim) (before : List Happening) (a : ArrayState) (words : Codewords) (h : List Happening)
-    (history : IsHistory h) (is_open : IsOpenWith before a words h) (geometry : a.member.array.geometry ≡ s.geometry)
+module _ (s : State) (aim : Aim) (before : List Happening) (a : ArrayState) (h : List Happening) (history : IsHistory h) (array : IsArray a)
+    (geometry : a.member.array.geometry ≡ s.geometry)
     (none_joins : admitted aim ≡ None) (none_promoted : (j : ℕ) → aim ≢ Promote j)
     (known : EachImage (IsKnownWherever None a.member (IsAttached h)) h)
     (is : IsConsistentSince s (holders_of a.member) a.member.array.epoch h) (tolerated : IsTolerated s.geometry before h) where
@@ -151,12 +150,12 @@ module _ (s : State) (aim : Aim) (before : List Happening) (a : ArrayState) (wor
   meant = record {
     taken = λ j n taken holder. elim taken [ inl here ↦ (here, (held_here a.member j n holder).number) | inr joins ↦ absurd (not_joining joins.0) ];
     live = λ j marked.
-        let below = up_below a.member.array j (record { rules = is_open.array.member.array; marks = is_open.array.member.sizes.marks })
+        let below = up_below a.member.array j (record { rules = array.member.array; marks = array.member.sizes.marks })
         (λ down. let never : Live ≡ Down = sym marked ∙ down in cc) in
-        holders_here a.member j below (live_here (why_of a.member j) (sym (is_open.array.marks j below) ∙ marked));
+        holders_here a.member j below (live_here (why_of a.member j) (sym (array.marks j below) ∙ marked));
     rebuilt = λ j n marked holder.
         let held = held_here a.member j n holder in
-        let live : mark_in a.member.array j ≡ Live = is_open.array.marks j held.below ∙ ap mark_for held.here in
+        let live : mark_in a.member.array j ≡ Live = array.marks j held.below ∙ ap mark_for held.here in
         let never : Rebuilding ≡ Live = sym marked ∙ live in
         absurd (cc);
     promoted = λ j promoted. absurd (none_promoted j promoted);
@@ -167,14 +166,14 @@ module _ (s : State) (aim : Aim) (before : List Happening) (a : ArrayState) (wor
       → BeginsWherever s (holders_of a.member) a.member.array.epoch aim a.member h
   session_begins newest behind says = record {
     history = history;
-    member = is_open.array.member;
+    member = array.member;
     geometry = geometry;
     is = is;
     recent = omega arith;
     known = λ image left. subst (λ (o : Option ℕ). IsKnownWherever o a.member (IsAttached h) image) (sym none_joins) (known image left);
     supers = λ j taken on.
         elim taken [
-          | inl here ↦ own_known a.member h j history is_open.array.member here on (newest j here on)
+          | inl here ↦ own_known a.member h j history array.member here on (newest j here on)
           | inr joins ↦ absurd (not_joining joins.0)
         ];
     behind = behind;

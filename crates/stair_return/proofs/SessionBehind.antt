@@ -7,7 +7,7 @@ use Rattle.stair_model.specs.Geometry.{Geometry}
 use Rattle.stair_model.specs.Slots.{HasSlot, Slots}
 use Rattle.stair_model.specs.Stripe.{cell}
 use Rattle.stair_rack.specs.Answers.{IsHistory}
-use Rattle.stair_rack.specs.Crash.{CrashMayLeave, image_now}
+use Rattle.stair_rack.specs.Crash.{CrashMayLeave, SlotMayLeave, image_now}
 use Rattle.stair_rack.specs.History.{Happening, slot_state}
 use Rattle.stair_rack.specs.Media.{Image, Medium, SlotImage, has_sector}
 use Rattle.stair_rack.specs.Offline.{IsAttached}
@@ -45,7 +45,7 @@ use Rattle.stair_state.proofs.OutsideLemmas.{tolerated_alone}
 use Rattle.stair_state.proofs.ReassembledLemmas.{IsBorneFrom, borne_of, from_slot}
 use Rattle.stair_state.proofs.ToleranceLemmas.{journal_gate}
 use Rattle.stair_session.specs.Returning.{KnowsMedia, holders_of}
-use Rattle.stair_session.specs.Session.{ArrayState, IsLiveIn, IsOpenWith}
+use Rattle.stair_session.specs.Session.{ArrayState, IsLiveIn, IsOpenWith, ServesSlot}
 use Rattle.stair_session.proofs.MidwayLemmas.{rebuilding_why}
 use Rattle.stair_return.specs.Beginning.{AreHoldersClosed}
 use Rattle.stair_return.specs.Behind.{Bearing, ByMedium, ByMember, HasHolder, HasNumber, InUse, IsKnownBehind, IsRebuiltAs}
@@ -67,7 +67,7 @@ left_reassembled h history image left j = sized (image j).size refl
     sized None is = Empty is (λ k. past k (ap (λ (o : Option ℕ). has_sector o k) is))
 
 -- what reads closed does so once it is damaged
-closed_still : (g : Geometry) (was is : Cell) → (is ≡ was) ⊎ (is ≡ Damaged) → ReadsClosed g was → ReadsClosed g is
+pub closed_still : (g : Geometry) (was is : Cell) → (is ≡ was) ⊎ (is ≡ Damaged) → ReadsClosed g was → ReadsClosed g is
 closed_still g was is (inl same) closed = subst (λ (c : Cell). ReadsClosed g c) (sym same) closed
 closed_still g was is (inr harmed) closed = λ redo opened. good_whole opened.good harmed
 
@@ -85,8 +85,50 @@ the_second true b is = refl
 the_second false true is = refl
 the_second false false is = absurd (false≢true is)
 
+-- A slot with these cells holds the stripes, and its gate reads closed.
+pub record IsAtRest (g : Geometry) (words : Codewords) (j : ℕ) (cells : ℕ → Cell) : Type 0 where
+  pub gate : ReadsClosed g (cells gate_sector)
+  pub chunk : (t i : ℕ) → t < g.stripes → i < g.r → IsOrDamaged (cell (words t) i j) (cells (cell_sector g t i))
+
+-- so it is once it is damaged
+pub rest_still : (g : Geometry) (words : Codewords) (j : ℕ) (was is : ℕ → Cell) → AreDamagedCopies was is → IsAtRest g words j was
+    → IsAtRest g words j is
+rest_still g words j was is copies rests = record {
+  gate = closed_still g (was gate_sector) (is gate_sector) (copies gate_sector) rests.gate;
+  chunk = λ t i t_in i_in. or_damaged_still (copies (cell_sector g t i)) (rests.chunk t i t_in i_in);
+}
+
 no_redo : Redo
 no_redo = record { stripe = 0; cells = record { rows = [] } }
+
+-- so does one in use that serves
+pub serving_rests : (g : Geometry) (words : Codewords) (h : List Happening) (j : ℕ) → j < g.n → ServesSlot g words h j → (image : SlotImage)
+    → SlotMayLeave (slot_state h j) image → IsAtRest g words j image.cell
+serving_rests g words h j below serves image left = record {
+  gate =
+      kept_left {P = Leaves (ReadsClosed g) (ReadsClosed g)} (ReadsClosed g) (slot_state h j).pulls gate_sector (slot_state h j) image
+      (λ redo opened. good_whole opened.good refl) (λ c leaves may. leaves.each c may) refl left (at_rest.gates j refl);
+  chunk = λ t i t_in i_in.
+      kept_left {P = Leaves (IsOrDamaged (cell (words t) i j)) (IsOrDamaged (cell (words t) i j))} (IsOrDamaged (cell (words t) i j)) (slot_state h j).pulls
+      (cell_sector g t i) (slot_state h j) image (IsOrDamaged.Harmed refl) (λ c leaves may. leaves.each c may) refl left
+      (at_rest.chunks j t i refl below t_in i_in);
+}
+  where
+    at_rest : IsIn (record { geometry = g; redo = no_redo; old = words; new = words }) AtRest (IsSlot j) h h
+    at_rest = serves.rests no_redo words
+
+-- slots that are at rest represent the stripes
+pub rests_represent : (g : Geometry) (words old new : Codewords) (some : ℕ → Type 0) (to : Image) → ((t : ℕ) → t < g.stripes → old t ≡ words t)
+    → ((j : ℕ) → some j → IsAtRest g words j ((to j).cell)) → RepresentsBy g old new some to
+rests_represent g words old new some to same rests = record {
+  one_redo = λ i j x y on_i on_j opened_i opened_j. absurd ((rests i on_i).gate x opened_i);
+  form =
+      IdleOld (record {
+        encodes = λ t i j t_in i_in j_in on.
+            subst (λ w. IsOrDamaged (cell w i j) ((to j).cell (cell_sector g t i))) (sym (same t t_in)) ((rests j on).chunk t i t_in i_in);
+        body = λ j redo on opened. absurd ((rests j on).gate redo opened);
+      });
+}
 
 module _ (content : Content) (in_doubt : Option Change) (seats : Option Seats) (before : List Happening) (a : ArrayState) (words : Codewords)
     (h : List Happening) (history : IsHistory h) (is_open : IsOpenWith before a words h) where
@@ -98,7 +140,7 @@ module _ (content : Content) (in_doubt : Option Change) (seats : Option Seats) (
 
   module _ (knows : KnowsMedia s a.member h) (tolerated : IsTolerated a.member.array.geometry before h)
       (encoded : AreEncodingsOf a.member.array.geometry content.blocks words) (certain : (new_content s).blocks ≡ content.blocks) where
-    old_words : (t : ℕ) → t < g.stripes → knows.is.encodings.old t ≡ words t
+    pub old_words : (t : ℕ) → t < g.stripes → knows.is.encodings.old t ≡ words t
     old_words t t_in = unique g content.blocks knows.is.encodings.old words t is_open.array.member.array.limits knows.is.encodings.old_are encoded t_in
 
     new_words : (t : ℕ) → t < g.stripes → knows.is.encodings.new t ≡ words t
@@ -290,59 +332,31 @@ module _ (content : Content) (in_doubt : Option Change) (seats : Option Seats) (
 
       -- A SLOT THAT HAS ITS HOLDER'S NUMBER
 
-      record IsAtRest (j : ℕ) (cells : ℕ → Cell) : Type 0 where
-        gate : ReadsClosed g (cells gate_sector)
-        chunk : (t i : ℕ) → t < g.stripes → i < g.r → IsOrDamaged (cell (words t) i j) (cells (cell_sector g t i))
-
       live_in : (j n : ℕ) → holders_of a.member j ≡ Some n → IsLiveIn a.member j
       live_in j n holder = let is = held_here a.member j n holder in record { below = is.below; why = is.here }
 
-      in_use : (j : ℕ) → IsLiveIn a.member j → IsAttached h j → IsAtRest j ((image j).cell)
-      in_use j live on = record {
-        gate =
-            kept_left {P = Leaves (ReadsClosed g) (ReadsClosed g)} (ReadsClosed g) (slot_state h j).pulls gate_sector (slot_state h j) (image j)
-            (closed_still g Damaged Damaged (inl refl) (λ redo opened. good_whole opened.good refl)) (λ c leaves may. leaves.each c may) refl (left j)
-            (at_rest.gates j refl);
-        chunk = λ t i t_in i_in.
-            kept_left {P = Leaves (IsOrDamaged (cell (words t) i j)) (IsOrDamaged (cell (words t) i j))} (IsOrDamaged (cell (words t) i j)) (slot_state h j).pulls
-            (cell_sector g t i) (slot_state h j) (image j) (IsOrDamaged.Harmed refl) (λ c leaves may. leaves.each c may) refl (left j)
-            (at_rest.chunks j t i refl live.below t_in i_in);
-      }
-        where
-          at_rest : IsIn (record { geometry = g; redo = no_redo; old = words; new = words }) AtRest (IsSlot j) h h
-          at_rest = (is_open.live j live on).rests no_redo words
+      in_use : (j : ℕ) → IsLiveIn a.member j → IsAttached h j → IsAtRest g words j ((image j).cell)
+      in_use j live on = serving_rests g words h j live.below (is_open.live j live on) (image j) (left j)
 
-      has_rest : (to : Image) → IsReassembly image to → (j : ℕ) → HasHolder g (holders_of a.member) a.member h (image j) (to j) j
-          → IsAtRest j ((to j).cell)
+      pub has_rest : (to : Image) → IsReassembly image to → (j : ℕ) → HasHolder g (holders_of a.member) a.member h (image j) (to j) j
+          → IsAtRest g words j ((to j).cell)
       has_rest to reassembly j has = by has.number
         where
-          by : HasNumber g a.member h (image j) (to j) j has.joined → IsAtRest j ((to j).cell)
+          by : HasNumber g a.member h (image j) (to j) j has.joined → IsAtRest g words j ((to j).cell)
           by (Bearing b bears joined) =
               let holder : IsHolder g (holders_of a.member) j ((to j).cell) =
               record { super = b; bears = bears; joined = has.holder ∙ ap Some (sym joined) } in
               record { gate = knows.closed image left to j reassembly holder; chunk = holder_chunk to reassembly j holder }
           by (InUse here on same size copies) =
-              let rests = in_use j (live_in j has.joined has.holder) on in
-              record {
-                gate = closed_still g ((image j).cell gate_sector) ((to j).cell gate_sector) (copies gate_sector) rests.gate;
-                chunk = λ t i t_in i_in. or_damaged_still (copies (cell_sector g t i)) (rests.chunk t i t_in i_in);
-              }
+              rest_still g words j ((image j).cell) ((to j).cell) copies (in_use j (live_in j has.joined has.holder) on)
 
       forms_now : (to : Image) (some : Slots) → IsReassembly image to
           → ((j : ℕ) → HasSlot some j → HasHolder g (holders_of a.member) a.member h (image j) (to j) j) → HasGate (HasSlot some) to
           → RepresentsBy g knows.is.encodings.old knows.is.encodings.new (HasSlot some) to
-      forms_now to some reassembly have gate = record {
-        one_redo = λ i j x y on_i on_j opened_i opened_j. absurd ((has_rest to reassembly i (have i on_i)).gate x opened_i);
-        form =
-            IdleOld (record {
-              encodes = λ t i j t_in i_in j_in on.
-                  subst (λ w. IsOrDamaged (cell w i j) ((to j).cell (cell_sector g t i))) (sym (old_words t t_in))
-                  ((has_rest to reassembly j (have j on)).chunk t i t_in i_in);
-              body = λ j redo on opened. absurd ((has_rest to reassembly j (have j on)).gate redo opened);
-            });
-      }
+      forms_now to some reassembly have gate =
+          rests_represent g words knows.is.encodings.old knows.is.encodings.new (HasSlot some) to old_words (λ j on. has_rest to reassembly j (have j on))
 
-      full_now : (to : Image) (j : ℕ) → IsReassembly image to → HasHolder g (holders_of a.member) a.member h (image j) (to j) j
+      pub full_now : (to : Image) (j : ℕ) → IsReassembly image to → HasHolder g (holders_of a.member) a.member h (image j) (to j) j
           → IsLargeEnough g (to j).size
       full_now to j reassembly has = by has.number
         where
@@ -372,7 +386,7 @@ module _ (content : Content) (in_doubt : Option Change) (seats : Option Seats) (
             sym (ap (λ (c : Configuration). joined_in c j) same) ∙ joined,
           )
 
-      shut_now : (to : Image) (j n : ℕ) (redo : Redo) → IsReassembly image to → IsRebuiltAs g a.member.array.epoch a.member h j n
+      pub shut_now : (to : Image) (j n : ℕ) (redo : Redo) → IsReassembly image to → IsRebuiltAs g a.member.array.epoch a.member h j n
           → HasNumber g a.member h (image j) (to j) j n → ¬ IsOpen g to j redo
       shut_now to j n redo reassembly rebuilt number = by number
         where

@@ -154,7 +154,7 @@ module _ (before : List Happening) (old new : Telling) (answer : Result Membersh
       pub is_mine : m.array.geometry ≡ g
       is_mine = only m.array.geometry surveyed.identity.stands
 
-      current_together : IsCurrent g together surveyed.current
+      pub current_together : IsCurrent g together surveyed.current
       current_together =
           current_same g f.image together surveyed.current (same_back together f.image together_shown)
           (subst (λ (x : Geometry). IsCurrent x f.image surveyed.current) is_mine surveyed.is_current)

@@ -28,7 +28,7 @@ use Rattle.stair_return.proofs.NameLemmas.{attached_name, name_apart, named_act_
 
 -- A CALL, AND A MEDIUM THAT WAS PUT BACK
 
-call_removed : (c : SlotCall) (b : SlotState) → (after_call c b).removed ≡ b.removed
+pub call_removed : (c : SlotCall) (b : SlotState) → (after_call c b).removed ≡ b.removed
 call_removed (Attach reply.Done) b = refl
 call_removed (Attach reply.Gone) b = refl
 call_removed (Sectors size) b = refl
@@ -143,7 +143,7 @@ module _ (j : ℕ) (name : Location) (Q : ℕ → (ℕ → Cell) → Type 0) (su
 
   -- THROUGHOUT
 
-  act_holds : (h : List Happening) (e : Happening) → IsAct h e → Holds (slot_state h j) (name_of h j)
+  pub act_holds : (h : List Happening) (e : Happening) → IsAct h e → Holds (slot_state h j) (name_of h j)
       → Holds (slot_state (e ∷ h) j) (name_of (e ∷ h) j)
   act_holds h (Made image) act holds = absurd act
   act_holds h Stopped act holds = holds

@@ -8,3 +8,4 @@ pub mod Still
 pub mod Found
 pub mod Beginning
 pub mod Misled
+pub mod Opened

@@ -7,3 +7,4 @@ pub mod examples;
 pub mod following;
 pub mod holders;
 pub mod openings;
+pub mod steps;

@@ -1,23 +1,30 @@
 //! What an opening asks of the outside where media come back, and what a survey finds by it.
 
-ghost use Rattle.std.specs.Prelude.{◌≡◌, ℕ, IsTrue, List, None, Ok, Result};
+ghost use Rattle.std.specs.Prelude.{◌≡◌, ℕ, false, Err, IsTrue, List, None, Ok, Result};
 ghost use Rattle.stair_model.specs.Geometry.{Geometry};
 ghost use Rattle.stair_rack.specs.Answers.{IsHistory, Ran, any_call};
-ghost use Rattle.stair_rack.specs.Crash.{EachImage};
+ghost use Rattle.stair_rack.specs.Crash.{CrashMayLeave, EachImage};
 ghost use Rattle.stair_rack.specs.History.{Happening};
 ghost use Rattle.stair_rack.specs.Media.{Image};
 ghost use Rattle.stair_rack.specs.Moments.{IsMoment};
 ghost use Rattle.stair_rack.specs.Offline.{IsAttached};
 ghost use Rattle.stair_rack.specs.Telling.{Telling};
-ghost use Rattle.stair_member.specs.Membership.{Membership};
+ghost use Rattle.stair_member.specs.Membership.{IsMembership, Membership};
 ghost use Rattle.stair_member.specs.Survey.{Surveys};
+ghost use Rattle.stair_member.specs.declared.aim.Aim.TheVariants.{Fence};
 ghost use Rattle.stair_member.specs.declared.fault.SurveyFault.{SurveyFault};
-ghost use Rattle.stair_state.specs.Holding.{Holders, IsConsistentSince};
+ghost use Rattle.stair_state.specs.Holding.{Holders, IsConsistentSince, IsConsistentUnderReassembly};
 ghost use Rattle.stair_state.specs.Represents.{AreSteady, no_write};
-ghost use Rattle.stair_state.specs.State.{State};
+ghost use Rattle.stair_state.specs.State.{State, without_seats};
 ghost use Rattle.stair_state.specs.Tolerance.{IsTolerated, IsToleratedAlone};
 ghost use Rattle.stair_session.specs.Mixed.{IsMixed, IsToleratedMixed};
 ghost use Rattle.stair_session.specs.Returning.{CoversMedia, IsKnownWherever};
+ghost use Rattle.stair_session.specs.Returning.{AnyReturns, IsCalm, StandsFor, StandsForAlone};
+ghost use Rattle.stair_session.specs.Courses.{Point};
+ghost use Rattle.stair_array.specs.Machine.{Refusal};
+ghost use Rattle.stair_array.specs.Openings.{Recovers};
+ghost use Rattle.stair_return.specs.Opened.{IsOpenedAnywhere};
+ghost use Rattle.stair_return.specs.Beginning.{BeginsWherever};
 ghost use Rattle.stair_return.specs.Counted.{IsToleratedCounted};
 ghost use Rattle.stair_return.specs.Misled.{IsWorstSlot};
 ghost use Rattle.stair_return.specs.Still.{IsStill};
@@ -70,4 +77,43 @@ pub fn survey_laws()
         IsConsistentSince s holders since old.history →
         IsToleratedMixed s.geometry before old.history new.history → answer ≡ Ok m →
         EachImage (IsKnownWherever None m (IsAttached new.history)) new.history }
+{}
+
+/// How the first fence of an opening begins, on an honest rack, whatever came back while it was surveyed. It does nothing.
+pub fn opening_laws()
+    // It has all that a call begins with that establishes an epoch: on a rack that is consistent by the holders, since the epoch,
+    // by which it was so when the survey began, marks and joined numbers aside.
+    ensures begins { (s : State) (holders : Holders) (since : ℕ) (before : List Happening)
+        (old new : Telling) (answer : Result Membership SurveyFault) (m : Membership) →
+        Surveys answer old new → IsTrue new.honest → Ran any_call before old.history →
+        IsConsistentSince s holders since old.history →
+        IsToleratedMixed s.geometry before old.history new.history → IsMembership m →
+        answer ≡ Ok m → BeginsWherever (without_seats s) holders since Fence m new.history }
+{}
+
+/// What a recovery comes to, on an honest rack that was consistent however its media lay when the survey began, by the member that
+/// it found. What is asked of the outside was kept up to the moment that is spoken of (`IsCalm`). It does nothing.
+pub fn recovery_laws()
+    // Whatever a crash leaves at a moment of it is consistent under reassembly by itself, in the same state, seats aside, so that
+    // the next opening finds it again.
+    ensures moments { (s : State) (first : Telling) (u v : Point)
+        (answer : Result Geometry Refusal) → IsConsistentUnderReassembly s first.history →
+        Surveys (Ok u.member) first u.told → IsMembership u.member → Recovers answer u v →
+        IsTrue v.told.honest → (c : List Happening) →
+        IsMoment u.told.history c v.told.history →
+        IsCalm AnyReturns s.geometry false first.history c → (image : Image) →
+        CrashMayLeave c image → StandsForAlone AnyReturns (without_seats s) image }
+    // Where it is refused, the rack is so in the end.
+    ensures refused { (s : State) (first : Telling) (u v : Point)
+        (answer : Result Geometry Refusal) → IsConsistentUnderReassembly s first.history →
+        Surveys (Ok u.member) first u.told → IsMembership u.member → Recovers answer u v →
+        IsTrue v.told.honest → IsCalm AnyReturns s.geometry false first.history v.told.history →
+        (refusal : Refusal) → answer ≡ Err refusal →
+        StandsFor AnyReturns (without_seats s) v.told.history }
+    // Where it isn't, the array is open, and its session knows of all media what the steps after it begin with.
+    ensures opens { (s : State) (first : Telling) (u v : Point) (answer : Result Geometry Refusal) →
+        IsConsistentUnderReassembly s first.history → Surveys (Ok u.member) first u.told →
+        IsMembership u.member → Recovers answer u v → IsTrue v.told.honest →
+        IsCalm AnyReturns s.geometry false first.history v.told.history → (g : Geometry) →
+        answer ≡ Ok g → (g ≡ s.geometry) × IsOpenedAnywhere s u.member first.history v }
 {}
