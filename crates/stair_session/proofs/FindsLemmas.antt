@@ -103,14 +103,15 @@ module _ (a : Redoing) (stage : Stage) (old_words new_words : Codewords) (before
 -- THE BODY
 
 -- what reads as damaged is so
-damaged_content : (s : Sector) → content s ≡ Damaged → s ≡ damaged
+pub damaged_content : (s : Sector) → content s ≡ Damaged → s ≡ damaged
 damaged_content s reads = by s.base s.since reads
   where
     by : (base : Cell) (since : List (List ℕ)) → newest base since ≡ Damaged → (record { base = base; since = since }) ≡ damaged
     by base [] is = ap (λ (cell : Cell). settled cell) is
     by base (bytes ∷ since) is = absurd (cc)
 
-stays_damaged : (start old new : List Happening) (j k : ℕ) → gate_sector ≤ k → Ran (WritesNone (IsSlot j)) old new
+-- and stays so while it isn't written
+pub stays_damaged : (start old new : List Happening) (j k : ℕ) → gate_sector ≤ k → Ran (WritesNone (IsSlot j)) old new
     → ButForOutside start old j k (λ s. s ≡ damaged) → ButForOutside start new j k (λ s. s ≡ damaged)
 stays_damaged start old new j k from ran before =
     kept {allowed = WritesNone (IsSlot j)} {P = λ h. IsKept (slot_state start j).pulls k IsDamaged (slot_state h j)}

@@ -23,13 +23,17 @@ use Rattle.stair_state.proofs.DegradedLemmas.{again, degraded_past_end, orderly_
 
 -- WITHOUT A WORD ON MARKS
 
-abbrev pub encodings_without_seats : (s : State) → Encodings s → Encodings (without_seats s)
-encodings_without_seats s encodings = record {
+-- with other marks the state has the same stripes
+abbrev pub reseated : (s : State) (seats : Option Seats) → Encodings s → Encodings (record s { seats = seats })
+reseated s seats encodings = record {
   old = encodings.old;
   new = encodings.new;
   old_are = encodings.old_are;
   new_are = encodings.new_are;
 }
+
+abbrev pub encodings_without_seats : (s : State) → Encodings s → Encodings (without_seats s)
+encodings_without_seats s = reseated s None
 
 pub image_without_seats : (s : State) (encodings : Encodings s) (image : Image) → ImageRepresents s encodings image
     → ImageRepresents (without_seats s) (encodings_without_seats s encodings) image

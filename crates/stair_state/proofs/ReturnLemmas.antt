@@ -14,6 +14,7 @@ use Rattle.stair_rack.proofs.CrashLemmas.{settled_left}
 use Rattle.stair_rack.proofs.StepLemmas.{kept, keeps_slot}
 use Rattle.stair_super.specs.Superblock.{Superblock, joined_at}
 use Rattle.stair_member.specs.Current.{IsLost}
+use Rattle.stair_member.specs.Seats.{Seats}
 use Rattle.stair_member.proofs.CountingLemmas.{all_but_mapped}
 use Rattle.stair_member.proofs.SuperLemmas.{super_cells, super_held}
 use Rattle.stair_state.specs.Degraded.{AreAllDamaged, AreDamagedCopies, Taken, Blank, Stays}
@@ -21,7 +22,7 @@ use Rattle.stair_state.specs.Holding.{HasOvertaken, HolderReserved, Holders, IsB
 use Rattle.stair_state.specs.Reassembly.{Location, InSlot, Outside, IsBorne, IsMediumOf, IsReassembledSlot, OneOf, Unwritten, Empty, IsReassembly, before_pull, before_return}
 use Rattle.stair_state.specs.Represents.{Encodings, no_write}
 use Rattle.stair_state.specs.State.{State, without_seats}
-use Rattle.stair_state.proofs.AloneLemmas.{encodings_without_seats}
+use Rattle.stair_state.proofs.AloneLemmas.{encodings_without_seats, reseated}
 use Rattle.stair_state.proofs.DegradedLemmas.{bears_before, copies_again, copies_damaged}
 use Rattle.stair_state.proofs.FormLemmas.{good_whole, same_kept}
 use Rattle.stair_state.proofs.OutsideLemmas.{SlotComesFrom, look_left, slot_before, slot_now, slot_now_left, steady_looks}
@@ -362,9 +363,10 @@ module _ (s : State) (encodings : Encodings s) (holders : Holders) (since : ℕ)
         (it.own_joined j ((from j).place p) ((from j).place q) a b (borne_before j p a first) (borne_before j q b second) same);
   }
 
-without : (s : State) (encodings : Encodings s) (holders : Holders) (since : ℕ) (image : Image) → IsConsistentBy s encodings holders since image
-    → IsConsistentBy (without_seats s) (encodings_without_seats s encodings) holders since image
-without s encodings holders since image it = record {
+-- marks and joined numbers of the state are no part of it
+pub by_seats : (s : State) (seats : Option Seats) (encodings : Encodings s) (holders : Holders) (since : ℕ) (image : Image)
+    → IsConsistentBy s encodings holders since image → IsConsistentBy (record s { seats = seats }) (reseated s seats encodings) holders since image
+by_seats s seats encodings holders since image it = record {
   overtaken = it.overtaken;
   reserved = it.reserved;
   live = it.live;
@@ -385,7 +387,7 @@ looks_consistent s holders since old new it ran = record {
   encodings = encodings_without_seats s it.encodings;
   each = λ image left.
       let from = λ (j : ℕ). at_image (came_looking j ran) (image j) (left j) in
-      without s it.encodings holders since image
+      by_seats s None it.encodings holders since image
       (consistent_by_after s it.encodings holders since old image from (it.each (λ j. (from j).was) (λ j. (from j).left)));
   seats = tt;
   steady = steady_looks s.geometry old new ran it.steady;
