@@ -13,15 +13,14 @@ use Rattle.stair_rack.specs.Answers.{IsBesideAttach, IsHistory, Ran, any_call, i
 use Rattle.stair_rack.specs.Crash.{image_now}
 use Rattle.stair_rack.specs.History.{Happening, SlotCall, Attach, Sectors, Read, Write, Sync, slot_state, stopped}
 use Rattle.stair_rack.specs.Media.{Image}
+use Rattle.stair_rack.specs.Placed.{IsSlot}
 use Rattle.stair_rack.specs.Offline.{ButForOutside, IsAttached, IsKept, IsOffline}
 use Rattle.stair_rack.specs.Reading.{WasRead}
 use Rattle.stair_rack.specs.Sector.{Cell, Damaged, Sector, content, damaged, newest, settled, synced}
 use Rattle.stair_rack.specs.Stretch.{every_slot}
 use Rattle.stair_rack.proofs.CrashLemmas.{CrashMayLeave-now}
-use Rattle.stair_rack.proofs.KeptLemmas.{SectorKeeps, keeps_sector}
 use Rattle.stair_rack.proofs.MomentLemmas.{at_last, ran_after, ran_any, ran_join, ran_none, ran_weakened}
 use Rattle.stair_rack.proofs.OfflineLemmas.{and-true_left, offline_now, offline_on, pulls_on}
-use Rattle.stair_rack.proofs.StepLemmas.{kept}
 use Rattle.stair_rack.proofs.TidyLemmas.{history_on}
 use Rattle.stair_super.specs.Superblock.{Superblock}
 use Rattle.stair_member.specs.Current.{IsCurrent, IsFailed, IsLive}
@@ -34,7 +33,7 @@ use Rattle.stair_member.specs.declared.why.Why.TheVariants as why
 use Rattle.stair_member.proofs.CountingLemmas.{has_or_not}
 use Rattle.stair_stripes.specs.declared.gathering.Gathered.{Gathered}
 use Rattle.stair_state.specs.Blocks.{Codewords}
-use Rattle.stair_state.specs.Redoing.{IsApart}
+use Rattle.stair_state.specs.Redoing.{IsApart, WritesNone}
 use Rattle.stair_state.specs.State.{Content}
 use Rattle.stair_state.specs.Tolerance.{IsWithinTolerance}
 use Rattle.stair_state.proofs.RedoPhaseLemmas.{large_some}
@@ -43,6 +42,7 @@ use Rattle.stair_session.specs.Courses.{Fenced, LeavesOut, NoneWas, Point, point
 use Rattle.stair_session.specs.Rebuilding.{Rebuild}
 use Rattle.stair_session.specs.Returning.{Returning}
 use Rattle.stair_session.specs.Session.{IsLiveIn}
+use Rattle.stair_session.proofs.FindsLemmas.{damaged_content, stays_damaged}
 use Rattle.stair_session.proofs.BesideLemmas.{medium_on_it}
 use Rattle.stair_session.proofs.OpenWithLemmas.{issued_apart}
 use Rattle.stair_session.proofs.Serving.{IsGoing, IsServing, StandsIn, any_read, tolerated_now, LeadsReads, IsCalmTo}
@@ -70,29 +70,13 @@ left_apart gone refusal x y (NoneWas none same fine) honest =
 left_apart gone refusal x y (Fenced j has answer fine e) honest =
     issued_apart Fence e.establishes.gone e.start y.member x.told.history y.told.history (e.establishes.issued honest) every_slot
 
--- what reads as damaged is so
-damaged_content : (s : Sector) → content s ≡ Damaged → s ≡ damaged
-damaged_content s reads = by s.base s.since reads
-  where
-    by : (base : Cell) (since : List (List ℕ)) → newest base since ≡ Damaged → (record { base = base; since = since }) ≡ damaged
-    by base [] is = ap (λ (c : Cell). settled c) is
-    by base (bytes ∷ since) is = absurd (cc)
-
--- and stays so
-stays_damaged : (start old new : List Happening) (j k : ℕ) → gate_sector ≤ k → Ran untouching old new
-    → ButForOutside start old j k (λ s. s ≡ damaged) → ButForOutside start new j k (λ s. s ≡ damaged)
-stays_damaged start old new j k from ran before =
-    kept {allowed = untouching} {P = λ h. IsKept (slot_state start j).pulls k IsDamaged (slot_state h j)}
-    (keeps_sector {allowed = untouching} {j = j} {k = k} {P = IsDamaged} (slot_state start j).pulls keeps) ran before
-  where
-    IsDamaged : Sector → Type 0
-    IsDamaged s = s ≡ damaged
-
-    keeps : SectorKeeps untouching j k IsDamaged
-    keeps = record {
-      write = λ bytes s apart holds. let below = apart.1 tt in absurd (omega (arith, below, from));
-      sync = λ s apart holds. ap synced holds;
-    }
+-- so it writes to no slot from there on
+writes_apart : (j i : ℕ) (c : SlotCall) → untouching i c → WritesNone (IsSlot j) i c
+writes_apart j i (Attach answer) may = tt
+writes_apart j i (Sectors size) may = tt
+writes_apart j i (Read k answer) may = tt
+writes_apart j i (Write k bytes answer) may = λ same. may.1 tt
+writes_apart j i (Sync answer) may = tt
 
 -- WHAT A STRIPE WAS GATHERED FOR
 
@@ -195,7 +179,8 @@ module _ (returning : Returning) (laws : LeadsReads returning) (before : List Ha
 
     bad : ButForOutside was.moment z.told.history j (cell_sector x.member.array.geometry t i) (λ s. s ≡ damaged)
     bad =
-        stays_damaged was.moment was.moment z.told.history j (cell_sector x.member.array.geometry t i) (omega arith) apart
+        stays_damaged was.moment was.moment z.told.history j (cell_sector x.member.array.geometry t i) (omega arith)
+        (ran_weakened {allowed = untouching} {more = WritesNone (IsSlot j)} (writes_apart j) apart)
         (IsKept.Here refl some
         (inr (damaged_content ((slot_state was.moment j).sector (cell_sector x.member.array.geometry t i))
         (read_bad returning laws before (array_with rebuild stopped_by x) words held l.first.history l.mid.history first_serves

@@ -49,7 +49,8 @@ pub data Outcome (returning : Returning) (before : List Happening) (rebuild : Op
 -- Of such a step it is asked that what the array holds is as it was, and that slots are dropped at most.
 pub record IsKeeping (step : Step) : Type 0 where
   pub no_opening : ¬ (step ≡ Recover)
-  pub begins : (m : Membership) (before h : List Happening) (s : State) (seats : Seats) → s.seats ≡ Some seats → BeginsWith step m before h s seats
+  pub begins : (returning : Returning) (m : Membership) (before h : List Happening) (s : State) (seats : Seats) → s.seats ≡ Some seats
+      → BeginsWith returning step m before h s seats
   pub may_begin : (s : State) → s.in_doubt ≡ None → MayBegin step s
   pub refuses : (refusal : Refusal) (old new : State) → IsAsItWas old new → HoldsAfter step (Err refusal) old new
   pub knows : (answer : Answer step) (known : Option Seats) (seats : Seats) → known ≡ Some seats → AreKnown step answer known seats
@@ -103,7 +104,7 @@ module _ (returning : Returning) (laws : LeadsReads returning) (step : Step) (ke
           state = now;
           is_step = record {
             begun = seats_in p.was.member.array;
-            begins = keeping.begins p.was.member before y.told.history s (seats_in p.was.member.array) begins.seats;
+            begins = keeping.begins returning p.was.member before y.told.history s (seats_in p.was.member.array) begins.seats;
             row =
                 subst (λ (r : Answer step). Row step r (seats_in p.was.member.array) s now) is_answer
                 (row given now last.array (stays_y.geometry ∙ begins.geometry) passes_so (holds_so now (as_it_was now refl refl)) refl stays_y.seats);
@@ -127,7 +128,7 @@ module _ (returning : Returning) (laws : LeadsReads returning) (step : Step) (ke
           state = now;
           is_step = record {
             begun = seats_in p.was.member.array;
-            begins = keeping.begins p.was.member before y.told.history s (seats_in p.was.member.array) begins.seats;
+            begins = keeping.begins returning p.was.member before y.told.history s (seats_in p.was.member.array) begins.seats;
             row =
                 subst (λ (r : Answer step). Row step r (seats_in p.was.member.array) s now) is_answer
                 (row (Err (refused fault)) now is.array begins.geometry (λ begun. passes inside)
@@ -155,7 +156,7 @@ module _ (returning : Returning) (laws : LeadsReads returning) (step : Step) (ke
         state = now;
         cut = record {
           begun = seats_in p.was.member.array;
-          begins = keeping.begins p.was.member before c s (seats_in p.was.member.array) begins.seats;
+          begins = keeping.begins returning p.was.member before c s (seats_in p.was.member.array) begins.seats;
           within = inr (
             Err (Gone 0),
             row (Err (Gone 0)) now is.array begins.geometry (λ final. absurd final) (keeping.refuses (Gone 0) s now (as_it_was now refl refl)) refl

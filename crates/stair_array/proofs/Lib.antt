@@ -26,6 +26,8 @@ pub mod CauseLemmas
 pub mod GoesOnLemmas
 pub mod PerformsLemmas
 pub mod RecoverLemmas
+pub mod OpeningsLeadLemmas
+pub mod StepsLead
 pub mod ServingLemmas
 pub mod SeatedLemmas
 pub mod LeftServingLemmas

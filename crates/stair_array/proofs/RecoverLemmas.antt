@@ -1,107 +1,88 @@
 -- An opening is a step of the array's machine, what a crash leaves in the midst of it is what one within the step leaves, and it is
--- done where it can be, where no medium comes back.
+-- done where it can be, by the laws of what a recovery comes to, whether media come back or not.
 use Rattle.std.proofs.Common.{◌≡◌, ℕ, List, [], ◌∷◌, inl, inr, refl, sym, ap, ◌∙◌, subst, None, Some}
-use Rattle.std.specs.Prelude.{IsErr, IsOk, IsTrue, Result, Ok, Err}
+use Rattle.std.specs.Prelude.{Bool, false, IsErr, IsOk, IsTrue, Result, Ok, Err}
 use Rattle.std.proofs.lemmas.Bool.{false≢true}
 use Rattle.stair_model.specs.Geometry.{Geometry}
-use Rattle.stair_rack.specs.Answers.{Ran, any_call}
-use Rattle.stair_rack.specs.Crash.{CrashMayLeave, EachImage, image_now}
-use Rattle.stair_rack.specs.History.{Happening, Made, SlotCall, Attach, Sectors, Read, Write, Sync}
+use Rattle.stair_rack.specs.Answers.{IsHistory, Ran, any_call}
+use Rattle.stair_rack.specs.Crash.{CrashMayLeave, EachImage}
+use Rattle.stair_rack.specs.History.{Happening, Made}
 use Rattle.stair_rack.specs.Media.{Image}
 use Rattle.stair_rack.specs.Moments.{IsMoment}
-use Rattle.stair_rack.specs.Stretch.{IsNoWrite, every_slot}
 use Rattle.stair_rack.specs.Telling.{Telling}
-use Rattle.stair_rack.proofs.CrashLemmas.{CrashMayLeave-now}
-use Rattle.stair_rack.proofs.MomentLemmas.{at_moment, moment_between, moment_first, moment_last, moment_sooner, ran_any, ran_before, ran_none}
-use Rattle.stair_rack.proofs.StretchLemmas.{each_none, none_written}
+use Rattle.stair_rack.proofs.MomentLemmas.{moment_between, moment_last, ran_any, ran_before}
 use Rattle.stair_rack.specs.declared.watcher.Event.{Event}
-use Rattle.stair_super.specs.declared.configuration.Configuration.{Configuration}
 use Rattle.stair_member.specs.Asked.{LeavesSectors}
 use Rattle.stair_member.specs.Membership.{IsMembership, Membership}
 use Rattle.stair_member.specs.Survey.{Surveys}
+use Rattle.stair_member.specs.declared.fault.FenceFault.{FenceFault}
 use Rattle.stair_member.specs.declared.fault.FenceFault.TheVariants.{EpochsSpent, TooFew}
+use Rattle.stair_member.specs.declared.why.Why.{Why}
 use Rattle.stair_member.proofs.AskedLemmas.{asked_ran}
-use Rattle.stair_state.specs.Represents.{ImageRepresents, Left, Represents, RepresentsAlone}
+use Rattle.stair_state.specs.Blocks.{Codewords}
 use Rattle.stair_state.specs.State.{Content, State, without_seats}
-use Rattle.stair_state.specs.Surveyed.{FindsArray}
-use Rattle.stair_rack.specs.Offline.{IsOffline}
-use Rattle.stair_state.specs.Tolerance.{IsWithinTolerance}
-use Rattle.stair_state.proofs.SurveyedLemmas.{finds_array}
 use Rattle.stair_session.specs.Courses.{Point, point}
-use Rattle.stair_session.specs.Opening.{opened_with}
-use Rattle.stair_session.specs.Returning.{IsCalm, NoneReturns}
-use Rattle.stair_session.specs.Session.{ArrayState, seats_in}
+use Rattle.stair_session.specs.Opening.{IsDecidedAs, opened_with}
+use Rattle.stair_session.specs.Returning.{IsCalm, Knows, Returning, StandsFor, StandsForAlone}
+use Rattle.stair_session.specs.SeatSteps.{EachMayDrop}
+use Rattle.stair_session.specs.Session.{ArrayState, IsOpenWith, seats_in}
 use Rattle.stair_array.specs.Calls.{refused}
 use Rattle.stair_array.specs.Draws.{HasDraws}
 use Rattle.stair_array.specs.Machine.{IsDecided, Recover, Refusal}
+use Rattle.stair_array.specs.Openings.{Recovers}
 use Rattle.stair_array.specs.Promise.{AreFound, Begun, Closed, EndsIn, Found, IsInState, IsLed, IsLeftBy, Keeps, KeepsRebuild, LeadsStep, Opened, Performs, Seen, ServesState, Session, StartsFrom, is_open}
-use Rattle.stair_array.proofs.CompleteLemmas.{recovers_never}
 use Rattle.stair_array.proofs.DrawsLemmas.{done_with_room}
-use Rattle.stair_array.proofs.RecoveredLemmas.{Calm, IsSurveyed, Opens, Outcome, Refuses, calm_now, calm_then, outcome, surveyed}
-use Rattle.stair_array.proofs.RecoveredMoments.{StandsHere, recover_moments}
 
--- THE SEATS THAT WERE FOUND
+-- WHAT A RECOVERY COMES TO
 
-pub looks_write_none : (j : ℕ) (c : SlotCall) → LeavesSectors j c → every_slot j → IsNoWrite c
-looks_write_none j (Attach answer) may on = tt
-looks_write_none j (Sectors size) may on = tt
-looks_write_none j (Read k answer) may on = tt
-looks_write_none j (Write k bytes answer) may on = absurd may
-looks_write_none j (Sync answer) may on = tt
+-- a survey found the array, on a rack that stood for the state when it began
+pub record IsSurveyedFor (returning : Returning) (s : State) (first : Telling) (u : Point) : Type 0 where
+  pub stands : StandsFor returning s first.history
+  pub surveys : Surveys (Ok u.member) first u.told
+  pub rules : IsMembership u.member
 
--- those of the member that a survey found
-seats_found : (s : State) (first x : Telling) (m : Membership) (h : List Happening) → Surveys (Ok m) first x → IsTrue x.honest → Represents s first.history
-    → Calm s first.history x.history → IsMoment first.history x.history h → AreFound first.history h s (seats_in m.array)
-seats_found s first x m h surveys honest stands calm at =
-    elim (finds.named old.current new.current old.is_current new.is_current) [
-      | inl same ↦ record {
-        moment = x.history;
-        is_one = at;
-        unwritten = none_written {allowed = LeavesSectors} {slots = every_slot} looks_write_none ran;
-        slot = new.current.slot;
-        super = new.current;
-        counts = new.is_current.counts;
-        are = λ j. ap (λ (c : Configuration). seats_in c j) (sym same_member ∙ same);
-      }
-      | inr same ↦ record {
-        moment = first.history;
-        is_one = moment_sooner (moment_first ran.more ran.is) at;
-        unwritten = each_none first.history;
-        slot = old.current.slot;
-        super = old.current;
-        counts = old.is_current.counts;
-        are = λ j. ap (λ (c : Configuration). seats_in c j) (sym same_member ∙ same);
-      }
-    ]
-  where
-    ran : Ran LeavesSectors first.history x.history
-    ran = asked_ran 32 first.history x.history (surveys.asked honest)
+-- the state of an array that was opened with this content
+abbrev pub opened_state : State → Point → Content → State
+opened_state s y content = record { geometry = s.geometry; content = content; in_doubt = None; seats = Some (seats_in y.member.array) }
 
-    finds : FindsArray s (Ok m) first.history first.history x.history
-    finds = finds_array s first.history first x (Ok m) surveys honest (ran_none {allowed = any_call} first.history) stands calm.1 calm.0
+-- The array was opened by this member: it holds what the state held before or after the change in doubt.
+pub record IsOpenedFor (returning : Returning) (s : State) (m : Membership) (before : List Happening) (y : Point) : Type 0 where
+  pub words : Codewords
+  pub content : Content
+  pub decided : IsDecidedAs s y.member words content
+  pub stands : StandsFor returning (opened_state s y content) y.told.history
+  pub is_open : IsOpenWith before (opened_with y.member) words y.told.history
+  pub knows : Knows returning (opened_state s y content) y.member y.told.history
+  pub geometry : s.geometry ≡ y.member.array.geometry
+  pub seats : EachMayDrop (seats_in m.array) (seats_in y.member.array)
 
-    same_member : finds.member.array ≡ m.array
-    same_member =
-        let both : Ok m ≡ Ok finds.member = finds.found in let same : m ≡ finds.member = cc in sym (ap (λ (k : Membership). k.array) same)
+-- it was opened, or an epoch was refused, not for want of slots
+pub data ComesTo (returning : Returning) (s : State) (m : Membership) (before : List Happening) : Result Geometry Refusal → Point → Type 0 where
+  Opens : (g : Geometry) (y : Point) → g ≡ s.geometry → IsOpenedFor returning s m before y → ComesTo returning s m before (Ok g) y
+  Refuses : (fault : FenceFault) (y : Point) → StandsFor returning (without_seats s) y.told.history → ((whys : List Why) → ¬ (fault ≡ TooFew whys))
+      → ComesTo returning s m before (Err (refused fault)) y
 
-    old : ImageRepresents s stands.encodings (image_now first.history)
-    old = stands.each (image_now first.history) (Left (CrashMayLeave-now first.history))
-
-    new : IsWithinTolerance (IsOffline first.history x.history) s.geometry (image_now x.history)
-    new = calm_now s first.history x.history (ran_any {allowed = LeavesSectors} ran) calm (image_now x.history) (CrashMayLeave-now x.history)
+-- By these laws an opening is led on, on an honest rack, within tolerance from the survey's beginning on.
+pub record LeadsOpenings (returning : Returning) : Type 0 where
+  -- the seats of the survey's member are those of a superblock that speaks for the array
+  pub seats : (s : State) (first : Telling) (u : Point) → IsSurveyedFor returning s first u → IsTrue u.told.honest → (h : List Happening)
+      → IsMoment first.history u.told.history h → IsCalm returning s.geometry false first.history h
+      → AreFound returning first.history h s (seats_in u.member.array)
+  pub comes : (s : State) (first : Telling) (u v : Point) (answer : Result Geometry Refusal) → IsSurveyedFor returning s first u → Recovers answer u v
+      → IsTrue u.told.honest → IsTrue v.told.honest → IsCalm returning s.geometry false first.history v.told.history → ComesTo returning s u.member first.history answer v
+  -- and what a crash leaves at a moment of it stands for the state as it was
+  pub moments : (s : State) (first : Telling) (u v : Point) (answer : Result Geometry Refusal) → IsSurveyedFor returning s first u → Recovers answer u v
+      → IsTrue u.told.honest → IsTrue v.told.honest → (c : List Happening) → IsMoment u.told.history c v.told.history → IsCalm returning s.geometry false first.history c
+      → (image : Image) → CrashMayLeave c image → StandsForAlone returning (without_seats s) image
 
 -- WHERE IT LEADS
 
-module _ (s : State) (before : List Happening) (m : Membership) where
-  -- the state of an array that was opened with this content
-  abbrev opened_state : Point → Content → State
-  opened_state v content = record { geometry = s.geometry; content = content; in_doubt = None; seats = Some (seats_in v.member.array) }
-
+module _ (returning : Returning) (s : State) (before : List Happening) (m : Membership) where
   -- by what it comes to
-  led : (answer : Result Geometry Refusal) (v : Point) → Outcome s m before answer v → (session : Session)
+  led : (answer : Result Geometry Refusal) (v : Point) → ComesTo returning s m before answer v → (session : Session)
       → ((refusal : Refusal) → answer ≡ Err refusal → session ≡ Closed) → ((g : Geometry) → answer ≡ Ok g → session ≡ Opened (opened_with v.member))
-      → AreFound before v.told.history s (seats_in m.array) → IsLed NoneReturns m before s Recover answer (record { told = v.told; session = session })
-  led _ _ (Refuses fault v stands) session closed opened found = record {
+      → AreFound returning before v.told.history s (seats_in m.array) → IsLed returning m before s Recover answer (record { told = v.told; session = session })
+  led _ _ (Refuses fault v stands enough) session closed opened found = record {
     state = without_seats s;
     is_step = record {
       begun = seats_in m.array;
@@ -118,11 +99,11 @@ module _ (s : State) (before : List Happening) (m : Membership) where
     };
     is_in = record {
       stands = stands;
-      serves = subst (λ (e : Session). ServesState NoneReturns before (without_seats s) e v.told) (sym (closed (refused fault) refl)) tt;
+      serves = subst (λ (e : Session). ServesState returning before (without_seats s) e v.told) (sym (closed (refused fault) refl)) tt;
     };
   }
   led _ _ (Opens g v same is) session closed opened found = record {
-    state = opened_state v is.content;
+    state = opened_state s v is.content;
     is_step = record {
       begun = seats_in m.array;
       begins = (refl, found);
@@ -139,7 +120,7 @@ module _ (s : State) (before : List Happening) (m : Membership) where
     is_in = record {
       stands = is.stands;
       serves =
-          subst (λ (e : Session). ServesState NoneReturns before (opened_state v is.content) e v.told) (sym (opened g refl))
+          subst (λ (e : Session). ServesState returning before (opened_state s v is.content) e v.told) (sym (opened g refl))
           (inl (record {
             words = is.words;
             encodings = is.decided.encodings;
@@ -149,12 +130,12 @@ module _ (s : State) (before : List Happening) (m : Membership) where
             label = is.decided.label;
             seats = refl;
             certain = refl;
-            knows = is.opening.begun;
+            knows = is.knows;
           }));
     };
   }
     where
-      decided : IsDecided s (opened_state v is.content)
+      decided : IsDecided s (opened_state s v is.content)
       decided =
           elim is.decided.one [
             | inl not_made ↦ inl (record { content = not_made; in_doubt = refl })
@@ -164,62 +145,71 @@ module _ (s : State) (before : List Happening) (m : Membership) where
 -- THE STEP
 
 -- of an array that a survey found, in a session that began at `before`
-module _ (answer : Result Geometry Refusal) (events : List Event) (x y : Seen) (p : Performs Recover answer events x y)
-    (rules : IsMembership p.was.member) (honest : IsTrue y.told.honest) (before : List Happening) (s : State)
-    (state : IsInState NoneReturns before s x) where
+module _ (returning : Returning) (laws : LeadsOpenings returning) (answer : Result Geometry Refusal) (events : List Event) (x y : Seen)
+    (p : Performs Recover answer events x y) (rules : IsMembership p.was.member) (honest : IsTrue y.told.honest) (before : List Happening) (s : State)
+    (state : IsInState returning before s x) where
   honest_x : IsTrue x.told.honest
   honest_x = subst IsTrue (sym p.later.honest) honest
 
+  abbrev u : Point
+  u = point p.was.member x.told
+
+  abbrev v : Point
+  v = point p.is.member y.told
+
+  -- where it began, and that it isn't open yet
   record IsFoundSo : Type 0 where
     pub first : Telling
     pub began : first.history ≡ before
-    pub surveys : Surveys (Ok p.was.member) first x.told
+    pub surveyed : IsSurveyedFor returning s first u
     pub unseated : s.seats ≡ None
-    pub stands : Represents s before
+    pub unopened : is_open x.session ≡ false
 
   found_so : IsFoundSo
-  found_so = by x.session p.starts state.serves
+  found_so = by x.session refl p.starts state.serves
     where
-      by : (session : Session) → StartsFrom Recover p.was session → ServesState NoneReturns before s session x.told → IsFoundSo
-      by Begun starts serves = absurd starts
-      by (Opened a) starts serves = absurd starts
-      by Closed starts serves = absurd starts
-      by (Found k) starts serves = record {
+      by : (session : Session) → session ≡ x.session → StartsFrom Recover p.was session → ServesState returning before s session x.told → IsFoundSo
+      by Begun is starts serves = absurd starts
+      by (Opened a) is starts serves = absurd starts
+      by Closed is starts serves = absurd starts
+      by (Found k) is starts serves = record {
         first = serves.0;
         began = serves.1;
-        surveys = subst (λ (m : Membership). Surveys (Ok m) serves.0 x.told) (sym (ap (λ (a : ArrayState). a.member) starts)) serves.3;
+        surveyed = record {
+          stands = subst (StandsFor returning s) (sym serves.1) serves.2;
+          surveys = subst (λ (m : Membership). Surveys (Ok m) serves.0 x.told) (sym (ap (λ (a : ArrayState). a.member) starts)) serves.3;
+          rules = rules;
+        };
         unseated = serves.4;
-        stands = serves.2;
+        unopened = ap is_open (sym is);
       }
-
-  stands_first : Represents s found_so.first.history
-  stands_first = subst (Represents s) (sym found_so.began) found_so.stands
-
-  is_surveyed : IsSurveyed s before (point p.was.member x.told)
-  is_surveyed =
-      subst (λ (b : List Happening). IsSurveyed s b (point p.was.member x.told)) found_so.began
-      (surveyed s found_so.first (point p.was.member x.told) found_so.surveys rules stands_first honest_x)
 
   ran : Ran any_call x.told.history y.told.history
   ran = p.later.ran honest
 
-  are_found : (c : List Happening) → IsMoment x.told.history c y.told.history → Calm s before c → AreFound before c s (seats_in p.was.member.array)
+  -- the survey's beginning is the session's
+  calm_found : (h : List Happening) → IsCalm returning s.geometry (is_open x.session) before h
+      → IsCalm returning s.geometry false found_so.first.history h
+  calm_found h calm =
+      subst (λ (b : List Happening). IsCalm returning s.geometry false b h) (sym found_so.began)
+      (subst (λ (opened : Bool). IsCalm returning s.geometry opened before h) found_so.unopened calm)
+
+  are_found : (c : List Happening) → IsMoment x.told.history c y.told.history → IsCalm returning s.geometry (is_open x.session) before c
+      → AreFound returning before c s (seats_in p.was.member.array)
   are_found c at calm =
-      let so_far : Ran any_call x.told.history c = ran_before {allowed = any_call} ran at in
-      let to_x = moment_between {a = any_call} {b = any_call} is_surveyed.ran so_far in
-      let calm_x = calm_then s before x.told.history c to_x calm in
-      subst (λ (b : List Happening). AreFound b c s (seats_in p.was.member.array)) found_so.began
-      (seats_found s found_so.first x.told p.was.member c found_so.surveys honest_x stands_first
-      (subst (λ (b : List Happening). Calm s b x.told.history) (sym found_so.began) calm_x)
-      (subst (λ (b : List Happening). IsMoment b x.told.history c) (sym found_so.began) to_x))
+      subst (λ (b : List Happening). AreFound returning b c s (seats_in p.was.member.array)) found_so.began
+      (laws.seats s found_so.first u found_so.surveyed honest_x c
+      (moment_between {a = any_call} {b = any_call}
+      (ran_any {allowed = LeavesSectors} (asked_ran 32 found_so.first.history x.told.history (found_so.surveyed.surveys.asked honest_x)))
+      (ran_before {allowed = any_call} ran at)) (calm_found c calm))
 
-  comes_to : Calm s before y.told.history → Outcome s p.was.member before answer (point p.is.member y.told)
-  comes_to = outcome s before answer (point p.was.member x.told) (point p.is.member y.told) p.does is_surveyed honest
+  comes_to : IsCalm returning s.geometry (is_open x.session) before y.told.history → ComesTo returning s p.was.member before answer v
+  comes_to calm =
+      subst (λ (b : List Happening). ComesTo returning s p.was.member b answer v) found_so.began
+      (laws.comes s found_so.first u v answer found_so.surveyed p.does honest_x honest (calm_found y.told.history calm))
 
-  pub leads : IsCalm NoneReturns s.geometry (is_open x.session) before y.told.history → IsLed NoneReturns p.was.member before s Recover answer y
-  leads calm =
-      led s before p.was.member answer (point p.is.member y.told) (comes_to calm) y.session closed opened
-      (are_found y.told.history (moment_last ran.more ran.is) calm)
+  pub leads : IsCalm returning s.geometry (is_open x.session) before y.told.history → IsLed returning p.was.member before s Recover answer y
+  leads calm = led returning s before p.was.member answer v (comes_to calm) y.session closed opened (are_found y.told.history (moment_last ran.more ran.is) calm)
     where
       closed : (refusal : Refusal) → answer ≡ Err refusal → y.session ≡ Closed
       closed refusal same = by p.ends
@@ -241,38 +231,34 @@ module _ (answer : Result Geometry Refusal) (events : List Event) (x y : Seen) (
               session ∙ (λ i. Opened (record { member = p.is.member; rebuild = rebuild i; stopped = kept i }))
 
   -- nothing is refused but an epoch of which no number is left to draw
-  pub only_spent : Calm s before y.told.history → (refusal : Refusal) → answer ≡ Err refusal → refusal ≡ refused EpochsSpent
-  only_spent calm refusal is = by answer refl is (comes_to calm)
+  pub only_spent : IsCalm returning s.geometry (is_open x.session) before y.told.history → (refusal : Refusal) → answer ≡ Err refusal
+      → refusal ≡ refused EpochsSpent
+  only_spent calm refusal is = by answer v refl is (comes_to calm)
     where
-      by : (given : Result Geometry Refusal) → given ≡ answer → given ≡ Err refusal
-          → Outcome s p.was.member before given (point p.is.member y.told) → refusal ≡ refused EpochsSpent
-      by _ same err (Opens g v of stands) = absurd (cc)
-      by _ same err (Refuses (TooFew whys) v stands) =
-          absurd
-          (recovers_never s before answer (point p.was.member x.told) (point p.is.member y.told) p.does whys (sym same) is_surveyed honest
-          calm)
-      by _ same err (Refuses EpochsSpent v stands) = sym (let at : refused EpochsSpent ≡ refusal = cc in at)
+      by : (given : Result Geometry Refusal) (w : Point) → given ≡ answer → given ≡ Err refusal → ComesTo returning s p.was.member before given w
+          → refusal ≡ refused EpochsSpent
+      by _ _ same err (Opens g w of is) = absurd (cc)
+      by _ _ same err (Refuses (TooFew whys) w stands enough) = absurd (enough whys refl)
+      by _ _ same err (Refuses EpochsSpent w stands enough) = sym (let at : refused EpochsSpent ≡ refusal = cc in at)
 
   -- so it is done
-  pub complete : Calm s before y.told.history → HasDraws p.was.member → IsOk answer
+  pub complete : IsCalm returning s.geometry (is_open x.session) before y.told.history → HasDraws p.was.member → IsOk answer
   complete calm draws =
       done_with_room Recover (λ j same. cc) answer events x y p rules draws (λ cause. cause.1) (only_spent calm)
 
   -- at each moment of it a crash leaves the state as it was
-  pub stays : (c : List Happening) → IsMoment x.told.history c y.told.history → Calm s before c → (image : Image) → CrashMayLeave c image
-      → RepresentsAlone s image
+  pub stays : (c : List Happening) → IsMoment x.told.history c y.told.history → IsCalm returning s.geometry (is_open x.session) before c → (image : Image)
+      → CrashMayLeave c image → StandsForAlone returning s image
   stays c at calm image left =
-      subst (λ (t : State). RepresentsAlone t image) (λ i. record {
+      subst (λ (t : State). StandsForAlone returning t image) (λ i. record {
         geometry = s.geometry;
         content = s.content;
         in_doubt = s.in_doubt;
         seats = sym found_so.unseated i;
-      })
-      (at_moment {P = StandsHere s before}
-      (recover_moments s before answer (point p.was.member x.told) (point p.is.member y.told) p.does is_surveyed honest) at calm image left)
+      }) (laws.moments s found_so.first u v answer found_so.surveyed p.does honest_x honest c at (calm_found c calm) image left)
 
-  pub cuts : (c : List Happening) → IsMoment x.told.history c y.told.history → IsCalm NoneReturns s.geometry (is_open x.session) before c
-      → EachImage (IsLeftBy NoneReturns Recover p.was.member before c s) c
+  pub cuts : (c : List Happening) → IsMoment x.told.history c y.told.history → IsCalm returning s.geometry (is_open x.session) before c
+      → EachImage (IsLeftBy returning Recover p.was.member before c s) c
   cuts c at calm image left = record {
     state = s;
     cut = record { begun = seats_in p.was.member.array; begins = (refl, are_found c at calm); within = inl refl };
@@ -280,18 +266,19 @@ module _ (answer : Result Geometry Refusal) (events : List Event) (x y : Seen) (
   }
 
   -- in which the next session over it begins
-  pub again : (c : List Happening) (image : Image) (first : Telling) → IsMoment x.told.history c y.told.history → Calm s before c
-      → CrashMayLeave c image → first.history ≡ Made image ∷ [] → IsInState NoneReturns (Made image ∷ []) s (record { told = first; session = Begun })
+  pub again : (c : List Happening) (image : Image) (first : Telling) → IsMoment x.told.history c y.told.history
+      → IsCalm returning s.geometry (is_open x.session) before c → CrashMayLeave c image → first.history ≡ Made image ∷ []
+      → IsInState returning (Made image ∷ []) s (record { told = first; session = Begun })
   again c image first at calm left is = record {
-    stands = subst (λ (h : List Happening). Represents s h) (sym is) (stays c at calm image left);
+    stands = subst (λ (h : List Happening). StandsFor returning s h) (sym is) (stays c at calm image left);
     serves = (sym is, found_so.unseated);
   }
 
 -- So it is what is promised of a step.
-pub promise : (answer : Result Geometry Refusal) (events : List Event) (x y : Seen) (p : Performs Recover answer events x y)
-    → IsMembership p.was.member → LeadsStep NoneReturns p.was.member Recover answer x y
-promise answer events x y p rules = record {
-  leads = λ honest before s history state calm. leads answer events x y p rules honest before s state calm;
-  cuts = λ honest before s history state c at calm. cuts answer events x y p rules honest before s state c at calm;
-  complete = λ honest before s history state calm can. complete answer events x y p rules honest before s state calm can.draws;
+pub promise : (returning : Returning) → LeadsOpenings returning → (answer : Result Geometry Refusal) (events : List Event) (x y : Seen)
+    (p : Performs Recover answer events x y) → IsMembership p.was.member → LeadsStep returning p.was.member Recover answer x y
+promise returning laws answer events x y p rules = record {
+  leads = λ honest before s history state calm. leads returning laws answer events x y p rules honest before s state calm;
+  cuts = λ honest before s history state c at calm. cuts returning laws answer events x y p rules honest before s state c at calm;
+  complete = λ honest before s history state calm can. complete returning laws answer events x y p rules honest before s state calm can.draws;
 }

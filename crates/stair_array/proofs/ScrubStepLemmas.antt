@@ -21,7 +21,7 @@ use Rattle.stair_array.proofs.ScrubPartLemmas.{AnyCount, IsInside, moments, outc
 pub keeping : (t : ℕ) → IsKeeping (ScrubStripe t)
 keeping t = record {
   no_opening = λ same. cc;
-  begins = λ m before h s seats are. are;
+  begins = λ returning m before h s seats are. are;
   may_begin = λ s certain. certain;
   refuses = λ refusal old new was. inl was;
   knows = λ answer known seats are. are;

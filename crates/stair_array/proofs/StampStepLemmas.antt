@@ -55,7 +55,8 @@ pub record Stamping (step : Step) (change : Change) (aim : Membership → Aim) :
   pub leaves : (m last : Membership) (words : Codewords) (kept : Content) → IsOfContent m words kept → last.array.geometry ≡ m.array.geometry
       → last.array.frozen ≡ frozen_then (aim m) m.array → last.array.label ≡ label_then (aim m) m.array
       → IsOfContent last words (changed change kept)
-  pub begins : (m : Membership) (before h : List Happening) (s : State) (seats : Seats) → s.seats ≡ Some seats → BeginsWith step m before h s seats
+  pub begins : (returning : Returning) (m : Membership) (before h : List Happening) (s : State) (seats : Seats) → s.seats ≡ Some seats
+      → BeginsWith returning step m before h s seats
   pub may : (s : State) → s.in_doubt ≡ None → MayBegin step s
   pub passes : (s : State) (seats : Seats) → PassesTests step s seats
   pub done : (answer : Answer step) (old new : State) → IsOk answer → IsChanged (Some change) old new → HoldsAfter step answer old new
@@ -115,7 +116,7 @@ module _ (returning : Returning) (laws : LeadsReads returning) (stamps : LeadsSt
         state = now;
         is_step = record {
           begun = seats_in m.array;
-          begins = of_step.begins m before y.told.history s (seats_in m.array) begins.seats;
+          begins = of_step.begins returning m before y.told.history s (seats_in m.array) begins.seats;
           row =
               subst (λ (r : Answer step). Row step r (seats_in m.array) s now) (sym same)
               (doubtful (refused fault) (final_refused fault) found.array found.dropped);
@@ -135,7 +136,7 @@ module _ (returning : Returning) (laws : LeadsReads returning) (stamps : LeadsSt
     state = now;
     is_step = record {
       begun = seats_in m.array;
-      begins = of_step.begins m before y.told.history s (seats_in m.array) begins.seats;
+      begins = of_step.begins returning m before y.told.history s (seats_in m.array) begins.seats;
       row = record {
         geometry = e.geometry ∙ begins.geometry;
         begins = of_step.may s begins.certain;
@@ -180,7 +181,7 @@ module _ (returning : Returning) (laws : LeadsReads returning) (stamps : LeadsSt
         state = state_with m s.content (Some change) found.array;
         cut = record {
           begun = seats_in m.array;
-          begins = of_step.begins m before c s (seats_in m.array) begins.seats;
+          begins = of_step.begins returning m before c s (seats_in m.array) begins.seats;
           within = inr (Err EpochsSpent, doubtful EpochsSpent tt found.array found.dropped);
         };
         stands = found.stands;
@@ -281,7 +282,7 @@ freezing frozen = record {
     frozen = frozen_is;
     label = label_is ∙ of.label;
   };
-  begins = λ m before h s seats is. is;
+  begins = λ returning m before h s seats is. is;
   may = λ s certain. certain;
   passes = λ s seats. tt;
   done = λ answer old new. freeze_done answer old new;
@@ -313,7 +314,7 @@ labelling label = record {
     frozen = frozen_is ∙ of.frozen;
     label = label_is;
   };
-  begins = λ m before h s seats is. is;
+  begins = λ returning m before h s seats is. is;
   may = λ s certain. certain;
   passes = λ s seats. tt;
   done = λ answer old new. label_done answer old new;

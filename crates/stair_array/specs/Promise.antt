@@ -16,6 +16,7 @@ use Rattle.stair_rack.specs.declared.rack.Got.TheVariants as got
 use Rattle.stair_rack.specs.declared.rack.Reply.TheVariants as reply
 use Rattle.stair_super.specs.Superblock.{Superblock}
 use Rattle.stair_member.specs.Membership.{IsHere, Membership, why_of}
+use Rattle.stair_member.specs.Reserve.{Bears}
 use Rattle.stair_member.specs.Seats.{Seats, seats_of}
 use Rattle.stair_member.specs.Superblocks.{Counts, HoldsSuper}
 use Rattle.stair_member.specs.Survey.{Surveys}
@@ -27,7 +28,7 @@ use Rattle.stair_state.specs.Represents.{IsLargeEnough}
 use Rattle.stair_state.specs.State.{State}
 use Rattle.stair_session.specs.Courses.{Point, point}
 use Rattle.stair_session.specs.Rebuilding.{Rebuild}
-use Rattle.stair_session.specs.Returning.{IsCalm, Knows, Returning, StandsFor, StandsForAlone}
+use Rattle.stair_session.specs.Returning.{AnyReturns, IsCalm, Knows, NoneReturns, Returning, StandsFor, StandsForAlone}
 use Rattle.stair_session.specs.Session.{ArrayState, IsArray, IsLiveIn, IsOpenWith, IsRebuiltIn, seats_in}
 use Rattle.stair_array.specs.Calls.{Reads, WritesBlocks, refused}
 use Rattle.stair_array.specs.Causes.{HasCause, HasCounted, IsAllowed, IsNextChunk, MemberGoesOn}
@@ -87,47 +88,56 @@ pub record IsInState (returning : Returning) (before : List Happening) (s : Stat
 
 -- STEPS
 
--- the seats of a superblock that counted at a moment of the session before its first write
-pub record AreFound (before h : List Happening) (s : State) (seats : Seats) : Type 0 where
+-- A superblock of slot j speaks for the array: it counts. Where media come back one does that the medium in the slot bears,
+-- though a newer one may hide it.
+abbrev pub SpeaksFor : Returning → Geometry → Image → ℕ → Superblock → Type 0
+SpeaksFor NoneReturns g image j s = Counts g image j s
+SpeaksFor AnyReturns g image j s = Bears g j ((image j).cell) s
+
+-- the seats of a superblock that spoke for the array at a moment of the session before its first write
+pub record AreFound (returning : Returning) (before h : List Happening) (s : State)
+    (seats : Seats) : Type 0 where
   pub moment : List Happening
   pub is_one : IsMoment before moment h
   pub unwritten : NothingWritten before moment
   pub slot : ℕ
   pub super : Superblock
-  pub counts : Counts s.geometry (image_now moment) slot super
+  pub speaks : SpeaksFor returning s.geometry (image_now moment) slot super
   pub are : (j : ℕ) → seats j ≡ seats_of super j
 
 -- an opening begins with the seats that its survey found, any other step with the state's
-abbrev pub BeginsWith : Step → Membership → List Happening → List Happening → State → Seats → Type 0
-BeginsWith Recover m before h s begun = (begun ≡ seats_in m.array) × AreFound before h s begun
-BeginsWith _ m before h s begun = s.seats ≡ Some begun
+abbrev pub BeginsWith : Returning → Step → Membership → List Happening → List Happening → State
+    → Seats → Type 0
+BeginsWith returning Recover m before h s begun =
+    (begun ≡ seats_in m.array) × AreFound returning before h s begun
+BeginsWith returning _ m before h s begun = s.seats ≡ Some begun
 
 -- a step of the machine, up to h, by an array that knew this of its slots
-pub record IsStep (step : Step) (answer : Answer step) (m : Membership)
+pub record IsStep (returning : Returning) (step : Step) (answer : Answer step) (m : Membership)
     (before h : List Happening) (old new : State) : Type 0 where
   pub begun : Seats
-  pub begins : BeginsWith step m before h old begun
+  pub begins : BeginsWith returning step m before h old begun
   pub row : Row step answer begun old new
 
 -- what a crash at h, within a step, leaves
-pub record IsCut (step : Step) (m : Membership) (before h : List Happening) (old new : State)
-    : Type 0 where
+pub record IsCut (returning : Returning) (step : Step) (m : Membership)
+    (before h : List Happening) (old new : State) : Type 0 where
   pub begun : Seats
-  pub begins : BeginsWith step m before h old begun
+  pub begins : BeginsWith returning step m before h old begun
   pub within : CutWithin step begun old new
 
 -- the step led to a state
 pub record IsLed (returning : Returning) (m : Membership) (before : List Happening) (s : State)
     (step : Step) (answer : Answer step) (y : Seen) : Type 0 where
   pub state : State
-  pub is_step : IsStep step answer m before y.told.history s state
+  pub is_step : IsStep returning step answer m before y.told.history s state
   pub is_in : IsInState returning before state y
 
 -- the image stands for what a crash within the step leaves
 pub record IsLeftBy (returning : Returning) (step : Step) (m : Membership)
     (before h : List Happening) (s : State) (image : Image) : Type 0 where
   pub state : State
-  pub cut : IsCut step m before h s state
+  pub cut : IsCut returning step m before h s state
   pub stands : StandsForAlone returning state image
 
 -- WHAT CAN BE DONE

@@ -26,13 +26,13 @@ use Rattle.stair_member.specs.Superblocks.{HoldsSuper, HoldsThis, IsSuperOf}
 use Rattle.stair_member.specs.Survey.{InFirst, InSecond, IsPlaceOf}
 use Rattle.stair_rack.specs.declared.rack.Reply.TheVariants as reply
 use Rattle.stair_super.specs.declared.configuration.Configuration.{Configuration}
-use Rattle.stair_member.proofs.SuperLemmas.{holds_once}
 use Rattle.stair_state.specs.Represents.{AreSteady}
 use Rattle.stair_state.specs.Redoing.{AttachesNone}
 use Rattle.stair_session.specs.InSession.{IsBehindPlaces}
 use Rattle.stair_session.specs.Leading.{IsBesideArray}
 use Rattle.stair_session.specs.Session.{ArrayState}
 use Rattle.stair_session.proofs.Mending.{IsLookedAt}
+use Rattle.stair_array.proofs.PreparedLemmas.{held_below}
 use Rattle.stair_return.specs.Given.{KnowsSuper}
 use Rattle.stair_return.proofs.NameLemmas.{still_attached}
 use Rattle.stair_return.proofs.PlacesSince.{steady_behind}
@@ -140,13 +140,6 @@ module _ (a : ArrayState) (slot : ℕ) (seen : Membership) (old new : List Happe
 
   -- THE DRAWS were seen
 
-  draw_below : (cell : Cell) (found : Option Superblock) → HoldsThis cell found → (s : Superblock) → HoldsSuper cell s → s.draw ≤ draw_in found
-  draw_below cell None none s holds = absurd (none s holds)
-  draw_below cell (Some t) is s holds =
-      let same : s ≡ t = holds_once cell s t holds is in
-      let at : s.draw ≡ t.draw = ap (λ (u : Superblock). u.draw) same in
-      omega (arith, at)
-
   pub drawn_seen : (k : ℕ) (s : Superblock) → k < 2 → HoldsSuper ((image_now new slot).cell k) s → s.draw ≤ seen.drawn
   drawn_seen k s small holds = by (cases_eq k 0)
     where
@@ -158,11 +151,11 @@ module _ (a : ArrayState) (slot : ℕ) (seen : Membership) (old new : List Happe
 
       by : (k ≡ 0) ⊎ (k ≢ 0) → s.draw ≤ seen.drawn
       by (inl zero) =
-          let least = draw_below (l.cell 0) l.first l.in_first s (subst (λ (i : ℕ). HoldsSuper (l.cell i) s) zero read) in
+          let least = held_below (l.cell 0) l.first l.in_first s (subst (λ (i : ℕ). HoldsSuper (l.cell i) s) zero read) in
           omega (arith, least, drawn)
       by (inr other) =
           let one : k ≡ 1 = omega (arith, small, other) in
-          let least = draw_below (l.cell 1) l.second l.in_second s (subst (λ (i : ℕ). HoldsSuper (l.cell i) s) one read) in
+          let least = held_below (l.cell 1) l.second l.in_second s (subst (λ (i : ℕ). HoldsSuper (l.cell i) s) one read) in
           omega (arith, least, drawn)
 
   -- ITS SUPERBLOCK lies aside

@@ -28,12 +28,13 @@ use Rattle.stair_state.specs.Degraded.{AreDamagedCopies}
 use Rattle.stair_state.specs.Forms.{HasGate, IsOpen, RepresentsBy}
 use Rattle.stair_state.specs.Holding.{HaveHolders, Holders, IsHolder}
 use Rattle.stair_state.specs.Reassembly.{Empty, InSlot, IsMediumOf, IsReassembledSlot, IsReassembly, Location, OneOf, Unwritten}
-use Rattle.stair_state.specs.Represents.{Encodings, IsLargeEnough}
+use Rattle.stair_state.specs.Represents.{Encodings, IsLargeEnough, no_write}
 use Rattle.stair_state.specs.State.{State}
-use Rattle.stair_state.proofs.DegradedLemmas.{holds_before}
+use Rattle.stair_state.proofs.DegradedLemmas.{copies_again, holds_before}
 use Rattle.stair_state.proofs.ExchangedLemmas.{slot_here, slot_left, with_slot}
 use Rattle.stair_state.proofs.FormLemmas.{good_whole, represents_still}
 use Rattle.stair_state.proofs.ReassembledLemmas.{IsBorneFrom, from_slot}
+use Rattle.stair_state.proofs.ReturnLemmas.{IsFrom, MediaCameFrom, at_image, came_looking}
 use Rattle.stair_return.specs.Beginning.{AreHoldersClosed}
 use Rattle.stair_return.specs.Behind.{Bearing, HasNumber, InUse, IsKnownBehind, IsRebuiltAs}
 use Rattle.stair_return.specs.Following.{name_of}
@@ -46,6 +47,61 @@ pub reassembled_past : (from to : SlotImage) → IsReassembledSlot from to → (
 reassembled_past from to (OneOf place medium is size copies past) k none = past k none
 reassembled_past from to (Unwritten size is all) k none = all k
 reassembled_past from to (Empty is all) k none = all k
+
+-- so a superblock that it bears lies within it
+pub held_within : (from to : SlotImage) → IsReassembledSlot from to → (o : Option ℕ) → to.size ≡ o → (k : ℕ) (s : Superblock) → HoldsSuper (to.cell k) s
+    → has_sector o k ≡ true
+held_within from to slot o size k s holds =
+    elim (cases_Bool (has_sector o k)) [
+      | inl is ↦ is
+      | inr past ↦ absurd (good_whole holds.good (reassembled_past from to slot k (ap (λ (l : Option ℕ). has_sector l k) size ∙ past)))
+    ]
+
+-- AFTER CALLS THAT WRITE NOTHING
+
+-- a slot of a reassembled image that bears a superblock has a medium that bore it before them
+pub record BoreThen (g : Geometry) (old : List Happening) (j : ℕ) (to : SlotImage) (b : Superblock) : Type 0 where
+  pub was : SlotImage
+  pub left : SlotMayLeave (slot_state old j) was
+  pub place : Location
+  pub medium : Medium
+  pub is_one : IsMediumOf was place medium
+  pub size : to.size ≡ Some medium.size
+  pub copies : AreDamagedCopies medium.cell to.cell
+  pub bears : Bears g j medium.cell b
+  pub within : has_sector (Some medium.size) bears.place ≡ true
+
+pub bore_then : (g : Geometry) (old new : List Happening) → Ran no_write old new → (image : Image) → CrashMayLeave new image → (to : Image) (j : ℕ)
+    → IsReassembledSlot (image j) (to j) → (b : Superblock) → Bears g j ((to j).cell) b → BoreThen g old j (to j) b
+bore_then g old new looked image left to j slot b bears = by (come.medium came.place came.medium came.is_one)
+  where
+    came : IsBorneFrom g image to j b
+    came = from_slot g image to j b slot bears
+
+    come : MediaCameFrom (slot_state old j) (image j)
+    come = at_image (came_looking j looked) (image j) (left j)
+
+    by : IsFrom come.was (come.place came.place) came.medium → BoreThen g old j (to j) b
+    by (IsFrom.New all) = absurd (good_whole came.bears.holds.good (all came.bears.place))
+    by (IsFrom.Same earlier at same copied) = record {
+      was = come.was;
+      left = come.left;
+      place = come.place came.place;
+      medium = earlier;
+      is_one = at;
+      size = came.size ∙ ap Some (sym same);
+      copies = copies_again copied came.copies;
+      bears = record {
+        place = bears.place;
+        place_in = bears.place_in;
+        holds = holds_before (copies_again copied came.copies bears.place) bears.holds;
+        slot = bears.slot;
+        identity = bears.identity;
+      };
+      within = held_within (image j) (to j) slot (Some earlier.size) (came.size ∙ ap Some (sym same)) bears.place b bears.holds;
+    }
+
+-- BEHIND THE SUPERBLOCKS
 
 -- the superblocks as they were, and behind them what there is now
 as_it_was : Medium → SlotImage → SlotImage
@@ -305,15 +361,7 @@ module _ (s : State) (encodings : Encodings s) (holders : Holders) (since : ℕ)
               let small : l < 2 = wrote.0 in absurd (omega (arith, small, behind_places))
 
           within : has_sector (Some medium.size) k ≡ true
-          within =
-              elim (cases_Bool (has_sector (Some medium.size) k)) [
-                | inl is ↦ is
-                | inr past ↦
-                    absurd
-                    (good_whole bears.holds.good
-                    (reassembled_past (image j) (to j) (reassembly j) k
-                    (ap (λ (o : Option ℕ). has_sector o k) came.size ∙ ap (λ (i : ℕ). has_sector (Some i) k) (sym size) ∙ past)))
-              ]
+          within = held_within (image j) (to j) (reassembly j) (Some medium.size) (came.size ∙ ap Some (sym size)) k b bears.holds
 
           on : IsCellSince slots editions old j place k (medium.cell k) (came.medium.cell k) → HadNumber s.geometry m old j b.joined place medium
           on (IsStill same) =

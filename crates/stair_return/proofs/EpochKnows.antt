@@ -15,13 +15,14 @@ use Rattle.stair_member.specs.Seats.{Seats, seats_of}
 use Rattle.stair_member.specs.declared.aim.Aim.{Aim}
 use Rattle.stair_state.specs.Holding.{Holders, IsBorneSince, IsConsistentBy, IsHolder}
 use Rattle.stair_state.specs.Reassembly.{IsReassembly}
-use Rattle.stair_state.specs.Represents.{Encodings}
 use Rattle.stair_state.specs.State.{Change, Content, State}
 use Rattle.stair_state.specs.Tolerance.{IsTolerated}
 use Rattle.stair_state.proofs.HoldingLemmas.{current_since}
 use Rattle.stair_state.proofs.OutsideLemmas.{tolerated_alone}
 use Rattle.stair_session.specs.Returning.{KnowsMedia, holders_of}
 use Rattle.stair_session.specs.Session.{seats_in}
+use Rattle.stair_state.proofs.AloneLemmas.{reseated}
+use Rattle.stair_state.proofs.ReturnLemmas.{by_seats}
 use Rattle.stair_return.specs.Beginning.{AreHoldersClosed, BeginsWherever, StandsWherever}
 use Rattle.stair_return.proofs.BehindSince.{closed_since}
 use Rattle.stair_return.proofs.KeptSince.{numbers, so}
@@ -34,27 +35,6 @@ use Rattle.stair_model.specs.Device.{gate_sector}
 use Rattle.stair_model.specs.Geometry.{Geometry}
 use Rattle.stair_rack.proofs.CrashLemmas.{CrashMayLeave-now}
 use Rattle.stair_member.specs.Aims.{admitted}
-
--- seats aside it is the same state
-pub reseated : (s : State) (seats : Option Seats) → Encodings s → Encodings (record s { seats = seats })
-reseated s seats e = record { old = e.old; new = e.new; old_are = e.old_are; new_are = e.new_are }
-
-pub by_seats : (s : State) (seats : Option Seats) (e : Encodings s) (holders : Holders) (since : ℕ) (image : Image) → IsConsistentBy s e holders since image
-    → IsConsistentBy (record s { seats = seats }) (reseated s seats e) holders since image
-unfolding reseated
-by_seats s seats e holders since image it = record {
-  overtaken = it.overtaken;
-  reserved = it.reserved;
-  live = it.live;
-  rebuilt = it.rebuilt;
-  frozen = it.frozen;
-  label = it.label;
-  forms = it.forms;
-  full = it.full;
-  rebuilding = it.rebuilding;
-  one_list = it.one_list;
-  own_joined = it.own_joined;
-}
 
 module _ (holders : Holders) (since : ℕ) (aim : Aim) (m : Membership) (content : Content) (in_doubt : Option Change) (seats : Option Seats)
     (old : List Happening) where

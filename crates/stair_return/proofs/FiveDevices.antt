@@ -49,7 +49,7 @@ five_limits = record {
   size = (omega arith, omega arith, omega arith);
 }
 
-older_none : (s : Superblock) → ¬ IsOlder s s
+pub older_none : (s : Superblock) → ¬ IsOlder s s
 older_none s (inl less) = omega arith
 older_none s (inr both) = omega (arith, both.1)
 
@@ -74,7 +74,7 @@ module _ (words : Codewords) (editions : ℕ → Edition) where
   pub chunk_cell : (j : ℕ) → device_cell words editions j 8 ≡ Good (cell (words 0) 0 j)
   chunk_cell j = refl
 
-  good_cell : (j k : ℕ) → k < 9 → (bytes : List ℕ) × (device_cell words editions j k ≡ Good bytes)
+  pub good_cell : (j k : ℕ) → k < 9 → (bytes : List ℕ) × (device_cell words editions j k ≡ Good bytes)
   good_cell j k within =
       elim (cases_lt k 2) [
         | inl place ↦ (spelled (copy_of (editions j) j), place_cell j k place)

@@ -1,12 +1,12 @@
 -- Behind the superblock places of media there lies at the end of a survey what lay there when it began, though media came back
 -- meanwhile: of those that hold chunks or are rebuilt, and of those in use, whether their superblocks can be read still or not.
-use Rattle.std.specs.Prelude.{IsTrue, Result, Ok, IsSome}
+use Rattle.std.specs.Prelude.{Ok, IsSome}
 use Rattle.std.proofs.Common.{◌≡◌, ℕ, ◌<◌, ◌≤◌, List, [], ◌⊎◌, inl, inr, refl, sym, ap, ◌∙◌, subst, arith, true, false, Option, None, Some, if◌then◌else◌, ◌==◌}
 use Rattle.std.proofs.lemmas.Bool.{cases_Bool, cases_eq, cond-true, cond-false, eq-eqb, ne_eqb, false≢true}
 use Rattle.stair_model.specs.Slots.{HasSlot, Slots}
 use Rattle.stair_model.specs.Device.{gate_sector}
 use Rattle.stair_model.specs.Geometry.{Geometry}
-use Rattle.stair_rack.specs.Answers.{Ran, any_call, IsHistory}
+use Rattle.stair_rack.specs.Answers.{Ran, IsHistory}
 use Rattle.stair_rack.specs.Media.{Image, Medium, SlotImage, has_sector}
 use Rattle.stair_rack.specs.Crash.{CrashMayLeave, SlotMayLeave, image_now}
 use Rattle.stair_rack.specs.Sector.{Cell, Damaged, MayLeave, Sector, content}
@@ -23,15 +23,14 @@ use Rattle.stair_super.specs.declared.configuration.Configuration.{Configuration
 use Rattle.stair_member.specs.Membership.{IsHere, Membership}
 use Rattle.stair_member.specs.Superblocks.{HoldsSuper}
 use Rattle.stair_member.specs.Current.{HasMark, IsLost}
-use Rattle.stair_member.specs.Survey.{IsSurveyed, Surveys}
+use Rattle.stair_member.specs.Survey.{IsSurveyed}
 use Rattle.stair_member.specs.Reserve.{Bears}
-use Rattle.stair_member.specs.declared.fault.SurveyFault.{SurveyFault}
 use Rattle.stair_member.specs.declared.aim.Aim.TheVariants.{Fence}
 use Rattle.stair_member.proofs.SuperLemmas.{counts_bears}
 use Rattle.stair_member.proofs.CountingLemmas.{has_or_not}
 use Rattle.stair_journal.specs.declared.redo.Redo.{Redo}
 use Rattle.stair_state.specs.Reassembly.{Empty, InSlot, IsMediumOf, IsReassembledSlot, IsReassembly, Location, OneOf}
-use Rattle.stair_state.specs.Holding.{Holders, IsBorneSince, IsConsistentSince}
+use Rattle.stair_state.specs.Holding.{Holders, IsBorneSince}
 use Rattle.stair_state.specs.State.{State}
 use Rattle.stair_state.specs.Represents.{IsLargeEnough, no_write}
 use Rattle.stair_state.specs.Forms.{HasGate, IsOpen, RepresentsBy}
@@ -39,14 +38,12 @@ use Rattle.stair_state.specs.Degraded.{AreDamagedCopies}
 use Rattle.stair_state.proofs.ReturnLemmas.{IsFrom, MediaCameFrom, New, Same, at_image, came_looking}
 use Rattle.stair_state.proofs.FormLemmas.{good_whole, represents_still}
 use Rattle.stair_state.proofs.OutsideLemmas.{slot_now, slot_now_left, steady_looks}
-use Rattle.stair_state.proofs.ReassembledLemmas.{IsBorneFrom, from_slot}
 use Rattle.stair_state.proofs.DegradedLemmas.{holds_before, copies_again}
 use Rattle.stair_journal.specs.Gate.{IsOpenWith}
-use Rattle.stair_session.specs.Mixed.{IsToleratedMixed}
 use Rattle.stair_return.specs.Following.{AreOfNamed, Blank, Kept, name_of}
 use Rattle.stair_return.specs.Behind.{Bearing, ByMedium, ByMember, HasHolder, HasNumber, InUse, IsKnownBehind, IsRebuiltAs}
-use Rattle.stair_return.proofs.BehindSince.{reassembled_past}
-use Rattle.stair_return.proofs.KnownLemmas.{borne_before, borne_steady, is_history, looked, mine, surveyed}
+use Rattle.stair_return.proofs.BehindSince.{BoreThen, bore_then, reassembled_past}
+use Rattle.stair_return.proofs.KnownLemmas.{WasSurveyed, borne_before, borne_steady, is_history, looked, mine, surveyed}
 use Rattle.stair_return.proofs.OpeningBeginsMember.{named_since}
 use Rattle.stair_return.proofs.OpeningBeginsReads.{WasReadAt, found_marked, found_small, found_there, read_at}
 use Rattle.stair_return.proofs.NameLemmas.{name_apart, still_attached, attached_name}
@@ -189,38 +186,38 @@ steady_left t cell none may =
 
 -- AFTER A SURVEY
 
-module _ (s : State) (holders : Holders) (since : ℕ) (before : List Happening) (old new : Telling) (answer : Result Membership SurveyFault)
-    (surveys : Surveys answer old new) (honest : IsTrue new.honest) (began : Ran any_call before old.history)
-    (consistent : IsConsistentSince s holders since old.history) (tolerated : IsToleratedMixed s.geometry before old.history new.history)
-    (m : Membership) (answered : answer ≡ Ok m) where
+module _ {s : State} {holders : Holders} {since : ℕ} {before : List Happening} {old new : Telling} {m : Membership}
+    (survey : WasSurveyed s holders since before old new m) where
+  open survey use {began, consistent, honest, surveys}
+
   abbrev g : Geometry
   g = s.geometry
 
   abbrev found : IsSurveyed surveys.findings m
-  found = surveyed s holders since before old new answer surveys honest began consistent tolerated m answered
+  found = surveyed survey
 
   abbrev looks : Ran no_write old.history new.history
-  looks = looked s holders since before old new answer surveys honest began consistent tolerated m answered
+  looks = looked survey
 
   history_first : IsHistory old.history
-  history_first = is_history s holders since before old new answer surveys honest began consistent tolerated m answered
+  history_first = is_history survey
 
   same_geometry : m.array.geometry ≡ s.geometry
-  same_geometry = mine s holders since before old new answer surveys honest began consistent tolerated m answered
+  same_geometry = mine survey
 
   -- A MEDIUM IN USE
 
   module _ (j : ℕ) (here : IsHere m j) (on : IsAttached new.history j) where
     has : HasMark m.array.geometry surveys.findings.image found.current (mark_at found.current j) j
-    has = found_marked before old new answer surveys honest began m found j here
+    has = found_marked before old new (Ok m) surveys honest began m found j here
 
     held : Bears m.array.geometry j ((surveys.findings.image j).cell) has.super
     held = counts_bears m.array.geometry surveys.findings.image j has.super has.counts
 
-    read : WasReadAt before old new answer surveys honest began j held.place
+    read : WasReadAt before old new (Ok m) surveys honest began j held.place
     read =
-        read_at before old new answer surveys honest began j held.place (found_small before old new answer surveys honest began m found j here)
-        held.place_in (found_there before old new answer surveys honest began m found j here)
+        read_at before old new (Ok m) surveys honest began j held.place (found_small before old new (Ok m) surveys honest began m found j here)
+        held.place_in (found_there before old new (Ok m) surveys honest began m found j here)
 
     upto : Ran no_write old.history read.moment
     upto = ran_before looks read.is_one
@@ -348,49 +345,23 @@ module _ (s : State) (holders : Holders) (since : ℕ) (before : List Happening)
       in_use j here on image left (to j) Means
       (subst Means (same ∙ ap (λ (c : Configuration). joined_in c j) found.array ∙ sym has.joined) means) size copies
       (reassembled_past (image j) (to j) slot)
-  of_then image left to j n Means slot means (Bearing b bears joined) = by (come.medium came.place came.medium came.is_one)
+  of_then image left to j n Means slot means (Bearing b bears joined) = record {
+    was = then.was;
+    left = then.left;
+    place = then.place;
+    medium = then.medium;
+    is_one = then.is_one;
+    size = then.size;
+    copies = then.copies;
+    past = reassembled_past (image j) (to j) slot;
+    super = b;
+    bears = then.bears;
+    within = then.within;
+    means = subst Means (sym joined) means;
+  }
     where
-      came : IsBorneFrom s.geometry image to j b
-      came = from_slot s.geometry image to j b slot bears
-
-      come : MediaCameFrom (slot_state old.history j) (image j)
-      come = at_image (came_looking j looks) (image j) (left j)
-
-      by : IsFrom come.was (come.place came.place) came.medium → IsOfThen s.geometry old.history j Means (to j)
-      by (New all) = absurd (good_whole came.bears.holds.good (all came.bears.place))
-      by (Same earlier at same copied) = record {
-        was = come.was;
-        left = come.left;
-        place = come.place came.place;
-        medium = earlier;
-        is_one = at;
-        size = sized;
-        copies = copies_again copied came.copies;
-        past = reassembled_past (image j) (to j) slot;
-        super = b;
-        bears = record {
-          place = bears.place;
-          place_in = bears.place_in;
-          holds = holds_before (copies_again copied came.copies bears.place) bears.holds;
-          slot = bears.slot;
-          identity = bears.identity;
-        };
-        within = within;
-        means = subst Means (sym joined) means;
-      }
-        where
-          sized : (to j).size ≡ Some earlier.size
-          sized = came.size ∙ ap Some (sym same)
-
-          within : has_sector (Some earlier.size) bears.place ≡ true
-          within =
-              elim (cases_Bool (has_sector (Some earlier.size) bears.place)) [
-                | inl is ↦ is
-                | inr past ↦
-                    absurd
-                    (good_whole bears.holds.good
-                    (reassembled_past (image j) (to j) slot bears.place (ap (λ (o : Option ℕ). has_sector o bears.place) sized ∙ past)))
-              ]
+      then : BoreThen s.geometry old.history j (to j) b
+      then = bore_then s.geometry old.history new.history looks image left to j slot b bears
 
   -- WHAT LIES BEHIND
 
@@ -467,7 +438,7 @@ module _ (s : State) (holders : Holders) (since : ℕ) (before : List Happening)
     was_rebuilt : (was : Image) → CrashMayLeave old.history was → (j n : ℕ) → IsRebuiltAs s.geometry since m new.history j n → WasRebuilt was j n
     was_rebuilt was may j n (ByMember marks joined) = record {
       by = found.current;
-      borne = named_since s holders since before old new answer surveys honest began consistent tolerated m answered was may;
+      borne = named_since survey was may;
       marks = sym (ap (λ (c : Configuration). mark_in c j) found.array) ∙ marks;
       joined = sym (ap (λ (c : Configuration). joined_in c j) found.array) ∙ joined;
     }

@@ -21,7 +21,7 @@ use Rattle.stair_member.specs.Findings.{Findings}
 use Rattle.stair_member.specs.Membership.{IsHere, Membership}
 use Rattle.stair_member.specs.Reserve.{Bears}
 use Rattle.stair_member.specs.Superblocks.{Counts, HoldsSuper}
-use Rattle.stair_member.specs.Survey.{IsAnswer, IsSurveyed, Surveys}
+use Rattle.stair_member.specs.Survey.{IsSurveyed, Surveys}
 use Rattle.stair_member.specs.declared.fault.SurveyFault.{SurveyFault}
 use Rattle.stair_member.proofs.EditionLemmas.{bears_below}
 use Rattle.stair_member.proofs.SuperLemmas.{counts_bears}
@@ -101,10 +101,30 @@ borne_before g old x image i p s is_history looked left borne =
     }
     by (Blank all) = absurd (good_whole borne.bears.holds.good (all borne.bears.place))
 
-module _ (s : State) (holders : Holders) (since : ℕ) (before : List Happening) (old new : Telling) (answer : Result Membership SurveyFault)
-    (surveys : Surveys answer old new) (honest : IsTrue new.honest) (began : Ran any_call before old.history)
-    (consistent : IsConsistentSince s holders since old.history) (tolerated : IsToleratedMixed s.geometry before old.history new.history)
-    (m : Membership) (answered : answer ≡ Ok m) where
+-- A survey answered this member, on an honest rack that is consistent by holders, within tolerance of mixed images.
+pub record WasSurveyed (s : State) (holders : Holders) (since : ℕ) (before : List Happening) (old new : Telling) (m : Membership) : Type 0 where
+  pub surveys : Surveys (Ok m) old new
+  pub honest : IsTrue new.honest
+  pub began : Ran any_call before old.history
+  pub consistent : IsConsistentSince s holders since old.history
+  pub tolerated : IsToleratedMixed s.geometry before old.history new.history
+
+pub was_surveyed : {s : State} {holders : Holders} {since : ℕ} {before : List Happening} {old new : Telling} {m : Membership}
+    (answer : Result Membership SurveyFault) → Surveys answer old new → IsTrue new.honest → Ran any_call before old.history
+    → IsConsistentSince s holders since old.history → IsToleratedMixed s.geometry before old.history new.history → answer ≡ Ok m
+    → WasSurveyed s holders since before old new m
+was_surveyed {old} {new} answer surveys honest began consistent tolerated answered = record {
+  surveys = subst (λ (a : Result Membership SurveyFault). Surveys a old new) answered surveys;
+  honest = honest;
+  began = began;
+  consistent = consistent;
+  tolerated = tolerated;
+}
+
+module _ {s : State} {holders : Holders} {since : ℕ} {before : List Happening} {old new : Telling} {m : Membership}
+    (survey : WasSurveyed s holders since before old new m) where
+  open survey use {began, consistent, honest, surveys, tolerated}
+
   abbrev g : Geometry
   g = s.geometry
 
@@ -112,31 +132,31 @@ module _ (s : State) (holders : Holders) (since : ℕ) (before : List Happening)
   f = surveys.findings
 
   pub is_history : IsHistory old.history
-  is_history = history before old new answer surveys honest began
+  is_history = history before old new (Ok m) surveys honest began
 
   pub looked : Ran no_write old.history new.history
-  looked = unwritten_ran (ran before old new answer surveys honest began)
+  looked = unwritten_ran (ran before old new (Ok m) surveys honest began)
 
   pub surveyed : IsSurveyed f m
-  surveyed = (subst (λ (a : Result Membership SurveyFault). IsAnswer f a) answered surveys.answered).0
+  surveyed = surveys.answered.0
 
   pub mine : m.array.geometry ≡ g
-  mine = is_mine before old new answer surveys honest began g tolerated m surveyed
+  mine = is_mine before old new (Ok m) surveys honest began g tolerated m surveyed
 
   -- the image in which all was seen together
   abbrev to : Image
-  to = together before old new answer surveys honest began
+  to = together before old new (Ok m) surveys honest began
 
   pub came : IsToleratedReassembly g old.history to
   came =
-      mixed_reassembly before old.history new.history is_history looked g to tolerated (together_mixed before old new answer surveys honest began)
+      mixed_reassembly before old.history new.history is_history looked g to tolerated (together_mixed before old new (Ok m) surveys honest began)
 
   pub it : IsConsistentBy s consistent.encodings holders since came.was
   it = consistent.each came.was came.left
 
   counts_to : (j : ℕ) (x : Superblock) → Counts g f.image j x → Counts g to j x
   counts_to j x counts =
-      counts_same g f.image to j x (same_back to f.image (together_shown before old new answer surveys honest began)) counts
+      counts_same g f.image to j x (same_back to f.image (together_shown before old new (Ok m) surveys honest began)) counts
 
   -- EVERY EPOCH IS COVERED
 
@@ -152,7 +172,7 @@ module _ (s : State) (holders : Holders) (since : ℕ) (before : List Happening)
       let seen : super.draw ≤ m.drawn =
       surveyed.drawn.above found.0 super
       (subst (λ (y : Geometry). Counts y f.image found.0 super) (sym mine)
-      (counts_same g to f.image found.0 super (together_shown before old new answer surveys honest began) found.1.serves.live.counts)) in
+      (counts_same g to f.image found.0 super (together_shown before old new (Ok m) surveys honest began) found.1.serves.live.counts)) in
       omega arith
 
   -- THE MEMBER'S EPOCH NAMES WHAT IT HAS
@@ -172,7 +192,7 @@ module _ (s : State) (holders : Holders) (since : ℕ) (before : List Happening)
 
   -- a superblock that was read of a slot was borne when the survey began by the medium that is in the slot now
   read_borne : (j k : ℕ) (x : Superblock) → IsAttached new.history j → x.slot ≡ j → x.array.geometry ≡ g → k < 2
-      → (read : WasReadAt before old new answer surveys honest began j k) → HoldsSuper (content ((slot_state read.moment j).sector k)) x
+      → (read : WasReadAt before old new (Ok m) surveys honest began j k) → HoldsSuper (content ((slot_state read.moment j).sector k)) x
       → WasBorne g old.history j (name_of new.history j InSlot) x
   read_borne j k x on slot geometry k_in read holds = at_name (borne_at (slot_state read.moment j).size refl)
     where
@@ -219,15 +239,15 @@ module _ (s : State) (holders : Holders) (since : ℕ) (before : List Happening)
       (joined ∙ ap (λ (c : Configuration). joined_in c j) surveyed.array ∙ sym marked.joined))
     where
       marked : HasMark m.array.geometry f.image surveyed.current (mark_at surveyed.current j) j
-      marked = found_marked before old new answer surveys honest began m surveyed j here
+      marked = found_marked before old new (Ok m) surveys honest began m surveyed j here
 
       held : Bears m.array.geometry j ((f.image j).cell) marked.super
       held = counts_bears m.array.geometry f.image j marked.super marked.counts
 
-      read : WasReadAt before old new answer surveys honest began j held.place
+      read : WasReadAt before old new (Ok m) surveys honest began j held.place
       read =
-          read_at before old new answer surveys honest began j held.place (found_small before old new answer surveys honest began m surveyed j here) held.place_in
-          (found_there before old new answer surveys honest began m surveyed j here)
+          read_at before old new (Ok m) surveys honest began j held.place (found_small before old new (Ok m) surveys honest began m surveyed j here) held.place_in
+          (found_there before old new (Ok m) surveys honest began m surveyed j here)
 
   pub known : EachImage (IsKnownWherever None m (IsAttached new.history)) new.history
   known image left = record {

@@ -10,6 +10,7 @@ use Rattle.stair_rack.specs.Offline.{Here, IsAttached, IsKept, Lost}
 use Rattle.stair_rack.specs.Sector.{Cell, Damaged, Sector, content, damaged}
 use Rattle.stair_rack.specs.declared.rack.Got.{Got}
 use Rattle.stair_rack.specs.declared.rack.Got.TheVariants as got
+use Rattle.stair_rack.specs.declared.rack.Reply.TheVariants as reply
 use Rattle.stair_rack.proofs.KeptLemmas.{IsLooking, SectorKeeps-looking, keeps_sector}
 use Rattle.stair_rack.proofs.MomentLemmas.{IsThis, calls_ran, moment_between, ran_any, ran_join, ran_weakened}
 use Rattle.stair_rack.proofs.OfflineLemmas.{and-true_left}
@@ -75,7 +76,7 @@ unreadable h j k history is =
     bad true b has both = both
     bad false b has both = absurd (false≢true has)
 
-pub is_shown : (gone : Type 0) (answer : Got) (old new : List Happening) (j k : ℕ) (found : Cell) → IsHistory old
+is_shown : (gone : Type 0) (answer : Got) (old new : List Happening) (j k : ℕ) (found : Cell) → IsHistory old
     → Calls old new j (SlotCall.Read k answer) → IsWhatWasRead gone answer new j k found → IsShown gone new j k found
 is_shown gone got.Good old new j k found history called is =
     Shows (record {
@@ -89,6 +90,68 @@ is_shown gone got.Bad old new j k found history called is =
       held = held_neither (content ((slot_state new j).sector k)) found (unreadable new j k (history_called history called) answered) is;
     })
 is_shown gone got.Gone old new j k found history called is = Unread is.1 is.0
+
+-- BOTH READS
+
+-- of one medium, at moments of their own behind the attach: they show what was found, unless the slot was gone to one
+pub record AreReads (gone : Type 0) (old new : List Happening) (j : ℕ) (cell : ℕ → Cell) : Type 0 where
+  pub asked : List Happening
+  pub attached : List Happening
+  pub sooner : Ran any_call old asked
+  pub on : Calls asked attached j (SlotCall.Attach reply.Done)
+  pub first : List Happening
+  pub last : List Happening
+  pub upto : Ran any_call attached first
+  pub answer : Got
+  pub called : Calls first last j (SlotCall.Read 1 answer)
+  pub later : Ran any_call last new
+  pub history : IsHistory first
+  pub shown_first : IsShown gone first j 0 (cell 0)
+  pub shown_last : IsShown gone last j 1 (cell 1)
+
+module _ {gone : Type 0} {old new : List Happening} {j : ℕ} {cell : ℕ → Cell} (reads : AreReads gone old new j cell) where
+  upto_first : Ran any_call old reads.first
+  upto_first = ran_join (ran_join reads.sooner (ran_any (calls_ran reads.on))) reads.upto
+
+  pub at_first : IsMoment old reads.first new
+  at_first = moment_between upto_first (ran_join (ran_any (calls_ran reads.called)) reads.later)
+
+  pub at_last : IsMoment old reads.last new
+  at_last = moment_between (ran_join upto_first (ran_any (calls_ran reads.called))) reads.later
+
+-- nothing was found of a slot that was gone to its attach
+pub data AreShown (gone : Type 0) (old new : List Happening) (j : ℕ) (cell : ℕ → Cell) : Type 0 where
+  ShownNone : gone → cell 0 ≡ Damaged → cell 1 ≡ Damaged → AreShown gone old new j cell
+  ShownBoth : AreReads gone old new j cell → AreShown gone old new j cell
+
+pub are_shown : (gone : Type 0) (old new : List Happening) (j : ℕ) (cell : ℕ → Cell) → IsHistory old → FindsWithin gone j cell old new
+    → AreShown gone old new j cell
+are_shown gone old new j cell history within = by within.finds
+  where
+    by : FindsSlot gone j cell within.from within.to → AreShown gone old new j cell
+    by (FoundNone called zero' one' is_gone) = ShownNone is_gone zero' one'
+    by (FoundBoth attached between first second on one two found_one found_two only) =
+        ShownBoth (record {
+          asked = within.from;
+          attached = attached;
+          sooner = within.sooner;
+          on = on;
+          first = between;
+          last = within.to;
+          upto = ran_any (calls_ran one);
+          answer = second;
+          called = two;
+          later = within.later;
+          history = history_between;
+          shown_first = is_shown gone first attached between j 0 (cell 0) history_attached one found_one;
+          shown_last = is_shown gone second between within.to j 1 (cell 1) history_between two found_two;
+        })
+      where
+        history_attached : IsHistory attached
+        history_attached = history_on {allowed = any_call} history (ran_join within.sooner (ran_any (calls_ran on)))
+
+        history_between : IsHistory between
+        history_between = history_called history_attached one
 
 -- THE SLOT
 
@@ -208,36 +271,17 @@ module _ (before old new : List Happening) (history : IsHistory old) (cell : ℕ
       }
 
   pub mixed_finding : (gone : Type 0) → FindsWithin gone j cell old new → (gone → WasOffline before old new j) → IsMixedFinding before old new cell j
-  mixed_finding gone within offline = by within.finds
+  mixed_finding gone within offline = by (are_shown gone old new j cell history within)
     where
-      by : FindsSlot gone j cell within.from within.to → IsMixedFinding before old new cell j
-      by (FoundNone called zero' one' is_gone) = none_read (offline is_gone) zero' one'
-      by (FoundBoth attached between first second on one two found_one found_two only) =
-          shown (is_shown gone first attached between j 0 (cell 0) history_attached one found_one)
-          (is_shown gone second between within.to j 1 (cell 1) history_between two found_two)
+      by : AreShown gone old new j cell → IsMixedFinding before old new cell j
+      by (ShownNone is_gone zero' one') = none_read (offline is_gone) zero' one'
+      by (ShownBoth reads) = shown reads.shown_first reads.shown_last
         where
-          ran_attached : Ran any_call old attached
-          ran_attached = ran_join within.sooner (ran_any (calls_ran on))
-
-          ran_between : Ran any_call old between
-          ran_between = ran_join ran_attached (ran_any (calls_ran one))
-
-          history_attached : IsHistory attached
-          history_attached = history_on {allowed = any_call} history ran_attached
-
-          history_between : IsHistory between
-          history_between = history_on {allowed = any_call} history ran_between
-
-          at_between : IsMoment old between new
-          at_between = moment_between ran_between (ran_join (ran_any (calls_ran two)) within.later)
-
-          at_end : IsMoment old within.to new
-          at_end = moment_between (ran_join ran_between (ran_any (calls_ran two))) within.later
-
-          shown : IsShown gone between j 0 (cell 0) → IsShown gone within.to j 1 (cell 1) → IsMixedFinding before old new cell j
-          shown (Shows here) (Shows there) = both_read between within.to second history_between at_between at_end two here there
+          shown : IsShown gone reads.first j 0 (cell 0) → IsShown gone reads.last j 1 (cell 1) → IsMixedFinding before old new cell j
+          shown (Shows here) (Shows there) =
+              both_read reads.first reads.last reads.answer reads.history (at_first reads) (at_last reads) reads.called here there
           shown (Shows here) (Unread is_gone harmed) =
-              one_read between 0 1 at_between (omega arith) (omega arith) (λ is. omega (arith, is)) here (offline is_gone) harmed
+              one_read reads.first 0 1 (at_first reads) (omega arith) (omega arith) (λ is. omega (arith, is)) here (offline is_gone) harmed
           shown (Unread is_gone harmed) (Shows there) =
-              one_read within.to 1 0 at_end (omega arith) (omega arith) (λ is. omega (arith, is)) there (offline is_gone) harmed
+              one_read reads.last 1 0 (at_last reads) (omega arith) (omega arith) (λ is. omega (arith, is)) there (offline is_gone) harmed
           shown (Unread is_gone harmed) (Unread also harmed_too) = none_read (offline is_gone) harmed harmed_too

@@ -7,7 +7,7 @@ use Rattle.stair_rack.specs.Answers.{IsHistory, Ran}
 use Rattle.stair_rack.specs.Crash.{CrashMayLeave, SlotMayLeave}
 use Rattle.stair_rack.specs.History.{Happening, SlotState, empty_slot, slot_state}
 use Rattle.stair_rack.specs.Media.{Image, SlotImage, has_sector}
-use Rattle.stair_rack.specs.Moments.{IsMoment}
+use Rattle.stair_rack.specs.Moments.{AtSomeMoment, IsMoment}
 use Rattle.stair_rack.specs.Offline.{IsOffline}
 use Rattle.stair_rack.specs.Sector.{Damaged, MayLeave}
 use Rattle.stair_rack.proofs.CrashLemmas.{settled_left}
@@ -31,6 +31,48 @@ use Rattle.stair_session.specs.Mixed.{AsAt, Away, IsMixed, IsMixedSlot, IsTolera
 use Rattle.stair_return.specs.Misled.{Emptied, IsWorstSlot, Left}
 use Rattle.stair_return.specs.Counted.{HasBorne, IsToleratedCounted, IsToleratedCounting}
 use Rattle.stair_return.specs.Found.{IsToleratedReassembly}
+
+-- A PART OF A STRETCH
+
+-- what is tolerated over a stretch is so over each part of it,
+module _ (g : Geometry) (before : List Happening) {old from h new : List Happening}
+    (inside : (m : List Happening) → IsMoment from m h → IsMoment old m new) where
+  some_inside : {P : List Happening → Type 0} → AtSomeMoment P from h → AtSomeMoment P old new
+  some_inside some = record { moment = some.moment; is_one = inside some.moment some.is_one; holds = some.holds }
+
+  slot_inside : (j : ℕ) (to : SlotImage) → IsMixedSlot before from h j to → IsMixedSlot before old new j to
+  slot_inside j to (AsAt was some size cells) =
+      AsAt was (some_inside some) size
+      (λ k. elim (cells k) [
+        | inl same ↦ inl same
+        | inr harmed ↦ inr (harmed.0, elim harmed.1 [ inl damaged ↦ inl (some_inside damaged) | inr off ↦ inr (some_inside off) ])
+      ])
+  slot_inside j to (Away off size all) = Away (some_inside off) size all
+
+  mixed_inside : (to : Image) → IsMixed before from h to → IsMixed before old new to
+  mixed_inside to mixed j = slot_inside j (to j) (mixed j)
+
+  pub tolerated_inside : IsToleratedMixed g before old new → IsToleratedMixed g before from h
+  tolerated_inside is = record {
+    identity = λ to mixed. is.identity to (mixed_inside to mixed);
+    others = λ to other mixed. is.others to other (mixed_inside to mixed);
+    failed = is.failed;
+    formed = is.formed;
+    few = is.few;
+    within = λ to current j mixed. is.within to current j (mixed_inside to mixed);
+    erased = is.erased;
+    covered = is.covered;
+    has = λ to t i j mixed. is.has to t i j (mixed_inside to mixed);
+    journal = is.journal;
+    journal_in = is.journal_in;
+    journal_kept = is.journal_kept;
+    whole = λ to k mixed. is.whole to k (mixed_inside to mixed);
+  }
+
+  -- by the same slots that count as failed
+  pub inside_failed : (is : IsToleratedMixed g before old new) → (tolerated_inside is).failed ≡ is.failed
+  unfolding tolerated_inside
+  inside_failed is = refl
 
 -- IMAGES OF ONE MOMENT
 

@@ -20,19 +20,19 @@ use Rattle.stair_state.proofs.ReturnLemmas.{at_image, came_looking, consistent_b
 use Rattle.stair_session.specs.Mixed.{IsToleratedMixed}
 use Rattle.stair_return.specs.Beginning.{BeginsWherever}
 use Rattle.stair_return.proofs.FoundBehind.{found_behind}
-use Rattle.stair_return.proofs.KnownLemmas.{is_history, known, looked, mine, surveyed}
+use Rattle.stair_return.proofs.KnownLemmas.{WasSurveyed, is_history, known, looked, mine, surveyed, was_surveyed}
 use Rattle.stair_return.proofs.OpeningBeginsMember.{found_drawn, found_meant, found_says, recent_member}
 use Rattle.stair_return.proofs.OpeningBeginsReads.{found_known}
 
-module _ (s : State) (holders : Holders) (since : ℕ) (before : List Happening) (old new : Telling) (answer : Result Membership SurveyFault)
-    (surveys : Surveys answer old new) (honest : IsTrue new.honest) (began : Ran any_call before old.history)
-    (consistent : IsConsistentSince s holders since old.history) (tolerated : IsToleratedMixed s.geometry before old.history new.history)
-    (m : Membership) (answered : answer ≡ Ok m) (rules : IsMembership m) where
+module _ {s : State} {holders : Holders} {since : ℕ} {before : List Happening} {old new : Telling} {m : Membership}
+    (survey : WasSurveyed s holders since before old new m) (rules : IsMembership m) where
+  open survey use {began, consistent, honest, surveys}
+
   abbrev looks : Ran no_write old.history new.history
-  looks = looked s holders since before old new answer surveys honest began consistent tolerated m answered
+  looks = looked survey
 
   same_geometry : m.array.geometry ≡ s.geometry
-  same_geometry = mine s holders since before old new answer surveys honest began consistent tolerated m answered
+  same_geometry = mine survey
 
   steady_last : AreSteady s.geometry new.history
   steady_last = steady_looks s.geometry old.history new.history looks consistent.steady
@@ -40,8 +40,7 @@ module _ (s : State) (holders : Holders) (since : ℕ) (before : List Happening)
   -- where the marks and joined numbers of the state are known still
   pub survey_begins : HaveSeats s.seats s.geometry new.history → BeginsWherever s holders since Fence m new.history
   survey_begins seats = record {
-    history =
-        history_on {allowed = no_write} (is_history s holders since before old new answer surveys honest began consistent tolerated m answered) looks;
+    history = history_on {allowed = no_write} (is_history survey) looks;
     member = rules;
     geometry = same_geometry;
     is = record {
@@ -52,20 +51,19 @@ module _ (s : State) (holders : Holders) (since : ℕ) (before : List Happening)
       seats = seats;
       steady = steady_last;
     };
-    recent = recent_member s holders since before old new answer surveys honest began consistent tolerated m answered;
-    known = known s holders since before old new answer surveys honest began consistent tolerated m answered;
+    recent = recent_member survey;
+    known = known survey;
     supers = λ j taken on.
         elim taken [
           | inl here ↦
-              found_known before old new answer surveys honest began m
-              (surveyed s holders since before old new answer surveys honest began consistent tolerated m answered) j here rules
+              found_known before old new (Ok m) surveys honest began m (surveyed survey) j here rules
               (subst (λ (y : Geometry). AreSteady y new.history) (sym same_geometry) steady_last) on
           | inr joins ↦ absurd (not_joining joins.0)
         ];
-    behind = found_behind s holders since before old new answer surveys honest began consistent tolerated m answered;
-    drawn = found_drawn s holders since before old new answer surveys honest began consistent tolerated m answered;
-    meant = found_meant s holders since before old new answer surveys honest began consistent tolerated m answered rules;
-    says = found_says s holders since before old new answer surveys honest began consistent tolerated m answered;
+    behind = found_behind survey;
+    drawn = found_drawn survey;
+    meant = found_meant survey rules;
+    says = found_says survey;
   }
     where
       not_joining : {j : ℕ} → None ≡ Some j → ⊥
@@ -77,5 +75,6 @@ pub opening_begins : (s : State) (holders : Holders) (since : ℕ) (before : Lis
     → IsConsistentSince s holders since old.history → IsToleratedMixed s.geometry before old.history new.history → IsMembership m
     → answer ≡ Ok m → BeginsWherever (without_seats s) holders since Fence m new.history
 opening_begins s holders since before old new answer m surveys honest began consistent tolerated rules answered =
-    survey_begins (without_seats s) holders since before old new answer surveys honest began
-    (looks_consistent s holders since old.history old.history consistent (ran_none old.history)) tolerated m answered rules tt
+    survey_begins
+    (was_surveyed answer surveys honest began (looks_consistent s holders since old.history old.history consistent (ran_none old.history)) tolerated
+    answered) rules tt

@@ -1,9 +1,9 @@
 -- What the member of a survey says of the holders of chunks, though media came back meanwhile: by the superblock that names its
 -- epoch, which a medium bore when the survey began.
-use Rattle.std.specs.Prelude.{IsTrue, Result, Ok}
+use Rattle.std.specs.Prelude.{Ok}
 use Rattle.std.proofs.Common.{◌≡◌, ℕ, ◌≤◌, List, ◌⊎◌, inl, inr, sym, ap, ◌∙◌, subst, arith, Some, None}
 use Rattle.stair_model.specs.Geometry.{Geometry}
-use Rattle.stair_rack.specs.Answers.{Ran, any_call}
+use Rattle.stair_rack.specs.Answers.{Ran}
 use Rattle.stair_rack.specs.Telling.{Telling}
 use Rattle.stair_rack.specs.Sector.{Cell}
 use Rattle.stair_rack.specs.History.{Happening, slot_state}
@@ -15,52 +15,47 @@ use Rattle.stair_super.specs.Superblock.{Superblock, joined_at, mark_at, joined_
 use Rattle.stair_super.specs.declared.configuration.Configuration.{Configuration}
 use Rattle.stair_member.specs.declared.aim.Aim.TheVariants.{Fence}
 use Rattle.stair_member.specs.Counting.{AllBut}
-use Rattle.stair_member.specs.Survey.{IsSurveyed, Surveys}
+use Rattle.stair_member.specs.Survey.{IsSurveyed}
 use Rattle.stair_member.specs.declared.why.Why.{Why}
 use Rattle.stair_member.specs.Membership.{IsHere, IsMarkedFor, IsMembership, Membership}
-use Rattle.stair_member.specs.declared.fault.SurveyFault.{SurveyFault}
 use Rattle.stair_member.specs.Current.{IsLost}
 use Rattle.stair_member.proofs.SuperLemmas.{super_held, super_cells}
 use Rattle.stair_member.proofs.CountingLemmas.{all_but_mapped}
 use Rattle.stair_state.specs.State.{State, new_content}
-use Rattle.stair_state.specs.Holding.{HolderReserved, Holders, IsBorneSince, IsConsistentBy, IsConsistentSince, OfAdmitted}
+use Rattle.stair_state.specs.Holding.{HolderReserved, Holders, IsBorneSince, IsConsistentBy, OfAdmitted}
 use Rattle.stair_state.specs.Reassembly.{IsBorne, Location}
 use Rattle.stair_state.specs.Represents.{no_write}
 use Rattle.stair_state.proofs.ReturnLemmas.{MediaCameFrom, New, Same, at_image, came_looking}
 use Rattle.stair_state.proofs.HoldingLemmas.{current_since}
 use Rattle.stair_state.proofs.FormLemmas.{good_whole, same_kept}
-use Rattle.stair_session.specs.Mixed.{IsToleratedMixed}
 use Rattle.stair_return.specs.Beginning.{AreMeant, HasDrawnAll, SaysContent}
 use Rattle.stair_return.specs.Found.{IsToleratedReassembly}
-use Rattle.stair_return.proofs.KnownLemmas.{borne_before, borne_steady, came, is_history, it, looked, mine, surveyed}
+use Rattle.stair_return.proofs.KnownLemmas.{WasSurveyed, borne_before, borne_steady, came, is_history, it, looked, mine, surveyed}
 use Rattle.stair_return.proofs.SurveyLemmas.{current_together, together}
 
-module _ (s : State) (holders : Holders) (since : ℕ) (before : List Happening) (old new : Telling) (answer : Result Membership SurveyFault)
-    (surveys : Surveys answer old new) (honest : IsTrue new.honest) (began : Ran any_call before old.history)
-    (consistent : IsConsistentSince s holders since old.history) (tolerated : IsToleratedMixed s.geometry before old.history new.history)
-    (m : Membership) (answered : answer ≡ Ok m) where
+module _ {s : State} {holders : Holders} {since : ℕ} {before : List Happening} {old new : Telling} {m : Membership}
+    (survey : WasSurveyed s holders since before old new m) where
+  open survey use {began, consistent, honest, surveys, tolerated}
+
   abbrev g : Geometry
   g = s.geometry
 
   abbrev found : IsSurveyed surveys.findings m
-  found = surveyed s holders since before old new answer surveys honest began consistent tolerated m answered
+  found = surveyed survey
 
-  abbrev seen : IsToleratedReassembly s.geometry old.history (together before old new answer surveys honest began)
-  seen = came s holders since before old new answer surveys honest began consistent tolerated m answered
+  abbrev seen : IsToleratedReassembly s.geometry old.history (together before old new (Ok m) surveys honest began)
+  seen = came survey
 
   -- THE SUPERBLOCK THAT NAMES ITS EPOCH
 
-  pub current_since_then : IsBorneSince s.geometry since
-      (came s holders since before old new answer surveys honest began consistent tolerated m answered).was
-      (surveyed s holders since before old new answer surveys honest began consistent tolerated m answered).current
+  pub current_since_then : IsBorneSince s.geometry since (came survey).was (surveyed survey).current
   current_since_then =
-      current_since s consistent.encodings holders since seen.was (it s holders since before old new answer surveys honest began consistent tolerated m answered)
-      (together before old new answer surveys honest began) seen.reassembled seen.alone found.current
-      (current_together before old new answer surveys honest began s.geometry tolerated m found)
+      current_since s consistent.encodings holders since seen.was (it survey) (together before old new (Ok m) surveys honest began)
+      seen.reassembled seen.alone found.current
+      (current_together before old new (Ok m) surveys honest began s.geometry tolerated m found)
 
   -- so it was borne in whatever a crash might have left then
-  pub named_since : (image : Image) → CrashMayLeave old.history image → IsBorneSince s.geometry since image
-      (surveyed s holders since before old new answer surveys honest began consistent tolerated m answered).current
+  pub named_since : (image : Image) → CrashMayLeave old.history image → IsBorneSince s.geometry since image (surveyed survey).current
   named_since image left = record {
     slot = current_since_then.slot;
     place = current_since_then.place;
@@ -78,8 +73,8 @@ module _ (s : State) (holders : Holders) (since : ℕ) (before : List Happening)
 
   -- WHAT IT MEANS
 
-  abbrev then : IsConsistentBy s consistent.encodings holders since (came s holders since before old new answer surveys honest began consistent tolerated m answered).was
-  then = it s holders since before old new answer surveys honest began consistent tolerated m answered
+  abbrev then : IsConsistentBy s consistent.encodings holders since (came survey).was
+  then = it survey
 
   marked_as : (j : ℕ) → mark_in m.array j ≡ mark_at found.current j
   marked_as j = ap (λ (c : Configuration). mark_in c j) found.array
@@ -133,7 +128,7 @@ module _ (s : State) (holders : Holders) (since : ℕ) (before : List Happening)
   -- WHAT IS DRAWN
 
   abbrev looks : Ran no_write old.history new.history
-  looks = looked s holders since before old new answer surveys honest began consistent tolerated m answered
+  looks = looked survey
 
   abbrev last : Image
   last = image_now new.history
@@ -165,7 +160,7 @@ module _ (s : State) (holders : Holders) (since : ℕ) (before : List Happening)
   borne_first : (i : ℕ) (q : Location) (t : Superblock) → IsBorne s.geometry (image_now new.history) i q t → (p : Location) × IsBorne s.geometry first i p t
   borne_first i q t borne =
       let was =
-      borne_before s.geometry old.history new.history last i q t (is_history s holders since before old new answer surveys honest began consistent tolerated m answered)
+      borne_before s.geometry old.history new.history last i q t (is_history survey)
       looks (CrashMayLeave-now new.history) borne in (
         was.place,
         borne_steady s.geometry old.history was.was first consistent.steady was.left first_left i was.place t was.borne,
@@ -196,4 +191,4 @@ module _ (s : State) (holders : Holders) (since : ℕ) (before : List Happening)
       subst
       (λ (y : Geometry). AllBut y.n y.m (λ j. HolderReserved y holders (image_now new.history) j
       × ((joined : ℕ) → holders j ≡ Some joined → OfAdmitted y (image_now new.history) joined (λ x. m.array.epoch ≤ x.draw) j)))
-      (sym (mine s holders since before old new answer surveys honest began consistent tolerated m answered)) drawn_last
+      (sym (mine survey)) drawn_last

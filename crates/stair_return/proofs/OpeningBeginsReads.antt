@@ -21,7 +21,7 @@ use Rattle.stair_member.specs.Membership.{IsHere, IsMembership, Membership, plac
 use Rattle.stair_member.specs.declared.why.Why.TheVariants.{Gone, OtherJoined}
 use Rattle.stair_member.specs.Current.{ByOutside, HasMark, IsLost}
 use Rattle.stair_member.specs.Reasons.{rank}
-use Rattle.stair_member.specs.Asked.{FindsSlot, FindsWithin, FoundBoth, FoundNone, LeavesSectors}
+use Rattle.stair_member.specs.Asked.{LeavesSectors}
 use Rattle.stair_member.specs.Findings.{Findings}
 use Rattle.stair_member.specs.Superblocks.{HoldsSuper, IsSuperOf}
 use Rattle.stair_member.specs.declared.fault.SurveyFault.{SurveyFault}
@@ -32,7 +32,7 @@ use Rattle.stair_state.proofs.AgreeLemmas.{here_late, here_marked}
 use Rattle.stair_state.proofs.FormLemmas.{good_whole}
 use Rattle.stair_return.specs.Given.{KnowsSuper}
 use Rattle.stair_return.proofs.SurveyLemmas.{history, ran}
-use Rattle.stair_return.proofs.MixedFinding.{IsShown, SameHeld, Shows, Unread, WasShown, is_shown}
+use Rattle.stair_return.proofs.MixedFinding.{IsShown, SameHeld, Shows, Unread, WasShown, AreShown, ShownBoth, ShownNone, are_shown, at_first, at_last}
 use Rattle.stair_return.proofs.NameLemmas.{still_attached}
 use Rattle.stair_return.proofs.AttachedOnce.{none_after}
 
@@ -73,53 +73,38 @@ module _ (before : List Happening) (old new : Telling) (answer : Result Membersh
   shown_at j k h there (Unread is_gone harmed) = absurd (there is_gone)
 
   pub read_at : (j k : ℕ) → j < 32 → k < 2 → ¬ HasSlot f.gone j → WasReadAt j k
-  read_at j k small k_in there = by within.finds
+  read_at j k small k_in there =
+      by
+      (are_shown (HasSlot f.gone j) old.history new.history j ((f.image j).cell) is_history ((surveys.found.each j small).finds honest))
     where
-      within : FindsWithin (HasSlot f.gone j) j ((f.image j).cell) old.history new.history
-      within = (surveys.found.each j small).finds honest
-
-      by : FindsSlot (HasSlot f.gone j) j ((f.image j).cell) within.from within.to → WasReadAt j k
-      by (FoundNone called zero' one' is_gone) = absurd (there is_gone)
-      by (FoundBoth attached between first second on one two found_one found_two only) =
+      by : AreShown (HasSlot f.gone j) old.history new.history j ((f.image j).cell) → WasReadAt j k
+      by (ShownNone is_gone zero' one') = absurd (there is_gone)
+      by (ShownBoth reads) =
           elim (cases_lt k 1) [
             | inl at ↦
                 subst (WasReadAt j) (omega (arith, at))
                 (record {
-                  moment = between;
-                  is_one = moment_between upto_between rest_between;
-                  after = ran_after after_attached (moment_between (ran_any (calls_ran one)) rest_between);
-                  shown =
-                      shown_at j 0 between there
-                      (is_shown (HasSlot f.gone j) first attached between j 0 ((f.image j).cell 0)
-                      (history_on {allowed = any_call} is_history upto_attached) one found_one);
+                  moment = reads.first;
+                  is_one = at_first reads;
+                  after = ran_after after_attached (moment_between reads.upto rest);
+                  shown = shown_at j 0 reads.first there reads.shown_first;
                 })
             | inr at ↦
                 subst (WasReadAt j) (omega (arith, at, k_in))
                 (record {
-                  moment = within.to;
-                  is_one = moment_between (ran_join upto_between (ran_any (calls_ran two))) within.later;
-                  after =
-                      ran_after after_attached (moment_between (ran_join (ran_any (calls_ran one)) (ran_any (calls_ran two))) within.later);
-                  shown =
-                      shown_at j 1 within.to there
-                      (is_shown (HasSlot f.gone j) second between within.to j 1 ((f.image j).cell 1)
-                      (history_on {allowed = any_call} is_history upto_between) two found_two);
+                  moment = reads.last;
+                  is_one = at_last reads;
+                  after = ran_after after_attached (moment_between (ran_join reads.upto (ran_any (calls_ran reads.called))) reads.later);
+                  shown = shown_at j 1 reads.last there reads.shown_last;
                 })
           ]
         where
-          upto_attached : Ran any_call old.history attached
-          upto_attached = ran_join within.sooner (ran_any (calls_ran on))
+          rest : Ran any_call reads.first new.history
+          rest = ran_join (ran_any (calls_ran reads.called)) reads.later
 
-          upto_between : Ran any_call old.history between
-          upto_between = ran_join upto_attached (ran_any (calls_ran one))
-
-          rest_between : Ran any_call between new.history
-          rest_between = ran_join (ran_any (calls_ran two)) within.later
-
-          after_attached : Ran (IsNoAttach j) attached new.history
+          after_attached : Ran (IsNoAttach j) reads.attached new.history
           after_attached =
-              none_after {a = any_call} {b = any_call} j small (surveys.asked honest) within.sooner on
-              (ran_join (ran_any (calls_ran one)) rest_between)
+              none_after {a = any_call} {b = any_call} j small (surveys.asked honest) reads.sooner reads.on (ran_join reads.upto rest)
 
   -- and where the slot is attached still its sectors are as they were then, or damaged
   sector_since : (j k l : ℕ) → IsAttached new.history j → (read : WasReadAt j k)

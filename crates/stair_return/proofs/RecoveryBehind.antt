@@ -1,7 +1,6 @@
 -- What is known behind the superblock places is known still once a fence's epoch stands, of the slots that take part in it, and after calls
 -- that write nothing.
-use Rattle.std.proofs.Common.{List, None, Option, Some, ap, inl, inr, refl, subst, sym, ◌<◌, ◌∙◌, ◌≡◌, ◌≤◌, ◌⊎◌, ℕ, arith, false, true}
-use Rattle.std.proofs.lemmas.Bool.{cases_Bool}
+use Rattle.std.proofs.Common.{List, None, Option, Some, ap, inl, inr, refl, subst, sym, ◌<◌, ◌∙◌, ◌≡◌, ◌≤◌, ◌⊎◌, ℕ, arith, false}
 use Rattle.stair_model.specs.Device.{gate_sector}
 use Rattle.stair_model.specs.Geometry.{Geometry}
 use Rattle.stair_model.specs.Slots.{HasSlot, Slots}
@@ -32,16 +31,13 @@ use Rattle.stair_state.specs.Holding.{Holders}
 use Rattle.stair_state.specs.Reassembly.{InSlot, IsMediumOf, IsReassembly, Location}
 use Rattle.stair_state.specs.Represents.{AreSteady, Encodings, IsLargeEnough, no_write}
 use Rattle.stair_state.specs.State.{Change, Content, State}
-use Rattle.stair_state.proofs.DegradedLemmas.{copies_again, copies_damaged, holds_before}
-use Rattle.stair_state.proofs.FormLemmas.{good_whole}
-use Rattle.stair_state.proofs.ReassembledLemmas.{IsBorneFrom, from_slot}
-use Rattle.stair_state.proofs.ReturnLemmas.{IsFrom, MediaCameFrom, at_image, came_looking}
+use Rattle.stair_state.proofs.DegradedLemmas.{copies_again, copies_damaged}
 use Rattle.stair_session.specs.Returning.{holders_of}
 use Rattle.stair_session.proofs.MidwayLemmas.{rebuilding_why, rebuilt_before}
 use Rattle.stair_return.specs.Beginning.{BeginsWherever, IsBesideMember, StandsWherever}
 use Rattle.stair_return.specs.Behind.{Bearing, ByMedium, ByMember, HasHolder, HasNumber, IsKnownBehind, IsRebuiltAs}
 use Rattle.stair_return.specs.Following.{AreOfNamed, Kept, name_of, Blank}
-use Rattle.stair_return.proofs.BehindSince.{IsStillSlot, forms_still, reassembled_past, shut_still, still_at, WasInUse, Bore, large_still, number_of}
+use Rattle.stair_return.proofs.BehindSince.{BoreThen, IsStillSlot, bore_then, forms_still, reassembled_past, shut_still, still_at, WasInUse, Bore, large_still, number_of}
 use Rattle.stair_return.proofs.GivenLemmas.{issuing_ran}
 use Rattle.stair_return.proofs.KeptSince.{here_up, up_below}
 use Rattle.stair_return.proofs.KnownLemmas.{borne_before, borne_steady}
@@ -257,47 +253,20 @@ module _ (m : Membership) (old new : List Happening) (history : IsHistory old) (
 
   module _ (g : Geometry) (image : Image) (left : CrashMayLeave new image) (to : Image) (reassembly : IsReassembly image to) where
     still_looked : (j n : ℕ) → HasNumber g m new (image j) (to j) j n → IsStillSlot g m old j n (to j)
-    still_looked j n (Bearing b bears joined) = by (come.medium came.place came.medium came.is_one)
+    still_looked j n (Bearing b bears joined) = record {
+      was = then.was;
+      left = then.left;
+      place = then.place;
+      medium = then.medium;
+      is_one = then.is_one;
+      number = Bore b then.bears joined then.within;
+      size = then.size;
+      past = λ k none. reassembled_past (image j) (to j) (reassembly j) k (ap (λ (o : Option ℕ). has_sector o k) then.size ∙ none);
+      copies = λ k behind. then.copies k;
+    }
       where
-        came : IsBorneFrom g image to j b
-        came = from_slot g image to j b (reassembly j) bears
-
-        come : MediaCameFrom (slot_state old j) (image j)
-        come = at_image (came_looking j looked) (image j) (left j)
-
-        by : IsFrom come.was (come.place came.place) came.medium → IsStillSlot g m old j n (to j)
-        by (IsFrom.New all) = absurd (good_whole came.bears.holds.good (all came.bears.place))
-        by (IsFrom.Same earlier at same copied) = record {
-          was = come.was;
-          left = come.left;
-          place = come.place came.place;
-          medium = earlier;
-          is_one = at;
-          number = Bore b
-              (record {
-                place = bears.place;
-                place_in = bears.place_in;
-                holds = holds_before (copies_again copied came.copies bears.place) bears.holds;
-                slot = bears.slot;
-                identity = bears.identity;
-              }) joined within;
-          size = sized;
-          past = λ k none. reassembled_past (image j) (to j) (reassembly j) k (ap (λ (o : Option ℕ). has_sector o k) sized ∙ none);
-          copies = λ k behind. copies_again copied came.copies k;
-        }
-          where
-            sized : (to j).size ≡ Some earlier.size
-            sized = came.size ∙ ap Some (sym same)
-
-            within : has_sector (Some earlier.size) bears.place ≡ true
-            within =
-                elim (cases_Bool (has_sector (Some earlier.size) bears.place)) [
-                  | inl is ↦ is
-                  | inr past ↦
-                      absurd
-                      (good_whole bears.holds.good
-                      (reassembled_past (image j) (to j) (reassembly j) bears.place (ap (λ (o : Option ℕ). has_sector o bears.place) sized ∙ past)))
-                ]
+        then : BoreThen g old j (to j) b
+        then = bore_then g old new looked image left to j (reassembly j) b bears
     still_looked j n (HasNumber.InUse here on joined size copies) = sized (slot_state old j).size refl
       where
         used : IsAttached old j

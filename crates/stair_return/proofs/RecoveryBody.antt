@@ -1,7 +1,7 @@
 -- The body of a redo that a recovery found, of an array whose media come back: its cells are those of the new stripes, and within tolerance
 -- none is lost.
 use Rattle.std.specs.Prelude.{IsSome}
-use Rattle.std.proofs.Common.{IsTrue, List, None, Option, Some, ap, inl, inr, refl, subst, sym, ◌+◌, ◌<◌, ◌∙◌, ◌∷◌, ◌≡◌, ◌≤◌, ◌⊎◌, ℕ, false, not, ◌*◌, arith, []}
+use Rattle.std.proofs.Common.{IsTrue, List, None, Option, Some, ap, inl, inr, refl, subst, sym, ◌+◌, ◌<◌, ◌∙◌, ◌≡◌, ◌≤◌, ◌⊎◌, ℕ, false, not, ◌*◌, arith}
 use Rattle.std.proofs.lemmas.Bool.{false≢true}
 use Rattle.std.proofs.lemmas.Nat.{mul-le}
 use Rattle.stair_model.specs.CellSet.{HasCell}
@@ -15,14 +15,12 @@ use Rattle.stair_rack.specs.Moments.{IsMoment}
 use Rattle.stair_rack.specs.Offline.{ButForOutside, IsAttached, IsKept}
 use Rattle.stair_rack.specs.Placed.{IsSlot}
 use Rattle.stair_rack.specs.Reading.{WasRead}
-use Rattle.stair_rack.specs.Sector.{Cell, Damaged, Good, Sector, content, damaged, newest, settled, synced}
+use Rattle.stair_rack.specs.Sector.{Cell, Good, Sector, content, damaged}
 use Rattle.stair_rack.specs.Stretch.{every_slot}
 use Rattle.stair_rack.specs.Telling.{Telling}
 use Rattle.stair_rack.proofs.CrashLemmas.{Leaves-content}
-use Rattle.stair_rack.proofs.KeptLemmas.{SectorKeeps, keeps_sector}
 use Rattle.stair_rack.proofs.MomentLemmas.{at_moment, moment_between, ran_after, ran_before, ran_join, ran_weakened}
 use Rattle.stair_rack.proofs.OfflineLemmas.{and-true_left}
-use Rattle.stair_rack.proofs.StepLemmas.{kept}
 use Rattle.stair_rack.proofs.TidyLemmas.{history_on, history_tidy}
 use Rattle.stair_member.specs.Current.{IsLost}
 use Rattle.stair_member.specs.declared.fault.FenceFault.{FenceFault}
@@ -31,20 +29,19 @@ use Rattle.stair_journal.specs.Body.{IsOrDamaged}
 use Rattle.stair_journal.specs.declared.redo.Redo.{Redo}
 use Rattle.stair_state.specs.Redoing.{AttachesNone, BodyHas, Placing, Redoing, Stage, Uncommitted, WritesNone}
 use Rattle.stair_state.specs.State.{Change, Content}
-use Rattle.stair_state.proofs.RecoveryLemmas.{still_bad}
 use Rattle.stair_state.proofs.RedoPhaseLemmas.{slot_unwritten}
 use Rattle.stair_state.proofs.StageLemmas.{PartIn, SlotIn, part_damage}
 use Rattle.stair_session.specs.Courses.{FindsBody, Point, point}
 use Rattle.stair_session.specs.InSession.{IsBesideEpochs}
 use Rattle.stair_session.specs.Opening.{opened_with}
 use Rattle.stair_session.specs.Session.{IsLiveIn}
-use Rattle.stair_session.proofs.FindsLemmas.{honest_back}
+use Rattle.stair_session.proofs.FindsLemmas.{damaged_content, stays_damaged, honest_back}
 use Rattle.stair_session.proofs.HonestLemmas.{left_honest}
 use Rattle.stair_session.proofs.Serving.{any_read, read_beside}
 use Rattle.stair_return.proofs.NameLemmas.{still_attached}
-use Rattle.stair_return.proofs.RecoveryFinding.{reads_any}
-use Rattle.stair_return.proofs.RecoveryFound.{IsToldAny, amid_on}
-use Rattle.stair_return.proofs.RecoveryGates.{between_stages}
+use Rattle.stair_return.proofs.RecoveryFinding.{none_attached, reads_any}
+use Rattle.stair_return.proofs.RecoveryFound.{IsToldAny, told_still}
+use Rattle.stair_return.proofs.RedoPhase.{IsAmidAny, amid_on}
 use Rattle.stair_return.proofs.RedoStart.{redo_by}
 use Rattle.stair_return.proofs.StageSince.{SinceIn, since_unwritten, slot_last}
 use Rattle.stair_journal.specs.declared.body.Body.{Body}
@@ -61,14 +58,7 @@ module _ (before : List Happening) (kept : Content) (change : Option Change) (to
       ran_weakened {allowed = any_read} {more = IsBesideEpochs p.member} (λ j c may. (read_beside (opened_with p.member) j c may).session.epochs) reads
 
   free : Ran (AttachesNone every_slot) p.told.history later.history
-  free = ran_weakened {allowed = any_read} {more = AttachesNone every_slot} none_attached reads
-    where
-      none_attached : (j : ℕ) (c : SlotCall) → any_read j c → AttachesNone every_slot j c
-      none_attached j (Attach answer) may = absurd may
-      none_attached j (Sectors size) may = absurd may
-      none_attached j (Read k answer) may = λ on. tt
-      none_attached j (Write k bytes answer) may = absurd may
-      none_attached j (Sync answer) may = absurd may
+  free = ran_weakened {allowed = any_read} {more = AttachesNone every_slot} (λ j c may on. none_attached j c may) reads
 
   pub still_unwritten : (j : ℕ) → Ran (WritesNone (IsSlot j)) p.told.history later.history
   still_unwritten j = ran_weakened {allowed = any_read} {more = WritesNone (IsSlot j)} none_written reads
@@ -88,61 +78,17 @@ module _ (before : List Happening) (kept : Content) (change : Option Change) (to
       since_unwritten (redo_by is.m is.first is.last is.redo) is.stage is.start p.told.history j (is.amid.since j live (is.used j live)) later.history
       from_start (still_unwritten j)
 
+  pub amid_reads : IsAmidAny before is.of is.stage None None
+      (point p.member later)
+  amid_reads =
+      amid_on before is.of is.stage p is.amid later beside free
+      (λ j live on. since_reads j live) is.stage (λ j live on. since_reads j live) (inr is.used)
+
   -- what was told is so still
   pub told_reads : IsToldAny before kept change told opened (point p.member later)
-  told_reads = record {
-    m = is.m;
-    first = is.first;
-    last = is.last;
-    redo = is.redo;
-    both = is.both;
-    stage_first = is.stage_first;
-    start = is.start;
-    began = is.began;
-    starts = is.starts;
-    redoing = is.redoing;
-    words = is.words;
-    says = is.says;
-    stage = is.stage;
-    amid =
-        amid_on before is.m is.first is.last is.redo kept change is.both is.stage_first is.start is.starts
-        (between_stages is.both.old is.both.new (redo_by is.m is.first is.last is.redo) is.words) is.redoing is.stage p is.amid later beside free
-        (λ j live on. since_reads j live) is.stage (λ j live on. since_reads j live) (inr is.used);
-    used = is.used;
-    none = is.none;
-    some = is.some;
-    ready = λ one same j live has.
-        since_unwritten (redo_by is.m is.first is.last is.redo) Placing is.start p.told.history j (is.ready one same j live has) later.history from_start
-        (still_unwritten j);
-    others_bad = λ placing j live out.
-        still_bad {some = IsSlot j} is.start p.told.history later.history j refl (still_unwritten j) (is.others_bad placing j live out);
-  }
+  told_reads = told_still before kept change told opened p (point p.member later) is amid_reads (λ j live. live) still_unwritten
 
 -- THE BODY IS READ
-
--- what reads as damaged is so
-damaged_content : (s : Sector) → content s ≡ Damaged → s ≡ damaged
-damaged_content s reads = by s.base s.since reads
-  where
-    by : (base : Cell) (since : List (List ℕ)) → newest base since ≡ Damaged → (record { base = base; since = since }) ≡ damaged
-    by base [] is = ap (λ (cell : Cell). settled cell) is
-    by base (bytes ∷ since) is = absurd (cc)
-
--- and stays so while it isn't written
-stays_damaged : (start old new : List Happening) (j k : ℕ) → gate_sector ≤ k → Ran (WritesNone (IsSlot j)) old new
-    → ButForOutside start old j k (λ s. s ≡ damaged) → ButForOutside start new j k (λ s. s ≡ damaged)
-stays_damaged start old new j k from ran before =
-    kept {allowed = WritesNone (IsSlot j)} {P = λ h. IsKept (slot_state start j).pulls k IsDamaged (slot_state h j)}
-    (keeps_sector {allowed = WritesNone (IsSlot j)} {j = j} {k = k} {P = IsDamaged} (slot_state start j).pulls keeps) ran before
-  where
-    IsDamaged : Sector → Type 0
-    IsDamaged s = s ≡ damaged
-
-    keeps : SectorKeeps (WritesNone (IsSlot j)) j k IsDamaged
-    keeps = record {
-      write = λ bytes s apart holds. let below = apart refl in absurd (omega (arith, below, from));
-      sync = λ s apart holds. ap synced holds;
-    }
 
 module _ (before : List Happening) (kept : Content) (change : Option Change) (one : Redo) (opened : Slots) (body : Body) (was into : Stripe)
     (refusal : Option FenceFault) (x y : Point) (found : FindsBody one body was into refusal x y) (is : IsToldAny before kept change (Some one) opened x)
@@ -183,14 +129,7 @@ module _ (before : List Happening) (kept : Content) (change : Option Change) (on
     alone =
         ran_join {allowed = IsNoAttach j}
         (ran_weakened {allowed = AttachesNone every_slot} {more = IsNoAttach j} (λ i call may same. may tt) is.amid.amid.ran)
-        (ran_weakened {allowed = any_read} {more = IsNoAttach j} none_attached to_moment)
-      where
-        none_attached : (i : ℕ) (c : SlotCall) → any_read i c → IsNoAttach j i c
-        none_attached i (Attach answer) may = absurd may
-        none_attached i (Sectors size) may = absurd may
-        none_attached i (Read k answer) may = λ same. tt
-        none_attached i (Write k bytes answer) may = absurd may
-        none_attached i (Sync answer) may = absurd may
+        (ran_weakened {allowed = any_read} {more = IsNoAttach j} (λ i call may same. none_attached i call may) to_moment)
 
     on : IsAttached read.moment j
     on = and-true_left (slot_state read.moment j).attached (not (stopped read.moment)) read.ready

@@ -17,14 +17,14 @@ use Rattle.stair_journal.specs.Journalling.{gate_writes}
 use Rattle.stair_journal.specs.declared.redo.Redo.{Redo}
 use Rattle.stair_state.specs.Blocks.{AreEncodingsOf, Codewords}
 use Rattle.stair_state.specs.Holding.{IsConsistentUnderReassembly}
-use Rattle.stair_state.specs.Redoing.{AtRest, Placing, Stage, new_in, old_in}
+use Rattle.stair_state.specs.Redoing.{AtRest, Done, Placing}
 use Rattle.stair_state.specs.Represents.{Encodings}
 use Rattle.stair_state.specs.State.{Change, Content, State}
-use Rattle.stair_state.specs.Tolerance.{IsTolerated}
 use Rattle.stair_session.specs.Courses.{AreLive, AreUnopened, DoesStage, Point, Redoes, Replays}
 use Rattle.stair_session.specs.InSession.{IsOfContent, state_with}
-use Rattle.stair_session.specs.Opening.{AreBetween, IsDecidedAs, StaysArray, opened_with}
+use Rattle.stair_session.specs.Opening.{IsDecidedAs, StaysArray, opened_with}
 use Rattle.stair_session.specs.Returning.{AnyReturns}
+use Rattle.stair_session.proofs.AmidRedoLemmas.{redo_ends}
 use Rattle.stair_session.proofs.DecidedLemmas.{decides}
 use Rattle.stair_session.proofs.FindsLemmas.{honest_back}
 use Rattle.stair_session.proofs.HonestLemmas.{redo_honest}
@@ -32,15 +32,14 @@ use Rattle.stair_session.proofs.Serving.{IsCalmTo, IsServing, calm_sooner, toler
 use Rattle.stair_session.proofs.StageFoundLemmas.{first_among, last_among}
 use Rattle.stair_array.proofs.RecoveredLemmas.{does_ran, redoes_ran}
 use Rattle.stair_return.specs.Beginning.{SaysContent}
-use Rattle.stair_return.proofs.EpochKnows.{by_seats, reseated}
+use Rattle.stair_state.proofs.AloneLemmas.{reseated}
+use Rattle.stair_state.proofs.ReturnLemmas.{by_seats}
 use Rattle.stair_return.proofs.RecoveryFence.{unseated}
 use Rattle.stair_return.proofs.RecoveryFound.{IsToldAny}
-use Rattle.stair_return.proofs.RecoveryGates.{between_stages}
-use Rattle.stair_return.proofs.RecoveryOpening.{closed_rests, opening_ended, opening_moments, says_on, opened_placing}
-use Rattle.stair_return.proofs.RecoveryRest.{rest_knows, rest_open}
-use Rattle.stair_return.proofs.RedoEnd.{done_knows}
+use Rattle.stair_return.proofs.RecoveryOpening.{closed_rests, opening_ended, opening_moments, opened_placing}
+use Rattle.stair_return.proofs.RedoEnd.{Ends, Rests, settled_knows}
 use Rattle.stair_return.proofs.RedoPhase.{IsAmidAny}
-use Rattle.stair_return.proofs.RedoStart.{in_redo, redo_by}
+use Rattle.stair_return.proofs.RedoStart.{in_redo, redo_by, says_on}
 use Rattle.stair_return.proofs.RedosLead.{IsDoneAny, redo_stands, redo_ended, redo_done}
 use Rattle.stair_return.proofs.RecoveryFinding.{StandsUnseated}
 
@@ -92,7 +91,7 @@ module _ (before : List Happening) (kept : Content) (change : Option Change) (op
     (is : IsToldAny before kept change None opened x) (live : Slots) (are : AreLive x.member live) (refusal : Option FenceFault) (y : Point)
     (does : DoesStage (gate_writes closed_gate) live refusal x y) (honest : IsTrue y.told.honest) (fine : refusal ≡ None)
     (calm : IsCalmTo AnyReturns is.m.array.geometry before y.told.history) where
-  rests : IsAmidAny before is.m is.first is.last is.redo kept change is.both is.stage_first is.start is.starts AtRest None None y
+  rests : IsAmidAny before is.of AtRest None None y
   rests = closed_rests before kept change opened x is live are refusal y does honest fine calm
 
   d : IsDecidedFor is.m kept change y.member is.first
@@ -105,21 +104,23 @@ module _ (before : List Happening) (kept : Content) (change : Option Change) (op
     decided = d.is;
     serves = record {
       is_open =
-          rest_open before is.m is.first is.last is.redo kept change is.both is.stage_first is.start is.starts
-          (between_stages is.both.old is.both.new (redo_by is.m is.first is.last is.redo) is.words) is.redoing None None y rests tolerated d.content
-          d.is.encodings d.is.frozen d.is.label refl refl;
+          redo_ends (redo_by is.m is.first is.first is.redo) before (opened_with y.member) is.start y.told.history (record {
+            amid = rests.amid.amid;
+            geometry = rests.amid.geometry;
+            ran = rests.amid.ran;
+            large = rests.amid.large;
+            is_in = record { gates = rests.amid.is_in.gates; bodies = rests.amid.is_in.bodies; chunks = rests.amid.is_in.chunks };
+            rebuilt = λ one never. absurd (cc);
+          });
       history = rests.history;
       of = of_content is.m kept change y.member is.first d rests.stays.geometry;
       knows =
-          rest_knows before is.m is.first is.last is.redo kept change is.both is.stage_first is.start is.starts
-          (between_stages is.both.old is.both.new (redo_by is.m is.first is.last is.redo) is.words) is.redoing None None y rests tolerated d.content
-          d.is.encodings d.is.frozen d.is.label;
+          settled_knows before is.of AtRest Rests None None y rests
+          (tolerated_now AnyReturns is.m.array.geometry before y.told.history rests.amid.amid.ran calm) d.content d.is.encodings d.is.frozen
+          d.is.label;
     };
     geometry = rests.stays.geometry;
   }
-    where
-      tolerated : IsTolerated is.m.array.geometry before y.told.history
-      tolerated = tolerated_now AnyReturns is.m.array.geometry before y.told.history rests.amid.amid.ran calm
 
 -- A REDO AGAIN
 
@@ -138,12 +139,6 @@ module _ (before : List Happening) (kept : Content) (change : Option Change) (on
       → Redoes is.m.array.geometry is.redo stripe Placing refusal y z
   own_redo {refusal} {y} {z} more = subst (λ (g : Geometry). Redoes g is.redo stripe Placing refusal y z) same_geometry more
 
-  between : (s : Stage) → AreBetween is.both.old is.both.new (old_in (redo_by is.m is.first is.last is.redo) s) (new_in (redo_by is.m is.first is.last is.redo) s)
-  between = between_stages is.both.old is.both.new (redo_by is.m is.first is.last is.redo) is.words
-
-  says : (p : Membership) → StaysArray is.m p → SaysContent (in_redo is.m kept change) Fence p
-  says = says_on kept change is.m is.says
-
   -- what was called, where the redo itself was begun
   module _ (refusal : Option FenceFault) (y z : Point) (to : Slots) (are : AreUnopened x.member opened to)
       (does : DoesStage (gate_writes (open_gate x.member.array.geometry is.redo)) to None x y)
@@ -158,7 +153,7 @@ module _ (before : List Happening) (kept : Content) (change : Option Change) (on
     redo_ran_then = redoes_ran x.member.array.geometry is.redo stripe Placing refusal y z more honest
 
     pub placing : (c : List Happening) → IsMoment y.told.history c z.told.history → IsCalmTo AnyReturns is.m.array.geometry before c
-        → IsAmidAny before is.m is.first is.last is.redo kept change is.both is.stage_first is.start is.starts Placing None None y
+        → IsAmidAny before is.of Placing None None y
     placing c at calm =
         opened_placing before kept change one opened x is to are None y (own_opens does) honest_y refl
         (calm_sooner AnyReturns is.m.array.geometry before y.told.history c
@@ -175,24 +170,22 @@ module _ (before : List Happening) (kept : Content) (change : Option Change) (on
         (at_every_from {P = StandsUnseated before kept change is.m.array.geometry} redo_ran_then.more redo_ran_then.is
         (λ c at calm image left.
         let stands =
-        redo_stands before is.m is.first is.last is.redo kept change is.both is.stage_first is.start is.starts between is.redoing says stripe cells Placing
-        refusal y z (own_redo more) honest None None (placing c at calm) c at calm image left in
+        redo_stands before is.of stripe cells Placing refusal y z (own_redo more) honest None None (placing c at calm) c at calm image left in
         without (state_with is.m kept change stands.array) (Made image ∷ []) stands.stands))
 
     again_ended : (fault : FenceFault) → refusal ≡ Some fault → IsCalmTo AnyReturns is.m.array.geometry before z.told.history
         → IsConsistentUnderReassembly (unseated is.m.array.geometry kept change) z.told.history
     again_ended fault refused calm =
         let stands =
-        redo_ended before is.m is.first is.last is.redo kept change is.both is.stage_first is.start is.starts between is.redoing says stripe cells Placing
+        redo_ended before is.of stripe cells Placing
         refusal y z (own_redo more) fault refused honest calm None None (placing z.told.history end calm) in
         without (state_with is.m kept change stands.array) z.told.history stands.stands
 
     module _ (fine : refusal ≡ None) (calm : IsCalmTo AnyReturns is.m.array.geometry before z.told.history) where
-      made : IsDoneAny before is.m is.first is.last is.redo kept change is.both is.stage_first is.start is.starts between is.redoing says stripe cells None
+      made : IsDoneAny before is.of stripe cells None
           None y z
       made =
-          redo_done before is.m is.first is.last is.redo kept change is.both is.stage_first is.start is.starts between is.redoing says stripe cells Placing
-          refusal y z (own_redo more) fine honest calm None None (placing z.told.history end calm)
+          redo_done before is.of stripe cells Placing refusal y z (own_redo more) fine honest calm None None (placing z.told.history end calm)
 
       d_last : IsDecidedFor is.m kept change z.member is.last
       d_last = decides_for is.m kept change is.both z.member is.last is.says made.done.stays (last_among is.words)
@@ -207,8 +200,7 @@ module _ (before : List Happening) (kept : Content) (change : Option Change) (on
           history = made.done.history;
           of = of_content is.m kept change z.member is.last d_last made.done.stays.geometry;
           knows =
-              done_knows before is.m is.first is.last is.redo kept change is.both is.stage_first is.start is.starts between is.redoing made.rebuilds
-              made.stops z made.done
+              settled_knows before is.of Done Ends made.rebuilds made.stops z made.done
               (tolerated_now AnyReturns is.m.array.geometry before z.told.history made.done.amid.amid.ran calm) d_last.content d_last.is.encodings
               d_last.is.frozen d_last.is.label;
         };

@@ -3,7 +3,7 @@
 use Rattle.std.proofs.Common.{IsTrue, List, None, Option, Some, refl, subst, sym, ◌<◌, ◌∙◌, ◌∷◌, ◌≡◌, ℕ, []}
 use Rattle.stair_model.specs.Geometry.{Geometry}
 use Rattle.stair_model.specs.Slots.{HasSlot, Slots}
-use Rattle.stair_rack.specs.Answers.{Ran, any_call}
+use Rattle.stair_rack.specs.Answers.{IsBesideAttach, Ran, any_call}
 use Rattle.stair_rack.specs.Crash.{CrashMayLeave}
 use Rattle.stair_rack.specs.History.{Attach, Happening, Made, Read, Sectors, SlotCall, Sync, Write, stopped}
 use Rattle.stair_rack.specs.Media.{Image}
@@ -39,6 +39,14 @@ read_any slots sectors j (Sync answer) may = absurd may
 
 pub reads_any : {slots sectors : ℕ → Type 0} (old new : List Happening) → Ran (IsReadOf slots sectors) old new → Ran any_read old new
 reads_any {slots} {sectors} old new ran = ran_weakened {allowed = IsReadOf slots sectors} {more = any_read} (read_any slots sectors) ran
+
+-- reads attach nothing
+pub none_attached : (j : ℕ) (call : SlotCall) → any_read j call → IsBesideAttach call
+none_attached j (Attach answer) may = absurd may
+none_attached j (Sectors size) may = absurd may
+none_attached j (Read k answer) may = tt
+none_attached j (Write k bytes answer) may = absurd may
+none_attached j (Sync answer) may = absurd may
 
 module _ (before : List Happening) (kept : Content) (change : Option Change) (g : Geometry) where
   -- whatever a crash leaves here stands for the state, if it is calm up to here
@@ -94,6 +102,12 @@ module _ (before : List Happening) (kept : Content) (change : Option Change) (g 
           subst (λ (k : Geometry). IsTolerated k before mid.history) (sym same)
           (calm mid.history (moment_between {a = any_call} {b = any_call} upto (ran_before {allowed = any_call} out_runs at)))
 
+      -- it was calm up to there where it is so up to a later moment
+      pub calm_then : (c : List Happening) → Ran any_call y.told.history c → IsCalmTo AnyReturns g before c → IsCalmTo AnyReturns g before y.told.history
+      calm_then c later =
+          calm_sooner AnyReturns g before y.told.history c
+          (moment_between {a = any_call} {b = any_call} (ran_join {allowed = any_call} upto out_runs) later)
+
       pub left_moments : AtEveryMoment StandsUnseated mid.history y.told.history
       left_moments =
           at_every_from {P = StandsUnseated} out_runs.more out_runs.is
@@ -142,7 +156,8 @@ module _ (before : List Happening) (kept : Content) (change : Option Change) (g 
       (λ c at calm.
       at_moment {P = StandsUnseated}
       (finding_moments redo opened refusal y z rest
-      (left_untouched x is same live gates mid are reads honest_mid None y leaves honest_y (calm_y c at calm) refl)
+      (left_untouched x is same live gates mid are reads honest_mid None y leaves honest_y
+      (calm_then x is same live gates mid are reads honest_mid None y leaves honest_y c (ran_before {allowed = any_call} after at) calm) refl)
       (left_same x is same live gates mid are reads honest_mid None y leaves) honest) at calm)))
     where
       honest_y : IsTrue y.told.honest
@@ -153,13 +168,6 @@ module _ (before : List Happening) (kept : Content) (change : Option Change) (g 
 
       after : Ran any_call y.told.history z.told.history
       after = found_ran redo opened refusal y z rest honest
-
-      calm_y : (c : List Happening) → IsMoment y.told.history c z.told.history → IsCalmTo AnyReturns g before c → IsCalmTo AnyReturns g before y.told.history
-      calm_y c at calm =
-          calm_sooner AnyReturns g before y.told.history c
-          (moment_between {a = any_call} {b = any_call}
-          (ran_join {allowed = any_call} (round_untouched x is same live gates mid are reads honest_mid).amid.ran
-          (out_ran gates.gone None (point x.member mid) y leaves honest_y)) (ran_before {allowed = any_call} after at)) calm
   finding_moments _ _ _ _ _ (FindsRedo.Stops gates live mid redo opened fault x y are reads leaves) is same honest =
       let honest_mid = honest_back mid y.told (left_honest gates.gone (Some fault) (point x.member mid) y leaves) honest in
       at_every_join {P = StandsUnseated} (round_moments x is same live gates mid are reads honest_mid)
@@ -174,10 +182,7 @@ module _ (before : List Happening) (kept : Content) (change : Option Change) (g 
       let honest_y = honest_back y.told z.told (found_honest redo opened refusal y z rest) honest in
       let honest_mid = honest_back mid y.told (left_honest gates.gone None (point x.member mid) y leaves) honest_y in
       let calm_y =
-      calm_sooner AnyReturns g before y.told.history z.told.history
-      (moment_between {a = any_call} {b = any_call}
-      (ran_join {allowed = any_call} (round_untouched x is same live gates mid are reads honest_mid).amid.ran
-      (out_ran gates.gone None (point x.member mid) y leaves honest_y)) (found_ran redo opened refusal y z rest honest)) calm in
+      calm_then x is same live gates mid are reads honest_mid None y leaves honest_y z.told.history (found_ran redo opened refusal y z rest honest) calm in
       finding_refused redo opened fault refusal y z rest refused
       (left_untouched x is same live gates mid are reads honest_mid None y leaves honest_y calm_y refl)
       (left_same x is same live gates mid are reads honest_mid None y leaves) honest calm
@@ -206,10 +211,7 @@ module _ (before : List Happening) (kept : Content) (change : Option Change) (g 
       let honest_y = honest_back y.told z.told (found_honest redo opened refusal y z rest) honest in
       let honest_mid = honest_back mid y.told (left_honest gates.gone None (point x.member mid) y leaves) honest_y in
       let calm_y =
-      calm_sooner AnyReturns g before y.told.history z.told.history
-      (moment_between {a = any_call} {b = any_call}
-      (ran_join {allowed = any_call} (round_untouched x is same live gates mid are reads honest_mid).amid.ran
-      (out_ran gates.gone None (point x.member mid) y leaves honest_y)) (found_ran redo opened refusal y z rest honest)) calm in
+      calm_then x is same live gates mid are reads honest_mid None y leaves honest_y z.told.history (found_ran redo opened refusal y z rest honest) calm in
       finding_ends redo opened refusal y z rest fine
       (left_untouched x is same live gates mid are reads honest_mid None y leaves honest_y calm_y refl)
       (left_synced x is same live gates mid are reads honest_mid None y leaves honest_y calm_y refl j gone)

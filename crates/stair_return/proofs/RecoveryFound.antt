@@ -6,108 +6,66 @@ use Rattle.stair_rack.specs.Answers.{Ran, any_call}
 use Rattle.stair_rack.specs.Crash.{image_now}
 use Rattle.stair_rack.specs.History.{Happening}
 use Rattle.stair_rack.specs.Offline.{IsAttached}
+use Rattle.stair_rack.specs.Placed.{IsSlot}
 use Rattle.stair_rack.specs.Stretch.{every_slot}
-use Rattle.stair_rack.specs.Telling.{Telling}
 use Rattle.stair_rack.proofs.MomentLemmas.{moment_between, ran_any, ran_join}
-use Rattle.stair_rack.proofs.TidyLemmas.{history_on}
-use Rattle.stair_member.specs.Membership.{Membership}
 use Rattle.stair_journal.specs.Gates.{IsFirstRedo, IsGateSector, IsRead, NoneOpen, OpenFirst}
 use Rattle.stair_journal.specs.declared.redo.Redo.{Redo}
-use Rattle.stair_state.specs.Blocks.{Codewords}
 use Rattle.stair_state.specs.Recovering.{IsKnownBad}
-use Rattle.stair_state.specs.Redoing.{AtRest, AttachesNone, IsRedoing, Placing, Redoing, Stage, Uncommitted, new_in, old_in}
-use Rattle.stair_state.specs.Represents.{Encodings}
+use Rattle.stair_state.specs.Redoing.{AtRest, AttachesNone, Placing, Redoing, Stage, Uncommitted, WritesNone}
 use Rattle.stair_state.specs.State.{Change, Content}
 use Rattle.stair_state.specs.Tolerance.{IsTolerated}
-use Rattle.stair_state.proofs.StageLemmas.{is_in}
-use Rattle.stair_session.specs.Courses.{Point, point}
-use Rattle.stair_session.specs.InSession.{IsBesideEpochs}
-use Rattle.stair_session.specs.Opening.{AreBetween, opened_with}
+use Rattle.stair_state.proofs.RecoveryLemmas.{still_bad}
+use Rattle.stair_session.specs.Courses.{Point}
 use Rattle.stair_session.specs.Returning.{AnyReturns}
 use Rattle.stair_session.specs.Session.{IsLiveIn}
-use Rattle.stair_session.proofs.OpenWithLemmas.{amid_beside}
 use Rattle.stair_session.proofs.Serving.{IsCalmTo, any_read, tolerated_now}
 use Rattle.stair_return.proofs.RecoveryGates as gates
 use Rattle.stair_return.proofs.RecoveryFinding.{IsLastRound, reads_any}
-use Rattle.stair_return.proofs.RecoveryStage.{IsStaged, recovery_starts}
-use Rattle.stair_return.proofs.RedoPhase.{IsAmidAny, amid_known, latest_then, named_then, own_then, ungated_then}
-use Rattle.stair_return.proofs.RedoStart.{StartsRedo, in_redo, redo_by}
-use Rattle.stair_return.proofs.StageSince.{SinceIn, slot_last}
+use Rattle.stair_return.proofs.RecoveryStage.{IsStaged, recovery_doing}
+use Rattle.stair_return.proofs.RedoPhase.{IsAmidAny}
+use Rattle.stair_return.proofs.RedoStart.{redo_by, RedoAny}
+use Rattle.stair_return.proofs.StageSince.{SinceIn, since_unwritten}
 use Rattle.stair_journal.specs.Gate.{IsOpenWith}
 use Rattle.std.specs.Prelude.{◌↔◌}
-use Rattle.stair_return.proofs.RedoFence.{consistent_then}
-use Rattle.stair_return.specs.Beginning.{SaysContent}
-use Rattle.stair_member.specs.declared.aim.Aim.TheVariants.{Fence}
-
--- A REDO AT A LATER POINT
-
-module _ (before : List Happening) (m : Membership) (words new : Codewords) (redo : Redo) (kept : Content) (change : Option Change)
-    (both : Encodings (in_redo m kept change)) (stage_first : Stage) (start : List Happening)
-    (starts : StartsRedo m words new redo kept change both stage_first start)
-    (between : (stage : Stage) → AreBetween both.old both.new (old_in (redo_by m words new redo) stage) (new_in (redo_by m words new redo) stage))
-    (redoing : IsRedoing (redo_by m words new redo)) (stage : Stage) (p : Point)
-    (is : IsAmidAny before m words new redo kept change both stage_first start starts stage None None p) (told : Telling)
-    (beside : Ran (IsBesideEpochs p.member) p.told.history told.history) (free : Ran (AttachesNone every_slot) p.told.history told.history)
-    (since : (j : ℕ) → IsLiveIn p.member j → IsAttached start j → SinceIn (redo_by m words new redo) stage start told.history j) where
-  -- after calls beside the epochs its slots may be in another stage
-  pub amid_on : (now : Stage)
-      → ((j : ℕ) → IsLiveIn p.member j → IsAttached start j → SinceIn (redo_by m words new redo) now start told.history j)
-      → (now ≡ stage_first) ⊎ ((j : ℕ) → IsLiveIn p.member j → IsAttached start j)
-      → IsAmidAny before m words new redo kept change both stage_first start starts now None None (point p.member told)
-  amid_on now then used = record {
-    amid = record {
-      amid = amid_beside before (opened_with p.member) p.told.history told.history is.amid.amid is.history beside;
-      geometry = is.amid.geometry;
-      ran = ran_join {allowed = AttachesNone every_slot} is.amid.ran free;
-      large = is.amid.large;
-      is_in =
-          is_in (redo_by m words new redo) now (λ j. IsLiveIn p.member j × IsAttached start j) start told.history
-          (λ j both. slot_last (redo_by m words new redo) now start told.history j (then j both.0 both.1));
-      rebuilt = λ rebuild never. absurd (cc);
-    };
-    history = history_on {allowed = IsBesideEpochs p.member} is.history beside;
-    stays = is.stays;
-    known = λ image left.
-        amid_known before m words new redo kept change both stage_first start starts between redoing stage None None p is told.history beside free since image
-        left;
-    consistent =
-        consistent_then before m words new redo kept change both stage_first start starts between redoing stage None None p is told.history beside free since;
-    latest = latest_then before m words new redo kept change both stage_first start starts between redoing stage None None p is told.history beside free since;
-    own = own_then before m words new redo kept change both stage_first start starts between redoing stage None None p is told.history beside free since;
-    named = named_then before m words new redo kept change both stage_first start starts between redoing stage None None p is told.history beside free since;
-    live = is.live;
-    rebuilt = is.rebuilt;
-    ungated =
-        ungated_then before m words new redo kept change both stage_first start starts between redoing stage None None p is told.history beside free since;
-    since = then;
-    used = used;
-  }
 
 -- WHAT WAS FOUND
 
 -- The gates tell at p in which stage of a redo the array is. That began, all live slots being attached, in one of the first stages; where this
 -- redo is told it is the one, and each of these slots is ready for its cells.
 pub record IsToldAny (before : List Happening) (kept : Content) (change : Option Change) (told : Option Redo) (opened : Slots) (p : Point) : Type 0 where
-  pub m : Membership
-  pub first : Codewords
-  pub last : Codewords
-  pub redo : Redo
-  pub both : Encodings (in_redo m kept change)
-  pub stage_first : Stage
-  pub start : List Happening
+  pub of : RedoAny kept change
+  pub open of use {m, words as first, new as last, redo, both, stage_first, start, starts, between as words, redoing, says}
   pub began : Ran any_call before start
-  pub starts : StartsRedo m first last redo kept change both stage_first start
-  pub redoing : IsRedoing (redo_by m first last redo)
-  pub words : AreBetween both.old both.new first last
-  pub says : SaysContent (in_redo m kept change) Fence m
   pub stage : Stage
-  pub amid : IsAmidAny before m first last redo kept change both stage_first start starts stage None None p
+  pub amid : IsAmidAny before of stage None None p
   pub used : (j : ℕ) → IsLiveIn p.member j → IsAttached start j
   pub none : told ≡ None → stage ≡ AtRest
   pub some : (one : Redo) → told ≡ Some one → (one ≡ redo) × ((stage ≡ Uncommitted) ⊎ (stage ≡ Placing))
   pub ready : (one : Redo) → told ≡ Some one → (j : ℕ) → IsLiveIn p.member j → HasSlot opened j
       → SinceIn (redo_by m first last redo) Placing start p.told.history j
   pub others_bad : stage ≡ Placing → (j : ℕ) → IsLiveIn p.member j → ¬ HasSlot opened j → IsKnownBad start p.told.history j
+
+-- so it is still at a later point, where nothing was written from the gate on
+abbrev pub told_still : (before : List Happening) (kept : Content) (change : Option Change) (told : Option Redo) (opened : Slots) (p y : Point)
+    (is : IsToldAny before kept change told opened p)
+    → IsAmidAny before is.of is.stage None None y
+    → ((j : ℕ) → IsLiveIn y.member j → IsLiveIn p.member j) → ((j : ℕ) → Ran (WritesNone (IsSlot j)) p.told.history y.told.history)
+    → IsToldAny before kept change told opened y
+told_still before kept change told opened p y is amid live unwritten = record {
+  of = is.of;
+  began = is.began;
+  stage = is.stage;
+  amid = amid;
+  used = λ j now. is.used j (live j now);
+  none = is.none;
+  some = is.some;
+  ready = λ one same j now has.
+      since_unwritten (redo_by is.m is.first is.last is.redo) Placing is.start p.told.history j (is.ready one same j (live j now) has) y.told.history
+      (moment_between {a = AttachesNone every_slot} {b = WritesNone (IsSlot j)} is.amid.amid.ran (unwritten j)) (unwritten j);
+  others_bad = λ placing j now out.
+      still_bad {some = IsSlot j} is.start p.told.history y.told.history j refl (unwritten j) (is.others_bad placing j (live j now) out);
+}
 
 module _ (before : List Happening) (kept : Content) (change : Option Change) (g : Geometry) (redo : Option Redo) (opened : Slots) (z : Point)
     (round : IsLastRound before kept change g redo opened z) (honest : IsTrue z.told.honest) (calm : IsCalmTo AnyReturns g before z.told.history) where
@@ -144,21 +102,11 @@ module _ (before : List Happening) (kept : Content) (change : Option Change) (g 
       → (stage ≡ Placing → (j : ℕ) → HasSlot round.live j → ¬ HasSlot opened j → IsKnownBad round.start.history z.told.history j)
       → IsToldAny before kept change redo opened z
   found_in stage since none some ready bad = record {
-    m = z.member;
-    first = q.first;
-    last = q.last;
-    redo = q.redo;
-    both = round.untouched.stands.is.encodings;
-    stage_first = q.stage;
-    start = round.start.history;
-    began = round.untouched.amid.ran;
-    starts =
-        recovery_starts before kept change z.member round.start round.untouched round.synced round.live round.are
+    of =
+        recovery_doing before kept change z.member round.start round.untouched round.synced round.live round.are
         (gates.all_attached before kept change z.member round.start z.told round.untouched round.synced round.live round.are round.gates round.reads
         round.none honest) tolerated;
-    redoing = q.redoing;
-    words = q.words;
-    says = round.untouched.says;
+    began = round.untouched.amid.ran;
     stage = stage;
     amid =
         gates.round_amid before kept change z.member round.start z.told round.untouched round.synced round.live round.are round.gates round.reads round.none

@@ -7,7 +7,7 @@ use Rattle.stair_model.specs.Device.{DevicePart, chunks_start, gate_sector}
 use Rattle.stair_model.specs.Slots.{HasSlot, Slots}
 use Rattle.stair_rack.specs.Answers.{IsHistory, IsNoAttach, Ran, any_call, is_good, is_ready}
 use Rattle.stair_rack.specs.Crash.{image_now}
-use Rattle.stair_rack.specs.History.{Attach, Happening, Read, Sectors, SlotCall, Sync, Write, slot_state, stopped}
+use Rattle.stair_rack.specs.History.{Happening, slot_state, stopped}
 use Rattle.stair_rack.specs.Moments.{AtEveryMoment, IsMoment}
 use Rattle.stair_rack.specs.Offline.{IsAttached, IsKept, IsOffline}
 use Rattle.stair_rack.specs.Placed.{IsSlot}
@@ -27,10 +27,9 @@ use Rattle.stair_journal.specs.Gate.{ReadsClosed, IsOpenWith}
 use Rattle.stair_journal.specs.Gates.{IsGateSector, ReadsGates}
 use Rattle.stair_journal.specs.declared.gates.Gates.{Gates}
 use Rattle.stair_journal.specs.declared.redo.Redo.{Redo}
-use Rattle.stair_state.specs.Blocks.{Codewords}
 use Rattle.stair_state.specs.Holding.{IsHolder}
 use Rattle.stair_state.specs.Recovering.{IsKnownBad, IsKnownClosed}
-use Rattle.stair_state.specs.Redoing.{AtRest, AttachesNone, BodyHas, ChunkHas, Done, GateHas, InPlace, Placing, Redoing, Stage, Uncommitted, WritesNone, new_in, old_in}
+use Rattle.stair_state.specs.Redoing.{AtRest, AttachesNone, BodyHas, ChunkHas, GateHas, Placing, Redoing, Stage, Uncommitted, WritesNone}
 use Rattle.stair_state.specs.State.{Change, Content}
 use Rattle.stair_state.specs.Tolerance.{IsTolerated, IsWithinTolerance}
 use Rattle.stair_state.proofs.FormLemmas.{good_kept, good_whole}
@@ -38,46 +37,22 @@ use Rattle.stair_state.proofs.HoldingLemmas.{live_holder}
 use Rattle.stair_state.proofs.OutsideLemmas.{tolerated_alone}
 use Rattle.stair_state.proofs.RecoveryLemmas.{still_bad, still_closed}
 use Rattle.stair_state.proofs.RedoPhaseLemmas.{slot_unwritten}
-use Rattle.stair_state.proofs.StageLemmas.{Concerns, PartIn, SlotIn, is_in, open_or_lost_alone, part_damage}
+use Rattle.stair_state.proofs.StageLemmas.{Concerns, PartIn, SlotIn, open_or_lost_alone, part_damage}
 use Rattle.stair_state.proofs.SurveyedLemmas.{tolerated_last}
 use Rattle.stair_session.specs.Courses.{AreLive, point}
-use Rattle.stair_session.specs.InSession.{IsBesideEpochs}
-use Rattle.stair_session.specs.Opening.{After, AreBetween, Before, opened_with}
 use Rattle.stair_session.specs.Returning.{holders_of}
 use Rattle.stair_session.specs.Session.{IsLiveIn}
-use Rattle.stair_session.proofs.OpenWithLemmas.{amid_beside}
 use Rattle.stair_session.proofs.ReadOnLemmas.{gate_settled, reads_unwritten}
 use Rattle.stair_session.proofs.Serving.{any_read}
-use Rattle.stair_session.proofs.StageFoundLemmas.{first_among, last_among}
 use Rattle.stair_return.proofs.NameLemmas.{still_attached}
 use Rattle.stair_return.proofs.RecoveryFence.{AreSynced, IsUntouched, reads_untouched, apart, epochs}
-use Rattle.stair_return.proofs.RecoveryFinding.{reads_any}
-use Rattle.stair_return.proofs.RecoveryStage.{IsStaged, recovery_amid, recovery_starts, staged}
-use Rattle.stair_return.proofs.RedoPhase.{IsAmidAny, amid_known, latest_then, named_then, own_then, ungated_then}
+use Rattle.stair_return.proofs.RecoveryFinding.{none_attached, reads_any}
+use Rattle.stair_return.proofs.RecoveryStage.{IsStaged, recovery_amid, recovery_doing, recovery_starts, staged}
+use Rattle.stair_return.proofs.RedoPhase.{IsAmidAny, amid_on}
 use Rattle.stair_return.proofs.RedoStart.{StartsRedo, in_redo, redo_by}
 use Rattle.stair_return.proofs.SessionBehind.{left_reassembled}
-use Rattle.stair_return.proofs.StageSince.{SinceIn, since_now, since_unwritten, slot_last}
+use Rattle.stair_return.proofs.StageSince.{SinceIn, since_now, since_unwritten}
 use Rattle.stair_return.proofs.StoodSince.{IsHeldHere, held_here}
-use Rattle.stair_return.proofs.RedoFence.{consistent_then}
-
--- THE STRIPES of a stage
-
-pub between_stages : (old new : Codewords) (r : Redoing) → AreBetween old new r.old r.new → (stage : Stage)
-    → AreBetween old new (old_in r stage) (new_in r stage)
-between_stages old new r words stage = by stage
-  where
-    firsts : AreBetween old new r.old r.old
-    firsts = elim (first_among words) [ inl was ↦ Before was was | inr was ↦ After was was ]
-
-    lasts : AreBetween old new r.new r.new
-    lasts = elim (last_among words) [ inl was ↦ Before was was | inr was ↦ After was was ]
-
-    by : (s : Stage) → AreBetween old new (old_in r s) (new_in r s)
-    by AtRest = firsts
-    by Uncommitted = words
-    by Placing = lasts
-    by InPlace = lasts
-    by Done = lasts
 
 -- WITHIN TOLERANCE a live slot is attached whose gate isn't lost
 
@@ -428,62 +403,11 @@ module _ (before : List Happening) (kept : Content) (change : Option Change) (m 
     -- WHERE THE RECOVERY IS after it, in this stage
 
     pub round_amid : (stage : Stage) → ((j : ℕ) → HasSlot live j → SinceIn r stage start.history mid.history j)
-        → IsAmidAny before m q.first q.last q.redo kept change is.stands.is.encodings q.stage start.history starts stage None None (point m mid)
-    round_amid stage since = record {
-      amid = record {
-        amid = amid_beside before (opened_with m) start.history mid.history is.amid is.history beside;
-        geometry = refl;
-        ran = free;
-        large = starts.large;
-        is_in =
-            is_in r stage (λ j. IsLiveIn m j × IsAttached start.history j) start.history mid.history
-            (λ j both. slot_last r stage start.history mid.history j (since j ((are.are j).1 both.0)));
-        rebuilt = λ rebuild never. absurd (cc);
-      };
-      history = history_on {allowed = any_read} is.history all_reads;
-      stays = record { rules = is.amid.array.member; geometry = refl; frozen = refl; label = refl; seats = λ j. inl refl };
-      known = λ image left.
-          amid_known before m q.first q.last q.redo kept change is.stands.is.encodings q.stage start.history starts between q.redoing q.stage None None
-          (point m start) amid_first mid.history beside free first_since image left;
-      consistent =
-          consistent_then before m q.first q.last q.redo kept change is.stands.is.encodings q.stage start.history starts between q.redoing q.stage None None
-          (point m start) amid_first mid.history beside free first_since;
-      latest =
-          latest_then before m q.first q.last q.redo kept change is.stands.is.encodings q.stage start.history starts between q.redoing q.stage None None
-          (point m start) amid_first mid.history beside free first_since;
-      own =
-          own_then before m q.first q.last q.redo kept change is.stands.is.encodings q.stage start.history starts between q.redoing q.stage None None
-          (point m start) amid_first mid.history beside free first_since;
-      named =
-          named_then before m q.first q.last q.redo kept change is.stands.is.encodings q.stage start.history starts between q.redoing q.stage None None
-          (point m start) amid_first mid.history beside free first_since;
-      live = λ j on_live. (on_live, refl);
-      rebuilt = λ j rebuilt. (rebuilt, refl);
-      ungated =
-          ungated_then before m q.first q.last q.redo kept change is.stands.is.encodings q.stage start.history starts between q.redoing q.stage None None
-          (point m start) amid_first mid.history beside free first_since;
-      since = λ j on_live on. since j ((are.are j).1 on_live);
-      used = inr (λ j on_live. all_attached j ((are.are j).1 on_live));
-    }
-      where
-        beside : Ran (IsBesideEpochs m) start.history mid.history
-        beside = epochs before kept change m start.history mid.history is all_reads
-
-        free : Ran (AttachesNone every_slot) start.history mid.history
-        free = ran_weakened {allowed = any_read} {more = AttachesNone every_slot} (λ j c may. none_attached j c may) all_reads
-          where
-            none_attached : (j : ℕ) (c : SlotCall) → any_read j c → AttachesNone every_slot j c
-            none_attached j (Attach answer) may = absurd may
-            none_attached j (Sectors size) may = absurd may
-            none_attached j (Read k answer) may = λ on. tt
-            none_attached j (Write k bytes answer) may = absurd may
-            none_attached j (Sync answer) may = absurd may
-
-        between : (s : Stage) → AreBetween is.stands.is.encodings.old is.stands.is.encodings.new (old_in r s) (new_in r s)
-        between = between_stages is.stands.is.encodings.old is.stands.is.encodings.new r q.words
-
-        amid_first : IsAmidAny before m q.first q.last q.redo kept change is.stands.is.encodings q.stage start.history starts q.stage None None (point m start)
-        amid_first = recovery_amid before kept change m start is settled live are all_attached tolerated
-
-        first_since : (j : ℕ) → IsLiveIn m j → IsAttached start.history j → SinceIn r q.stage start.history mid.history j
-        first_since j on_live on = since_first j ((are.are j).1 on_live)
+        → IsAmidAny before (recovery_doing before kept change m start is settled live are all_attached tolerated) stage None None (point m mid)
+    round_amid stage since =
+        amid_on before (recovery_doing before kept change m start is settled live are all_attached tolerated) q.stage (point m start)
+        (recovery_amid before kept change m start is settled live are all_attached tolerated) mid
+        (epochs before kept change m start.history mid.history is all_reads)
+        (ran_weakened {allowed = any_read} {more = AttachesNone every_slot} (λ j c may on. none_attached j c may) all_reads)
+        (λ j on_live on. since_first j ((are.are j).1 on_live)) stage (λ j on_live on. since j ((are.are j).1 on_live))
+        (inr (λ j on_live. all_attached j ((are.are j).1 on_live)))

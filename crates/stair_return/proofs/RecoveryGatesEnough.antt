@@ -1,7 +1,6 @@
 -- Writing gates in a recovery, and doing a redo again, isn't refused for want of slots within tolerance, whichever media come back.
 use Rattle.stair_member.specs.declared.fault.FenceFault.TheVariants as fence
-use Rattle.stair_rack.specs.Offline.{IsAttached, IsOfflineUntilAttached}
-use Rattle.stair_session.proofs.KnownLemmas.{attached_before}
+use Rattle.stair_rack.specs.Offline.{IsOfflineUntilAttached}
 use Rattle.stair_session.proofs.Serving.{IsCalmTo, tolerated_now}
 use Rattle.std.proofs.Common.{IsTrue, List, Option, Some, inl, subst, ◌≡◌, ℕ, arith, None, sym, ◌∙◌}
 use Rattle.stair_model.specs.CellSet.{HasCell}
@@ -9,11 +8,11 @@ use Rattle.stair_model.specs.Geometry.{Geometry}
 use Rattle.stair_model.specs.Slots.{HasSlot, Slots}
 use Rattle.stair_model.specs.Stripe.{Stripe, cell}
 use Rattle.stair_rack.specs.Answers.{Ran, any_call}
-use Rattle.stair_rack.specs.History.{Happening, slot_state}
+use Rattle.stair_rack.specs.History.{Happening}
 use Rattle.stair_rack.specs.Moments.{AtEveryMoment}
 use Rattle.stair_rack.specs.Placed.{Placed}
 use Rattle.stair_rack.specs.Stretch.{every_slot}
-use Rattle.stair_rack.proofs.MomentLemmas.{moment_between, ran_join, ran_weakened}
+use Rattle.stair_rack.proofs.MomentLemmas.{moment_between, ran_join, ran_none}
 use Rattle.stair_member.specs.declared.fault.FenceFault.{FenceFault}
 use Rattle.stair_member.specs.declared.why.Why.{Why}
 use Rattle.stair_journal.specs.Gate.{closed_gate, open_gate}
@@ -21,22 +20,20 @@ use Rattle.stair_journal.specs.Journalling.{gate_writes}
 use Rattle.stair_journal.specs.declared.redo.Redo.{Redo}
 use Rattle.stair_journal.proofs.WritesLemmas.{gate_writes_is}
 use Rattle.stair_state.specs.Redoing.{AttachesNone, Placing}
-use Rattle.stair_state.specs.Represents.{IsLargeEnough}
 use Rattle.stair_state.specs.State.{Change, Content}
 use Rattle.stair_state.proofs.StageLemmas.{SlotIn}
 use Rattle.stair_session.specs.Courses.{AreLive, DoesStage, Fenced, LeavesOut, NoneWas, Point, Redoes, Replays, point}
+use Rattle.stair_session.specs.InSession.{IsBesideEpochs}
 use Rattle.stair_session.specs.Returning.{AnyReturns}
 use Rattle.stair_session.specs.Session.{IsLiveIn}
 use Rattle.stair_session.proofs.RedoingLemmas.{out_ran}
 use Rattle.stair_return.proofs.RecoveryFound.{IsToldAny}
-use Rattle.stair_return.proofs.RecoveryGates.{between_stages}
-use Rattle.stair_return.proofs.RecoveryOpening.{closed_each, gates_mid, gates_placed, live_is, live_to, open_each, says_on, gone_below}
-use Rattle.stair_return.proofs.RecoveryOutEnough.{amid_enough}
-use Rattle.stair_return.proofs.RedoPhase.{IsAmidAny}
+use Rattle.stair_return.proofs.RecoveryOpening.{closed_each, gates_mid, gates_placed, live_is, live_to, open_each, gone_below}
+use Rattle.stair_return.proofs.AmidFence.{leaving_enough}
+use Rattle.stair_return.proofs.RedoPhase.{IsAmidAny, amid_large}
 use Rattle.stair_return.proofs.RedoStart.{redo_by}
 use Rattle.stair_return.proofs.RecoveryEnd.{placing, end}
 use Rattle.stair_return.proofs.RedosLead.{redo_enough}
-use Rattle.stair_session.proofs.BesideLemmas.{large_on}
 
 module _ (before : List Happening) (kept : Content) (change : Option Change) (told : Option Redo) (opened : Slots) (x : Point)
     (is : IsToldAny before kept change told opened x) (gate : List ℕ) (to : Slots) (refusal : Option FenceFault) (y : Point)
@@ -47,24 +44,19 @@ module _ (before : List Happening) (kept : Content) (change : Option Change) (to
   phase : Placed (gate_writes gate) (HasSlot to) (HasSlot does.gone) x.told.history does.mid.history
   phase = gates_placed before kept change told opened x is gate to refusal y does honest live each
 
-  mid : IsAmidAny before is.m is.first is.last is.redo kept change is.both is.stage_first is.start is.starts is.stage None None
+  mid : IsAmidAny before is.of is.stage None None
       (point x.member does.mid)
   mid = gates_mid before kept change told opened x is gate to refusal y does honest live each
 
   later : Ran any_call does.mid.history y.told.history
   later = out_ran does.gone refusal (point x.member does.mid) y does.leaves honest
 
-  large : (j : ℕ) → IsLiveIn x.member j → IsAttached x.told.history j → IsLargeEnough is.m.array.geometry (slot_state x.told.history j).size
-  large j alive on =
-      let was = attached_before {some = every_slot} j tt is.amid.amid.ran on in
-      large_on is.m.array.geometry is.start x.told.history j
-      (ran_weakened {allowed = AttachesNone every_slot} {more = AttachesNone (λ l. l ≡ j)} (λ l call may same. may tt) is.amid.amid.ran) was.0 on
-      (is.amid.amid.large j alive was.0)
-
   off : (j : ℕ) → IsLiveIn x.member j → HasSlot does.gone j → IsOfflineUntilAttached before does.mid.history j
   off j alive gone =
       phase.shut before j gone (is.amid.amid.amid.held j (record { below = alive.below; why = inl alive.why }))
-      (λ on k bytes written. let at = (gate_writes_is gate j k bytes written).at in large j alive on k (omega (arith, at)))
+      (λ on k bytes written.
+      let at = (gate_writes_is gate j k bytes written).at in
+      amid_large before is.of is.stage None None x is.amid x.told.history is.amid.amid.ran j alive on k (omega (arith, at)))
 
   pub gates_enough : (whys : List Why) → refusal ≡ Some (fence.TooFew whys) → ⊥
   gates_enough whys refused = by does.leaves
@@ -72,9 +64,9 @@ module _ (before : List Happening) (kept : Content) (change : Option Change) (to
       by : LeavesOut does.gone refusal (point x.member does.mid) y → ⊥
       by (NoneWas out stays fine) = let never : None ≡ Some (fence.TooFew whys) = sym fine ∙ refused in cc
       by (Fenced j has answer fine fences) =
-          amid_enough before is.m is.first is.last is.redo kept change is.both is.stage_first is.start is.starts
-          (between_stages is.both.old is.both.new (redo_by is.m is.first is.last is.redo) is.words) is.redoing (says_on kept change is.m is.says) is.stage
-          (point x.member does.mid) mid does.gone y.member answer y.told fences honest
+          leaving_enough before is.of is.stage
+          None None (point x.member does.mid) mid does.mid (ran_none {allowed = IsBesideEpochs x.member} does.mid.history)
+          (ran_none {allowed = AttachesNone every_slot} does.mid.history) mid.since does.gone y.member answer y.told fences honest
           (gone_below before kept change told opened x is gate to refusal y does honest live each)
           (calm does.mid.history (moment_between {a = any_call} {b = any_call} mid.amid.amid.ran later))
           (tolerated_now AnyReturns is.m.array.geometry before y.told.history (ran_join {allowed = any_call} mid.amid.amid.ran later) calm) off whys
@@ -106,8 +98,7 @@ module _ (before : List Happening) (kept : Content) (change : Option Change) (on
       own_does =
           subst (λ (g : Geometry). DoesStage (gate_writes (open_gate g is.redo)) to (Some fault) x z) is.amid.stays.geometry does
   replay_enough whys refusal z (Replays.Goes to _ _ y _ are does more) refused honest calm =
-      redo_enough before is.m is.first is.last is.redo kept change is.both is.stage_first is.start is.starts
-      (between_stages is.both.old is.both.new (redo_by is.m is.first is.last is.redo) is.words) is.redoing (says_on kept change is.m is.says) stripe cells
+      redo_enough before is.of stripe cells
       Placing refusal y z (subst (λ (g : Geometry). Redoes g is.redo stripe Placing refusal y z) is.amid.stays.geometry more) whys refused honest calm None
       None (placing before kept change one opened x is stripe cells refusal y z to are does more honest z.told.history
       (end before kept change one opened x is stripe cells refusal y z to are does more honest) calm)

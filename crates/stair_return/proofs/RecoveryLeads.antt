@@ -1,6 +1,6 @@
 -- What a recovery comes to, of an array whose media come back: at each moment whatever a crash leaves stands for the state; refused or not the
 -- rack does in the end; and where it isn't the array serves what is decided.
-use Rattle.std.proofs.Common.{Err, IsTrue, List, None, Ok, Option, Result, Some, refl, subst, sym, ◌∙◌, ◌∷◌, ◌≡◌, false, []}
+use Rattle.std.proofs.Common.{ap, Err, IsTrue, List, None, Ok, Option, Result, Some, refl, subst, sym, ◌∙◌, ◌∷◌, ◌≡◌, false, []}
 use Rattle.stair_model.specs.Geometry.{Geometry}
 use Rattle.stair_model.specs.Slots.{Slots, no_slots}
 use Rattle.stair_model.specs.Stripe.{Stripe}
@@ -15,6 +15,8 @@ use Rattle.stair_member.specs.Asked.{LeavesSectors}
 use Rattle.stair_member.specs.Establishing.{Fences}
 use Rattle.stair_member.specs.Membership.{Membership}
 use Rattle.stair_member.specs.declared.fault.FenceFault.{FenceFault}
+use Rattle.stair_member.specs.declared.fault.FenceFault.TheVariants.{TooFew}
+use Rattle.stair_member.specs.declared.why.Why.{Why}
 use Rattle.stair_member.proofs.AskedLemmas.{asked_ran}
 use Rattle.stair_journal.specs.Gate.{closed_gate}
 use Rattle.stair_journal.specs.Journalling.{gate_writes}
@@ -23,7 +25,7 @@ use Rattle.stair_journal.specs.declared.redo.Redo.{Redo}
 use Rattle.stair_state.specs.Holding.{IsConsistentUnderReassembly}
 use Rattle.stair_state.specs.State.{Change, Content, State, without_seats}
 use Rattle.stair_state.specs.Tolerance.{ToleratedSince}
-use Rattle.stair_session.specs.Courses.{FindsBody, Point, Replays}
+use Rattle.stair_session.specs.Courses.{FindsBody, FindsRedo, Point, Replays}
 use Rattle.stair_session.specs.Mixed.{IsToleratedMixed}
 use Rattle.stair_session.specs.Opening.{StaysArray}
 use Rattle.stair_session.specs.Returning.{AnyReturns, IsCalm}
@@ -36,6 +38,10 @@ use Rattle.stair_array.specs.Calls.{answer_of, refused}
 use Rattle.stair_array.specs.Machine.{Refusal}
 use Rattle.stair_array.specs.Openings.{ClearsJournal, Recovers}
 use Rattle.stair_array.proofs.RecoveredLemmas.{body_ran, cleared_honest, cleared_ran, replayed_ran, fence_ran}
+use Rattle.stair_return.proofs.OpeningEnough.{first_enough}
+use Rattle.stair_return.proofs.RecoveryEnough.{finding_enough}
+use Rattle.stair_return.proofs.RecoveryGatesEnough.{closing_enough, replay_enough}
+use Rattle.stair_return.proofs.RecoveryOutEnough.{body_enough}
 use Rattle.stair_return.proofs.RecoveryEnd.{IsOpenedAny, replay_moments, replay_ended, replay_opens, closed_opens}
 use Rattle.stair_return.proofs.RecoveryFence.{AreSynced, IsUntouched, unseated}
 use Rattle.stair_return.proofs.RecoveryFinding.{IsLastRound, StandsUnseated, finding_moments, finding_refused, finding_ends}
@@ -47,10 +53,11 @@ use Rattle.stair_return.proofs.RecoveryOpening.{closing_moments, closing_ended}
 -- CLEARING THE JOURNAL
 
 module _ (before : List Happening) (kept : Content) (change : Option Change) (g : Geometry) where
-  -- it was opened, or an epoch was refused
+  -- it was opened, or an epoch was refused, not for want of slots
   pub data Clears (m : Membership) : Result Geometry Refusal → Point → Type 0 where
     Opens : (own : Geometry) (y : Point) → own ≡ g → IsOpenedAny before kept change g y → StaysArray m y.member → Clears m (Ok own) y
-    Refuses : (fault : FenceFault) (y : Point) → IsConsistentUnderReassembly (unseated g kept change) y.told.history → Clears m (Err (refused fault)) y
+    Refuses : (fault : FenceFault) (y : Point) → IsConsistentUnderReassembly (unseated g kept change) y.told.history
+        → ((whys : List Why) → ¬ (fault ≡ TooFew whys)) → Clears m (Err (refused fault)) y
 
   module _ (redo : Option Redo) (opened : Slots) (x : Point) (is : IsToldAny before kept change redo opened x) (same : x.member.array.geometry ≡ g) where
     pub told_geometry : is.m.array.geometry ≡ g
@@ -94,10 +101,16 @@ module _ (before : List Happening) (kept : Content) (change : Option Change) (g 
       Refuses fault y
       (given_stands None opened x is same y.told.history
       (closing_ended before kept change opened x is live are (Some fault) y does honest (own_calm None opened x is same y.told.history calm)))
+      (λ whys few.
+      closing_enough before kept change opened x is live are (Some fault) y does honest (own_calm None opened x is same y.told.history calm) whys
+      (ap (λ (f : FenceFault). Some f) few))
   clears m _ _ _ _ _ (ClearsJournal.Stops redo opened body was stripe fault x y found) is same stays honest calm =
       Refuses fault y
       (given_stands (Some redo) opened x is same y.told.history
       (body_ended before kept change redo opened body was stripe (Some fault) x y found is honest (own_calm (Some redo) opened x is same y.told.history calm)))
+      (λ whys few.
+      body_enough before kept change redo opened body was stripe (Some fault) x y found is honest (own_calm (Some redo) opened x is same y.told.history calm)
+      whys (ap (λ (f : FenceFault). Some f) few))
   clears m _ _ _ _ _ (ClearsJournal.BodyLost redo opened body was stripe sector x y found lost) is same stays honest calm =
       let whole : body.unread ≡ None = (read_y redo opened body was stripe x y found is same honest calm).whole in
       let never : None ≡ Some sector = sym whole ∙ lost in
@@ -138,6 +151,9 @@ module _ (before : List Happening) (kept : Content) (change : Option Change) (g 
           (given_stands (Some redo) opened y read.told geometry_y z.told.history
           (replay_ended before kept change redo opened y read.told stripe (read.cells whole) fault (Some fault) z (own_run (Some fault) goes) refl honest
           (own_calm (Some redo) opened y read.told geometry_y z.told.history calm)))
+          (λ whys few.
+          replay_enough before kept change redo opened y read.told stripe (read.cells whole) whys (Some fault) z (own_run (Some fault) goes)
+          (ap (λ (f : FenceFault). Some f) few) honest (own_calm (Some redo) opened y read.told geometry_y z.told.history calm))
 
   pub clears_moments : (redo : Option Redo) (opened : Slots) (answer : Result Geometry Refusal) (x z : Point) → ClearsJournal redo opened answer x z
       → IsToldAny before kept change redo opened x → x.member.array.geometry ≡ g → IsTrue z.told.honest
@@ -219,6 +235,58 @@ module _ (s : State) (first : Telling) (u : Point) (found : IsFoundAny s first u
     going_w : ToleratedSince s.geometry first.history w.told.history → ¬ IsTrue (stopped w.told.history)
     going_w calm = goes_on_within s.geometry first.history w.told.history (tolerated_now AnyReturns s.geometry first.history w.told.history upto_w calm)
 
+  -- where it stood, and what came after it was calm
+
+  module _ (fallen : Slots) (y : Point) (e : Fences no_slots u.member y.member (Ok fallen) u.told y.told) (honest_y : IsTrue y.told.honest)
+      (c : List Happening) (later : Ran any_call y.told.history c) (calm : IsCalm AnyReturns s.geometry false first.history c) where
+    mixed_y : IsToleratedMixed s.geometry first.history first.history u.told.history
+    mixed_y = mixed_u (honest_before y (Ok fallen) e honest_y) c (ran_join {allowed = any_call} (first_runs y (Ok fallen) e honest_y) later) calm
+
+    going_y : ¬ IsTrue (stopped y.told.history)
+    going_y =
+        going_w y (Ok fallen) e honest_y
+        (calm_sooner AnyReturns s.geometry first.history y.told.history c
+        (moment_between {a = any_call} {b = any_call} (upto_w y (Ok fallen) e honest_y) later) calm.0)
+
+    untouched_y : IsUntouched first.history s.content s.in_doubt y.member y.told.history
+    untouched_y = first_untouched s first u y found (Ok fallen) e honest_y mixed_y refl going_y
+
+    synced_y : AreSynced y.member y.told.history
+    synced_y = first_synced s first u y found (Ok fallen) e honest_y mixed_y refl going_y
+
+    geometry_y : y.member.array.geometry ≡ s.geometry
+    geometry_y = first_geometry s first u y found (Ok fallen) e honest_y mixed_y refl going_y
+
+  -- ALL GATES WERE READ, and what came after that was calm
+
+  module _ (fallen opened : Slots) (redo : Option Redo) (y z : Point) (e : Fences no_slots u.member y.member (Ok fallen) u.told y.told)
+      (finds : FindsRedo redo opened None y z) (honest_z : IsTrue z.told.honest) where
+    honest_first : IsTrue y.told.honest
+    honest_first = honest_back y.told z.told (found_honest redo opened None y z finds) honest_z
+
+    second : Ran any_call y.told.history z.told.history
+    second = found_ran redo opened None y z finds honest_z
+
+    module _ (c : List Happening) (later : Ran any_call z.told.history c) (calm : IsCalm AnyReturns s.geometry false first.history c) where
+      all : Ran any_call y.told.history c
+      all = ran_join {allowed = any_call} second later
+
+      calm_z : IsCalmTo AnyReturns s.geometry first.history z.told.history
+      calm_z =
+          calm_sooner AnyReturns s.geometry first.history z.told.history c
+          (moment_between {a = any_call} {b = any_call} (ran_join {allowed = any_call} (upto_w y (Ok fallen) e honest_first) second) later) calm.0
+
+      round : IsLastRound first.history s.content s.in_doubt s.geometry redo opened z
+      round =
+          finding_ends first.history s.content s.in_doubt s.geometry redo opened None y z finds refl (untouched_y fallen y e honest_first c all calm)
+          (synced_y fallen y e honest_first c all calm) (geometry_y fallen y e honest_first c all calm) honest_z calm_z
+
+      told_z : IsToldAny first.history s.content s.in_doubt redo opened z
+      told_z = found_told first.history s.content s.in_doubt s.geometry redo opened z round honest_z calm_z
+
+      same_z : z.member.array.geometry ≡ s.geometry
+      same_z = round.geometry
+
   -- at each moment of the whole
   pub recovers_moments : (answer : Result Geometry Refusal) (v : Point) → Recovers answer u v → IsTrue v.told.honest
       → AtEveryMoment StandsCalm u.told.history v.told.history
@@ -230,70 +298,36 @@ module _ (s : State) (first : Telling) (u : Point) (found : IsFoundAny s first u
       (at_every_from {P = StandsCalm} later.more later.is
       (λ c at calm.
       let upto = ran_before {allowed = any_call} later at in
-      let mixed =
-      mixed_u (honest_before y (Ok fallen) e honest_y) c (ran_join {allowed = any_call} (first_runs y (Ok fallen) e honest_y) upto) calm in
-      let calm_y =
-      calm_sooner AnyReturns s.geometry first.history y.told.history c
-      (moment_between {a = any_call} {b = any_call} (upto_w y (Ok fallen) e honest_y) upto) calm.0 in
       at_moment {P = StandsUnseated first.history s.content s.in_doubt s.geometry}
-      (finding_moments first.history s.content s.in_doubt s.geometry redo opened (Some fault) y v finds
-      (first_untouched s first u y found (Ok fallen) e honest_y mixed refl (going_w y (Ok fallen) e honest_y calm_y))
-      (first_geometry s first u y found (Ok fallen) e honest_y mixed refl (going_w y (Ok fallen) e honest_y calm_y)) honest) at calm.0))
+      (finding_moments first.history s.content s.in_doubt s.geometry redo opened (Some fault) y v finds (untouched_y fallen y e honest_y c upto calm)
+      (geometry_y fallen y e honest_y c upto calm) honest) at calm.0))
   recovers_moments _ v (Recovers.Goes fallen opened redo answer _ y z _ e finds clear) honest =
       at_every_join {P = StandsCalm} (first_moments y (Ok fallen) e honest_y)
       (at_every_join {P = StandsCalm}
-      (at_every_from {P = StandsCalm} second.more second.is
+      (at_every_from {P = StandsCalm} then.more then.is
       (λ c at calm.
+      let upto = ran_before {allowed = any_call} then at in
       at_moment {P = StandsUnseated first.history s.content s.in_doubt s.geometry}
-      (finding_moments first.history s.content s.in_doubt s.geometry redo opened None y z finds
-      (untouched_y c (ran_before {allowed = any_call} second at) calm) (geometry_y c (ran_before {allowed = any_call} second at) calm) honest_z) at calm.0))
+      (finding_moments first.history s.content s.in_doubt s.geometry redo opened None y z finds (untouched_y fallen y e honest_y c upto calm)
+      (geometry_y fallen y e honest_y c upto calm) honest_z) at calm.0))
       (at_every_from {P = StandsCalm} third.more third.is
       (λ c at calm.
       let upto = ran_before {allowed = any_call} third at in
-      let calm_z =
-      calm_sooner AnyReturns s.geometry first.history z.told.history c
-      (moment_between {a = any_call} {b = any_call} (ran_join {allowed = any_call} (upto_w y (Ok fallen) e honest_y) second) upto) calm.0 in
-      let all = ran_join {allowed = any_call} second upto in
-      let round =
-      finding_ends first.history s.content s.in_doubt s.geometry redo opened None y z finds refl (untouched_y c all calm) (synced_y c all calm)
-      (geometry_y c all calm) honest_z calm_z in
       at_moment {P = StandsUnseated first.history s.content s.in_doubt s.geometry}
       (clears_moments first.history s.content s.in_doubt s.geometry redo opened answer z v clear
-      (found_told first.history s.content s.in_doubt s.geometry redo opened z round honest_z calm_z) round.geometry honest) at calm.0)))
+      (told_z fallen opened redo y z e finds honest_z c upto calm) (same_z fallen opened redo y z e finds honest_z c upto calm) honest) at calm.0)))
     where
       honest_z : IsTrue z.told.honest
       honest_z = honest_back z.told v.told (cleared_honest redo opened answer z v clear) honest
 
       honest_y : IsTrue y.told.honest
-      honest_y = honest_back y.told z.told (found_honest redo opened None y z finds) honest_z
+      honest_y = honest_first fallen opened redo y z e finds honest_z
 
-      second : Ran any_call y.told.history z.told.history
-      second = found_ran redo opened None y z finds honest_z
+      then : Ran any_call y.told.history z.told.history
+      then = second fallen opened redo y z e finds honest_z
 
       third : Ran any_call z.told.history v.told.history
       third = cleared_ran redo opened answer z v clear honest
-
-      mixed : (c : List Happening) → Ran any_call y.told.history c → IsCalm AnyReturns s.geometry false first.history c
-          → IsToleratedMixed s.geometry first.history first.history u.told.history
-      mixed c upto calm =
-          mixed_u (honest_before y (Ok fallen) e honest_y) c (ran_join {allowed = any_call} (first_runs y (Ok fallen) e honest_y) upto) calm
-
-      going : (c : List Happening) → Ran any_call y.told.history c → IsCalm AnyReturns s.geometry false first.history c → ¬ IsTrue (stopped y.told.history)
-      going c upto calm =
-          going_w y (Ok fallen) e honest_y
-          (calm_sooner AnyReturns s.geometry first.history y.told.history c
-          (moment_between {a = any_call} {b = any_call} (upto_w y (Ok fallen) e honest_y) upto) calm.0)
-
-      untouched_y : (c : List Happening) → Ran any_call y.told.history c → IsCalm AnyReturns s.geometry false first.history c
-          → IsUntouched first.history s.content s.in_doubt y.member y.told.history
-      untouched_y c upto calm = first_untouched s first u y found (Ok fallen) e honest_y (mixed c upto calm) refl (going c upto calm)
-
-      synced_y : (c : List Happening) → Ran any_call y.told.history c → IsCalm AnyReturns s.geometry false first.history c → AreSynced y.member y.told.history
-      synced_y c upto calm = first_synced s first u y found (Ok fallen) e honest_y (mixed c upto calm) refl (going c upto calm)
-
-      geometry_y : (c : List Happening) → Ran any_call y.told.history c → IsCalm AnyReturns s.geometry false first.history c
-          → y.member.array.geometry ≡ s.geometry
-      geometry_y c upto calm = first_geometry s first u y found (Ok fallen) e honest_y (mixed c upto calm) refl (going c upto calm)
 
   -- and in the end
   pub recovers_clears : (answer : Result Geometry Refusal) (v : Point) → Recovers answer u v → IsTrue v.told.honest
@@ -303,55 +337,20 @@ module _ (s : State) (first : Telling) (u : Point) (found : IsFoundAny s first u
       Refuses fault v
       (first_ended s first u v found (Err fault) e honest
       (mixed_u (honest_before v (Err fault) e honest) v.told.history (first_runs v (Err fault) e honest) calm) (going_w v (Err fault) e honest calm.0))
+      (first_enough s first u v found fault e honest calm.1)
   recovers_clears _ v (Recovers.Stops fallen opened redo fault _ y _ e finds) honest calm =
       let honest_y = honest_back y.told v.told (found_honest redo opened (Some fault) y v finds) honest in
       let later = found_ran redo opened (Some fault) y v finds honest in
-      let mixed =
-      mixed_u (honest_before y (Ok fallen) e honest_y) v.told.history (ran_join {allowed = any_call} (first_runs y (Ok fallen) e honest_y) later) calm in
-      let going =
-      going_w y (Ok fallen) e honest_y
-      (calm_sooner AnyReturns s.geometry first.history y.told.history v.told.history
-      (moment_between {a = any_call} {b = any_call} (upto_w y (Ok fallen) e honest_y) later) calm.0) in
-      Refuses fault v
-      (finding_refused first.history s.content s.in_doubt s.geometry redo opened fault (Some fault) y v finds refl
-      (first_untouched s first u y found (Ok fallen) e honest_y mixed refl going) (first_geometry s first u y found (Ok fallen) e honest_y mixed refl going)
+      let untouched = untouched_y fallen y e honest_y v.told.history later calm in
+      let same = geometry_y fallen y e honest_y v.told.history later calm in
+      Refuses fault v (finding_refused first.history s.content s.in_doubt s.geometry redo opened fault (Some fault) y v finds refl untouched same honest calm.0)
+      (λ whys few.
+      finding_enough first.history s.content s.in_doubt s.geometry redo opened whys (Some fault) y v finds (ap (λ (f : FenceFault). Some f) few) untouched same
       honest calm.0)
   recovers_clears _ v (Recovers.Goes fallen opened redo answer _ y z _ e finds clear) honest calm =
+      let honest_z = honest_back z.told v.told (cleared_honest redo opened answer z v clear) honest in
+      let third = cleared_ran redo opened answer z v clear honest in
       clears first.history s.content s.in_doubt s.geometry u.member redo opened answer z v clear
-      (found_told first.history s.content s.in_doubt s.geometry redo opened z round honest_z calm_z) round.geometry
+      (told_z fallen opened redo y z e finds honest_z v.told.history third calm) (same_z fallen opened redo y z e finds honest_z v.told.history third calm)
       (stays_again u.member y.member z.member (fence_stays no_slots u y (Ok fallen) e found.rules)
       (found_stays redo opened None y z finds (fence_stays no_slots u y (Ok fallen) e found.rules).rules)) honest calm.0
-    where
-      honest_z : IsTrue z.told.honest
-      honest_z = honest_back z.told v.told (cleared_honest redo opened answer z v clear) honest
-
-      honest_y : IsTrue y.told.honest
-      honest_y = honest_back y.told z.told (found_honest redo opened None y z finds) honest_z
-
-      second : Ran any_call y.told.history z.told.history
-      second = found_ran redo opened None y z finds honest_z
-
-      third : Ran any_call z.told.history v.told.history
-      third = cleared_ran redo opened answer z v clear honest
-
-      mixed : IsToleratedMixed s.geometry first.history first.history u.told.history
-      mixed =
-          mixed_u (honest_before y (Ok fallen) e honest_y) v.told.history
-          (ran_join {allowed = any_call} (first_runs y (Ok fallen) e honest_y) (ran_join {allowed = any_call} second third)) calm
-
-      calm_z : IsCalmTo AnyReturns s.geometry first.history z.told.history
-      calm_z =
-          calm_sooner AnyReturns s.geometry first.history z.told.history v.told.history
-          (moment_between {a = any_call} {b = any_call} (ran_join {allowed = any_call} (upto_w y (Ok fallen) e honest_y) second) third) calm.0
-
-      going : ¬ IsTrue (stopped y.told.history)
-      going =
-          going_w y (Ok fallen) e honest_y
-          (calm_sooner AnyReturns s.geometry first.history y.told.history v.told.history
-          (moment_between {a = any_call} {b = any_call} (upto_w y (Ok fallen) e honest_y) (ran_join {allowed = any_call} second third)) calm.0)
-
-      round : IsLastRound first.history s.content s.in_doubt s.geometry redo opened z
-      round =
-          finding_ends first.history s.content s.in_doubt s.geometry redo opened None y z finds refl
-          (first_untouched s first u y found (Ok fallen) e honest_y mixed refl going) (first_synced s first u y found (Ok fallen) e honest_y mixed refl going)
-          (first_geometry s first u y found (Ok fallen) e honest_y mixed refl going) honest_z calm_z

@@ -23,8 +23,8 @@ use Rattle.stair_session.proofs.LeftOutLemmas.{start_geometry}
 use Rattle.stair_return.specs.Beginning.{BeginsWherever, StandsWherever}
 use Rattle.stair_return.proofs.EpochLaws.{established}
 use Rattle.stair_return.proofs.LeavingBegins.{leaves_begins}
+use Rattle.stair_return.proofs.LeavingOut.{ended, throughout}
 use Rattle.stair_return.proofs.RecoveryFence.{AreSynced, IsUntouched, fence_ended, fence_left, stands_untouched, untouched_begins, untouched_left, untouched_stands, unseated, synced}
-use Rattle.stair_rack.proofs.MomentLemmas.{at_every_none, at_moment}
 
 module _ (before : List Happening) (kept : Content) (change : Option Change) (leaving : Slots) (m last : Membership) (answer : Result Slots FenceFault)
     (old new : Telling) (is : IsUntouched before kept change m old.history) (does : Fences leaving m last answer old new) (honest : IsTrue new.honest)
@@ -35,8 +35,8 @@ module _ (before : List Happening) (kept : Content) (change : Option Change) (le
   abbrev issued : Issued Fence does.establishes.gone does.start last old.history new.history
   issued = does.establishes.issued honest
 
-  begins : BeginsWherever (unseated m.array.geometry kept change) (holders_of m) m.array.epoch Fence does.start old.history
-  begins =
+  pub leaving_begins : BeginsWherever (unseated m.array.geometry kept change) (holders_of m) m.array.epoch Fence does.start old.history
+  leaving_begins =
       leaves_begins (unseated m.array.geometry kept change) (holders_of m) m.array.epoch leaving m does.start old.history
       (untouched_begins before kept change m old.history is tolerated) does.leaves below
 
@@ -44,12 +44,12 @@ module _ (before : List Happening) (kept : Content) (change : Option Change) (le
       → IsConsistentUnderReassembly (unseated m.array.geometry kept change) (Made image ∷ [])
   leaving_left =
       fence_left (unseated m.array.geometry kept change) refl (holders_of m) m.array.epoch does.establishes.gone does.start last old.history new.history
-      begins issued
+      leaving_begins issued
 
   leaving_ended : ¬ IsTrue (stopped new.history) → IsConsistentUnderReassembly (unseated m.array.geometry kept change) new.history
   leaving_ended =
       fence_ended (unseated m.array.geometry kept change) refl (holders_of m) m.array.epoch does.establishes.gone does.start last old.history new.history
-      begins issued
+      leaving_begins issued
 
   -- WHERE IT ISN'T REFUSED
 
@@ -63,7 +63,7 @@ module _ (before : List Happening) (kept : Content) (change : Option Change) (le
     own_begins : BeginsWherever (unseated does.start.array.geometry kept change) (holders_of m) m.array.epoch Fence does.start old.history
     own_begins =
         subst (λ (y : Geometry). BeginsWherever (unseated y kept change) (holders_of m) m.array.epoch Fence does.start old.history)
-        (sym (start_geometry leaving m does.start does.leaves)) begins
+        (sym (start_geometry leaving m does.start does.leaves)) leaving_begins
 
     leaving_synced : AreSynced last new.history
     leaving_synced =
@@ -82,28 +82,17 @@ module _ (before : List Happening) (kept : Content) (change : Option Change) (go
   -- at each moment what a crash leaves stands for the state,
   pub out_left : (c : List Happening) → IsMoment old.history c y.told.history → (image : Image) → CrashMayLeave c image
       → IsConsistentUnderReassembly (unseated m.array.geometry kept change) (Made image ∷ [])
-  out_left c at image left = by leaves
-    where
-      Stands : List Happening → Type 0
-      Stands h = (x : Image) → CrashMayLeave h x → IsConsistentUnderReassembly (unseated m.array.geometry kept change) (Made x ∷ [])
-
-      by : LeavesOut gone refusal (point m old) y → IsConsistentUnderReassembly (unseated m.array.geometry kept change) (Made image ∷ [])
-      by (NoneWas out same fine) =
-          at_moment {P = Stands} (at_every_none {P = Stands} old.history (λ x may. untouched_left before kept change m old.history is x may))
-          (subst (λ (p : Point). IsMoment old.history c p.told.history) same at) image left
-      by (Fenced j has answer fine does) =
-          leaving_left before kept change gone m y.member answer old y.told is does honest below tolerated c at image left
+  out_left =
+      throughout leaves
+      (λ h. (image : Image) → CrashMayLeave h image → IsConsistentUnderReassembly (unseated m.array.geometry kept change) (Made image ∷ []))
+      (untouched_left before kept change m old.history is)
+      (λ answer does. leaving_left before kept change gone m y.member answer old y.told is does honest below tolerated)
 
   -- and so does the rack in the end,
   pub out_ended : ¬ IsTrue (stopped y.told.history) → IsConsistentUnderReassembly (unseated m.array.geometry kept change) y.told.history
-  out_ended going = by leaves
-    where
-      by : LeavesOut gone refusal (point m old) y → IsConsistentUnderReassembly (unseated m.array.geometry kept change) y.told.history
-      by (NoneWas out same fine) =
-          subst (λ (p : Point). IsConsistentUnderReassembly (unseated m.array.geometry kept change) p.told.history) (sym same)
-          (untouched_stands before kept change m old.history is)
-      by (Fenced j has answer fine does) =
-          leaving_ended before kept change gone m y.member answer old y.told is does honest below tolerated going
+  out_ended going =
+      ended leaves (IsConsistentUnderReassembly (unseated m.array.geometry kept change)) (untouched_stands before kept change m old.history is)
+      (λ answer does. leaving_ended before kept change gone m y.member answer old y.told is does honest below tolerated going)
 
   -- from where the recovery goes on, if it isn't refused
   module _ (fine : refusal ≡ None) (going : ¬ IsTrue (stopped y.told.history)) where

@@ -1,5 +1,5 @@
 -- Gates are written in a recovery of an array whose media come back: closed at rest, or opened where the redo that was found is done again.
-use Rattle.std.proofs.Common.{IsTrue, List, None, Option, Some, inl, inr, refl, subst, sym, ◌<◌, ◌∙◌, ◌≡◌, ◌⊎◌, ℕ, arith}
+use Rattle.std.proofs.Common.{IsTrue, List, None, Option, Some, inl, inr, refl, subst, sym, ◌<◌, ◌≡◌, ℕ, arith}
 use Rattle.stair_model.specs.Geometry.{Geometry}
 use Rattle.stair_model.specs.Slots.{HasSlot, Slots}
 use Rattle.stair_rack.specs.Answers.{IsNoAttach, Ran, any_call}
@@ -11,23 +11,20 @@ use Rattle.stair_rack.specs.Stretch.{every_slot}
 use Rattle.stair_rack.proofs.MomentLemmas.{at_every_from, at_every_join, at_moment, moment_between, moment_last, moment_sooner, ran_before, ran_join, ran_weakened}
 use Rattle.stair_rack.proofs.OfflineLemmas.{held_on}
 use Rattle.stair_rack.proofs.TidyLemmas.{history_on, history_tidy, left_past_end}
-use Rattle.stair_member.specs.Membership.{Membership}
-use Rattle.stair_member.specs.declared.aim.Aim.TheVariants.{Fence}
 use Rattle.stair_member.specs.declared.fault.FenceFault.{FenceFault}
 use Rattle.stair_member.proofs.CountingLemmas.{has_or_not}
 use Rattle.stair_journal.specs.Gate.{closed_gate, open_gate}
 use Rattle.stair_journal.specs.Journalling.{gate_writes}
 use Rattle.stair_journal.specs.declared.redo.Redo.{Redo}
 use Rattle.stair_state.specs.Holding.{IsConsistentUnderReassembly}
-use Rattle.stair_state.specs.Redoing.{AtRest, AttachesNone, Placing, Redoing, Stage, Uncommitted, WritesNone, new_in, old_in}
-use Rattle.stair_state.specs.State.{Change, Content, changed_if}
+use Rattle.stair_state.specs.Redoing.{AtRest, AttachesNone, Placing, Redoing, Stage, Uncommitted, WritesNone}
+use Rattle.stair_state.specs.State.{Change, Content}
 use Rattle.stair_state.proofs.RecoveryLemmas.{slot_closing, slot_reopening}
 use Rattle.stair_state.proofs.RedoPhaseLemmas.{slot_phase}
 use Rattle.stair_state.proofs.RedoRunLemmas.{phase_attaches}
 use Rattle.stair_state.proofs.StageLemmas.{SlotIn}
 use Rattle.stair_session.specs.Courses.{AreLive, AreUnopened, DoesStage, LeavesOut, Point, point}
 use Rattle.stair_session.specs.InSession.{IsBesideEpochs}
-use Rattle.stair_session.specs.Opening.{AreBetween, StaysArray}
 use Rattle.stair_session.specs.Returning.{AnyReturns, holders_of}
 use Rattle.stair_session.specs.Session.{IsLiveIn}
 use Rattle.stair_session.proofs.AmidRedoLemmas.{leaves_write, live_still}
@@ -35,35 +32,13 @@ use Rattle.stair_session.proofs.HonestLemmas.{mid_honest}
 use Rattle.stair_session.proofs.RedoingLemmas.{out_ran}
 use Rattle.stair_session.proofs.ReplayLemmas.{gates_beside}
 use Rattle.stair_session.proofs.Serving.{IsCalmTo}
-use Rattle.stair_return.specs.Beginning.{SaysContent}
 use Rattle.stair_return.proofs.RecoveryFence.{unseated, image_stands}
-use Rattle.stair_return.proofs.RecoveryFound.{IsToldAny, amid_on}
-use Rattle.stair_return.proofs.RecoveryGates.{between_stages}
+use Rattle.stair_return.proofs.RecoveryFound.{IsToldAny}
 use Rattle.stair_return.proofs.RecoveryOut.{amid_out, amid_out_ended, amid_out_left}
-use Rattle.stair_return.proofs.RedoPhase.{IsAmidAny, amid_consistent}
+use Rattle.stair_return.proofs.RedoPhase.{IsAmidAny, amid_consistent, amid_on}
 use Rattle.stair_return.proofs.RedoStart.{in_redo, redo_by}
 use Rattle.stair_return.proofs.StageSince.{SinceIn, since_next, since_on, since_unwritten, slot_last}
 use Rattle.stair_return.proofs.RecoveryFinding.{StandsUnseated}
-
--- what a member's epoch says of the content is said by one that stays
-pub says_on : (kept : Content) (change : Option Change) (m : Membership) → SaysContent (in_redo m kept change) Fence m → (p : Membership)
-    → StaysArray m p → SaysContent (in_redo m kept change) Fence p
-says_on kept change m says p stays = record {
-  frozen = frozen_so says.frozen;
-  label = label_so says.label;
-  frozen_new = frozen_so says.frozen;
-  label_new = label_so says.label;
-}
-  where
-    frozen_so : (m.array.frozen ≡ kept.frozen) ⊎ (m.array.frozen ≡ (changed_if change kept).frozen)
-        → (p.array.frozen ≡ kept.frozen) ⊎ (p.array.frozen ≡ (changed_if change kept).frozen)
-    frozen_so (inl is) = inl (stays.frozen ∙ is)
-    frozen_so (inr is) = inr (stays.frozen ∙ is)
-
-    label_so : (m.array.label ≡ kept.label) ⊎ (m.array.label ≡ (changed_if change kept).label)
-        → (p.array.label ≡ kept.label) ⊎ (p.array.label ≡ (changed_if change kept).label)
-    label_so (inl is) = inl (stays.label ∙ is)
-    label_so (inr is) = inr (stays.label ∙ is)
 
 -- A PHASE OF GATES of live slots, in which the redo stays in its stage, and slots that were gone to it are left out
 
@@ -90,12 +65,6 @@ module _ (before : List Happening) (kept : Content) (change : Option Change) (to
   free : Ran (AttachesNone every_slot) x.told.history does.mid.history
   free = phase_attaches {live = every_slot} gates_placed
 
-  pub between : (s : Stage) → AreBetween is.both.old is.both.new (old_in (redo_by is.m is.first is.last is.redo) s) (new_in (redo_by is.m is.first is.last is.redo) s)
-  between = between_stages is.both.old is.both.new (redo_by is.m is.first is.last is.redo) is.words
-
-  pub says : (p : Membership) → StaysArray is.m p → SaysContent (in_redo is.m kept change) Fence p
-  says = says_on kept change is.m is.says
-
   pub to_mid : IsMoment is.start x.told.history does.mid.history
   to_mid = moment_between {a = AttachesNone every_slot} {b = AttachesNone every_slot} is.amid.amid.ran free
 
@@ -117,10 +86,10 @@ module _ (before : List Happening) (kept : Content) (change : Option Change) (to
       at_moment {P = λ h. SlotIn (redo_by is.m is.first is.last is.redo) is.stage is.start h j} (each gates_placed j alive) (moment_sooner within at)))
 
   -- at its end
-  pub gates_mid : IsAmidAny before is.m is.first is.last is.redo kept change is.both is.stage_first is.start is.starts is.stage None None
+  pub gates_mid : IsAmidAny before is.of is.stage None None
       (point x.member does.mid)
   gates_mid =
-      amid_on before is.m is.first is.last is.redo kept change is.both is.stage_first is.start is.starts between is.redoing is.stage x is.amid does.mid beside
+      amid_on before is.of is.stage x is.amid does.mid beside
       free (λ j alive on. since_at does.mid.history end j alive) is.stage (λ j alive on. since_at does.mid.history end j alive) (inr is.used)
 
   pub gone_below : (j : ℕ) → HasSlot does.gone j → j < x.member.array.geometry.n
@@ -135,13 +104,12 @@ module _ (before : List Happening) (kept : Content) (change : Option Change) (to
       image_stands (in_redo is.m kept change) is.both (holders_of x.member) x.member.array.epoch image refl
       (left_past_end c
       (history_tidy (history_on {allowed = IsBesideEpochs x.member} is.amid.history (ran_before {allowed = IsBesideEpochs x.member} beside at))) image left)
-      (amid_consistent before is.m is.first is.last is.redo kept change is.both is.stage_first is.start is.starts between is.redoing is.stage None None x
+      (amid_consistent before is.of is.stage None None x
       is.amid c (ran_before {allowed = IsBesideEpochs x.member} beside at) (ran_before {allowed = AttachesNone every_slot} free at)
       (λ j alive on. since_at c at j alive) image left)))
       (at_every_from {P = StandsUnseated before kept change is.m.array.geometry} out.more out.is
       (λ c at calm image left.
-      amid_out_left before is.m is.first is.last is.redo kept change is.both is.stage_first is.start is.starts between is.redoing says is.stage
-      (point x.member does.mid) gates_mid does.gone refusal y does.leaves honest gone_below c at calm image left))
+      amid_out_left before is.of is.stage (point x.member does.mid) gates_mid does.gone refusal y does.leaves honest gone_below c at calm image left))
     where
       out : Ran any_call does.mid.history y.told.history
       out = out_ran does.gone refusal (point x.member does.mid) y does.leaves honest
@@ -150,8 +118,7 @@ module _ (before : List Happening) (kept : Content) (change : Option Change) (to
   pub gates_ended : IsCalmTo AnyReturns is.m.array.geometry before y.told.history
       → IsConsistentUnderReassembly (unseated is.m.array.geometry kept change) y.told.history
   gates_ended calm =
-      amid_out_ended before is.m is.first is.last is.redo kept change is.both is.stage_first is.start is.starts between is.redoing says is.stage
-      (point x.member does.mid) gates_mid does.gone refusal y does.leaves honest gone_below calm
+      amid_out_ended before is.of is.stage (point x.member does.mid) gates_mid does.gone refusal y does.leaves honest gone_below calm
 
 -- AT REST they are closed
 
@@ -180,16 +147,13 @@ module _ (before : List Happening) (kept : Content) (change : Option Change) (op
     leaves : LeavesOut does.gone None (point x.member does.mid) y
     leaves = subst (λ (o : Option FenceFault). LeavesOut does.gone o (point x.member does.mid) y) fine does.leaves
 
-    pub closed_rests : IsAmidAny before is.m is.first is.last is.redo kept change is.both is.stage_first is.start is.starts AtRest None None y
+    pub closed_rests : IsAmidAny before is.of AtRest None None y
     closed_rests =
         subst
-        (λ (s : Stage). IsAmidAny before is.m is.first is.last is.redo kept change is.both is.stage_first is.start is.starts s None None y) (is.none refl)
-        (amid_out before is.m is.first is.last is.redo kept change is.both is.stage_first is.start is.starts
-        (between before kept change None opened x is closed_gate live refusal y does honest live_is closed_each) is.redoing
-        (says before kept change None opened x is closed_gate live refusal y does honest live_is closed_each) is.stage (point x.member does.mid) mid
+        (λ (s : Stage). IsAmidAny before is.of s None None y) (is.none refl) (amid_out before is.of is.stage (point x.member does.mid) mid
         does.gone y leaves honest below calm is.stage (λ j alive on. since_then j alive) (inr (λ j alive. is.used j (out j alive).0)))
       where
-        mid : IsAmidAny before is.m is.first is.last is.redo kept change is.both is.stage_first is.start is.starts is.stage None None (point x.member does.mid)
+        mid : IsAmidAny before is.of is.stage None None (point x.member does.mid)
         mid = gates_mid before kept change None opened x is closed_gate live refusal y does honest live_is closed_each
 
         below : (j : ℕ) → HasSlot does.gone j → j < x.member.array.geometry.n
@@ -256,7 +220,7 @@ module _ (before : List Happening) (kept : Content) (change : Option Change) (on
     leaves_then : LeavesOut does.gone None (point x.member does.mid) y
     leaves_then = subst (λ (o : Option FenceFault). LeavesOut does.gone o (point x.member does.mid) y) fine does.leaves
 
-    mid_then : IsAmidAny before is.m is.first is.last is.redo kept change is.both is.stage_first is.start is.starts is.stage None None
+    mid_then : IsAmidAny before is.of is.stage None None
         (point x.member does.mid)
     mid_then = gates_mid before kept change (Some one) opened x is (open_gate is.m.array.geometry is.redo) to refusal y does honest live_to open_each
 
@@ -304,11 +268,9 @@ module _ (before : List Happening) (kept : Content) (change : Option Change) (on
               ]
         ]
 
-    pub opened_placing : IsAmidAny before is.m is.first is.last is.redo kept change is.both is.stage_first is.start is.starts Placing None None y
+    pub opened_placing : IsAmidAny before is.of Placing None None y
     opened_placing =
-        amid_out before is.m is.first is.last is.redo kept change is.both is.stage_first is.start is.starts
-        (between_stages is.both.old is.both.new (redo_by is.m is.first is.last is.redo) is.words) is.redoing (says_on kept change is.m is.says) is.stage
-        (point x.member does.mid) mid_then does.gone y leaves_then honest
+        amid_out before is.of is.stage (point x.member does.mid) mid_then does.gone y leaves_then honest
         (λ j has. (live_to j (does.phase.among j has)).below) calm Placing
         (λ j alive on.
         since_unwritten (redo_by is.m is.first is.last is.redo) Placing is.start does.mid.history j (placing_mid j (out_then j alive).0 (out_then j alive).1)

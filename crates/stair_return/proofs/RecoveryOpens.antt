@@ -7,21 +7,41 @@ use Rattle.stair_rack.specs.Media.{Image}
 use Rattle.stair_rack.specs.Moments.{IsMoment}
 use Rattle.stair_rack.specs.Telling.{Telling}
 use Rattle.stair_rack.proofs.MomentLemmas.{at_moment}
-use Rattle.stair_member.specs.Membership.{IsMembership}
+use Rattle.stair_member.specs.Membership.{IsMembership, Membership}
 use Rattle.stair_member.specs.Survey.{Surveys}
 use Rattle.stair_state.specs.Holding.{IsConsistentUnderReassembly}
 use Rattle.stair_state.specs.State.{State, without_seats}
 use Rattle.stair_session.specs.Courses.{Point}
+use Rattle.stair_session.specs.Opening.{StaysArray}
 use Rattle.stair_session.specs.Returning.{AnyReturns, IsCalm, StandsFor, StandsForAlone}
 use Rattle.stair_array.specs.Machine.{Refusal}
 use Rattle.stair_array.specs.Openings.{Recovers}
 use Rattle.stair_return.specs.Opened.{IsOpenedAnywhere}
+use Rattle.stair_return.proofs.RecoveryEnd.{IsOpenedAny}
 use Rattle.stair_return.proofs.RecoveryLeads.{Clears, StandsCalm, recovers_clears, recovers_moments}
 use Rattle.stair_return.proofs.RecoverySurvey.{IsFoundAny}
 
 found_so : (s : State) (first : Telling) (u : Point) → IsConsistentUnderReassembly s first.history → Surveys (Ok u.member) first u.told
     → IsMembership u.member → IsFoundAny s first u
 found_so s first u stands surveys rules = record { stands = stands; surveys = surveys; rules = rules }
+
+-- the array that was opened, in the words of the laws
+pub opened_anywhere : (s : State) (m : Membership) (before : List Happening) (y : Point) → IsOpenedAny before s.content s.in_doubt s.geometry y
+    → StaysArray m y.member → IsOpenedAnywhere s m before y
+opened_anywhere s m before y opens stays = record {
+  words = opens.words;
+  content = opens.content;
+  decided = record {
+    one = opens.decided.one;
+    encodings = opens.decided.encodings;
+    frozen = opens.decided.frozen;
+    label = opens.decided.label;
+  };
+  is_open = opens.serves.is_open;
+  knows = opens.serves.knows;
+  geometry = opens.geometry;
+  seats = stays.seats;
+}
 
 pub recovery_moments : (s : State) (first : Telling) (u v : Point) (answer : Result Geometry Refusal) → IsConsistentUnderReassembly s first.history
     → Surveys (Ok u.member) first u.told → IsMembership u.member → Recovers answer u v → IsTrue v.told.honest → (c : List Happening)
@@ -42,7 +62,7 @@ recovery_refused s first u v answer stands surveys rules does honest calm refusa
     by : (given : Result Geometry Refusal) (y : Point) → Clears first.history s.content s.in_doubt s.geometry u.member given y → given ≡ Err refusal
         → StandsFor AnyReturns (without_seats s) y.told.history
     by _ _ (Clears.Opens own y same opens stays) err = absurd (cc)
-    by _ _ (Clears.Refuses fault y consistent) err = consistent
+    by _ _ (Clears.Refuses fault y consistent enough) err = consistent
 
 pub recovery_opens : (s : State) (first : Telling) (u v : Point) (answer : Result Geometry Refusal) → IsConsistentUnderReassembly s first.history
     → Surveys (Ok u.member) first u.told → IsMembership u.member → Recovers answer u v → IsTrue v.told.honest
@@ -57,19 +77,6 @@ recovery_opens s first u v answer stands surveys rules does honest calm g is =
     by _ _ (Clears.Opens own y same opens stays) fine =
         let once : own ≡ g = cc in (
           sym once ∙ same,
-          record {
-            words = opens.words;
-            content = opens.content;
-            decided = record {
-              one = opens.decided.one;
-              encodings = opens.decided.encodings;
-              frozen = opens.decided.frozen;
-              label = opens.decided.label;
-            };
-            is_open = opens.serves.is_open;
-            knows = opens.serves.knows;
-            geometry = opens.geometry;
-            seats = stays.seats;
-          },
+          opened_anywhere s u.member first.history y opens stays,
         )
-    by _ _ (Clears.Refuses fault y consistent) fine = absurd (cc)
+    by _ _ (Clears.Refuses fault y consistent enough) fine = absurd (cc)

@@ -7,48 +7,40 @@ use Rattle.stair_model.specs.Slots.{HasSlot, Slots}
 use Rattle.stair_model.specs.Stripe.{Stripe, cell}
 use Rattle.stair_rack.specs.Answers.{IsNoAttach, Ran, any_call}
 use Rattle.stair_rack.specs.Crash.{image_now}
-use Rattle.stair_rack.specs.History.{Attach, Happening, Read, Sectors, SlotCall, Sync, Write, slot_state}
+use Rattle.stair_rack.specs.History.{Happening, slot_state}
 use Rattle.stair_rack.specs.Moments.{AtEveryMoment, IsMoment}
 use Rattle.stair_rack.specs.Offline.{IsOffline}
 use Rattle.stair_rack.specs.Placed.{IsSlot}
 use Rattle.stair_rack.specs.Stretch.{every_slot}
-use Rattle.stair_rack.specs.Telling.{Telling, telling}
+use Rattle.stair_rack.specs.Telling.{telling}
 use Rattle.stair_rack.proofs.CrashLemmas.{CrashMayLeave-now}
-use Rattle.stair_rack.proofs.MomentLemmas.{at_every_from, at_every_join, moment_between, ran_before, ran_weakened}
+use Rattle.stair_rack.proofs.MomentLemmas.{at_every_from, at_every_join, moment_between, ran_before, ran_join, ran_weakened}
 use Rattle.stair_rack.proofs.OfflineLemmas.{pulls_on}
-use Rattle.stair_member.specs.Membership.{Membership}
-use Rattle.stair_member.specs.declared.aim.Aim.TheVariants.{Fence}
 use Rattle.stair_member.specs.declared.fault.FenceFault.{FenceFault}
 use Rattle.stair_journal.specs.declared.body.Body.{Body}
 use Rattle.stair_journal.specs.declared.redo.Redo.{Redo}
 use Rattle.stair_state.specs.Holding.{IsConsistentUnderReassembly, IsHolder}
-use Rattle.stair_state.specs.Redoing.{AttachesNone, Placing, Stage, WritesNone, new_in, old_in}
+use Rattle.stair_state.specs.Redoing.{AttachesNone, WritesNone}
 use Rattle.stair_state.specs.State.{Change, Content}
 use Rattle.stair_state.specs.Tolerance.{IsWithinTolerance}
 use Rattle.stair_state.proofs.HoldingLemmas.{live_holder}
 use Rattle.stair_state.proofs.OutsideLemmas.{tolerated_alone}
-use Rattle.stair_state.proofs.RecoveryLemmas.{still_bad}
 use Rattle.stair_session.specs.Courses.{FindsBody, LeavesOut, Point, point}
-use Rattle.stair_session.specs.InSession.{IsBesideEpochs}
-use Rattle.stair_session.specs.Opening.{AreBetween, StaysArray, opened_with}
 use Rattle.stair_session.specs.Returning.{AnyReturns, holders_of}
 use Rattle.stair_session.specs.Session.{IsLiveIn}
 use Rattle.stair_session.proofs.AmidRedoLemmas.{leaves_write, live_still}
 use Rattle.stair_session.proofs.RedoingLemmas.{out_ran}
-use Rattle.stair_session.proofs.Serving.{IsCalmTo, any_read, read_beside, tolerated_now}
-use Rattle.stair_return.specs.Beginning.{SaysContent}
+use Rattle.stair_session.proofs.Serving.{IsCalmTo, any_read, tolerated_now}
 use Rattle.stair_return.proofs.NameLemmas.{still_attached}
-use Rattle.stair_return.proofs.RecoveryBody.{body_mid, body_reads, since_reads, still_unwritten, body_cells, body_whole}
+use Rattle.stair_return.proofs.RecoveryBody.{amid_reads, body_cells, body_reads, body_whole, still_unwritten}
 use Rattle.stair_return.proofs.RecoveryFence.{unseated}
 use Rattle.stair_return.proofs.RecoveryFinding.{StandsUnseated}
-use Rattle.stair_return.proofs.RecoveryFound.{IsToldAny, amid_on}
-use Rattle.stair_return.proofs.RecoveryGates.{between_stages}
-use Rattle.stair_return.proofs.RecoveryOpening.{says_on}
+use Rattle.stair_return.proofs.RecoveryFound.{IsToldAny, told_still}
 use Rattle.stair_return.proofs.RecoveryOut.{amid_alone, amid_out, amid_out_ended, amid_out_left}
 use Rattle.stair_return.proofs.RedoPhase.{IsAmidAny}
 use Rattle.stair_return.proofs.RedoStart.{in_redo, redo_by}
 use Rattle.stair_return.proofs.SessionBehind.{left_reassembled}
-use Rattle.stair_return.proofs.StageSince.{SinceIn, since_unwritten}
+use Rattle.stair_return.proofs.StageSince.{since_unwritten}
 use Rattle.stair_return.proofs.StoodSince.{IsHeldHere, held_here}
 
 module _ (before : List Happening) (kept : Content) (change : Option Change) (one : Redo) (opened : Slots) (body : Body) (was into : Stripe)
@@ -57,32 +49,9 @@ module _ (before : List Happening) (kept : Content) (change : Option Change) (on
   reads : Ran any_read x.told.history found.mid.history
   reads = body_reads before kept change one opened body was into refusal x y found is honest
 
-  between : (s : Stage) → AreBetween is.both.old is.both.new (old_in (redo_by is.m is.first is.last is.redo) s) (new_in (redo_by is.m is.first is.last is.redo) s)
-  between = between_stages is.both.old is.both.new (redo_by is.m is.first is.last is.redo) is.words
-
-  says : (p : Membership) → StaysArray is.m p → SaysContent (in_redo is.m kept change) Fence p
-  says = says_on kept change is.m is.says
-
-  -- after reads it is where it was
-  amid_reads : (later : Telling) → Ran any_read x.told.history later.history
-      → IsAmidAny before is.m is.first is.last is.redo kept change is.both is.stage_first is.start is.starts is.stage None None (point x.member later)
-  amid_reads later ran =
-      amid_on before is.m is.first is.last is.redo kept change is.both is.stage_first is.start is.starts between is.redoing is.stage x is.amid later
-      (ran_weakened {allowed = any_read} {more = IsBesideEpochs x.member} (λ j c may. (read_beside (opened_with x.member) j c may).session.epochs) ran)
-      (ran_weakened {allowed = any_read} {more = AttachesNone every_slot} none_attached ran)
-      (λ j live on. since_reads before kept change (Some one) opened x later is ran j live) is.stage
-      (λ j live on. since_reads before kept change (Some one) opened x later is ran j live) (inr is.used)
-    where
-      none_attached : (j : ℕ) (c : SlotCall) → any_read j c → AttachesNone every_slot j c
-      none_attached j (Attach answer) may = absurd may
-      none_attached j (Sectors size) may = absurd may
-      none_attached j (Read k answer) may = λ on. tt
-      none_attached j (Write k bytes answer) may = absurd may
-      none_attached j (Sync answer) may = absurd may
-
-  pub body_amid : IsAmidAny before is.m is.first is.last is.redo kept change is.both is.stage_first is.start is.starts is.stage None None
+  pub body_amid : IsAmidAny before is.of is.stage None None
       (point x.member found.mid)
-  body_amid = amid_reads found.mid reads
+  body_amid = amid_reads before kept change (Some one) opened x found.mid is reads
 
   below : (j : ℕ) → HasSlot body.gone j → j < x.member.array.geometry.n
   below j has = ((found.are_live.are j).0 (found.reads.live_gone j has)).below
@@ -96,20 +65,18 @@ module _ (before : List Happening) (kept : Content) (change : Option Change) (on
       at_every_join {P = StandsUnseated before kept change is.m.array.geometry}
       (at_every_from {P = StandsUnseated before kept change is.m.array.geometry} reads.more reads.is
       (λ c at calm image left.
-      amid_alone before is.m is.first is.last is.redo kept change is.both is.stage_first is.start is.starts between is.redoing says is.stage
-      (point x.member (telling x.told.honest c x.told.bads x.told.gones))
-      (amid_reads (telling x.told.honest c x.told.bads x.told.gones) (ran_before {allowed = any_read} reads at)) image left))
+      amid_alone before is.of is.stage (point x.member (telling x.told.honest c x.told.bads x.told.gones))
+      (amid_reads before kept change (Some one) opened x (telling x.told.honest c x.told.bads x.told.gones) is (ran_before {allowed = any_read} reads at))
+      image left))
       (at_every_from {P = StandsUnseated before kept change is.m.array.geometry} out.more out.is
       (λ c at calm image left.
-      amid_out_left before is.m is.first is.last is.redo kept change is.both is.stage_first is.start is.starts between is.redoing says is.stage
-      (point x.member found.mid) body_amid body.gone refusal y found.leaves honest below c at calm image left))
+      amid_out_left before is.of is.stage (point x.member found.mid) body_amid body.gone refusal y found.leaves honest below c at calm image left))
 
   -- and so does the rack in the end
   pub body_ended : IsCalmTo AnyReturns is.m.array.geometry before y.told.history
       → IsConsistentUnderReassembly (unseated is.m.array.geometry kept change) y.told.history
   body_ended calm =
-      amid_out_ended before is.m is.first is.last is.redo kept change is.both is.stage_first is.start is.starts between is.redoing says is.stage
-      (point x.member found.mid) body_amid body.gone refusal y found.leaves honest below calm
+      amid_out_ended before is.of is.stage (point x.member found.mid) body_amid body.gone refusal y found.leaves honest below calm
 
   -- WHERE NO EPOCH WAS REFUSED
 
@@ -134,51 +101,18 @@ module _ (before : List Happening) (kept : Content) (change : Option Change) (on
     from_start : IsMoment is.start found.mid.history y.told.history
     from_start = moment_between {a = AttachesNone every_slot} {b = any_call} body_amid.amid.ran out
 
-    told_mid : IsToldAny before kept change (Some one) opened (point x.member found.mid)
-    told_mid = body_mid before kept change one opened body was into refusal x y found is honest
-
-    amid_y : IsAmidAny before is.m is.first is.last is.redo kept change is.both is.stage_first is.start is.starts is.stage None None y
+    amid_y : IsAmidAny before is.of is.stage None None y
     amid_y =
-        amid_out before is.m is.first is.last is.redo kept change is.both is.stage_first is.start is.starts between is.redoing says is.stage
-        (point x.member found.mid) body_amid body.gone y leaves honest below calm is.stage
-        (λ j live on.
+        amid_out before is.of is.stage (point x.member found.mid) body_amid body.gone y leaves honest below calm is.stage (λ j live on.
         since_unwritten (redo_by is.m is.first is.last is.redo) is.stage is.start found.mid.history j
         (body_amid.since j (live_first j live).0 (is.used j (live_first j live).0)) y.told.history from_start (unwritten j))
         (inr (λ j live. is.used j (live_first j live).0))
 
-    ready_mid : (j : ℕ) → IsLiveIn x.member j → HasSlot opened j → SinceIn (redo_by is.m is.first is.last is.redo) Placing is.start found.mid.history j
-    ready_mid j live has =
-        since_unwritten (redo_by is.m is.first is.last is.redo) Placing is.start x.told.history j (is.ready one refl j live has) found.mid.history
-        (moment_between {a = AttachesNone every_slot} {b = any_read} is.amid.amid.ran reads)
-        (still_unwritten before kept change (Some one) opened x found.mid is reads j)
-
     abbrev told_y : IsToldAny before kept change (Some one) opened y
-    told_y = record {
-      m = is.m;
-      first = is.first;
-      last = is.last;
-      redo = is.redo;
-      both = is.both;
-      stage_first = is.stage_first;
-      start = is.start;
-      began = is.began;
-      starts = is.starts;
-      redoing = is.redoing;
-      words = is.words;
-      says = is.says;
-      stage = is.stage;
-      amid = amid_y;
-      used = λ j live. is.used j (live_first j live).0;
-      none = is.none;
-      some = is.some;
-      ready = λ other same j live has.
-          since_unwritten (redo_by is.m is.first is.last is.redo) Placing is.start found.mid.history j (ready_mid j (live_first j live).0 has)
-          y.told.history from_start (unwritten j);
-      others_bad = λ placing j live out_of.
-          still_bad {some = IsSlot j} is.start found.mid.history y.told.history j refl (unwritten j)
-          (still_bad {some = IsSlot j} is.start x.told.history found.mid.history j refl
-          (still_unwritten before kept change (Some one) opened x found.mid is reads j) (is.others_bad placing j (live_first j live).0 out_of));
-    }
+    told_y =
+        told_still before kept change (Some one) opened x y is amid_y (λ j live. (live_first j live).0)
+        (λ j.
+        ran_join {allowed = WritesNone (IsSlot j)} (still_unwritten before kept change (Some one) opened x found.mid is reads j) (unwritten j))
 
     -- THE SLOT WHOSE JOURNAL IS WHOLE
 

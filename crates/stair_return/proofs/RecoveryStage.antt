@@ -51,7 +51,7 @@ use Rattle.stair_return.specs.Behind.{ByMember, HasHolder, HasNumber}
 use Rattle.stair_return.specs.Following.{name_of}
 use Rattle.stair_return.proofs.RecoveryFence.{AreSynced, IsUntouched}
 use Rattle.stair_return.proofs.RedoPhase.{IsAmidAny, SparesGate}
-use Rattle.stair_return.proofs.RedoStart.{StartsRedo, in_redo, redo_by}
+use Rattle.stair_return.proofs.RedoStart.{StartsRedo, in_redo, redo_by, RedoAny}
 use Rattle.stair_return.proofs.SessionBehind.{left_reassembled}
 use Rattle.stair_return.proofs.StageSince.{since_now}
 use Rattle.stair_return.proofs.StoodSince.{IsHeldHere, held_here, holders_here}
@@ -309,9 +309,23 @@ module _ (before : List Happening) (kept : Content) (change : Option Change) (m 
         is.stands.behind.full (image_now h) (CrashMayLeave-now h) (image_now h) j itself (has_holder (image_now h) j ((are.are j).1 on_live));
   }
 
+  abbrev pub recovery_doing : RedoAny kept change
+  recovery_doing = record {
+    m = m;
+    words = staged.first;
+    new = staged.last;
+    redo = staged.redo;
+    both = is.stands.is.encodings;
+    stage_first = staged.stage;
+    start = told.history;
+    starts = recovery_starts;
+    between = staged.words;
+    redoing = staged.redoing;
+    says = is.says;
+  }
+
   -- AT THAT POINT the recovery is in the midst of the redo
-  pub recovery_amid : IsAmidAny before m staged.first staged.last staged.redo kept change is.stands.is.encodings staged.stage told.history
-      recovery_starts staged.stage None None (point m told)
+  pub recovery_amid : IsAmidAny before recovery_doing staged.stage None None (point m told)
   recovery_amid = record {
     amid = record {
       amid = is.amid;

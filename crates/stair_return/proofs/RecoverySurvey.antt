@@ -6,8 +6,8 @@ use Rattle.stair_model.proofs.SetLaws.{has_slot-none}
 use Rattle.stair_rack.specs.Answers.{Ran, any_call}
 use Rattle.stair_rack.specs.Crash.{CrashMayLeave}
 use Rattle.stair_rack.specs.History.{Happening, Made, stopped}
-use Rattle.stair_rack.specs.Media.{Image, SlotImage}
-use Rattle.stair_rack.specs.Moments.{AtSomeMoment, IsMoment}
+use Rattle.stair_rack.specs.Media.{Image}
+use Rattle.stair_rack.specs.Moments.{IsMoment}
 use Rattle.stair_rack.specs.Offline.{IsHeld}
 use Rattle.stair_rack.specs.Telling.{Telling}
 use Rattle.stair_rack.proofs.MomentLemmas.{moment_sooner, ran_any, ran_none}
@@ -24,47 +24,24 @@ use Rattle.stair_state.specs.Holding.{IsConsistentUnderReassembly}
 use Rattle.stair_state.specs.State.{State, without_seats}
 use Rattle.stair_state.proofs.AgreeLemmas.{here_late}
 use Rattle.stair_session.specs.Courses.{Point}
-use Rattle.stair_session.specs.Mixed.{AsAt, Away, IsMixed, IsMixedSlot, IsToleratedMixed}
+use Rattle.stair_session.specs.Mixed.{IsToleratedMixed}
 use Rattle.stair_return.specs.Beginning.{BeginsWherever, StandsWherever}
 use Rattle.stair_return.proofs.EpochLaws.{established}
 use Rattle.stair_return.proofs.LeavingBegins.{leaves_begins}
+use Rattle.stair_return.proofs.MixedImages.{inside_failed, tolerated_inside}
 use Rattle.stair_return.proofs.OpeningBegins.{opening_begins}
 use Rattle.stair_return.proofs.RecoveryFence.{AreSynced, IsUntouched, fence_ended, fence_left, first_amid, stands_untouched, unseated, synced}
 use Rattle.stair_session.proofs.LeftOutLemmas.{start_geometry}
 
 -- a stretch that is tolerated so was so up to each of its moments
 module _ (g : Geometry) (before old h new : List Happening) (at : IsMoment old h new) (is : IsToleratedMixed g before old new) where
-  some_later : {P : List Happening → Type 0} → AtSomeMoment P old h → AtSomeMoment P old new
-  some_later some = record { moment = some.moment; is_one = moment_sooner some.is_one at; holds = some.holds }
-
-  slot_later : (j : ℕ) (to : SlotImage) → IsMixedSlot before old h j to → IsMixedSlot before old new j to
-  slot_later j to (AsAt was some size cells) =
-      AsAt was (some_later some) size
-      (λ k. elim (cells k) [
-        | inl same ↦ inl same
-        | inr harmed ↦ inr (harmed.0, elim harmed.1 [ inl damaged ↦ inl (some_later damaged) | inr off ↦ inr (some_later off) ])
-      ])
-  slot_later j to (Away off size all) = Away (some_later off) size all
-
-  mixed_later : (to : Image) → IsMixed before old h to → IsMixed before old new to
-  mixed_later to mixed j = slot_later j (to j) (mixed j)
-
   pub mixed_sooner : IsToleratedMixed g before old h
-  mixed_sooner = record {
-    identity = λ to mixed. is.identity to (mixed_later to mixed);
-    others = λ to other mixed. is.others to other (mixed_later to mixed);
-    failed = is.failed;
-    formed = is.formed;
-    few = is.few;
-    within = λ to current j mixed. is.within to current j (mixed_later to mixed);
-    erased = is.erased;
-    covered = is.covered;
-    has = λ to t i j mixed. is.has to t i j (mixed_later to mixed);
-    journal = is.journal;
-    journal_in = is.journal_in;
-    journal_kept = is.journal_kept;
-    whole = λ to k mixed. is.whole to k (mixed_later to mixed);
-  }
+  mixed_sooner = tolerated_inside g before (λ m sooner. moment_sooner sooner at) is
+
+  -- by the same slots that count as failed
+  pub sooner_failed : mixed_sooner.failed ≡ is.failed
+  unfolding mixed_sooner
+  sooner_failed = inside_failed g before (λ m sooner. moment_sooner sooner at) is
 
 -- WHAT A SURVEY FOUND at its end, in the session that it began
 

@@ -16,26 +16,23 @@ use Rattle.stair_rack.proofs.TidyLemmas.{history_tidy, left_past_end}
 use Rattle.stair_super.specs.Superblock.{Superblock, joined_in, mark_in}
 use Rattle.stair_super.specs.declared.configuration.Configuration.{Configuration}
 use Rattle.stair_super.specs.declared.mark.Mark.TheVariants as mark
-use Rattle.stair_member.specs.Membership.{Membership, why_of}
+use Rattle.stair_member.specs.Membership.{why_of}
 use Rattle.stair_member.specs.Reserve.{Bears}
 use Rattle.stair_member.specs.declared.aim.Aim.TheVariants.{Fence}
 use Rattle.stair_member.specs.declared.fault.FenceFault.{FenceFault}
 use Rattle.stair_member.proofs.EditionLemmas.{bears_below}
 use Rattle.stair_journal.specs.Gate.{ReadsClosed}
-use Rattle.stair_journal.specs.declared.redo.Redo.{Redo}
-use Rattle.stair_state.specs.Blocks.{Codewords}
 use Rattle.stair_state.specs.Degraded.{AreDamagedCopies}
-use Rattle.stair_state.specs.Holding.{IsConsistentSince, IsHolder, IsConsistentBy}
+use Rattle.stair_state.specs.Holding.{IsHolder, IsConsistentBy}
 use Rattle.stair_state.specs.Reassembly.{InSlot, IsReassembly}
-use Rattle.stair_state.specs.Redoing.{AttachesNone, IsLeftIn, IsRedoing, Stage, new_in, old_in}
-use Rattle.stair_state.specs.Represents.{Encodings, IsLargeEnough}
+use Rattle.stair_state.specs.Redoing.{AttachesNone, IsLeftIn, Stage}
+use Rattle.stair_state.specs.Represents.{IsLargeEnough}
 use Rattle.stair_state.specs.State.{Change, Content}
 use Rattle.stair_state.specs.Tolerance.{IsTolerated, IsToleratedAlone}
 use Rattle.stair_state.proofs.HoldingLemmas.{current_since}
 use Rattle.stair_state.proofs.OutsideLemmas.{tolerated_alone}
 use Rattle.stair_session.specs.Courses.{Point}
 use Rattle.stair_session.specs.InSession.{IsBesideEpochs}
-use Rattle.stair_session.specs.Opening.{AreBetween}
 use Rattle.stair_session.specs.Rebuilding.{Rebuild}
 use Rattle.stair_session.specs.Returning.{holders_of, AnyReturns}
 use Rattle.stair_session.specs.SeatSteps.{EachMayDrop}
@@ -48,8 +45,8 @@ use Rattle.stair_return.specs.Behind.{Bearing, ByMedium, ByMember, HasHolder, Ha
 use Rattle.stair_return.specs.Following.{HoldsNamed, name_of}
 use Rattle.stair_return.proofs.EpochStands.{alone_stands}
 use Rattle.stair_return.proofs.NameLemmas.{attached_name, still_attached}
-use Rattle.stair_return.proofs.RedoPhase.{IsAmidAny, all_alone, all_free, amid_consistent, amid_known, gate_closed, history_then, large_then, live_of, own_closed, own_names, own_staged, own_then, staged_form, steady_then, with_member, staged}
-use Rattle.stair_return.proofs.RedoStart.{StartsRedo, in_redo, redo_by}
+use Rattle.stair_return.proofs.RedoPhase.{IsAmidAny, all_alone, all_free, amid_consistent, amid_known, consistent_then, gate_closed, history_then, large_then, live_of, own_closed, own_names, own_staged, own_then, staged_form, with_member, staged}
+use Rattle.stair_return.proofs.RedoStart.{in_redo, RedoAny, redo_of}
 use Rattle.stair_return.proofs.SessionBegins.{session_begins}
 use Rattle.stair_return.proofs.SessionBehind.{left_reassembled}
 use Rattle.stair_return.proofs.StageSince.{SinceIn}
@@ -58,23 +55,21 @@ the_size : (o : Option ℕ) → IsSome o → (n : ℕ) × (o ≡ Some n)
 the_size None none = absurd (true≢false (sym none))
 the_size (Some n) some = (n, refl)
 
-module _ (before : List Happening) (m : Membership) (words new : Codewords) (redo : Redo) (kept : Content) (change : Option Change)
-    (both : Encodings (in_redo m kept change)) (stage_first : Stage) (start : List Happening)
-    (starts : StartsRedo m words new redo kept change both stage_first start)
-    (between : (stage : Stage) → AreBetween both.old both.new (old_in (redo_by m words new redo) stage) (new_in (redo_by m words new redo) stage))
-    (redoing : IsRedoing (redo_by m words new redo)) (stage : Stage) (rebuild : Option Rebuild) (stopped : Option FenceFault) (p : Point)
-    (is : IsAmidAny before m words new redo kept change both stage_first start starts stage rebuild stopped p) (c : List Happening)
+module _ (before : List Happening) {kept : Content} {change : Option Change} (doing : RedoAny kept change) (stage : Stage) (rebuild : Option Rebuild)
+    (stopped : Option FenceFault) (p : Point) (is : IsAmidAny before doing stage rebuild stopped p) (c : List Happening)
     (beside : Ran (IsBesideEpochs p.member) p.told.history c) (free : Ran (AttachesNone every_slot) p.told.history c)
-    (since : (j : ℕ) → IsLiveIn p.member j → IsAttached start j → SinceIn (redo_by m words new redo) stage start c j) where
+    (since : (j : ℕ) → IsLiveIn p.member j → IsAttached doing.start j → SinceIn (redo_of doing) stage doing.start c j) where
+  open doing use {both, m, start, starts}
+
   abbrev g : Geometry
   g = m.array.geometry
 
   history : IsHistory c
-  history = history_then before m words new redo kept change both stage_first start starts between redoing stage rebuild stopped p is c beside free since
+  history = history_then before doing stage rebuild stopped p is c beside free since
 
   unattached : (j : ℕ) → Ran (IsNoAttach j) start c
   unattached =
-      all_alone before m words new redo kept change both stage_first start starts between redoing stage rebuild stopped p is c beside free since
+      all_alone before doing stage rebuild stopped p is c beside free since
 
   below_then : (j : ℕ) → j < m.array.geometry.n → j < p.member.array.geometry.n
   below_then j below = subst (λ (y : Geometry). j < y.n) (sym is.stays.geometry) below
@@ -104,23 +99,22 @@ module _ (before : List Happening) (m : Membership) (words new : Codewords) (red
   module _ (image : Image) (left : CrashMayLeave c image) (to : Image) (reassembly : IsReassembly image to) (j : ℕ) where
     live_then : (n : ℕ) → holders_of p.member j ≡ Some n → IsLiveIn p.member j × (n ≡ joined_in p.member.array j)
     live_then n =
-        live_of before m words new redo kept change both stage_first start starts between redoing stage rebuild stopped p is c beside free since image
-        left j n
+        live_of before doing stage rebuild stopped p is c beside free since image left j n
 
     holder_by : (n : ℕ) → holders_of p.member j ≡ Some n → (b : Superblock) → Bears m.array.geometry j ((to j).cell) b → b.joined ≡ n
         → IsHolder m.array.geometry (holders_of p.member) j ((to j).cell)
     holder_by n holder b bears joined = record { super = b; bears = bears; joined = holder ∙ ap Some (sym joined) }
 
     has_staged : HasHolder m.array.geometry (holders_of p.member) p.member c (image j) (to j) j
-        → IsLeftIn (redo_by m words new redo) stage (IsSlot j) to
+        → IsLeftIn (redo_of doing) stage (IsSlot j) to
     has_staged has = by has.number
       where
-        by : HasNumber m.array.geometry p.member c (image j) (to j) j has.joined → IsLeftIn (redo_by m words new redo) stage (IsSlot j) to
+        by : HasNumber m.array.geometry p.member c (image j) (to j) j has.joined → IsLeftIn (redo_of doing) stage (IsSlot j) to
         by (Bearing b bears joined) =
-            staged before m words new redo kept change both stage_first start starts between redoing stage rebuild stopped p is c beside free since image
+            staged before doing stage rebuild stopped p is c beside free since image
             left to reassembly j (holder_by has.joined has.holder b bears joined)
         by (InUse here on same size copies) =
-            own_staged before m words new redo kept change both stage_first start starts between redoing stage rebuild stopped p is c beside free since
+            own_staged before doing stage rebuild stopped p is c beside free since
             image left to j (live_then has.joined has.holder).0 (was_on j on) (in_slot j on image to left copies)
 
     has_large : HasHolder m.array.geometry (holders_of p.member) p.member c (image j) (to j) j → IsLargeEnough m.array.geometry (to j).size
@@ -128,22 +122,21 @@ module _ (before : List Happening) (m : Membership) (words new : Codewords) (red
       where
         by : HasNumber m.array.geometry p.member c (image j) (to j) j has.joined → IsLargeEnough m.array.geometry (to j).size
         by (Bearing b bears joined) =
-            large_then before m words new redo kept change both stage_first start starts between redoing stage rebuild stopped p is c beside free since
+            large_then before doing stage rebuild stopped p is c beside free since
             image left to j reassembly (holder_by has.joined has.holder b bears joined)
         by (InUse here on same size copies) =
             subst (λ (o : Option ℕ). IsLargeEnough m.array.geometry o) (sym (left j).size ∙ sym size)
             (large_on m.array.geometry start c j
             (ran_weakened {allowed = AttachesNone every_slot} {more = AttachesNone (λ i. i ≡ j)} (λ i call may at. may tt)
-            (all_free before m words new redo kept change both stage_first start starts between redoing stage rebuild stopped p is c beside free since))
+            (all_free before doing stage rebuild stopped p is c beside free since))
             (was_on j on) on (starts.large j (is.live j (live_then has.joined has.holder).0).0 (was_on j on)))
 
     has_shut : IsRebuiltIn p.member j → (n : ℕ) → n ≡ joined_in p.member.array j → HasNumber m.array.geometry p.member c (image j) (to j) j n
         → ReadsClosed m.array.geometry ((to j).cell gate_sector)
     has_shut rebuilt n means (Bearing b bears joined) =
-        gate_closed before m words new redo kept change both stage_first start starts between redoing stage rebuild stopped p is c beside free since image
-        left to reassembly j b rebuilt bears (joined ∙ means)
+        gate_closed before doing stage rebuild stopped p is c beside free since image left to reassembly j b rebuilt bears (joined ∙ means)
     has_shut rebuilt n means (InUse here on same size copies) =
-        own_closed before m words new redo kept change both stage_first start starts between redoing stage rebuild stopped p is c beside free since image
+        own_closed before doing stage rebuild stopped p is c beside free since image
         left to j rebuilt (was_on j on) (in_slot j on image to left copies)
 
     number_below : (n : ℕ) → HasNumber m.array.geometry p.member c (image j) (to j) j n → j < p.member.array.geometry.n
@@ -163,8 +156,7 @@ module _ (before : List Happening) (m : Membership) (words new : Codewords) (red
       by (ByMember marked joined) = (marked_so marked, sym joined)
       by (ByMedium x there marked joined) =
           let names : x.array ≡ p.member.array =
-          own_names before m words new redo kept change both stage_first start starts between redoing stage rebuild stopped p is c beside free since
-          (image_now c) (CrashMayLeave-now c) x there in (
+          own_names before doing stage rebuild stopped p is c beside free since (image_now c) (CrashMayLeave-now c) x there in (
             marked_so (sym (ap (λ (y : Configuration). mark_in y j) names) ∙ marked),
             sym joined ∙ ap (λ (y : Configuration). joined_in y j) names,
           )
@@ -172,7 +164,7 @@ module _ (before : List Happening) (m : Membership) (words new : Codewords) (red
   fence_behind : IsKnownBehind (in_redo m kept change) both (holders_of p.member) p.member.array.epoch Fence p.member c
   fence_behind = record {
     forms = λ image left to some reassembly have gate.
-        staged_form before m words new redo kept change both stage_first start starts between redoing stage rebuild stopped p is c beside free since
+        staged_form before doing stage rebuild stopped p is c beside free since
         image left to some (λ j on. has_staged image left to reassembly j (have j on)) gate;
     full = λ image left to j reassembly has. has_large image left to reassembly j has;
     rebuilding = λ image left to j n other reassembly rebuilt number.
@@ -183,29 +175,16 @@ module _ (before : List Happening) (m : Membership) (words new : Codewords) (red
 
   -- THE FENCE
 
-  -- the rack is consistent by the member's live slots since its epoch,
-  pub consistent_then : IsConsistentSince (in_redo m kept change) (holders_of p.member) p.member.array.epoch c
-  consistent_then = record {
-    encodings = both;
-    each = λ image left.
-        amid_consistent before m words new redo kept change both stage_first start starts between redoing stage rebuild stopped p is c beside free since
-        image left;
-    seats = tt;
-    steady = steady_then before m words new redo kept change both stage_first start starts between redoing stage rebuild stopped p is c beside free since;
-  }
-
-  -- so that a fence begins
+  -- it begins
   pub fence_begins : SaysContent (in_redo m kept change) Fence p.member → IsTolerated m.array.geometry before c
       → BeginsWherever (in_redo m kept change) (holders_of p.member) p.member.array.epoch Fence p.member c
-  unfolding consistent_then
   fence_begins says tolerated =
       session_begins (in_redo m kept change) Fence before (with_member rebuild stopped p) c history is.amid.amid.array is.stays.geometry refl
       (λ j never. cc)
       (λ image left.
-      amid_known before m words new redo kept change both stage_first start starts between redoing stage rebuild stopped p is c beside free since image
-      left) consistent_then tolerated
-      (own_then before m words new redo kept change both stage_first start starts between redoing stage rebuild stopped p is c beside free since)
-      fence_behind says
+      amid_known before doing stage rebuild stopped p is c beside free since image left)
+      (consistent_then before doing stage rebuild stopped p is c beside free since) tolerated
+      (own_then before doing stage rebuild stopped p is c beside free since) fence_behind says
 
   -- within tolerance an image stands for the state with the redo's change in doubt
   pub amid_stands : IsCalmTo AnyReturns m.array.geometry before c → (image : Image) → CrashMayLeave c image → StandsIn AnyReturns m kept change image
@@ -225,12 +204,10 @@ module _ (before : List Happening) (m : Membership) (words new : Codewords) (red
 
       it : IsConsistentBy (in_redo m kept change) both (holders_of p.member) p.member.array.epoch image
       it =
-          amid_consistent before m words new redo kept change both stage_first start starts between redoing stage rebuild stopped p is c beside free since
-          image left
+          amid_consistent before doing stage rebuild stopped p is c beside free since image left
 
       names : alone.current.array ≡ p.member.array
       names =
-          own_names before m words new redo kept change both stage_first start starts between redoing stage rebuild stopped p is c beside free since image
-          left alone.current
+          own_names before doing stage rebuild stopped p is c beside free since image left alone.current
           (current_since (in_redo m kept change) both (holders_of p.member) p.member.array.epoch image it image (left_reassembled c history image left)
           alone alone.current alone.is_current)

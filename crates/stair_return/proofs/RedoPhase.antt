@@ -16,6 +16,7 @@ use Rattle.stair_rack.specs.Sector.{Cell}
 use Rattle.stair_rack.specs.Stretch.{every_slot}
 use Rattle.stair_rack.specs.declared.rack.Reply.{Reply}
 use Rattle.stair_rack.specs.declared.rack.Reply.TheVariants as reply
+use Rattle.stair_rack.specs.Telling.{Telling}
 use Rattle.stair_rack.proofs.CrashLemmas.{CrashMayLeave-now, leaves_throughout}
 use Rattle.stair_rack.proofs.MomentLemmas.{ran_join, ran_weakened}
 use Rattle.stair_rack.proofs.TidyLemmas.{history_on, history_tidy}
@@ -24,41 +25,43 @@ use Rattle.stair_super.specs.declared.configuration.Configuration.{Configuration
 use Rattle.stair_super.specs.declared.mark.Mark.TheVariants as mark
 use Rattle.stair_member.specs.declared.why.Why.TheVariants as why
 use Rattle.stair_member.specs.Aims.{mark_for}
-use Rattle.stair_member.specs.Membership.{IsHere, Membership, why_of}
+use Rattle.stair_member.specs.Membership.{IsHere, why_of}
 use Rattle.stair_member.specs.Reserve.{Bears}
 use Rattle.stair_member.specs.declared.fault.FenceFault.{FenceFault}
 use Rattle.stair_member.proofs.EditionLemmas.{bears_below}
 use Rattle.stair_journal.specs.Gate.{ReadsClosed}
 use Rattle.stair_journal.specs.declared.redo.Redo.{Redo}
-use Rattle.stair_state.specs.Blocks.{Codewords}
 use Rattle.stair_state.specs.Degraded.{AreAllDamaged}
 use Rattle.stair_state.specs.Forms.{HasGate, IsOpen, RepresentsBy}
 use Rattle.stair_state.specs.Holding.{IsBorneSince, IsConsistentBy, IsHolder, IsConsistentSince}
 use Rattle.stair_state.specs.Reassembly.{InSlot, IsBorne, IsReassembly, Location}
 use Rattle.stair_state.specs.Recovering.{IsShut}
-use Rattle.stair_state.specs.Redoing.{AttachesNone, IsLeftIn, IsRedoing, Redoing, Stage, new_in, old_in}
-use Rattle.stair_state.specs.Represents.{AreSteady, Encodings, IsLargeEnough}
+use Rattle.stair_state.specs.Redoing.{AttachesNone, IsLeftIn, Redoing, Stage, new_in, old_in}
+use Rattle.stair_state.specs.Represents.{AreSteady, IsLargeEnough}
 use Rattle.stair_state.specs.State.{Change, Content}
 use Rattle.stair_state.proofs.FormLemmas.{good_whole}
 use Rattle.stair_state.proofs.ReassembledLemmas.{IsBorneFrom, borne_of, from_slot}
-use Rattle.stair_state.proofs.StageLemmas.{Concerns, PartHas, is_left_in}
-use Rattle.stair_session.specs.Courses.{Point}
+use Rattle.stair_state.proofs.StageLemmas.{Concerns, PartHas, is_in, is_left_in}
+use Rattle.stair_session.specs.Courses.{Point, point}
 use Rattle.stair_session.specs.InSession.{IsBehindPlaces, IsBesideEpochs}
 use Rattle.stair_session.specs.Leading.{IsAmidRedo}
-use Rattle.stair_session.specs.Opening.{AreBetween, StaysArray}
+use Rattle.stair_session.specs.Opening.{StaysArray, opened_with}
 use Rattle.stair_session.specs.Rebuilding.{Rebuild}
 use Rattle.stair_session.specs.Returning.{CoversMedia, HasOwnNewest, IsKnownWherever, holders_of}
 use Rattle.stair_session.specs.Session.{ArrayState, IsLiveIn, IsRebuiltIn}
+use Rattle.stair_session.proofs.BesideLemmas.{large_on}
 use Rattle.stair_session.proofs.DoubtLemmas.{widened_form}
 use Rattle.stair_session.proofs.EstablishingLemmas.{none_open}
+use Rattle.stair_session.proofs.KnownLemmas.{attached_before}
 use Rattle.stair_session.proofs.MidwayLemmas.{rebuilding_why}
+use Rattle.stair_session.proofs.OpenWithLemmas.{amid_beside}
 use Rattle.stair_session.proofs.OwnLaws.{newest_beside}
 use Rattle.stair_return.specs.Following.{HoldsNamed, name_of}
 use Rattle.stair_return.proofs.MediaInStage.{stands_together}
 use Rattle.stair_return.proofs.PlacesSince.{steady_behind}
 use Rattle.stair_return.proofs.RedoMedia.{shut_wherever, sized_wherever}
-use Rattle.stair_return.proofs.RedoStart.{StartsRedo, idle_full, idle_left, idle_shut, in_redo, redo_by}
-use Rattle.stair_return.proofs.StageSince.{SinceIn, left_in_stage}
+use Rattle.stair_return.proofs.RedoStart.{idle_full, idle_left, idle_shut, in_redo, RedoAny, redo_of, between_all}
+use Rattle.stair_return.proofs.StageSince.{SinceIn, left_in_stage, slot_last}
 use Rattle.stair_return.proofs.StoodSince.{held_here, holders_here}
 use Rattle.stair_return.proofs.SupersSince.{consistent_as, known_so, latest_so, since_so, was_borne}
 
@@ -70,12 +73,12 @@ with_member rebuild stopped p = record { member = p.member; rebuild = rebuild; s
 abbrev pub SparesGate : ℕ → ℕ → SlotCall → Type 0
 SparesGate j i call = (bytes : List ℕ) (answer : Reply) → i ≡ j → call ≢ Write gate_sector bytes answer
 
-module _ (before : List Happening) (m : Membership) (words new : Codewords) (redo : Redo) (kept : Content) (change : Option Change)
-    (both : Encodings (in_redo m kept change)) (stage_first : Stage) (start : List Happening)
-    (starts : StartsRedo m words new redo kept change both stage_first start) where
+module _ (before : List Happening) {kept : Content} {change : Option Change} (doing : RedoAny kept change) where
+  open doing use {both, m, new, redo, redoing, stage_first, start, starts, words}
+
   -- At a point of the redo it has come to this stage. Slots that take part did so when it began, with the media that they have.
   pub record IsAmidAny (stage : Stage) (rebuild : Option Rebuild) (stopped : Option FenceFault) (p : Point) : Type 0 where
-    pub amid : IsAmidRedo (redo_by m words new redo) before (with_member rebuild stopped p) stage start p.told.history
+    pub amid : IsAmidRedo (redo_of doing) before (with_member rebuild stopped p) stage start p.told.history
     pub history : IsHistory p.told.history
     pub stays : StaysArray m p.member
     pub known : EachImage (IsKnownWherever None p.member (IsAttached p.told.history)) p.told.history
@@ -89,22 +92,31 @@ module _ (before : List Happening) (m : Membership) (words new : Codewords) (red
     pub live : (j : ℕ) → IsLiveIn p.member j → IsLiveIn m j × (joined_in p.member.array j ≡ joined_in m.array j)
     pub rebuilt : (j : ℕ) → IsRebuiltIn p.member j → IsRebuiltIn m j × (joined_in p.member.array j ≡ joined_in m.array j)
     pub ungated : (j : ℕ) → IsRebuiltIn p.member j → Ran (SparesGate j) start p.told.history
-    pub since : (j : ℕ) → IsLiveIn p.member j → IsAttached start j → SinceIn (redo_by m words new redo) stage start p.told.history j
+    pub since : (j : ℕ) → IsLiveIn p.member j → IsAttached start j → SinceIn (redo_of doing) stage start p.told.history j
     -- a live slot that wasn't attached is left out after the first phase
     pub used : (stage ≡ stage_first) ⊎ ((j : ℕ) → IsLiveIn p.member j → IsAttached start j)
 
+  -- the medium of a live slot is large enough as long as the slot is attached
+  pub amid_large : (stage : Stage) (rebuild : Option Rebuild) (stopped : Option FenceFault) (p : Point) → IsAmidAny stage rebuild stopped p
+      → (c : List Happening) → Ran (AttachesNone every_slot) start c → (j : ℕ) → IsLiveIn p.member j → IsAttached c j
+      → IsLargeEnough m.array.geometry (slot_state c j).size
+  amid_large stage rebuild stopped p is c ran j live on =
+      let was = attached_before {some = every_slot} j tt ran on in
+      large_on m.array.geometry start c j
+      (ran_weakened {allowed = AttachesNone every_slot} {more = AttachesNone (λ l. l ≡ j)} (λ l call may same. may tt) ran) was.0 on
+      (is.amid.large j live was.0)
+
   -- CALLS BESIDE THE EPOCHS, that attach nothing
 
-  module _ (between : (stage : Stage) → AreBetween both.old both.new (old_in (redo_by m words new redo) stage) (new_in (redo_by m words new redo) stage))
-      (redoing : IsRedoing (redo_by m words new redo)) (stage : Stage) (rebuild : Option Rebuild) (stopped : Option FenceFault) (p : Point)
+  module _ (stage : Stage) (rebuild : Option Rebuild) (stopped : Option FenceFault) (p : Point)
       (is : IsAmidAny stage rebuild stopped p) (c : List Happening) (beside : Ran (IsBesideEpochs p.member) p.told.history c)
       (free : Ran (AttachesNone every_slot) p.told.history c)
-      (since : (j : ℕ) → IsLiveIn p.member j → IsAttached start j → SinceIn (redo_by m words new redo) stage start c j) where
+      (since : (j : ℕ) → IsLiveIn p.member j → IsAttached start j → SinceIn (redo_of doing) stage start c j) where
     abbrev g : Geometry
     g = m.array.geometry
 
     abbrev r : Redoing
-    r = redo_by m words new redo
+    r = redo_of doing
 
     abbrev old : List Happening
     old = p.told.history
@@ -194,12 +206,12 @@ module _ (before : List Happening) (m : Membership) (words new : Codewords) (red
 
       -- the medium that lay in a live slot is in the stage
       pub own_staged : (to : Image) (j : ℕ) → IsLiveIn p.member j → IsAttached start j → HoldsNamed c image to (name_of start j InSlot) j
-          → IsLeftIn (redo_by m words new redo) stage (IsSlot j) to
+          → IsLeftIn (redo_of doing) stage (IsSlot j) to
       own_staged to j live on own =
-          left_in_stage (redo_by m words new redo) stage start c j image to (some_size j on) (all_alone j) (since j live on) left own
+          left_in_stage (redo_of doing) stage start c j image to (some_size j on) (all_alone j) (since j live on) left own
 
       pub staged : (to : Image) → IsReassembly image to → (j : ℕ) → IsHolder m.array.geometry (holders_of p.member) j ((to j).cell)
-          → IsLeftIn (redo_by m words new redo) stage (IsSlot j) to
+          → IsLeftIn (redo_of doing) stage (IsSlot j) to
       staged to reassembly j holder =
           elim (cases_Bool (slot_state start j).attached) [
             | inl on ↦
@@ -210,23 +222,23 @@ module _ (before : List Happening) (m : Membership) (words new : Codewords) (red
           ]
         where
           idle : ¬ IsAttached start j → (stage ≡ stage_first) ⊎ ((i : ℕ) → IsLiveIn p.member i → IsAttached start i)
-              → IsLeftIn (redo_by m words new redo) stage (IsSlot j) to
+              → IsLeftIn (redo_of doing) stage (IsSlot j) to
           idle off (inr all) = absurd (off (all j (live_of j holder.super.joined holder.joined).0))
           idle off (inl first) =
-              subst (λ (x : Stage). IsLeftIn (redo_by m words new redo) x (IsSlot j) to) (sym first)
-              (is_left_in (redo_by m words new redo) stage_first (IsSlot j) to
+              subst (λ (x : Stage). IsLeftIn (redo_of doing) x (IsSlot j) to) (sym first)
+              (is_left_in (redo_of doing) stage_first (IsSlot j) to
               (λ i at part concerns.
-              subst (λ (n : ℕ). (y : DevicePart) → Concerns (redo_by m words new redo) n y → PartHas (redo_by m words new redo) stage_first n y ((to n).cell (sector_of m.array.geometry y)))
+              subst (λ (n : ℕ). (y : DevicePart) → Concerns (redo_of doing) n y → PartHas (redo_of doing) stage_first n y ((to n).cell (sector_of m.array.geometry y)))
               (sym at)
               (idle_left m words new redo kept change both stage_first start starts c all_alone image left j off (to j) (reassembly j)
               (first_holder j ((to j).cell) holder)) part concerns))
 
       -- slots whose media are each in the stage stand as it does
-      pub staged_form : (to : Image) (some : Slots) → ((j : ℕ) → HasSlot some j → IsLeftIn (redo_by m words new redo) stage (IsSlot j) to)
+      pub staged_form : (to : Image) (some : Slots) → ((j : ℕ) → HasSlot some j → IsLeftIn (redo_of doing) stage (IsSlot j) to)
           → HasGate (HasSlot some) to → RepresentsBy m.array.geometry both.old both.new (HasSlot some) to
       staged_form to some each gate =
-          widened_form m.array.geometry both.old both.new (HasSlot some) to (old_in (redo_by m words new redo) stage) (new_in (redo_by m words new redo) stage)
-          (between stage) (stands_together (redo_by m words new redo) stage some to redoing each (λ placing. gate))
+          widened_form m.array.geometry both.old both.new (HasSlot some) to (old_in (redo_of doing) stage) (new_in (redo_of doing) stage)
+          (between_all doing stage) (stands_together (redo_of doing) stage some to redoing each (λ placing. gate))
 
       forms_then : (to : Image) (some : Slots) → IsReassembly image to
           → ((j : ℕ) → HasSlot some j → IsHolder m.array.geometry (holders_of p.member) j ((to j).cell)) → HasGate (HasSlot some) to
@@ -324,3 +336,53 @@ module _ (before : List Happening) (m : Membership) (words new : Codewords) (red
 
     pub steady_then : AreSteady m.array.geometry c
     steady_then = steady_behind m.array.geometry p.told.history c is.consistent.steady behind
+
+    -- the rack is consistent so then
+    abbrev pub consistent_then : IsConsistentSince (in_redo m kept change) (holders_of p.member) p.member.array.epoch c
+    consistent_then = record {
+      encodings = both;
+      each = λ image left. amid_consistent image left;
+      seats = tt;
+      steady = steady_then;
+    }
+
+-- A REDO AT A LATER POINT
+
+module _ (before : List Happening) {kept : Content} {change : Option Change} (doing : RedoAny kept change) (stage : Stage) (p : Point)
+    (is : IsAmidAny before doing stage None None p) (told : Telling) (beside : Ran (IsBesideEpochs p.member) p.told.history told.history)
+    (free : Ran (AttachesNone every_slot) p.told.history told.history)
+    (since : (j : ℕ) → IsLiveIn p.member j → IsAttached doing.start j → SinceIn (redo_of doing) stage doing.start told.history j) where
+  open doing use {both, stage_first, start}
+
+  -- after calls beside the epochs its slots may be in another stage
+  pub amid_on : (now : Stage)
+      → ((j : ℕ) → IsLiveIn p.member j → IsAttached start j → SinceIn (redo_of doing) now start told.history j)
+      → (now ≡ stage_first) ⊎ ((j : ℕ) → IsLiveIn p.member j → IsAttached start j)
+      → IsAmidAny before doing now None None (point p.member told)
+  amid_on now then used = record {
+    amid = record {
+      amid = amid_beside before (opened_with p.member) p.told.history told.history is.amid.amid is.history beside;
+      geometry = is.amid.geometry;
+      ran = ran_join {allowed = AttachesNone every_slot} is.amid.ran free;
+      large = is.amid.large;
+      is_in =
+          is_in (redo_of doing) now (λ j. IsLiveIn p.member j × IsAttached start j) start told.history
+          (λ j both. slot_last (redo_of doing) now start told.history j (then j both.0 both.1));
+      rebuilt = λ rebuild never. absurd (cc);
+    };
+    history = history_on {allowed = IsBesideEpochs p.member} is.history beside;
+    stays = is.stays;
+    known = λ image left.
+        amid_known before doing stage None None p is told.history beside free since image left;
+    consistent =
+        consistent_then before doing stage None None p is told.history beside free since;
+    latest = latest_then before doing stage None None p is told.history beside free since;
+    own = own_then before doing stage None None p is told.history beside free since;
+    named = named_then before doing stage None None p is told.history beside free since;
+    live = is.live;
+    rebuilt = is.rebuilt;
+    ungated =
+        ungated_then before doing stage None None p is told.history beside free since;
+    since = then;
+    used = used;
+  }

@@ -1,5 +1,5 @@
 -- A redo of an array whose media come back begins: what media are then, and what those of slots that aren't attached are later.
-use Rattle.std.proofs.Common.{◌≡◌, ℕ, List, inl, inr, refl, sym, subst, Option, None, ◌<◌}
+use Rattle.std.proofs.Common.{◌≡◌, ℕ, List, inl, inr, refl, sym, subst, Option, None, ◌<◌, ◌⊎◌, ◌∙◌}
 use Rattle.stair_model.specs.Device.{DevicePart, cell_sector, gate_sector, sector_of}
 use Rattle.stair_model.specs.Stripe.{cell}
 use Rattle.stair_rack.specs.Answers.{IsNoAttach, Ran, IsHistory}
@@ -23,9 +23,9 @@ use Rattle.stair_state.specs.Forms.{IdleOld}
 use Rattle.stair_state.specs.Holding.{IsConsistentBy, IsHolder}
 use Rattle.stair_state.specs.Reassembly.{IsReassembledSlot, IsReassembly, Location, IsBorne, InSlot}
 use Rattle.stair_state.specs.Recovering.{IsShut}
-use Rattle.stair_state.specs.Redoing.{AtRest, Redoing, Stage}
+use Rattle.stair_state.specs.Redoing.{AtRest, Redoing, Stage, IsRedoing, new_in, old_in, Done, InPlace, Placing, Uncommitted}
 use Rattle.stair_state.specs.Represents.{Encodings, IsLargeEnough, AreSteady}
-use Rattle.stair_state.specs.State.{Change, Content, State}
+use Rattle.stair_state.specs.State.{Change, Content, State, changed_if}
 use Rattle.stair_state.specs.Tolerance.{IsTolerated}
 use Rattle.stair_state.proofs.ExchangedLemmas.{slot_cases, slot_here, slot_left, with_slot}
 use Rattle.stair_state.proofs.StageLemmas.{Concerns, PartHas, slot_in, SlotIn}
@@ -36,6 +36,9 @@ use Rattle.stair_session.proofs.Serving.{IsServing}
 use Rattle.stair_return.specs.Behind.{Bearing, ByMember}
 use Rattle.stair_return.proofs.IdleSlots.{WasReassembled, idle_slot}
 use Rattle.stair_return.proofs.SessionBehind.{holder_chunk, left_reassembled, session_behind}
+use Rattle.stair_session.specs.Opening.{After, AreBetween, Before, StaysArray}
+use Rattle.stair_session.proofs.StageFoundLemmas.{first_among, last_among}
+use Rattle.stair_return.specs.Beginning.{SaysContent}
 
 -- the state in the midst of a redo: its change is in doubt, and seats aren't told
 abbrev pub in_redo : Membership → Content → Option Change → State
@@ -65,6 +68,72 @@ pub record StartsRedo (m : Membership) (words new : Codewords) (redo : Redo) (ke
   pub in_stage : (j : ℕ) → IsLiveIn m j → IsAttached start j → SlotIn (redo_by m words new redo) stage start start j
   pub gate_shut : (j : ℕ) → IsRebuiltIn m j → IsAttached start j → IsShut m.array.geometry start start j
   pub large : (j : ℕ) → IsLiveIn m j → IsAttached start j → IsLargeEnough m.array.geometry (slot_state start j).size
+
+-- THE STRIPES of a stage
+
+pub between_stages : (old new : Codewords) (r : Redoing) → AreBetween old new r.old r.new → (stage : Stage)
+    → AreBetween old new (old_in r stage) (new_in r stage)
+between_stages old new r words stage = by stage
+  where
+    firsts : AreBetween old new r.old r.old
+    firsts = elim (first_among words) [ inl was ↦ Before was was | inr was ↦ After was was ]
+
+    lasts : AreBetween old new r.new r.new
+    lasts = elim (last_among words) [ inl was ↦ Before was was | inr was ↦ After was was ]
+
+    by : (s : Stage) → AreBetween old new (old_in r s) (new_in r s)
+    by AtRest = firsts
+    by Uncommitted = words
+    by Placing = lasts
+    by InPlace = lasts
+    by Done = lasts
+
+-- what a member's epoch says of the content is said by one that stays
+pub says_on : (kept : Content) (change : Option Change) (m : Membership) → SaysContent (in_redo m kept change) Fence m → (p : Membership)
+    → StaysArray m p → SaysContent (in_redo m kept change) Fence p
+says_on kept change m says p stays = record {
+  frozen = frozen_so says.frozen;
+  label = label_so says.label;
+  frozen_new = frozen_so says.frozen;
+  label_new = label_so says.label;
+}
+  where
+    frozen_so : (m.array.frozen ≡ kept.frozen) ⊎ (m.array.frozen ≡ (changed_if change kept).frozen)
+        → (p.array.frozen ≡ kept.frozen) ⊎ (p.array.frozen ≡ (changed_if change kept).frozen)
+    frozen_so (inl is) = inl (stays.frozen ∙ is)
+    frozen_so (inr is) = inr (stays.frozen ∙ is)
+
+    label_so : (m.array.label ≡ kept.label) ⊎ (m.array.label ≡ (changed_if change kept).label)
+        → (p.array.label ≡ kept.label) ⊎ (p.array.label ≡ (changed_if change kept).label)
+    label_so (inl is) = inl (stays.label ∙ is)
+    label_so (inr is) = inr (stays.label ∙ is)
+
+-- A redo of a member's array, from these stripes to those, with this change in doubt meanwhile: a session begins it at `start`, or goes on with
+-- it, in this stage.
+pub record RedoAny (kept : Content) (change : Option Change) : Type 0 where
+  pub m : Membership
+  pub words : Codewords
+  pub new : Codewords
+  pub redo : Redo
+  pub both : Encodings (in_redo m kept change)
+  pub stage_first : Stage
+  pub start : List Happening
+  pub starts : StartsRedo m words new redo kept change both stage_first start
+  pub between : AreBetween both.old both.new words new
+  pub redoing : IsRedoing (redo_by m words new redo)
+  pub says : SaysContent (in_redo m kept change) Fence m
+
+module _ {kept : Content} {change : Option Change} (doing : RedoAny kept change) where
+  abbrev pub redo_of : Redoing
+  redo_of = redo_by doing.m doing.words doing.new doing.redo
+
+  -- in each stage its stripes are those of the change in doubt
+  pub between_all : (stage : Stage) → AreBetween doing.both.old doing.both.new (old_in redo_of stage) (new_in redo_of stage)
+  between_all = between_stages doing.both.old doing.both.new redo_of doing.between
+
+  -- and what the member's epoch says of the content one says that stays
+  pub says_still : (p : Membership) → StaysArray doing.m p → SaysContent (in_redo doing.m kept change) Fence p
+  says_still = says_on kept change doing.m doing.says
 
 -- LATER, of a slot that wasn't attached, and that no call attached
 

@@ -10,29 +10,27 @@ use Rattle.stair_rack.specs.Crash.{CrashMayLeave}
 use Rattle.stair_rack.specs.History.{Happening}
 use Rattle.stair_rack.specs.Media.{Image}
 use Rattle.stair_rack.specs.Moments.{IsMoment}
-use Rattle.stair_rack.specs.Offline.{IsAttached}
 use Rattle.stair_rack.specs.Stretch.{every_slot}
 use Rattle.stair_rack.specs.Telling.{Telling}
 use Rattle.stair_rack.proofs.MomentLemmas.{at_every_none, at_moment, moment_between, moment_cases, moment_last, ran_before, ran_join, ran_none}
 use Rattle.stair_member.specs.Membership.{Membership}
-use Rattle.stair_member.specs.declared.aim.Aim.TheVariants.{Fence}
 use Rattle.stair_member.specs.declared.fault.FenceFault.{FenceFault}
 use Rattle.stair_member.specs.declared.fault.FenceFault.TheVariants as fence
 use Rattle.stair_member.specs.declared.why.Why.{Why}
 use Rattle.stair_journal.specs.declared.redo.Redo.{Redo}
 use Rattle.stair_state.specs.Blocks.{AreEncodingsOf, Codewords}
 use Rattle.stair_state.specs.Reassembly.{Location}
-use Rattle.stair_state.specs.Redoing.{AtRest, AttachesNone, Done, InPlace, IsRedoing, Placing, Redoing, Stage, Uncommitted, new_in, next, old_in}
+use Rattle.stair_state.specs.Redoing.{AtRest, AttachesNone, Done, Stage, next}
 use Rattle.stair_state.specs.Represents.{Encodings}
 use Rattle.stair_state.specs.State.{Change, Content, changed_if}
 use Rattle.stair_state.specs.Tolerance.{IsTolerated}
 use Rattle.stair_session.specs.Courses.{DoesStage, Fenced, IsOver, LeavesOut, NoneWas, Point, Redoes, point, stage_writes}
 use Rattle.stair_session.specs.InSession.{IsBesideEpochs, IsOfContent}
 use Rattle.stair_session.specs.Leading.{led_to, rebuild_in}
-use Rattle.stair_session.specs.Opening.{Across, After, AreBetween, Before, StaysArray}
+use Rattle.stair_session.specs.Opening.{Across, StaysArray}
 use Rattle.stair_session.specs.Rebuilding.{Rebuild}
 use Rattle.stair_session.specs.Returning.{AnyReturns}
-use Rattle.stair_session.specs.Session.{ArrayState, IsLiveIn, IsOpenWith}
+use Rattle.stair_session.specs.Session.{ArrayState, IsOpenWith}
 use Rattle.stair_session.proofs.AmidRedoLemmas.{redo_begins, redo_ends}
 use Rattle.stair_session.proofs.FencesLemmas.{stays_open}
 use Rattle.stair_session.proofs.HonestLemmas.{honest_first}
@@ -40,28 +38,22 @@ use Rattle.stair_session.proofs.RedoingLemmas.{halfway, over_here, redo_ran, sta
 use Rattle.stair_session.proofs.Serving.{IsCalmTo, IsServing, LeadsRedos, LeadsTo, StandsAs, StandsIn, calm_sooner, tolerated_now}
 use Rattle.stair_session.proofs.StaysArrayLemmas.{redo_stays, stage_stays}
 use Rattle.stair_array.proofs.LedOnLemmas.{led_again}
-use Rattle.stair_return.specs.Beginning.{SaysContent}
 use Rattle.stair_return.specs.Following.{name_of}
-use Rattle.stair_return.proofs.RedoEnd.{done_knows}
+use Rattle.stair_return.proofs.LeavingOut.{throughout}
+use Rattle.stair_return.proofs.RedoEnd.{Ends, settled_knows}
 use Rattle.stair_return.proofs.RedoFence.{amid_stands}
 use Rattle.stair_return.proofs.RedoGoes.{goes_any}
 use Rattle.stair_return.proofs.RedoPhase.{IsAmidAny, SparesGate, with_member}
 use Rattle.stair_return.proofs.RedoStage.{end, fence_ended, fence_enough, fence_stands, phase_stands}
-use Rattle.stair_return.proofs.RedoStart.{StartsRedo, in_redo, redo_by, serving_starts}
-use Rattle.stair_return.proofs.StageSince.{SinceIn, since_now}
+use Rattle.stair_return.proofs.RedoStart.{StartsRedo, in_redo, redo_by, serving_starts, RedoAny, redo_of}
+use Rattle.stair_return.proofs.StageSince.{since_now}
 
--- where there are no calls between, a moment is where they begin
-only_moment : (h c : List Happening) → IsMoment h c h → c ≡ h
-only_moment h c at = at_moment {P = λ x. x ≡ h} (at_every_none {P = λ x. x ≡ h} h refl) at
+module _ (before : List Happening) {kept : Content} {change : Option Change} (doing : RedoAny kept change) (stripe : Stripe)
+    (cells : (i c : ℕ) → HasCell doing.redo.cells i c → cell stripe i c ≡ cell (doing.new doing.redo.stripe) i c) where
+  open doing use {m, new, redo, redoing, start}
 
-module _ (before : List Happening) (m : Membership) (words new : Codewords) (redo : Redo) (kept : Content) (change : Option Change)
-    (both : Encodings (in_redo m kept change)) (stage_first : Stage) (start : List Happening)
-    (starts : StartsRedo m words new redo kept change both stage_first start)
-    (between : (stage : Stage) → AreBetween both.old both.new (old_in (redo_by m words new redo) stage) (new_in (redo_by m words new redo) stage))
-    (redoing : IsRedoing (redo_by m words new redo)) (says : (p : Membership) → StaysArray m p → SaysContent (in_redo m kept change) Fence p)
-    (stripe : Stripe) (cells : (i c : ℕ) → HasCell redo.cells i c → cell stripe i c ≡ cell (new redo.stripe) i c) where
   abbrev pub IsAt : Stage → Option Rebuild → Option FenceFault → Point → Type 0
-  IsAt = IsAmidAny before m words new redo kept change both stage_first start starts
+  IsAt = IsAmidAny before doing
 
   -- A STAGE THAT WAS DONE, and what the redo did after it
 
@@ -73,17 +65,16 @@ module _ (before : List Happening) (m : Membership) (words new : Codewords) (red
     honest_y = honest_first m.array.geometry redo stripe (next stage) refusal y z more honest
 
     upto : Ran any_call p.told.history y.told.history
-    upto = stage_ran (redo_by m words new redo) redoing stripe cells start stage to None p y over does honest_y
+    upto = stage_ran (redo_of doing) redoing stripe cells start stage to None p y over does honest_y
 
     later : Ran any_call y.told.history z.told.history
-    later = redo_ran (redo_by m words new redo) redoing stripe cells start (next stage) refusal y z more honest
+    later = redo_ran (redo_of doing) redoing stripe cells start (next stage) refusal y z more honest
 
     -- the next stage, at a moment behind which failures stayed within tolerance
     next_any : (c : List Happening) → IsMoment y.told.history c z.told.history → IsCalmTo AnyReturns m.array.geometry before c
         → IsAt (next stage) (rebuild_in y.member rebuild) None y
     next_any c at calm =
-        goes_any before m words new redo kept change both stage_first start starts between redoing says stripe cells stage to rebuild stopped p y is over
-        does honest_y
+        goes_any before doing stripe cells stage to rebuild stopped p y is over does honest_y
         (calm_sooner AnyReturns m.array.geometry before y.told.history c
         (moment_between {a = any_call} {b = any_call} (ran_join {allowed = any_call} is.amid.amid.ran upto) (ran_before {allowed = any_call} later at)) calm)
 
@@ -104,7 +95,7 @@ module _ (before : List Happening) (m : Membership) (words new : Codewords) (red
   redo_done _ _ _ _ (Redoes.Ends p) fine honest calm rebuild stopped is = record {
     is_open =
         stays_open before (with_member rebuild stopped p) new p.told.history
-        (redo_ends (redo_by m words new redo) before (with_member rebuild stopped p) start p.told.history is.amid);
+        (redo_ends (redo_of doing) before (with_member rebuild stopped p) start p.told.history is.amid);
     rebuilds = rebuild;
     stops = stopped;
     done = is;
@@ -127,6 +118,10 @@ module _ (before : List Happening) (m : Membership) (words new : Codewords) (red
 
   -- ITS MOMENTS
 
+  -- within tolerance whatever a crash leaves here stands for the state
+  abbrev Stands : List Happening → Type 0
+  Stands h = IsCalmTo AnyReturns m.array.geometry before h → (image : Image) → CrashMayLeave h image → StandsIn AnyReturns m kept change image
+
   -- slots that are left out behind a phase, whether that is refused or not
   module _ (stage : Stage) (to : Slots) (refusal : Option FenceFault) (rebuild : Option Rebuild) (stopped : Option FenceFault) (p y : Point)
       (is : IsAt stage rebuild stopped p) (over : IsOver stage p.member to)
@@ -137,30 +132,17 @@ module _ (before : List Happening) (m : Membership) (words new : Codewords) (red
     stage_stands : (c : List Happening) → IsMoment p.told.history c y.told.history → IsCalmTo AnyReturns m.array.geometry before c → (image : Image)
         → CrashMayLeave c image → StandsIn AnyReturns m kept change image
     stage_stands c at calm image left =
-        elim (moment_cases at (halfway (redo_by m words new redo) redoing stripe cells start stage to refusal p y over does honest)) [
+        elim (moment_cases at (halfway (redo_of doing) redoing stripe cells start stage to refusal p y over does honest)) [
           | inl sooner ↦ in_phase c sooner calm image left
-          | inr later ↦ by does.leaves later
+          | inr later ↦
+              throughout does.leaves Stands (in_phase does.mid.history (end before doing stripe cells stage to refusal rebuild stopped p y is over does honest))
+              (λ answer fences.
+              fence_stands before doing stripe cells stage to refusal rebuild stopped p y is over does honest does.gone y.member answer fences gone_below)
+              c later calm image left
         ]
       where
-        in_phase : (x : List Happening) → IsMoment p.told.history x does.mid.history → IsCalmTo AnyReturns m.array.geometry before x → (i : Image)
-            → CrashMayLeave x i → StandsIn AnyReturns m kept change i
-        in_phase =
-            phase_stands before m words new redo kept change both stage_first start starts between redoing says stripe cells stage to refusal rebuild
-            stopped p y is over does honest
-
-        by : LeavesOut does.gone refusal (point p.member does.mid) y → IsMoment does.mid.history c y.told.history
-            → StandsIn AnyReturns m kept change image
-        by (NoneWas none same fine) later =
-            let here : c ≡ does.mid.history =
-            only_moment does.mid.history c
-            (subst (λ (x : Point). IsMoment does.mid.history c x.told.history) same later) in
-            in_phase c
-            (subst (λ (x : List Happening). IsMoment p.told.history x does.mid.history) (sym here)
-            (end before m words new redo kept change both stage_first start starts between redoing says stripe cells stage to refusal rebuild
-            stopped p y is over does honest)) calm image left
-        by (Fenced j has answer fine fences) later =
-            fence_stands before m words new redo kept change both stage_first start starts between redoing says stripe cells stage to refusal rebuild
-            stopped p y is over does honest does.gone y.member answer fences gone_below c later calm image left
+        in_phase : (x : List Happening) → IsMoment p.told.history x does.mid.history → Stands x
+        in_phase = phase_stands before doing stripe cells stage to refusal rebuild stopped p y is over does honest
 
     -- where it is refused
     stage_ended : (fault : FenceFault) → refusal ≡ Some fault → IsCalmTo AnyReturns m.array.geometry before y.told.history
@@ -170,7 +152,7 @@ module _ (before : List Happening) (m : Membership) (words new : Codewords) (red
         by : LeavesOut does.gone refusal (point p.member does.mid) y → StandsAs AnyReturns m kept change y.told.history
         by (NoneWas none same fine) = absurd (let never : None ≡ Some fault = sym fine ∙ refused in cc)
         by (Fenced j has answer fine fences) =
-            fence_ended before m words new redo kept change both stage_first start starts between redoing says stripe cells stage to refusal rebuild
+            fence_ended before doing stripe cells stage to refusal rebuild
             stopped p y is over does honest does.gone y.member answer fences gone_below calm
 
     stage_enough : (whys : List Why) → refusal ≡ Some (fence.TooFew whys) → IsCalmTo AnyReturns m.array.geometry before y.told.history → ⊥
@@ -179,7 +161,7 @@ module _ (before : List Happening) (m : Membership) (words new : Codewords) (red
         by : LeavesOut does.gone refusal (point p.member does.mid) y → ⊥
         by (NoneWas none same fine) = let never : None ≡ Some (fence.TooFew whys) = sym fine ∙ refused in cc
         by (Fenced j has answer fine fences) =
-            fence_enough before m words new redo kept change both stage_first start starts between redoing says stripe cells stage to refusal rebuild
+            fence_enough before doing stripe cells stage to refusal rebuild
             stopped p y is over does honest does.gone y.member answer fences gone_below calm (λ i out. out) whys (sym fine ∙ refused)
 
   pub redo_stands : (stage : Stage) (refusal : Option FenceFault) (p z : Point) → Redoes m.array.geometry redo stripe stage refusal p z
@@ -187,13 +169,10 @@ module _ (before : List Happening) (m : Membership) (words new : Codewords) (red
       → IsMoment p.told.history c z.told.history → IsCalmTo AnyReturns m.array.geometry before c → (image : Image) → CrashMayLeave c image
       → StandsIn AnyReturns m kept change image
   redo_stands _ _ _ _ (Redoes.Ends p) honest rebuild stopped is c at calm image left =
-      amid_stands before m words new redo kept change both stage_first start starts between redoing Done rebuild stopped p is c
-      (subst (λ (x : List Happening). Ran (IsBesideEpochs p.member) p.told.history x) (sym (only_moment p.told.history c at))
-      (ran_none {allowed = IsBesideEpochs p.member} p.told.history))
-      (subst (λ (x : List Happening). Ran (AttachesNone every_slot) p.told.history x) (sym (only_moment p.told.history c at))
-      (ran_none {allowed = AttachesNone every_slot} p.told.history))
-      (subst (λ (x : List Happening). (j : ℕ) → IsLiveIn p.member j → IsAttached start j → SinceIn (redo_by m words new redo) Done start x j)
-      (sym (only_moment p.told.history c at)) is.since) calm image left
+      at_moment {P = Stands}
+      (at_every_none {P = Stands} p.told.history
+      (amid_stands before doing Done rebuild stopped p is p.told.history (ran_none {allowed = IsBesideEpochs p.member} p.told.history)
+      (ran_none {allowed = AttachesNone every_slot} p.told.history) is.since)) at calm image left
   redo_stands _ _ _ _ (Redoes.Stops stage to fault p y not_done over does) honest rebuild stopped is c at calm image left =
       stage_stands stage to (Some fault) rebuild stopped p y is over does honest c at calm image left
   redo_stands _ _ _ _ (Redoes.Goes stage to refusal p y z not_done over does more) honest rebuild stopped is c at calm image left =
@@ -233,14 +212,6 @@ module _ (before : List Happening) (m : Membership) (words new : Codewords) (red
 
 -- FROM REST, where the array serves
 
-words_between : (old new : Codewords) (redo : Redoing) → redo.old ≡ old → redo.new ≡ new → (stage : Stage)
-    → AreBetween old new (old_in redo stage) (new_in redo stage)
-words_between old new redo olds news AtRest = Before olds olds
-words_between old new redo olds news Uncommitted = Across olds news
-words_between old new redo olds news Placing = After news news
-words_between old new redo olds news InPlace = After news news
-words_between old new redo olds news Done = After news news
-
 module _ (before : List Happening) (a : ArrayState) (words new : Codewords) (kept : Content) (change : Option Change) (redo : Redo) (stripe : Stripe)
     (leads : LeadsTo a words new kept change redo stripe) (old : Telling) (serving : IsServing AnyReturns before a words kept old.history)
     (tolerated : IsTolerated a.member.array.geometry before old.history) where
@@ -256,18 +227,27 @@ module _ (before : List Happening) (a : ArrayState) (words new : Codewords) (kep
   abbrev starts : StartsRedo a.member words new redo kept change both AtRest old.history
   starts = serving_starts before a words new kept change redo old.history serving tolerated both refl
 
-  abbrev between : (stage : Stage) → AreBetween words new (old_in (redo_by a.member words new redo) stage) (new_in (redo_by a.member words new redo) stage)
-  between = words_between words new (redo_by a.member words new redo) refl refl
-
-  says : (p : Membership) → StaysArray a.member p → SaysContent (in_redo a.member kept change) Fence p
-  says p stays = record {
-    frozen = inl (stays.frozen ∙ leads.becomes.frozen);
-    label = inl (stays.label ∙ leads.becomes.label);
-    frozen_new = inl (stays.frozen ∙ leads.becomes.frozen);
-    label_new = inl (stays.label ∙ leads.becomes.label);
+  abbrev doing : RedoAny kept change
+  doing = record {
+    m = a.member;
+    words = words;
+    new = new;
+    redo = redo;
+    both = both;
+    stage_first = AtRest;
+    start = old.history;
+    starts = starts;
+    between = Across refl refl;
+    redoing = leads.redoing;
+    says = record {
+      frozen = inl leads.becomes.frozen;
+      label = inl leads.becomes.label;
+      frozen_new = inl leads.becomes.frozen;
+      label_new = inl leads.becomes.label;
+    };
   }
 
-  rest_any : IsAmidAny before a.member words new redo kept change both AtRest old.history starts AtRest a.rebuild a.stopped here
+  rest_any : IsAmidAny before doing AtRest a.rebuild a.stopped here
   rest_any = record {
     amid = redo_begins (redo_by a.member words new redo) before a old.history serving.is_open refl;
     history = serving.history;
@@ -294,16 +274,15 @@ module _ (before : List Happening) (a : ArrayState) (words new : Codewords) (kep
     history = end.done.history;
     of = of;
     knows =
-        done_knows before a.member words new redo kept change both AtRest old.history starts between leads.redoing end.rebuilds end.stops z end.done
+        settled_knows before doing Done Ends end.rebuilds end.stops z end.done
         (tolerated_now AnyReturns a.member.array.geometry before z.told.history end.done.amid.amid.ran calm) (changed_if change kept)
         leads.becomes.new_are of.frozen of.label;
   }
     where
-      end : IsDoneAny before a.member words new redo kept change both AtRest old.history starts between leads.redoing says stripe stripe_cells a.rebuild
+      end : IsDoneAny before doing stripe stripe_cells a.rebuild
           a.stopped here z
       end =
-          redo_done before a.member words new redo kept change both AtRest old.history starts between leads.redoing says stripe stripe_cells AtRest None
-          here z run refl honest calm a.rebuild a.stopped rest_any
+          redo_done before doing stripe stripe_cells AtRest None here z run refl honest calm a.rebuild a.stopped rest_any
 
       of : IsOfContent z.member new (changed_if change kept)
       of = record {
@@ -342,24 +321,18 @@ redos_lead = record {
       (whole_run a words new kept change redo stripe None old z leads run honest) calm) z run honest calm;
   moments = λ before a words new kept change redo stripe refusal old z is leads run honest c at calm image left.
       let within = was_tolerated before a words new kept change redo stripe refusal old z leads is run honest c at calm in
-      redo_stands before a.member words new redo kept change (both before a words new kept change redo stripe leads old is within) AtRest old.history
-      (starts before a words new kept change redo stripe leads old is within) (between before a words new kept change redo stripe leads old is within)
-      leads.redoing (says before a words new kept change redo stripe leads old is within) stripe leads.cells AtRest refusal (point a.member old) z run
+      redo_stands before (doing before a words new kept change redo stripe leads old is within) stripe leads.cells AtRest refusal (point a.member old) z run
       honest a.rebuild a.stopped (rest_any before a words new kept change redo stripe leads old is within) c at calm image left;
   refused = λ before a words new kept change redo stripe fault old z is leads run honest calm.
       let within =
       was_tolerated before a words new kept change redo stripe (Some fault) old z leads is run honest z.told.history
       (whole_run a words new kept change redo stripe (Some fault) old z leads run honest) calm in
-      redo_ended before a.member words new redo kept change (both before a words new kept change redo stripe leads old is within) AtRest old.history
-      (starts before a words new kept change redo stripe leads old is within) (between before a words new kept change redo stripe leads old is within)
-      leads.redoing (says before a words new kept change redo stripe leads old is within) stripe leads.cells AtRest (Some fault) (point a.member old) z
+      redo_ended before (doing before a words new kept change redo stripe leads old is within) stripe leads.cells AtRest (Some fault) (point a.member old) z
       run fault refl honest calm a.rebuild a.stopped (rest_any before a words new kept change redo stripe leads old is within);
   enough = λ before a words new kept change redo stripe whys old z is leads run honest calm.
       let within =
       was_tolerated before a words new kept change redo stripe (Some (fence.TooFew whys)) old z leads is run honest z.told.history
       (whole_run a words new kept change redo stripe (Some (fence.TooFew whys)) old z leads run honest) calm in
-      redo_enough before a.member words new redo kept change (both before a words new kept change redo stripe leads old is within) AtRest old.history
-      (starts before a words new kept change redo stripe leads old is within) (between before a words new kept change redo stripe leads old is within)
-      leads.redoing (says before a words new kept change redo stripe leads old is within) stripe leads.cells AtRest (Some (fence.TooFew whys))
+      redo_enough before (doing before a words new kept change redo stripe leads old is within) stripe leads.cells AtRest (Some (fence.TooFew whys))
       (point a.member old) z run whys refl honest calm a.rebuild a.stopped (rest_any before a words new kept change redo stripe leads old is within);
 }

@@ -17,7 +17,6 @@ use Rattle.stair_member.specs.Epochs.{IsIssuing, Issued}
 use Rattle.stair_member.specs.Membership.{Membership}
 use Rattle.stair_member.specs.declared.aim.Aim.{Aim}
 use Rattle.stair_member.specs.declared.aim.Aim.TheVariants.{Promote}
-use Rattle.stair_member.proofs.SuperLemmas.{one_current, super_formed}
 use Rattle.stair_state.specs.Blocks.{Codewords}
 use Rattle.stair_state.specs.Holding.{IsBorneSince}
 use Rattle.stair_state.specs.Reassembly.{IsBorne}
@@ -29,11 +28,11 @@ use Rattle.stair_session.specs.Returning.{AnyReturns, KnowsMedia, holders_of}
 use Rattle.stair_session.specs.SeatSteps.{EachMayDrop}
 use Rattle.stair_session.specs.Session.{ArrayState, seats_in}
 use Rattle.stair_session.proofs.OpenLaws.{goes_on_within}
-use Rattle.stair_session.proofs.SeatLemmas.{IsListed, listed_super}
+use Rattle.stair_session.proofs.SeatLemmas.{IsListed}
 use Rattle.stair_session.proofs.Serving.{IsCalmTo, IsServing, StandsAs, StandsIn, tolerated_now}
 use Rattle.stair_return.specs.Beginning.{AreHoldersClosed, BeginsWherever, SaysContent, StandsWherever}
 use Rattle.stair_return.proofs.EpochLaws as laws
-use Rattle.stair_return.proofs.EpochStands.{current_names, stands_alone, stands_ended}
+use Rattle.stair_return.proofs.EpochStands.{current_drops as drops_at, each_drops, stands_alone, stands_ended}
 use Rattle.stair_return.proofs.Restated.{restated}
 
 -- what is borne since the member's epoch names what the member has
@@ -80,13 +79,6 @@ module _ (before : List Happening) (a : ArrayState) (words : Codewords) (kept : 
       (begin : IsTolerated g before old → BeginsWherever doubtful (holders_of m) m.array.epoch aim start old)
       (issued : Issued aim gone start last old new) (same : start.array ≡ m.array)
       (drops : (named : Configuration) → IsListed named → IsAimed aim (HasSlot gone) start named → EachMayDrop (seats_in m.array) (seats_in named)) where
-    Drops : Configuration → Type 0
-    Drops named = IsListed named → EachMayDrop (seats_in m.array) (seats_in named)
-
-    none_dropped : (named : Configuration) → named ≡ m.array → Drops named
-    unfolding Drops
-    none_dropped named is_own listed j = inl (ap (λ (c : Configuration). seats_in c j) is_own)
-
     ran : Ran any_call old new
     ran = ran_any {allowed = IsIssuing issued.slots issued.editions} issued.ran
 
@@ -110,11 +102,9 @@ module _ (before : List Happening) (a : ArrayState) (words : Codewords) (kept : 
       -- what is current at a moment of it has the seats that the array had, or some are of slots that it dropped
       pub current_drops : (image : Image) → CrashMayLeave c image → (alone : IsToleratedAlone g image)
           → EachMayDrop (seats_in m.array) (seats_in alone.current.array)
-      unfolding Drops
       current_drops image left alone =
-          current_names doubtful (holders_of m) m.array.epoch aim gone start last old new begins issued c at image left alone Drops
-          (λ x there. none_dropped x.array (own (image_now old) (CrashMayLeave-now old) x there)) (none_dropped start.array same)
-          (λ named aimed listed. drops named listed aimed) (listed_super alone.current (super_formed _ alone.current alone.is_current.counts.super))
+          drops_at doubtful (holders_of m) m.array.epoch aim gone start last old new begins issued c at image left alone m.array
+          (own (image_now old) (CrashMayLeave-now old)) same drops
 
       pub epoch_stands_in : (image : Image) → CrashMayLeave c image → StandsIn AnyReturns m kept doubt image
       epoch_stands_in image left =
@@ -131,9 +121,7 @@ module _ (before : List Happening) (a : ArrayState) (words : Codewords) (kept : 
 
       pub end_drops : (current : Superblock) → IsCurrent g (image_now new) current → EachMayDrop (seats_in m.array) (seats_in current.array)
       end_drops current is_current =
-          subst (λ (x : Superblock). EachMayDrop (seats_in m.array) (seats_in x.array))
-          (one_current g (image_now new) now.current current now.is_current is_current)
-          (current_drops new end calm (image_now new) (CrashMayLeave-now new) now)
+          each_drops g (image_now new) m.array now (current_drops new end calm (image_now new) (CrashMayLeave-now new) now) current is_current
 
       pub epoch_stands_as : StandsAs AnyReturns m kept doubt new
       epoch_stands_as = record {

@@ -1,25 +1,22 @@
 -- An open array that serves is led on by an epoch that changes its frozen mark or its label, whichever media come back meanwhile.
-use Rattle.std.proofs.Common.{◌≡◌, ℕ, ◌<◌, List, inl, refl, sym, ◌∙◌, subst, arith, true≢false, None, Some, Option}
+use Rattle.std.proofs.Common.{◌≡◌, List, inl, refl, sym, ◌∙◌, subst, arith, true≢false, None, Some, Option}
 use Rattle.std.specs.Prelude.{IsTrue}
 use Rattle.stair_model.specs.Geometry.{Geometry}
 use Rattle.stair_model.specs.Slots.{HasSlot, no_slots}
 use Rattle.stair_model.proofs.SetLaws.{has_slot-none}
 use Rattle.stair_rack.specs.Answers.{any_call}
-use Rattle.stair_rack.specs.Crash.{CrashMayLeave, image_now}
+use Rattle.stair_rack.specs.Crash.{CrashMayLeave}
 use Rattle.stair_rack.specs.History.{Happening}
 use Rattle.stair_rack.specs.Media.{Image}
 use Rattle.stair_rack.specs.Moments.{IsMoment}
-use Rattle.stair_rack.specs.Offline.{IsOffline}
 use Rattle.stair_rack.specs.Telling.{Telling}
 use Rattle.stair_rack.proofs.MomentLemmas.{ran_any, ran_join}
 use Rattle.stair_rack.proofs.TidyLemmas.{history_on}
-use Rattle.stair_super.specs.Superblock.{Superblock}
 use Rattle.stair_super.specs.declared.configuration.Configuration.{Configuration}
 use Rattle.stair_member.specs.Aims.{IsAimed}
-use Rattle.stair_member.specs.Current.{IsCurrent, IsFailed}
 use Rattle.stair_member.specs.Epochs.{IsIssuing, Issued}
 use Rattle.stair_member.specs.Establishing.{Establishes}
-use Rattle.stair_member.specs.Membership.{IsMissing, Membership, why_of}
+use Rattle.stair_member.specs.Membership.{Membership}
 use Rattle.stair_member.specs.declared.aim.Aim.{Aim}
 use Rattle.stair_member.specs.declared.fault.FenceFault.{FenceFault}
 use Rattle.stair_member.specs.declared.fault.FenceFault.TheVariants as fence
@@ -37,8 +34,9 @@ use Rattle.stair_session.proofs.EnoughLeft.{epoch_never_few}
 use Rattle.stair_session.proofs.LeftOutLemmas.{none_leave}
 use Rattle.stair_session.proofs.SeatLemmas.{IsListed}
 use Rattle.stair_session.proofs.Serving.{IsCalmTo, IsServing, StandsAs, StandsIn, tolerated_now}
-use Rattle.stair_session.proofs.Stamping.{IsPlain, LeadsStamps, live_before, plain_aimed, plain_drops, plain_open}
+use Rattle.stair_session.proofs.Stamping.{IsPlain, LeadsStamps, plain_aimed, plain_drops, plain_open}
 use Rattle.stair_return.specs.Beginning.{BeginsWherever, SaysContent}
+use Rattle.stair_return.proofs.EpochStands.{unlive}
 use Rattle.stair_return.proofs.EpochLaws.{established}
 use Rattle.stair_return.proofs.ServingEpochs.{doubtful, end_drops, epoch_stands_as, epoch_stands_in, knows_led, serving_begins}
 
@@ -73,24 +71,15 @@ module _ (before : List Happening) (a : ArrayState) (words : Codewords) (kept : 
     stamp_stands_as =
         epoch_stands_as before a words kept doubt plain.blocks old.history is aim e.gone a.member last new.history begins issued refl drops calm
 
-    -- a slot that wasn't live to the member isn't in what is current
-    unlive : (current : Superblock) → IsCurrent g (image_now new.history) current → (j : ℕ) → j < g.n → ¬ (why_of a.member j ≡ why.Here)
-        → IsMissing last j → IsFailed (IsOffline before new.history) g (image_now new.history) current j
-    unlive current is_current j below other missing =
-        IsFailed.NotLive below
-        (λ live.
-        other
-        (live_before a.member is.is_open.array.marks current.array j below
-        (end_drops before a words kept doubt plain.blocks old.history is aim e.gone a.member last new.history begins issued refl drops calm current
-        is_current j) live.marked))
-
     stamp_enough : (whys : List Why) → refusal ≡ Some (fence.TooFew whys) → ⊥
     stamp_enough whys refused =
         epoch_never_few aim before a.member a.member no_slots (none_leave a.member) last (fence.TooFew whys) old new
         (subst (λ (r : Option FenceFault). Establishes aim a.member last r old new) refused e) honest
         (λ j live. plain_aimed aim plain.admits plain.promotes j why.Here) g refl
         (tolerated_now AnyReturns g before new.history
-        (ran_join {allowed = any_call} is.is_open.ran (ran_any {allowed = IsIssuing issued.slots issued.editions} issued.ran)) calm) unlive
+        (ran_join {allowed = any_call} is.is_open.ran (ran_any {allowed = IsIssuing issued.slots issued.editions} issued.ran)) calm)
+        (unlive g before new.history a.member last refl is.is_open.array.marks
+        (end_drops before a words kept doubt plain.blocks old.history is aim e.gone a.member last new.history begins issued refl drops calm))
         (λ j live. is.is_open.held j (record { below = live.below; why = inl live.why }))
         (λ j live on. (is.is_open.live j live on).large 1 (omega arith)) (λ j live has. absurd (true≢false (sym has ∙ has_slot-none j))) whys refl
 

@@ -9,3 +9,5 @@ pub mod Found
 pub mod Beginning
 pub mod Misled
 pub mod Opened
+pub mod Drawn
+pub mod Refused

@@ -7,4 +7,5 @@ pub mod examples;
 pub mod following;
 pub mod holders;
 pub mod openings;
+pub mod stale;
 pub mod steps;

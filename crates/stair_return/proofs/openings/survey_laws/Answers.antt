@@ -1,5 +1,5 @@
 -- The laws are lemmas.
-use Rattle.stair_return.proofs.KnownLemmas.{covers, known}
+use Rattle.stair_return.proofs.KnownLemmas.{covers, known, was_surveyed}
 use Rattle.stair_return.proofs.SurveyLemmas.{finds}
 use Rattle.stair_return.proofs.openings.survey_laws.Goals as goal
 
@@ -8,8 +8,8 @@ returns-clause-finds c = λ g before old new answer surveys honest began tolerat
 
 pub returns-clause-covers : goal.returns-clause-covers
 returns-clause-covers c = λ s holders since before old new answer m surveys honest began consistent tolerated answered.
-    covers s holders since before old new answer surveys honest began consistent tolerated m answered
+    covers (was_surveyed answer surveys honest began consistent tolerated answered)
 
 pub returns-clause-known : goal.returns-clause-known
 returns-clause-known c = λ s holders since before old new answer m surveys honest began consistent tolerated answered.
-    known s holders since before old new answer surveys honest began consistent tolerated m answered
+    known (was_surveyed answer surveys honest began consistent tolerated answered)

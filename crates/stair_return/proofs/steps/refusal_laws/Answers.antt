@@ -5,7 +5,9 @@ use Rattle.stair_array.proofs.ReadDoneLemmas as read
 use Rattle.stair_array.proofs.WriteDoneLemmas as write
 use Rattle.stair_array.proofs.ScrubDoneLemmas as scrub
 use Rattle.stair_array.proofs.RebuildStepLemmas as rebuild
+use Rattle.stair_array.proofs.RecoverLemmas as recover
 use Rattle.stair_return.proofs.BesideLead.{beside_leads}
+use Rattle.stair_return.proofs.OpeningsLead.{openings_lead}
 use Rattle.stair_return.proofs.PromotionsLead.{promotions_lead}
 use Rattle.stair_return.proofs.ReadsLead.{reads_lead}
 use Rattle.stair_return.proofs.RedosLead.{redos_lead}
@@ -14,6 +16,8 @@ use Rattle.stair_return.proofs.steps.refusal_laws.Goals as goal
 
 pub returns : goal.returns
 returns c = record {
+  recovers = λ answer events refusal x y p rules honest before s state calm is.
+      recover.only_spent AnyReturns openings_lead answer events x y p rules honest before s state calm refusal is;
   reads = λ b answer events refusal x y p honest history before s state calm below is.
       read.none_refused AnyReturns reads_lead b answer events x y p honest before s history state calm below refusal is;
   writes = λ first contents answer events refusal x y p honest history before s state calm below thawed is.
