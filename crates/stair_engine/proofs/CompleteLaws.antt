@@ -1,14 +1,14 @@
 -- Where a job can be done it is done, if there was memory.
 use Rattle.std.proofs.Common.{◌≡◌, ◌≢◌, ◌∙◌, inl, inr, ℕ, zero, suc, ◌+◌, ◌-◌, ◌*◌, ◌/◌, ◌<◌, ◌≤◌, length-append, List, [], ◌∷◌, ◌++◌, All, Option, None, Some, IfSome, Result, Ok, Err, length, take, drop, true, false, refl, sym, ap, subst, arith}
 use Rattle.std.specs.List.{concat}
-use Rattle.std.specs.Prelude.{Bool, codes, nat_lt}
+use Rattle.std.specs.Prelude.{Bool, IsTrue, codes, nat_lt}
 use Rattle.std.proofs.lemmas.Bool.{lt-ltb, ltb-false, ltb-true}
 use Rattle.std.proofs.lemmas.List.{nil_from_length}
 use lib.Seq.{drop-append_seam, take-append_seam}
 use Rattle.std.proofs.lemmas.List.Elements.{All-head, All-tail}
 use Rattle.stair_model.specs.CellSet.{CellSet, HasCell}
 use Rattle.stair_model.specs.Codeword.{IsCodeword}
-use Rattle.stair_model.specs.Geometry.{Geometry, block_count}
+use Rattle.stair_model.specs.Geometry.{Geometry, IsWithinLimits, block_count}
 use Rattle.stair_model.specs.Stripe.{SECTOR, Stripe, IsSector}
 use Rattle.stair_model.proofs.LimitLaws.{none_broken}
 use Rattle.stair_model.proofs.RestLaws.{subset_covered}
@@ -31,8 +31,10 @@ use Rattle.stair_conf.proofs.ConfigLaws.{one_answer}
 use Rattle.stair_conf.proofs.WordsLemmas.{spells_once}
 use Rattle.stair_story.specs.Answer.{HasBytes, Judges}
 use Rattle.stair_engine.specs.Cause.{HasCause}
-use Rattle.stair_engine.specs.Complete.{IsComplete, IsThawed, IsValidInput}
-use Rattle.stair_engine.specs.Laws.{AllIsComplete, ReplacementIsDone, ScriptIsDone}
+use Rattle.stair_engine.specs.Complete.{CanBeDone, IsComplete, IsThawed, IsValidInput}
+use Rattle.stair_engine.specs.Laws.{AllIsComplete, AllIsCompleteWherever, ReplacementIsDone, ScriptIsDone}
+use Rattle.stair_engine.specs.Stands.{StandsThroughout}
+use Rattle.stair_session.specs.Returning.{NoneReturns, Returning}
 use Rattle.stair_story.specs.Outside.{Outside, Views, outside}
 use Rattle.stair_engine.specs.Plans.{create_plan, if_spelled, job_plan, making_plan, plan_of}
 use Rattle.stair_engine.specs.Scripts.{run_plan}
@@ -52,14 +54,14 @@ use Rattle.stair_super.specs.declared.mark.Mark.{Mark}
 use Rattle.stair_super.specs.declared.mark.Mark.TheVariants.{Down, Live, Rebuilding}
 use Rattle.stair_story.specs.Devices.{DeviceView, MeansWhole, devices as at}
 use Rattle.stair_story.specs.Ending.{AdmitsNone, AdmitsOnce, AllowsAtMost, EachStep}
-use Rattle.stair_story.specs.Plan.{Plan, Over, Put, RebuildAll, Take, take_step}
+use Rattle.stair_story.specs.Plan.{Plan, Over, Ask, Put, RebuildAll, Take, take_step}
 use Rattle.stair_engine.proofs.CallLaws.{none_opened, stepless}
 use Rattle.stair_engine.proofs.JobLaws.{job_admits_none, job_allowed, words_tell}
 use Rattle.stair_engine.proofs.RangeLaws.{in_range_is}
 use Rattle.stair_engine.proofs.TurnLaws.{blocks_count, few_whole, part_long, part_short, piece_left, piece_some, piece_together, some_whole}
 use Rattle.stair_engine.proofs.WordLaws.{over_spelled}
 use Rattle.stair_story.specs.Question.{IsReply, Words}
-use Rattle.stair_story.specs.Sure.{EachCanReplace, HasNoFault, IsDone, IsSure, IsRebuiltFrom, Last, More, ServesThroughout, most_allowed}
+use Rattle.stair_story.specs.Sure.{EachCanReplace, HasNoFault, IsDone, IsSure, IsRebuiltFrom, Last, More, ServesAlong, ServesThroughout, most_allowed}
 use Rattle.stair_story.specs.Run.{history_of}
 use Rattle.stair_story.proofs.PlannedLaws.{EachStepOf, steps_of}
 use Rattle.stair_story.proofs.PlannedSureLaws.{none_replaced, none_replaced_in, planned_sure}
@@ -70,6 +72,7 @@ use Rattle.stair_engine.proofs.ExerciseSureLaws.{exercise_sure}
 use Rattle.stair_engine.proofs.ScriptSureLaws.{run_admits_none, run_sure}
 use Rattle.stair_engine.proofs.SureLaws.{opens_sure, serves_limits, still_thawed}
 use Rattle.stair_story.proofs.AllEnds.{AllEnd}
+use Rattle.stair_story.proofs.AlongLaws.{along_any}
 use Rattle.stair_story.proofs.SureLaws.{look_sure, stepless_done}
 
 -- ---- bytes make one stripe
@@ -383,113 +386,144 @@ spelled_so : (IsSo : Plan → Type 0) (words : List (List ℕ)) (of : Job) → S
 spelled_so IsSo words of spells so None not = absurd (not (of, spells))
 spelled_so IsSo words of spells so (Some job) read = subst (λ (j : Job). IsSo (job_plan j)) (spells_once words of job spells read) so
 
-module _ {R S K : Type 0} (rack : RackView R) (view : Views S K) where
+module _ {R S K : Type 0} (returning : Returning) (rack : RackView R) (view : Views S K) where
   show_done : (words : List (List ℕ)) (status : Status) (a b : Outside S K) (x y : R) → Spells words Show
-      → MeansOver rack view (plan_of words) (Over status) a b x y → IsComplete rack view Show status a b x y
-  show_done words status a b x y spells over none can =
-      let since = can.1 in
-      stepless_done rack can.0 since.before view (plan_of words) status since.state a b x y over since.since since.represents
-      since.tolerated since.returned none
+      → MeansOver rack view (plan_of words) (Over status) a b x y → HasNoFault view a b → IsTrue rack.honest
+      → StandsThroughout returning (rack.history x) (rack.history y) → IsDone status
+  show_done words status a b x y spells over none honest since =
+      stepless_done returning rack honest since.before view (plan_of words) status since.state a b x y over since.since since.stands since.calm none
       (spelled_so (λ plan. IsSure [] plan (without_seats since.state) (view.source.left a.source)) words Show spells
       (look_sure [] show_text (without_seats since.state) (view.source.left a.source)))
 
--- a call of the words of a sure command, on an array that serves
-module _ {R W S K : Type 0} (devices : DeviceView R W) (view : Views S K) (words : List (List ℕ)) (of : Job) (spells : Spells words of)
+-- a call of the words of a sure command, on an array that serves along its story
+module _ {R W S K : Type 0} (returning : Returning) (devices : DeviceView R W) (view : Views S K) (words : List (List ℕ)) (of : Job)
+    (spells : Spells words of) (status : Status) (a b : Outside S K) (x y : R) (watchers left : List W)
+    (whole : MeansWhole devices view (plan_of words) (Over status) a b x y watchers left) (none : HasNoFault view a b) (s : State)
   where
-    served_where : (status : Status) (a b : Outside S K) (x y : R) (watchers left : List W)
-        (whole : MeansWhole devices view (plan_of words) (Over status) a b x y watchers left) → HasNoFault view a b → (s : State)
-        → ServesThroughout devices.rack s x y
-        → EachCanReplace devices s.geometry whole.with.means.story (at x Begun watchers) (at y whole.session left) whole.with.works
+    abbrev ServesIt : Type 0
+    ServesIt = ServesAlong returning devices s whole.with.means.story (at x Begun watchers) (at y whole.session left) whole.with.works
+
+    served_where : ServesIt → EachCanReplace devices s.geometry whole.with.means.story (at x Begun watchers) (at y whole.session left) whole.with.works
         → IsSure [] (job_plan of) (without_seats s) (view.source.left a.source) → IsDone status
-    served_where status a b x y watchers left whole none s serves can sure =
-        planned_sure devices view (plan_of words) status s a b x y watchers left whole
+    served_where serves can sure =
+        planned_sure devices view returning (plan_of words) status s a b x y watchers left whole
         (spelled_so (AllowsAtMost most_allowed) words of spells (job_allowed of)) serves none can
         (spelled_so (λ plan. IsSure [] plan (without_seats s) (view.source.left a.source)) words of spells sure)
 
     -- which admits no medium
-    served : ¬ MayAdmit of → (status : Status) (a b : Outside S K) (x y : R) (watchers left : List W)
-        → MeansWhole devices view (plan_of words) (Over status) a b x y watchers left → HasNoFault view a b → (s : State)
-        → ServesThroughout devices.rack s x y → IsSure [] (job_plan of) (without_seats s) (view.source.left a.source) → IsDone status
-    served other status a b x y watchers left whole none s serves sure =
-        served_where status a b x y watchers left whole none s serves
+    served : ¬ MayAdmit of → ServesIt → IsSure [] (job_plan of) (without_seats s) (view.source.left a.source) → IsDone status
+    served other serves sure =
+        served_where serves
         (none_replaced devices view (plan_of words) (Over status) s.geometry a b (at x Begun watchers) (at y whole.session left) whole.with
         (spelled_so (EachStep AdmitsNone) words of spells (job_admits_none of other))) sure
 
     -- or admits none of the source's input
-    served_none : (status : Status) (a b : Outside S K) (x y : R) (watchers left : List W)
-        → MeansWhole devices view (plan_of words) (Over status) a b x y watchers left → HasNoFault view a b → (s : State)
-        → ServesThroughout devices.rack s x y → EachStepOf AdmitsNone (job_plan of) (view.source.left a.source)
+    served_none : ServesIt → EachStepOf AdmitsNone (job_plan of) (view.source.left a.source)
         → IsSure [] (job_plan of) (without_seats s) (view.source.left a.source) → IsDone status
-    served_none status a b x y watchers left whole none s serves admits sure =
+    served_none serves admits sure =
         let last = at y whole.session left in
-        served_where status a b x y watchers left whole none s serves
+        served_where serves
         (none_replaced_in devices s.geometry (history_of devices last) whole.with.means.story (at x Begun watchers) last whole.with.works
         (steps_of AdmitsNone view.source whole.with.means.story (plan_of words) (Over status) a.source b.source
         (spelled_so (λ plan. EachStepOf AdmitsNone plan (view.source.left a.source)) words of spells admits)
         whole.with.means.follows whole.with.means.bears.gives)) sure
 
-pub all_is_complete : (R W S K : Type 0) → AllIsComplete R W S K
-all_is_complete R W S K devices view words (OneStripe command n m r e) status a b x y watchers left spells whole none can =
+    -- its geometry is within its limits
+    served_limits : ServesIt → IsWithinLimits s.geometry
+    served_limits serves =
+        serves_limits returning devices s whole.with.means.story (Ask (Words words) if_spelled) status (at x Begun watchers) (at y whole.session left)
+        whole.with.works refl whole.with.means.follows serves
+
+pub all_is_complete_wherever : (R W S K : Type 0) → AllIsCompleteWherever R W S K
+all_is_complete_wherever R W S K returning devices view words (OneStripe command n m r e) status a b x y watchers left spells whole none can =
     let of = one_stripe n m r e in
     let does = words_are_done view words command n m r e status a b spells whole.with.means in
     let told = words_tell view words status a b whole.with.means in
     stripe_done command of can.0 (view.sink.held a.sink) (view.sink.held b.sink) status can.2
     (of_told (view.source.left a.source) can.0 (λ bytes. HasCause command of bytes (view.sink.held a.sink) (view.sink.held b.sink) status) can.1 does.cause)
     (λ is. none.source (told.input_fault is)) (λ is. none.sink (told.output_fault is))
-all_is_complete R W S K devices view words Create status a b x y watchers left spells whole none can =
+all_is_complete_wherever R W S K returning devices view words Create status a b x y watchers left spells whole none can =
     over_spelled devices.rack view (Complete devices.rack view a x Create) words status a b x y
     (stepless devices view words status a b x y watchers left whole (none_opened words Create spells (λ no. no))) Create spells (λ no input. inr refl)
     (create_done devices.rack view a x) none can
-all_is_complete R W S K devices view words Show status a b x y watchers left spells whole none can =
-    show_done devices.rack view words status a b x y spells
-    (stepless devices view words status a b x y watchers left whole (none_opened words Show spells (λ no. no))) none can
-all_is_complete R W S K devices view words (Read first count) status a b x y watchers left spells whole none can =
-    served devices view words (Read first count) spells (λ no. no) status a b x y watchers left whole none can.0 can.1
+all_is_complete_wherever R W S K returning devices view words Show status a b x y watchers left spells whole none can =
+    show_done returning devices.rack view words status a b x y spells
+    (stepless devices view words status a b x y watchers left whole (none_opened words Show spells (λ no. no))) none can.0 can.1
+all_is_complete_wherever R W S K returning devices view words (Read first count) status a b x y watchers left spells whole none can =
+    served returning devices view words (Read first count) spells status a b x y watchers left whole none can.0 (λ no. no) can.1
     (read_sure first count (without_seats can.0) (view.source.left a.source) can.2)
-all_is_complete R W S K devices view words (Write first count) status a b x y watchers left spells whole none can =
+all_is_complete_wherever R W S K returning devices view words (Write first count) status a b x y watchers left spells whole none can =
     let is = can.2 in
-    served devices view words (Write first count) spells (λ no. no) status a b x y watchers left whole none is.0 is.1
+    served returning devices view words (Write first count) spells status a b x y watchers left whole none is.0 (λ no. no) is.1
     (subst (λ (told : Option (List ℕ)). IsSure [] (write_plan first count) (without_seats is.0) told) (sym can.1)
     (write_sure first count (without_seats is.0) can.0 is.2 is.3 is.4))
-all_is_complete R W S K devices view words Scrub status a b x y watchers left spells whole none can =
-    served devices view words Scrub spells (λ no. no) status a b x y watchers left whole none can.0 can.1
+all_is_complete_wherever R W S K returning devices view words Scrub status a b x y watchers left spells whole none can =
+    served returning devices view words Scrub spells status a b x y watchers left whole none can.0 (λ no. no) can.1
     (scrub_sure (without_seats can.0) (view.source.left a.source))
-all_is_complete R W S K devices view words (Replace slot) status a b x y watchers left spells whole none can =
+all_is_complete_wherever R W S K returning devices view words (Replace slot) status a b x y watchers left spells whole none can =
     let device = can.2 in
-    served_where devices view words (Replace slot) spells status a b x y watchers left whole none can.0 can.1
-    (devices_replace devices view (plan_of words) (Over status) can.0 slot a b x y watchers left whole
+    served_where returning devices view words (Replace slot) spells status a b x y watchers left whole none can.0 can.1
+    (devices_replace returning devices view (plan_of words) (Over status) can.0 slot a b x y watchers left whole
     (spelled_so (AdmitsOnce slot) words (Replace slot) spells
     (λ member. opening_once slot member.array.geometry.n _ (λ g. replaces_once g slot))) can.1 device)
     (replace_sure slot (without_seats can.0) (view.source.left a.source) device.stays.below)
-all_is_complete R W S K devices view words Rebuild status a b x y watchers left spells whole none can =
-    served devices view words Rebuild spells (λ no. no) status a b x y watchers left whole none can.0 can.1
+all_is_complete_wherever R W S K returning devices view words Rebuild status a b x y watchers left spells whole none can =
+    served returning devices view words Rebuild spells status a b x y watchers left whole none can.0 (λ no. no) can.1
     (rebuild_sure (without_seats can.0) (view.source.left a.source))
-all_is_complete R W S K devices view words Freeze status a b x y watchers left spells whole none can =
-    served devices view words Freeze spells (λ no. no) status a b x y watchers left whole none can.0 can.1
+all_is_complete_wherever R W S K returning devices view words Freeze status a b x y watchers left spells whole none can =
+    served returning devices view words Freeze spells status a b x y watchers left whole none can.0 (λ no. no) can.1
     (stamps_sure (SetFrozen true) (codes "frozen" ++ 10 ∷ []) (λ s seats is. tt) (without_seats can.0) (view.source.left a.source))
-all_is_complete R W S K devices view words Thaw status a b x y watchers left spells whole none can =
-    served devices view words Thaw spells (λ no. no) status a b x y watchers left whole none can.0 can.1
+all_is_complete_wherever R W S K returning devices view words Thaw status a b x y watchers left spells whole none can =
+    served returning devices view words Thaw spells status a b x y watchers left whole none can.0 (λ no. no) can.1
     (stamps_sure (SetFrozen false) (codes "thawed" ++ 10 ∷ []) (λ s seats is. tt) (without_seats can.0) (view.source.left a.source))
-all_is_complete R W S K devices view words (Label text) status a b x y watchers left spells whole none can =
-    served devices view words (Label text) spells (λ no. no) status a b x y watchers left whole none can.0 can.1
+all_is_complete_wherever R W S K returning devices view words (Label text) status a b x y watchers left spells whole none can =
+    served returning devices view words (Label text) spells status a b x y watchers left whole none can.0 (λ no. no) can.1
     (stamps_sure (SetLabel text) (codes "labelled" ++ 10 ∷ []) (λ s seats is. tt) (without_seats can.0) (view.source.left a.source))
-all_is_complete R W S K devices view words (Exercise number count) status a b x y watchers left spells whole none can =
-    served devices view words (Exercise number count) spells (λ no. no) status a b x y watchers left whole none can.0 can.1
-    (exercise_sure number count (without_seats can.0) (view.source.left a.source) (serves_limits devices.rack can.0 x y can.1) can.2 can.3)
-all_is_complete R W S K devices view words Run status a b x y watchers left spells whole none can =
+all_is_complete_wherever R W S K returning devices view words (Exercise number count) status a b x y watchers left spells whole none can =
+    served returning devices view words (Exercise number count) spells status a b x y watchers left whole none can.0 (λ no. no) can.1
+    (exercise_sure number count (without_seats can.0) (view.source.left a.source)
+    (served_limits returning devices view words (Exercise number count) spells status a b x y watchers left whole none can.0 can.1) can.2 can.3)
+all_is_complete_wherever R W S K returning devices view words Run status a b x y watchers left spells whole none can =
     let is = can.2 in
     let script = is.2 in
-    served_none devices view words Run spells status a b x y watchers left whole none is.0 is.1
+    served_none returning devices view words Run spells status a b x y watchers left whole none is.0 is.1
     (subst (λ (told : Option (List ℕ)). EachStepOf AdmitsNone run_plan told) (sym can.1)
     (run_admits_none script.0 can.0 script.1.few script.1.script script.2))
     (subst (λ (told : Option (List ℕ)). IsSure [] run_plan (without_seats is.0) told) (sym can.1) (run_sure is.0 script.0 can.0 script.1))
 
+-- what serves throughout serves along the story
+can_along : {R : Type 0} (returning : Returning) (Serves Also : State → Type 0) (rack : RackView R) (of : Job) (told : Option (List ℕ)) (x y : R)
+    → ((s : State) → Serves s → Also s) → CanBeDone returning Serves rack of told x y → CanBeDone returning Also rack of told x y
+can_along returning Serves Also rack (OneStripe command n m r e) told x y also can = can
+can_along returning Serves Also rack Create told x y also can = can
+can_along returning Serves Also rack Show told x y also can = can
+can_along returning Serves Also rack (Read first count) told x y also can = (can.0, also can.0 can.1, can.2)
+can_along returning Serves Also rack (Write first count) told x y also can =
+    (can.0, can.1, (can.2.0, also can.2.0 can.2.1, can.2.2, can.2.3, can.2.4))
+can_along returning Serves Also rack Scrub told x y also can = (can.0, also can.0 can.1)
+can_along returning Serves Also rack (Replace slot) told x y also can = (can.0, also can.0 can.1, can.2)
+can_along returning Serves Also rack Rebuild told x y also can = (can.0, also can.0 can.1)
+can_along returning Serves Also rack Freeze told x y also can = (can.0, also can.0 can.1)
+can_along returning Serves Also rack Thaw told x y also can = (can.0, also can.0 can.1)
+can_along returning Serves Also rack (Label text) told x y also can = (can.0, also can.0 can.1)
+can_along returning Serves Also rack (Exercise number count) told x y also can = (can.0, also can.0 can.1, can.2, can.3)
+can_along returning Serves Also rack Run told x y also can = (can.0, can.1, (can.2.0, also can.2.0 can.2.1, can.2.2))
+
+pub all_is_complete : (R W S K : Type 0) → AllIsComplete R W S K
+all_is_complete R W S K devices view words of status a b x y watchers left spells whole none can =
+    let first = at x Begun watchers in
+    let last = at y whole.session left in
+    all_is_complete_wherever R W S K NoneReturns devices view words of status a b x y watchers left spells whole none
+    (can_along NoneReturns (λ s. ServesThroughout devices.rack s x y)
+    (λ s. ServesAlong NoneReturns devices s whole.with.means.story first last whole.with.works) devices.rack of (view.source.left a.source) x y
+    (λ s serves. along_any devices s whole.with.means.story first last whole.with.works serves) can)
+
 pub script_is_done : (R W S K : Type 0) → ScriptIsDone R W S K
-script_is_done R W S K devices view words script input status s a b x y watchers left spells whole none serves told is can =
-    served_where devices view words Run spells status a b x y watchers left whole none s serves can
+script_is_done R W S K returning devices view words script input status s a b x y watchers left spells whole none serves told is can =
+    served_where returning devices view words Run spells status a b x y watchers left whole none s serves can
     (subst (λ (left : Option (List ℕ)). IsSure [] run_plan (without_seats s) left) (sym told) (run_sure s script input is))
 
 pub replacement_is_done : (R W S K : Type 0) → ReplacementIsDone R W S K
-replacement_is_done R W S K devices view words slot status s a b x y watchers left spells whole none serves below can =
-    served_where devices view words (Replace slot) spells status a b x y watchers left whole none s serves can
+replacement_is_done R W S K returning devices view words slot status s a b x y watchers left spells whole none serves below can =
+    served_where returning devices view words (Replace slot) spells status a b x y watchers left whole none s serves can
     (replace_sure slot (without_seats s) (view.source.left a.source) below)

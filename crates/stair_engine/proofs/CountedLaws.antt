@@ -48,7 +48,7 @@ use Rattle.stair_array.specs.Promise.{AnswersStopped, AreRepaired, Begun, Found,
 use Rattle.stair_array.proofs.OpenStepLemmas.{IsOpened, starts_open}
 use Rattle.stair_array.proofs.PartsLemmas.{IsPart, live_back}
 use Rattle.stair_array.proofs.PerformsLemmas.{recovered_part}
-use Rattle.stair_array.proofs.RecoverLemmas.{looks_write_none}
+use Rattle.stair_array.proofs.OpeningsLeadLemmas.{looks_write_none}
 use Rattle.stair_conf.specs.declared.job.Job.TheVariants.{Scrub}
 use Rattle.stair_story.specs.Devices.{DeviceView, Devices, KeepsRules, WorksAll, devices, seen_of}
 use Rattle.stair_story.specs.Rack.{told_of}

@@ -9,6 +9,7 @@ use Rattle.stair_super.specs.declared.mark.Mark.TheVariants.{Down, Live, Rebuild
 use Rattle.stair_member.specs.Membership.{Membership}
 use Rattle.stair_member.specs.Seats.{Seat, Seats}
 use Rattle.stair_member.specs.declared.fault.FenceFault.{FenceFault}
+use Rattle.stair_session.specs.Returning.{Returning}
 use Rattle.stair_session.specs.SeatSteps.{MayDrop, SeatGoes}
 use Rattle.stair_session.specs.Session.{ArrayState, IsArray}
 use Rattle.stair_state.specs.State.{State}
@@ -134,10 +135,10 @@ module _ (events : List Event) (left : Bool) (j : ℕ) where
   step_seats step (Err refusal) old new done marks dead = absurd (never_again events left step (Err refusal) refusal done refl)
   step_seats _ (Ok given) old new done marks dead = inr (drop_dead (old j) (new j) (marks j) dead)
 
-begins_known : (step : Step) (m : Membership) (before h : List Happening) (s : State) (begun : Seats) → (step ≡ Recover → ⊥)
-    → BeginsWith step m before h s begun → s.seats ≡ Some begun
-begins_known Recover m before h s begun other begins = absurd (other refl)
-begins_known _ m before h s begun other begins = begins
+begins_known : (returning : Returning) (step : Step) (m : Membership) (before h : List Happening) (s : State) (begun : Seats) → (step ≡ Recover → ⊥)
+    → BeginsWith returning step m before h s begun → s.seats ≡ Some begun
+begins_known returning Recover m before h s begun other begins = absurd (other refl)
+begins_known returning _ m before h s begun other begins = begins
 
 known_then : (events : List Event) (left : Bool) (step : Step) (answer : Answer step) (known : Option Seats) (seats : Seats)
     → IsDoneDeed (Stepped step answer events left) → AreKnown step answer known seats → known ≡ Some seats
@@ -147,7 +148,7 @@ known_then events left _ answer known seats done are = are
 some_once : (a b : Seats) (known : Option Seats) → known ≡ Some a → known ≡ Some b → a ≡ b
 some_once a b known is also = let both : Some a ≡ Some b = sym is ∙ also in let same : a ≡ b = cc in same
 
-module _ (before : List Happening) (j : ℕ) where
+module _ (returning : Returning) (before : List Happening) (j : ℕ) where
   -- the seats behind a deed, and that the slot is promoted by it or isn't live still
   pub record SeatsThen (deed : Deed) (new : Now) : Type 0 where
     pub seats : Seats
@@ -157,11 +158,11 @@ module _ (before : List Happening) (j : ℕ) where
   same_seats : (deed : Deed) (old new : Now) (a : Seats) → new ≡ old → old.state.seats ≡ Some a → (a j).mark ≢ Live → SeatsThen deed new
   same_seats deed old new a same known dead = record { seats = a; known = ap (λ (n : Now). n.state.seats) same ∙ known; so = inr dead }
 
-  one_seats : (deed : Deed) (old new : Now) (a : Seats) → IsDoneDeed deed → Goes before deed old new → old.state.seats ≡ Some a → (a j).mark ≢ Live
+  one_seats : (deed : Deed) (old new : Now) (a : Seats) → IsDoneDeed deed → Goes returning before deed old new → old.state.seats ≡ Some a → (a j).mark ≢ Live
       → SeatsThen deed new
   one_seats (Stepped step answer events left) old new a done (inl taken) known dead =
       let row = taken.is_step.row in
-      let begun = begins_known step taken.member before new.history old.state taken.is_step.begun (not_opening events left step answer done) taken.is_step.begins in
+      let begun = begins_known returning step taken.member before new.history old.state taken.is_step.begun (not_opening events left step answer done) taken.is_step.begins in
       let first : a ≡ taken.is_step.begun = some_once a taken.is_step.begun old.state.seats known begun in
       record {
         seats = row.seats;
@@ -180,7 +181,7 @@ module _ (before : List Happening) (j : ℕ) where
   one_seats RanOut old new a done goes known dead = same_seats RanOut old new a goes known dead
 
   -- a slot that is live at the end of such a run, and wasn't as it began, was promoted
-  pub run_promoted : (story : List Deed) (old new : Now) (a b : Seats) → AreDone story → Runs before story old new → old.state.seats ≡ Some a
+  pub run_promoted : (story : List Deed) (old new : Now) (a b : Seats) → AreDone story → Runs returning before story old new → old.state.seats ≡ Some a
       → new.state.seats ≡ Some b → (a j).mark ≢ Live → (b j).mark ≡ Live → HasDeed (IsPromotionOf j) story
   run_promoted [] old new a b done runs known ends dead live =
       let same : b ≡ a = some_once b a new.state.seats ends (ap (λ (n : Now). n.state.seats) runs ∙ known) in
@@ -205,21 +206,21 @@ upto_join {a} {b} {c} first second = record {
 upto_equal : (old new : Now) → new ≡ old → IsUpTo old.history new.history
 upto_equal old new same = subst (λ (n : Now). IsUpTo old.history n.history) (sym same) (upto_same old.history)
 
-one_upto : (before : List Happening) (deed : Deed) (old new : Now) → Goes before deed old new → IsUpTo old.history new.history
-one_upto before (Stepped step answer events left) old new (inl taken) = taken.later
-one_upto before (Stepped step answer events left) old new (inr again) = upto_equal old new again.same
-one_upto before (Did action outcome) old new goes = goes.later
-one_upto before (Found question) old new goes = upto_equal old new goes
-one_upto before (Took bytes) old new goes = upto_equal old new goes
-one_upto before (TookLast bytes) old new goes = upto_equal old new goes
-one_upto before (TakeFailed bytes) old new goes = upto_equal old new goes
-one_upto before (HasPut bytes) old new goes = upto_equal old new goes
-one_upto before (PutFailed bytes) old new goes = upto_equal old new goes
-one_upto before Grew old new goes = upto_equal old new goes
-one_upto before RanOut old new goes = upto_equal old new goes
+one_upto : (returning : Returning) (before : List Happening) (deed : Deed) (old new : Now) → Goes returning before deed old new → IsUpTo old.history new.history
+one_upto returning before (Stepped step answer events left) old new (inl taken) = taken.later
+one_upto returning before (Stepped step answer events left) old new (inr again) = upto_equal old new again.same
+one_upto returning before (Did action outcome) old new goes = goes.later
+one_upto returning before (Found question) old new goes = upto_equal old new goes
+one_upto returning before (Took bytes) old new goes = upto_equal old new goes
+one_upto returning before (TookLast bytes) old new goes = upto_equal old new goes
+one_upto returning before (TakeFailed bytes) old new goes = upto_equal old new goes
+one_upto returning before (HasPut bytes) old new goes = upto_equal old new goes
+one_upto returning before (PutFailed bytes) old new goes = upto_equal old new goes
+one_upto returning before Grew old new goes = upto_equal old new goes
+one_upto returning before RanOut old new goes = upto_equal old new goes
 
 -- what has happened goes on over a run
-pub runs_upto : (before : List Happening) (story : List Deed) (old new : Now) → Runs before story old new → IsUpTo old.history new.history
-runs_upto before [] old new runs = upto_equal old new runs
-runs_upto before (deed ∷ story) old new runs =
-    upto_join (one_upto before deed old runs.0 runs.1) (runs_upto before story runs.0 new runs.2)
+pub runs_upto : (returning : Returning) (before : List Happening) (story : List Deed) (old new : Now) → Runs returning before story old new → IsUpTo old.history new.history
+runs_upto returning before [] old new runs = upto_equal old new runs
+runs_upto returning before (deed ∷ story) old new runs =
+    upto_join (one_upto returning before deed old runs.0 runs.1) (runs_upto returning before story runs.0 new runs.2)

@@ -367,8 +367,8 @@ module _ {R W : Type 0} (view : DeviceView R W) (honest : IsTrue view.rack.hones
   job_done words _ spells mends story works follows = absurd mends
 
 -- the seats that an array was found with, told of a later moment and of another state of its geometry
-found_later : (before h later : List Happening) (s t : State) (seats : Seats) → IsUpTo h later → s.geometry ≡ t.geometry → AreFound before h s seats
-    → AreFound before later t seats
+found_later : (before h later : List Happening) (s t : State) (seats : Seats) → IsUpTo h later → s.geometry ≡ t.geometry → AreFound NoneReturns before h s seats
+    → AreFound NoneReturns before later t seats
 found_later before h later s t seats upto same found = record {
   moment = found.moment;
   is_one = record {
@@ -380,32 +380,32 @@ found_later before h later s t seats upto same found = record {
   unwritten = found.unwritten;
   slot = found.slot;
   super = found.super;
-  counts = record { super = found.counts.super; slot = found.counts.slot; identity = found.counts.identity ∙ same };
+  speaks = record { super = found.speaks.super; slot = found.speaks.slot; identity = found.speaks.identity ∙ same };
   are = found.are;
 }
 
 -- the geometry stays over a run
-run_geometry : (before : List Happening) (story : List Deed) (old new : Now) → Runs before story old new → new.state.geometry ≡ old.state.geometry
+run_geometry : (before : List Happening) (story : List Deed) (old new : Now) → Runs NoneReturns before story old new → new.state.geometry ≡ old.state.geometry
 run_geometry before story old new runs =
-    life_geometry (turns_of before story old new runs []) old.state new.state (runs_are_lived before story old new [] old.state runs refl)
+    life_geometry (turns_of NoneReturns before story old new runs []) old.state new.state (runs_are_lived NoneReturns before story old new [] old.state runs refl)
 
 -- ---- the opening
 
 -- what an opening that was done left, from where the call's run goes on
 record IsOpening (before : List Happening) (s : State) (old new : Now) : Type 0 where
   pub found : Seats
-  pub are_found : AreFound before new.history s found
+  pub are_found : AreFound NoneReturns before new.history s found
   pub seats : Seats
   pub known : new.state.seats ≡ Some seats
   pub drops : (j : ℕ) → MayDrop (found j) (seats j)
 
 opening_taken : (before : List Happening) (s : State) (old new : Now) (g : Geometry) (events : List Event) (left : Bool)
-    → Goes before (Stepped Recover (Ok g) events left) old new → old.state.geometry ≡ s.geometry → IsOpening before s old new
+    → Goes NoneReturns before (Stepped Recover (Ok g) events left) old new → old.state.geometry ≡ s.geometry → IsOpening before s old new
 opening_taken before s old new g events left (inl taken) same =
     let is_step = taken.is_step in
     record {
       found = is_step.begun;
-      are_found = found_later before new.history new.history old.state s is_step.begun (runs_upto before [] new new refl) same is_step.begins.1;
+      are_found = found_later before new.history new.history old.state s is_step.begun (runs_upto NoneReturns before [] new new refl) same is_step.begins.1;
       seats = is_step.row.seats;
       known = is_step.row.known;
       drops = is_step.row.marks;
@@ -451,12 +451,12 @@ module _ {R W : Type 0} (view : DeviceView R W) (honest : IsTrue view.rack.hones
         known = serves.seats;
         found = opening.found;
         are_found = found_later (history_of view x) runs.0.history (history_of view y) s s opening.found
-            (runs_upto (history_of view x) rest runs.0 end runs.2) refl opening.are_found;
+            (runs_upto NoneReturns (history_of view x) rest runs.0 end runs.2) refl opening.are_found;
         brought_up = λ j below live dead.
             subst (λ (of : Geometry). AreSoundChunks of j (history_of view x) (history_of view y)) same
             (promoted_sound view honest (opened_story question member g events left rest) x y works ends.array j (ap stands_in begun) ends.opened
             (has_later (IsPromotionOf j) (opened_story question member g events left []) rest
-            (run_promoted (history_of view x) j rest runs.0 end opening.seats (seats_in ends.array.member.array) done runs.2 opening.known serves.seats
+            (run_promoted NoneReturns (history_of view x) j rest runs.0 end opening.seats (seats_in ends.array.member.array) done runs.2 opening.known serves.seats
             (drop_dead (opening.found j) (opening.seats j) (opening.drops j) dead) live)));
         by_job = subst
             (λ (of : Geometry). IsMendedBy asked of (λ j. (seats_in ends.array.member.array j).mark ≡ Live)

@@ -1,17 +1,25 @@
 -- What is sure of any session: that its array is opened, what is so of it then, and that its geometry is within its limits; and that
 -- one block may be written at once.
-use Rattle.std.proofs.Common.{◌≡◌, ◌∙◌, ◌+◌, ◌*◌, ◌%◌, ◌<◌, ◌≤◌, inl, inr, ℕ, zero, suc, List, [], Option, ap, arith, false, subst, sym}
+use Rattle.std.proofs.Common.{◌≡◌, ◌∙◌, ◌+◌, ◌*◌, ◌%◌, ◌<◌, ◌≤◌, inl, inr, ℕ, zero, suc, List, [], ◌∷◌, Option, ap, arith, false, refl, subst, sym}
 use Rattle.stair_model.specs.Geometry.{Geometry, IsWithinLimits, block_count, data_cells}
 use Rattle.stair_rack.specs.Crash.{image_now}
+use Rattle.stair_rack.specs.History.{Happening}
+use Rattle.stair_rack.proofs.MomentLemmas.{moment_first}
 use Rattle.stair_rack.proofs.CrashLemmas.{CrashMayLeave-now}
 use Rattle.stair_member.proofs.SuperLemmas.{counts_limits}
 use Rattle.stair_state.specs.Blocks.{AreOfOneStripe}
-use Rattle.stair_state.specs.Represents.{Left}
 use Rattle.stair_state.specs.State.{Content, State}
+use Rattle.stair_state.specs.Tolerance.{ToleratedSince}
+use Rattle.stair_session.specs.Returning.{AnyReturns, IsCalm, NoneReturns, Returning}
 use Rattle.stair_array.specs.Machine.{IsDecided}
-use Rattle.stair_story.specs.Plan.{Plan}
-use Rattle.stair_story.specs.Rack.{RackView}
-use Rattle.stair_story.specs.Sure.{IsSure, ServesThroughout}
+use Rattle.stair_array.specs.Promise.{Begun, Session, is_open}
+use Rattle.stair_story.specs.Plan.{Plan, Allocate, Over}
+use Rattle.stair_story.specs.declared.status.Status.{Status}
+use Rattle.stair_story.specs.Devices.{DeviceView, Devices, WorksAll}
+use Rattle.stair_story.specs.Run.{history_of}
+use Rattle.stair_story.specs.Story.{Deed, Leads, Moves}
+use Rattle.stair_story.specs.Sure.{IsSure, ServesAlong}
+use Rattle.stair_story.proofs.RunLaws.{one_ran, works_ran}
 use Rattle.stair_engine.specs.Blocks.{opens_array}
 use Rattle.stair_engine.specs.Complete.{IsThawed}
 
@@ -38,9 +46,27 @@ one_block g block below = record { some = omega arith; within = by (data_cells g
     by zero below = absurd (omega (arith, below))
     by (suc cells) below = omega arith
 
--- an array that serves has a current superblock, which counts
-pub serves_limits : {R : Type 0} (rack : RackView R) (s : State) (first last : R) → ServesThroughout rack s first last → IsWithinLimits s.geometry
-serves_limits rack s first last serves =
-    let h = rack.history first in
-    let is = serves.represents.each (image_now h) (Left (CrashMayLeave-now h)) in
-    counts_limits s.geometry (image_now h) is.current.slot is.current is.is_current.counts
+-- an array that is within tolerance has a current superblock, which counts
+calm_limits : (returning : Returning) (g : Geometry) (before : List Happening) → IsCalm returning g false before before → IsWithinLimits g
+calm_limits returning g before calm =
+    let is = tolerated returning calm before (moment_first [] refl) (image_now before) (CrashMayLeave-now before) in
+    counts_limits g (image_now before) is.current.slot is.current is.is_current.counts
+  where
+    tolerated : (returning : Returning) → IsCalm returning g false before before → ToleratedSince g before before
+    tolerated NoneReturns calm = calm.0
+    tolerated AnyReturns calm = calm.0
+
+-- so has one that serves along the story of a command, which does something at least
+pub serves_limits : {R W : Type 0} (returning : Returning) (view : DeviceView R W) (s : State) (story : List Deed) (plan : Plan)
+    (status : Status) (x y : Devices R W) (works : Leads (WorksAll view) story x y) → x.session ≡ Begun
+    → Leads Moves story (Allocate plan) (Over status) → ServesAlong returning view s story x y works → IsWithinLimits s.geometry
+serves_limits returning view s [] plan status x y works begun follows serves = absurd (never follows)
+  where
+    never : Over status ≡ Allocate plan → ⊥
+    never same = cc
+serves_limits returning view s (deed ∷ story) plan status x y works begun follows serves =
+    let ran = one_ran view serves.honest deed x works.0 works.1 in
+    let all = works_ran view serves.honest (deed ∷ story) x y works in
+    calm_limits returning s.geometry (history_of view x)
+    (subst (λ (session : Session). IsCalm returning s.geometry (is_open session) (history_of view x) (history_of view x)) begun
+    (serves.calm.0 (history_of view x) (moment_first ran.more ran.is) (moment_first all.more all.is)))

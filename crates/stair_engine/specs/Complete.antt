@@ -6,7 +6,9 @@ use Rattle.stair_model.specs.Coverage.{IsCovered}
 use Rattle.stair_model.specs.Geometry.{Geometry, IsWithinLimits, block_count}
 use Rattle.stair_model.specs.Stripe.{SECTOR, Stripe}
 use Rattle.stair_state.specs.State.{State, changed_if}
+use Rattle.stair_session.specs.Returning.{NoneReturns, Returning}
 use Rattle.stair_array.specs.Creates.{CanBeMade}
+use Rattle.stair_array.specs.Promise.{Begun}
 use Rattle.stair_conf.specs.Config.{TextReadsAs}
 use Rattle.stair_conf.specs.declared.job.Job.{Job}
 use Rattle.stair_conf.specs.declared.job.Job.TheVariants as job
@@ -17,14 +19,17 @@ use Rattle.stair_script.specs.declared.line.Line.{Line}
 use Rattle.stair_script.specs.declared.line.Line.TheVariants as line
 use Rattle.stair_script.specs.declared.line.Line.TheVariants.{Blank}
 use Rattle.stair_story.specs.Answer.{HasBytes, bytes_needed, map_bytes}
+use Rattle.stair_story.specs.Devices.{DeviceView, Devices, MeansWhole, WorksAll, devices}
 use Rattle.stair_story.specs.Outside.{Outside, Views}
+use Rattle.stair_story.specs.Plan.{Over}
 use Rattle.stair_engine.specs.Blocks.{IsInRange}
 use Rattle.stair_engine.specs.Exercise.{most_steps}
-use Rattle.stair_engine.specs.Plans.{TEXT_LIMIT}
+use Rattle.stair_engine.specs.Plans.{TEXT_LIMIT, plan_of}
 use Rattle.stair_engine.specs.Scripts.{SCRIPT_LIMIT}
 use Rattle.stair_story.specs.Rack.{RackView}
 use Rattle.stair_story.specs.Restore.{HoldsCells, IsErasedBy}
-use Rattle.stair_story.specs.Sure.{HasDevice, HasNoFault, IsDone, ServesThroughout}
+use Rattle.stair_story.specs.Story.{Deed, Leads}
+use Rattle.stair_story.specs.Sure.{HasDevice, HasNoFault, IsDone, ServesAlong, ServesThroughout}
 use Rattle.stair_engine.specs.Stands.{StandsThroughout}
 use Rattle.stair_engine.specs.Task.{one_stripe}
 use Rattle.stair_story.specs.declared.status.Status.{Status}
@@ -85,33 +90,51 @@ pub record IsScriptOf (s : State) (lines : List Line) (input : List ℕ) : Type 
   pub script : IsScript lines input
   pub each : All (IsLineOf s) lines
 
--- What is told and the rack are such that the job can be done. A replacement can be where the slot takes no part before
--- anything is written, and has a device that can be admitted. Of a script in which a device is put in, a law tells.
-abbrev pub CanBeDone : {R : Type 0} → RackView R → Job → Option (List ℕ) → R → R → Type 0
-CanBeDone rack (job.OneStripe command n m r e) told first last =
+-- What is told and the rack are such that the job can be done, where an array in some state serves the call. A replacement can be
+-- where the slot takes no part before anything is written, and has a device that can be admitted. Of a script in which a device is
+-- put in, a law tells.
+abbrev pub CanBeDone : {R : Type 0} → Returning → (State → Type 0) → RackView R → Job
+    → Option (List ℕ) → R → R → Type 0
+CanBeDone returning Serves rack (job.OneStripe command n m r e) told first last =
     TellsInput told (IsValidInput command (one_stripe n m r e))
-CanBeDone rack job.Create told first last = TellsInput told (λ input.
+CanBeDone returning Serves rack job.Create told first last = TellsInput told (λ input.
     (g : Geometry) × TextReadsAs input (Ok g) × (length input ≤ TEXT_LIMIT) × IsTrue rack.honest
     × CanBeMade g (rack.history first) (rack.history last))
-CanBeDone rack job.Show told first last =
-    IsTrue rack.honest × StandsThroughout (rack.history first) (rack.history last)
-CanBeDone rack (job.Read block count) told first last = (s : State)
-    × ServesThroughout rack s first last × IsInRange s.geometry block count
-CanBeDone rack (job.Write block count) told first last = TellsInput told (λ input. (s : State)
-    × ServesThroughout rack s first last × IsInRange s.geometry block count
+CanBeDone returning Serves rack job.Show told first last = IsTrue rack.honest
+    × StandsThroughout returning (rack.history first) (rack.history last)
+CanBeDone returning Serves rack (job.Read block count) told first last =
+    (s : State) × Serves s × IsInRange s.geometry block count
+CanBeDone returning Serves rack (job.Write block count) told first last =
+    TellsInput told (λ input. (s : State) × Serves s × IsInRange s.geometry block count
     × (length input ≡ SECTOR * count) × (0 < count → IsThawed s))
-CanBeDone rack (job.Replace slot) told first last = (s : State)
-    × ServesThroughout rack s first last
-    × HasDevice s.geometry (rack.history first) (rack.history last) slot
-CanBeDone rack (job.Exercise number count) told first last = (s : State)
-    × ServesThroughout rack s first last × (count ≤ most_steps) × (0 < count → IsThawed s)
-CanBeDone rack job.Run told first last = TellsInput told (λ input. (s : State)
-    × ServesThroughout rack s first last
-    × ((lines : List Line) × IsScriptOf s lines input × All PutsNoneIn lines))
-CanBeDone rack job told first last = (s : State) × ServesThroughout rack s first last
+CanBeDone returning Serves rack (job.Replace slot) told first last = (s : State) × Serves s
+    × HasDevice returning s.geometry (rack.history first) (rack.history last) slot
+CanBeDone returning Serves rack (job.Exercise number count) told first last =
+    (s : State) × Serves s × (count ≤ most_steps) × (0 < count → IsThawed s)
+CanBeDone returning Serves rack job.Run told first last = TellsInput told (λ input.
+    (s : State) × Serves s × ((lines : List Line) × IsScriptOf s lines input × All PutsNoneIn lines))
+CanBeDone returning Serves rack job told first last = (s : State) × Serves s
 
--- The job is done, if there was memory, where it can be and neither source nor sink failed.
+-- The job is done, if there was memory, where it can be and neither source nor sink failed. No medium comes back.
 abbrev pub IsComplete : {R S K : Type 0} → RackView R → Views S K → Job → Status → Outside S K →
     Outside S K → R → R → Type 0
 IsComplete rack view job status old new first last = HasNoFault view old new
-    → CanBeDone rack job (view.source.left old.source) first last → IsDone status
+    → CanBeDone NoneReturns (λ s. ServesThroughout rack s first last) rack job
+    (view.source.left old.source) first last → IsDone status
+
+-- So it is along the story of its call, whether media come back or not.
+abbrev pub IsCompleteAlong : {R W S K : Type 0} → Returning → (view : DeviceView R W)
+    → Views S K → Job → Status → Outside S K → Outside S K → (story : List Deed)
+    → (first last : Devices R W) → Leads (WorksAll view) story first last → Type 0
+IsCompleteAlong returning view streams job status old new story first last works =
+    HasNoFault streams old new
+    → CanBeDone returning (λ s. ServesAlong returning view s story first last works) view.rack job
+    (streams.source.left old.source) first.rack last.rack → IsDone status
+
+-- It is so along each story that bears out this call.
+abbrev pub IsCompleteWherever : {R W S K : Type 0} → Returning → DeviceView R W → Views S K
+    → List (List ℕ) → Job → Status → Outside S K → Outside S K → R → R → List W → List W → Type 0
+IsCompleteWherever returning view streams words job status old new first last watchers left =
+    (whole : MeansWhole view streams (plan_of words) (Over status) old new first last watchers left)
+    → IsCompleteAlong returning view streams job status old new whole.with.means.story
+    (devices first Begun watchers) (devices last whole.session left) whole.with.works

@@ -14,13 +14,14 @@ use Rattle.stair_story.specs.declared.status.Status.{Status}
 use Rattle.stair_story.specs.declared.status.Status.TheVariants.{Done, Usage, InputFault, OutOfMemory}
 use Rattle.stair_story.specs.Answer.{map_bytes}
 use Rattle.stair_engine.specs.Cause.{Answers, IfRefusedAtOnce}
-use Rattle.stair_engine.specs.Complete.{IsComplete, IsScriptOf}
+use Rattle.stair_engine.specs.Complete.{IsComplete, IsCompleteWherever, IsScriptOf}
 use Rattle.stair_engine.specs.Counted.{TellsCount}
 use Rattle.stair_engine.specs.Create.{IsOnceMade, MakesArray, SparesArrays}
 use Rattle.stair_engine.specs.Does.{Does}
 use Rattle.stair_array.specs.Arrays.{blocks_of}
 use Rattle.stair_array.specs.Promise.{Begun}
 use Rattle.stair_state.specs.State.{State}
+use Rattle.stair_session.specs.Returning.{Returning}
 use Rattle.stair_engine.specs.Blocks.{whole_of}
 use Rattle.stair_engine.specs.Came.{AreWritten, IsUnrefused, taken_in}
 use Rattle.stair_engine.specs.Jobs.{PutsOnTheWay, MakesCalls, MayWrite, NotSpelled, OpensArray, TakesInput}
@@ -29,7 +30,7 @@ use Rattle.stair_story.specs.Ending.{IfNothingIsPutOut, TellsFaults}
 use Rattle.stair_story.specs.Means.{Means}
 use Rattle.stair_story.specs.Outside.{Outside, Views}
 use Rattle.stair_story.specs.Plan.{Over}
-use Rattle.stair_story.specs.Sure.{EachCanReplace, HasNoFault, IsDone, ServesThroughout}
+use Rattle.stair_story.specs.Sure.{EachCanReplace, HasNoFault, IsDone, ServesAlong}
 use Rattle.stair_engine.specs.Plans.{plan_of}
 use Rattle.stair_engine.specs.Mended.{EndsMended, IsMended, Mends}
 use Rattle.stair_engine.specs.Stands.{ArrayStands}
@@ -161,6 +162,13 @@ AllIsComplete R W S K = (view : DeviceView R W) (streams : Views S K) (words : L
     → MeansWhole view streams (plan_of words) (Over status) old new first last watchers left
     → IsComplete view.rack streams job status old new first last
 
+-- and it is so along the story of its call, whether media come back or not
+abbrev pub AllIsCompleteWherever : (R W S K : Type 0) → Type 0
+AllIsCompleteWherever R W S K = (returning : Returning) (view : DeviceView R W)
+    (streams : Views S K) (words : List (List ℕ)) (job : Job) (status : Status)
+    (old new : Outside S K) (first last : R) (watchers left : List W) → Spells words job
+    → IsCompleteWherever returning view streams words job status old new first last watchers left
+
 -- a job that mends an array leaves it so, where its rack is honest
 abbrev pub ArrayIsMended : (R W S K : Type 0) → Type 0
 ArrayIsMended R W S K = (view : DeviceView R W) (streams : Views S K) (words : List (List ℕ))
@@ -188,25 +196,29 @@ ScrubsAreCounted R W S K = (view : DeviceView R W) (streams : Views S K) (words 
     → IsTrue view.rack.honest → TellsCount streams.sink status old.sink new.sink
     (view.rack.history first) (view.rack.history last)
 
--- A slot is replaced, if there was memory, where the array serves throughout, no fault is counted, and the slot can be replaced as
--- that step begins: it is Down then, and its medium is fit from then on.
+-- A slot is replaced, if there was memory, where the array serves along the story, whether media come back or not, no fault is
+-- counted, and the slot can be replaced as that step begins: it is Down then, and its medium is fit from then on.
 abbrev pub ReplacementIsDone : (R W S K : Type 0) → Type 0
-ReplacementIsDone R W S K = (view : DeviceView R W) (streams : Views S K) (words : List (List ℕ))
-    (slot : ℕ) (status : Status) (s : State) (old new : Outside S K) (first last : R)
-    (watchers left : List W) → Spells words (Replace slot)
+ReplacementIsDone R W S K = (returning : Returning) (view : DeviceView R W) (streams : Views S K)
+    (words : List (List ℕ)) (slot : ℕ) (status : Status) (s : State) (old new : Outside S K)
+    (first last : R) (watchers left : List W) → Spells words (Replace slot)
     → (whole : MeansWhole view streams (plan_of words) (Over status) old new first last watchers left)
-    → HasNoFault streams old new → ServesThroughout view.rack s first last → slot < s.geometry.n
+    → HasNoFault streams old new
+    → ServesAlong returning view s whole.with.means.story (devices first Begun watchers)
+    (devices last whole.session left) whole.with.works → slot < s.geometry.n
     → EachCanReplace view s.geometry whole.with.means.story (devices first Begun watchers)
     (devices last whole.session left) whole.with.works → IsDone status
 
--- A script is done, if there was memory, where each of its lines can be: the array serves throughout, no fault is counted, and each slot
--- that is to be replaced can be as that step begins.
+-- A script is done, if there was memory, where each of its lines can be: the array serves along the story, no fault is counted, and
+-- each slot that is to be replaced can be as that step begins.
 abbrev pub ScriptIsDone : (R W S K : Type 0) → Type 0
-ScriptIsDone R W S K = (view : DeviceView R W) (streams : Views S K) (words : List (List ℕ))
-    (lines : List Line) (input : List ℕ) (status : Status) (s : State) (old new : Outside S K)
-    (first last : R) (watchers left : List W) → Spells words Run
+ScriptIsDone R W S K = (returning : Returning) (view : DeviceView R W) (streams : Views S K)
+    (words : List (List ℕ)) (lines : List Line) (input : List ℕ) (status : Status) (s : State)
+    (old new : Outside S K) (first last : R) (watchers left : List W) → Spells words Run
     → (whole : MeansWhole view streams (plan_of words) (Over status) old new first last watchers left)
-    → HasNoFault streams old new → ServesThroughout view.rack s first last
+    → HasNoFault streams old new
+    → ServesAlong returning view s whole.with.means.story (devices first Begun watchers)
+    (devices last whole.session left) whole.with.works
     → streams.source.left old.source ≡ Some input → IsScriptOf s lines input
     → EachCanReplace view s.geometry whole.with.means.story (devices first Begun watchers)
     (devices last whole.session left) whole.with.works → IsDone status

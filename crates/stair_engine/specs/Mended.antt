@@ -9,6 +9,7 @@ use Rattle.stair_member.specs.Seats.{Seats}
 use Rattle.stair_state.specs.Represents.{Represents}
 use Rattle.stair_state.specs.State.{State}
 use Rattle.stair_state.specs.Tolerance.{ToleratedSince}
+use Rattle.stair_session.specs.Returning.{NoneReturns}
 use Rattle.stair_session.specs.Session.{ArrayState, IsArray, IsLiveIn, IsRebuiltIn}
 use Rattle.stair_array.specs.Promise.{AreFound, Opened, Session}
 use Rattle.stair_conf.specs.declared.job.Job.{Job}
@@ -54,7 +55,7 @@ pub record LeavesSound (job : Job) (s : State) (first last : List Happening) : T
   pub known : state.seats ≡ Some seats
   -- the seats with which it was found
   pub found : Seats
-  pub are_found : AreFound first last s found
+  pub are_found : AreFound NoneReturns first last s found
   -- each cell is sound of a slot that is live and wasn't as the array was found
   pub brought_up : (j : ℕ) → j < s.geometry.n → (seats j).mark ≡ Live → (found j).mark ≢ Live
       → AreSoundChunks s.geometry j first last

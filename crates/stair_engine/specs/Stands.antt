@@ -6,7 +6,9 @@ use Rattle.stair_rack.specs.Moments.{IsMoment}
 use Rattle.stair_rack.specs.Stretch.{NothingReturned}
 use Rattle.stair_state.specs.Represents.{Represents}
 use Rattle.stair_state.specs.State.{State, without_seats}
-use Rattle.stair_state.specs.Tolerance.{IsTolerated, ToleratedSince}
+use Rattle.stair_state.specs.Tolerance.{IsTolerated}
+use Rattle.stair_session.specs.Returning.{Returning, StandsFor}
+use Rattle.stair_story.specs.Sure.{IsCalmBetween}
 
 -- Where the rack represented a state, no medium came back, and what has failed is within tolerance, it represents the state,
 -- marks and joined numbers aside.
@@ -20,11 +22,10 @@ pub record ArrayStands (old new : List Happening) : Type 0 where
   pub runs : StandsAt old new
   pub moments : (moment : List Happening) → IsMoment old moment new → StandsAt old moment
 
--- The rack represents a state, is within tolerance since the session began, and gets no medium back.
-pub record StandsThroughout (old new : List Happening) : Type 0 where
+-- The rack is an array in a state, and failures stay within tolerance since the session began, whether media come back or not.
+pub record StandsThroughout (returning : Returning) (old new : List Happening) : Type 0 where
   pub state : State
   pub before : List Happening
   pub since : Ran any_call before old
-  pub represents : Represents state old
-  pub returned : NothingReturned old new
-  pub tolerated : ToleratedSince state.geometry before new
+  pub stands : StandsFor returning state old
+  pub calm : IsCalmBetween returning state.geometry before old new

@@ -5,6 +5,7 @@ ghost use Rattle.stair_model.specs.Geometry.{Geometry};
 ghost use Rattle.stair_story.specs.Answer.{IsAnswer};
 ghost use Rattle.stair_engine.specs.Laws.{
   AllIsComplete,
+  AllIsCompleteWherever,
   AllIsKept,
   ArrayIsLeft,
   ArrayIsMade,
@@ -60,6 +61,8 @@ pub fn plan_laws<R, W, S: Source, K: Sink>()
     ensures spared { ArraysAreSpared R W S K }
     // a job is done where it can be, if there was memory
     ensures complete { AllIsComplete R W S K }
+    // and so it is along the story of its call, whether media come back or not
+    ensures complete_wherever { AllIsCompleteWherever R W S K }
     // and so is a replacement by any medium, where its slot is Down and the medium fit as that step begins
     ensures replaced { ReplacementIsDone R W S K }
     // and so is a script, where each of its lines can be done

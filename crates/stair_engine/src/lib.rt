@@ -28,7 +28,8 @@ ghost use Rattle.std.specs.Prelude.{◌≡◌, IsTrue, map, string_bytes};
 ghost use Rattle.stair_conf.specs.Words.{IsCommandLine, Spells};
 ghost use Rattle.stair_conf.specs.declared.job.Job.{Job as Jobs};
 ghost use Rattle.stair_conf.specs.declared.job.Job.TheVariants.{Create, Scrub};
-ghost use Rattle.stair_engine.specs.Complete.{IsComplete};
+ghost use Rattle.stair_session.specs.Returning.{AnyReturns};
+ghost use Rattle.stair_engine.specs.Complete.{IsComplete, IsCompleteWherever};
 ghost use Rattle.stair_engine.specs.Counted.{TellsCount};
 ghost use Rattle.stair_engine.specs.Create.{IsOnceMade, MakesArray, SparesArrays};
 ghost use Rattle.stair_story.specs.Fault.{status_of};
@@ -143,6 +144,16 @@ pub fn stair<R: Rack, S: Source, K: Sink, L: Ledger>(
         (views S.left S.ended S.faults K.held K.faults) job result
         (outside input.old output.old steps.old) (outside input.new output.new steps.new)
         rack.old rack.new }
+
+    // So it is too where media that were pulled are put back, along each story that bears out the call: where the array serves along it,
+    // failures staying within tolerance.
+    ensures complete_wherever { (job : Jobs) → Spells (map string_bytes words.now) job →
+        IsCompleteWherever AnyReturns
+        (device_view (rack_view R.is_honest R.history R.bads R.gones)
+        (watcher_view told count (λ w. (Watcher-box w).left w.value) patience))
+        (views S.left S.ended S.faults K.held K.faults) (map string_bytes words.now) job result
+        (outside input.old output.old steps.old) (outside input.new output.new steps.new)
+        rack.old rack.new watchers.old.items watchers.new.items }
 
     // On an honest rack that is an array in a state, within tolerance to the end and to which no medium comes back: once `scrub` is
     // done each cell of a live slot was good at some moment of the call, and so was each sector of its slot once `replace` is; and once

@@ -146,7 +146,7 @@ module _ {R W : Type 0} (view : DeviceView R W) (honest : IsTrue view.rack.hones
     pub reached : IsUpTo (h_of mid) c
     pub state : State
     pub stop : Option Refusal
-    pub runs : Runs before done (now s (h_of x) stopped) (now state (h_of mid) stop)
+    pub runs : Runs returning before done (now s (h_of x) stopped) (now state (h_of mid) stop)
     pub images : EachImage (λ image. StandsForAlone returning state image ⊎ IsLeftByNext returning before c rest (now state (h_of mid) stop) image) c
 
   -- after the first deed

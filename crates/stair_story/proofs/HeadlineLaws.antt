@@ -10,11 +10,11 @@ use Rattle.stair_rack.proofs.MomentLemmas.{moment_sooner, ran_join, ran_none}
 use Rattle.stair_rack.proofs.StretchLemmas.{each_before}
 use Rattle.stair_state.specs.State.{State, without_seats}
 use Rattle.stair_state.specs.Tolerance.{ToleratedSince}
-use Rattle.stair_session.specs.Returning.{IsCalm, NoneReturns, Returning, StandsFor}
+use Rattle.stair_session.specs.Returning.{AnyReturns, IsCalm, NoneReturns, Returning, StandsFor}
 use Rattle.stair_array.specs.Machine.{Refusal}
 use Rattle.stair_array.specs.Promise.{Begun, ServesState, Session, is_open}
 use Rattle.stair_story.specs.Devices.{DeviceView, Devices, MeansWith, WorksAll, devices, seen_of}
-use Rattle.stair_story.specs.Headline.{AcknowledgedAreTaken, IsBorneOut, IsRunOf, PerformedLeads}
+use Rattle.stair_story.specs.Headline.{AcknowledgedAreTaken, IsBorneOut, IsRunOf, IsRunWherever, PerformedLeads}
 use Rattle.stair_story.specs.Outside.{Outside, Views}
 use Rattle.stair_story.specs.Plan.{Plan}
 use Rattle.stair_story.specs.Run.{DeedLeads, IsCalmUpTo, IsRun, IsSafe, IsUpTo, StoryLeads}
@@ -26,8 +26,8 @@ use Rattle.stair_story.proofs.CutLaws.{safe_on}
 
 -- a step that was acknowledged was taken
 pub acknowledged_taken : AcknowledgedAreTaken
-acknowledged_taken before step given events left old new (inl takes) = takes
-acknowledged_taken before step given events left old new (inr again) = absurd (clash again.answered)
+acknowledged_taken returning before step given events left old new (inl takes) = takes
+acknowledged_taken returning before step given events left old new (inr again) = absurd (clash again.answered)
   where
     clash : {T : Type 0} {x : T} {refusal : Refusal} → Ok x ≡ Err refusal → ⊥
     clash same = cc
@@ -125,14 +125,30 @@ module _ {R W : Type 0} (view : DeviceView R W) where
         (calm_story honest s.geometry (h_of x) c story x y works (ran_none (h_of x)) tolerated none);
   }
 
+  -- and where media come back
+  pub run_wherever : (plan rest : Plan) (story : List Deed) (x y : Devices R W) (works : Leads (WorksAll view) story x y) → Leads Moves story plan rest
+      → x.session ≡ Begun → StoryLeads AnyReturns view story x y works → IsRunWherever view plan story x y works
+  run_wherever plan rest story x y works follows begun led = record {
+    runs = λ honest s history stands calm. is_run honest AnyReturns s story x y works history begun stands led calm;
+    cuts = λ honest s c history stands at calm.
+        is_safe honest AnyReturns s plan rest story x y works c follows history begun stands led at calm;
+  }
+
 -- ---- whole calls
 
 module _ {R W S K : Type 0} (view : DeviceView R W) (streams : Views S K) where
   -- a call whose steps lead on is borne out
   pub borne_with : (plan rest : Plan) (a b : Outside S K) (x y : R) (watchers left : List W) (session : Session)
       (with : MeansWith view streams plan rest a b (devices x Begun watchers) (devices y session left))
-      → StoryLeads NoneReturns view with.means.story (devices x Begun watchers) (devices y session left) with.works
+      → ((returning : Returning) → StoryLeads returning view with.means.story (devices x Begun watchers) (devices y session left) with.works)
       → IsBorneOut view streams plan rest a b x y watchers left
   borne_with plan rest a b x y watchers left session with led =
-      let run = run_of view plan rest with.means.story (devices x Begun watchers) (devices y session left) with.works with.means.follows refl led in
-      record { session = session; over = with; runs = run.runs; cuts = run.cuts }
+      let run = run_of view plan rest with.means.story (devices x Begun watchers) (devices y session left) with.works with.means.follows refl (led NoneReturns) in
+      record {
+        session = session;
+        over = with;
+        runs = run.runs;
+        cuts = run.cuts;
+        wherever =
+            run_wherever view plan rest with.means.story (devices x Begun watchers) (devices y session left) with.works with.means.follows refl (led AnyReturns);
+      }

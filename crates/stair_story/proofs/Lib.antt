@@ -13,6 +13,8 @@ pub mod CreateLaws
 pub mod RunLaws
 pub mod CutLaws
 pub mod HeadlineLaws
+pub mod FoundLaws
+pub mod AlongLaws
 pub mod SureLaws
 pub mod SureSlotLaws
 pub mod SureStepLaws

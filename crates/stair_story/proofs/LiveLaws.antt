@@ -39,7 +39,7 @@ use Rattle.stair_array.specs.Causes.{IsFree, WasGoneTo, WhyGoesOn}
 use Rattle.stair_array.specs.Machine.{Answer, EpochsSpent, Refusal, ReplaceSlot, Step, TooFew}
 use Rattle.stair_array.specs.Mends.{Replaces}
 use Rattle.stair_array.specs.Promise.{Begun, Closed, Does, Ends, Found, GoesOn, IsOpenFor, Keeps, Opened, Performs, Seen, Session, StartsFrom, Stops}
-use Rattle.stair_array.proofs.RecoverLemmas.{looks_write_none}
+use Rattle.stair_array.proofs.OpeningsLeadLemmas.{looks_write_none}
 use Rattle.stair_story.specs.Action.{Create, Survey}
 use Rattle.stair_story.specs.Devices.{DeviceView, Devices, WorksAll, seen_of}
 use Rattle.stair_story.specs.Kept.{HasMember}
@@ -221,13 +221,13 @@ module _ {R W : Type 0} (view : DeviceView R W) (s : State) (j : ℕ) where
       let until : IsMoment (history_of view x) (history_of view y) (history_of view last) = moment_between ran later in
       let run =
       runs_on view stands.honest NoneReturns (history_of view x) (without_seats s) None story x y works
-      (all_lead NoneReturns view step_leads story x y works) stands.history (begins_at view s x stands.begun stands.represents)
+      (all_lead NoneReturns view step_leads story x y works) stands.history (begins_at NoneReturns view s x stands.begun stands.represents)
       (calm_story view stands.honest s.geometry (history_of view x) (history_of view y) story x y works (ran_none (history_of view x))
       (λ h at. stands.tolerated h (moment_sooner at until)) (each_before stands.returned until)) in
       record {
         state = run.state;
         geometry = run.geometry;
-        is = open_for (history_of view x) run.state b (seen_of view y) opened unstopped run.is_at.is_in.serves;
+        is = open_for NoneReturns (history_of view x) run.state b (seen_of view y) opened unstopped run.is_at.is_in.serves;
       }
 
   -- a slot that is live to the session then is live in each image

@@ -4,14 +4,11 @@ use Rattle.std.specs.Prelude.{IsTrue}
 use Rattle.stair_model.specs.Geometry.{Geometry}
 use Rattle.stair_rack.specs.Answers.{Ran, any_call}
 use Rattle.stair_rack.specs.History.{Happening}
-use Rattle.stair_rack.specs.Moments.{IsMoment}
-use Rattle.stair_rack.proofs.MomentLemmas.{at_last, moment_between, moment_sooner, ran_any, ran_before, ran_none}
-use Rattle.stair_rack.proofs.StretchLemmas.{each_before, ran_sparing}
+use Rattle.stair_rack.proofs.MomentLemmas.{at_last, ran_before}
+use Rattle.stair_rack.proofs.StretchLemmas.{ran_sparing}
 use Rattle.stair_member.specs.Membership.{Membership}
-use Rattle.stair_member.proofs.AskedLemmas.{asked_ran}
 use Rattle.stair_state.specs.State.{State, without_seats}
-use Rattle.stair_state.proofs.SurveyedLemmas.{finds_array}
-use Rattle.stair_session.specs.Returning.{NoneReturns}
+use Rattle.stair_session.specs.Returning.{Returning}
 use Rattle.stair_array.specs.Draws.{allowance, most_drawn}
 use Rattle.stair_array.specs.Machine.{Answer, ReplaceSlot, Step}
 use Rattle.stair_array.specs.Promise.{Begun, Closed, Found, Opened, Session}
@@ -26,16 +23,18 @@ use Rattle.stair_story.specs.Plan.{Plan, Over}
 use Rattle.stair_story.specs.Rack.{told_of}
 use Rattle.stair_story.specs.Run.{history_of}
 use Rattle.stair_story.specs.Story.{Deed, Did, Stepped, Leads}
-use Rattle.stair_story.specs.Sure.{CanReplaceAt, EachCanReplace, EachDeed, EachHasDraws, HasDrawsAt, HasNoFault, IsDone, IsSure, LeavesDraws, MediumLeavesDraws, ServesThroughout, most_allowed, most_borne}
+use Rattle.stair_story.specs.Sure.{CanReplaceAt, EachCanReplace, EachDeed, EachHasDraws, HasDrawsAt, HasNoFault, IsDone, IsSure, LeavesDraws, MediumLeavesDraws, ServesAlong, most_allowed, most_borne}
 use Rattle.stair_story.specs.declared.status.Status.{Status}
+use Rattle.stair_story.proofs.AlongLaws.{Serves, along_found, serves_on}
+use Rattle.stair_story.proofs.FoundLaws.{IsArrayFound}
 use Rattle.stair_story.proofs.BoundedCallLaws.{survey_few, survey_slots, survey_stays}
 use Rattle.stair_story.proofs.BoundedLaws.{slot_stays}
 use Rattle.stair_story.proofs.BoundedStoryLaws.{HasRoom, IsAhead, goes_ahead, weigh_little}
 use Rattle.stair_story.proofs.KeptLaws.{closed_on, known_closed, starts_known}
 use Rattle.stair_story.proofs.HeadlineLaws.{all_lead}
-use Rattle.stair_story.proofs.PerformedLaws.{step_leads}
+use Rattle.stair_story.proofs.PerformedLaws.{all_performed}
 use Rattle.stair_story.proofs.PlannedLaws.{AllSteps, allowed_along, steps_along}
-use Rattle.stair_story.proofs.RunLaws.{one_ran, works_ran}
+use Rattle.stair_story.proofs.RunLaws.{one_ran}
 use Rattle.stair_story.proofs.SureStepLaws.{sure_done}
 
 -- ---- no medium is admitted
@@ -99,29 +98,20 @@ module _ {R W : Type 0} (view : DeviceView R W) (honest : IsTrue view.rack.hones
       )
       first _ ran = tt
 
-module _ {R W : Type 0} (view : DeviceView R W) (s : State) (y : Devices R W) where
-  abbrev Serves : Devices R W → Type 0
-  Serves x = (x.session ≡ Begun) × ServesThroughout view.rack s x.rack y.rack
-
+module _ {R W : Type 0} (returning : Returning) (view : DeviceView R W) (s : State) (y : Devices R W) where
   -- what was found of the array leaves room
   found_draws : (story : List Deed) (x : Devices R W) (found : Outcome Survey) (works : Leads (WorksAll view) (Did Survey found ∷ story) x y)
-      → Serves x → over_steps allowance story ≤ most_allowed → EachHasDraws view s.geometry story works.0 y works.2
-  found_draws story x found works serves allowed = by found works.1
+      → Serves returning view s y (Did Survey found ∷ story) x works → over_steps allowance story ≤ most_allowed
+      → EachHasDraws view s.geometry story works.0 y works.2
+  found_draws story x found works serves allowed = by found works.1 (along_found returning view s y found story x works serves)
     where
-      by : (found : Outcome Survey) → WorksAll view (Did Survey found) x works.0 → EachHasDraws view s.geometry story works.0 y works.2
-      by (Err fault) did = closed_draws view serves.1.honest s.geometry story works.0 y works.2 did.2
-      by (Ok m) did =
+      by : (found : Outcome Survey) → WorksAll view (Did Survey found) x works.0 → IsArrayFound s.geometry found
+          → EachHasDraws view s.geometry story works.0 y works.2
+      by (Err fault) did finds = closed_draws view serves.1.honest s.geometry story works.0 y works.2 did.2
+      by (Ok m) did finds =
           let ready = serves.1 in
-          let ran = asked_ran 32 (view.rack.history x.rack) (view.rack.history works.0.rack) (did.0.asked ready.honest) in
-          let later = works_ran view ready.honest story works.0 y works.2 in
-          let until : IsMoment (view.rack.history x.rack) (view.rack.history works.0.rack) (view.rack.history y.rack) =
-          moment_between (ran_any ran) later in
-          let finds =
-          finds_array s (view.rack.history x.rack) (told_of view.rack x.rack) (told_of view.rack works.0.rack) (Ok m) did.0 ready.honest
-          (ran_none (view.rack.history x.rack)) ready.represents (each_before ready.returned until)
-          (λ h is. ready.tolerated h (moment_sooner is until)) in
           let same : m ≡ finds.member = let is = finds.found in cc in
-          let geometry : m.array.geometry ≡ s.geometry = ap (λ (n : Membership). n.array.geometry) same ∙ finds.identity in
+          let geometry : m.array.geometry ≡ s.geometry = ap (λ (n : Membership). n.array.geometry) same ∙ finds.geometry in
           let stays : StaysBounded s.geometry most_borne (view.rack.history x.rack) (view.rack.history works.0.rack) =
           survey_stays s.geometry most_borne (Ok m) (told_of view.rack x.rack) (told_of view.rack works.0.rack) ready.honest did.0 ready.drawn in
           let few : m.drawn ≤ most_borne =
@@ -138,8 +128,8 @@ module _ {R W : Type 0} (view : DeviceView R W) (s : State) (y : Devices R W) wh
                 (record { geometry = geometry; known = few; room = omega (arith, small, allowed) });
           })
 
-  begun_draws : (story : List Deed) (x : Devices R W) (works : Leads (WorksAll view) story x y) → Serves x → over_steps allowance story ≤ most_allowed
-      → EachHasDraws view s.geometry story x y works
+  begun_draws : (story : List Deed) (x : Devices R W) (works : Leads (WorksAll view) story x y) → Serves returning view s y story x works
+      → over_steps allowance story ≤ most_allowed → EachHasDraws view s.geometry story x y works
   begun_draws [] x works serves allowed = tt
   begun_draws (Stepped step answer events left ∷ story) x works serves allowed = absurd (
       elim works.1.0 [
@@ -150,20 +140,23 @@ module _ {R W : Type 0} (view : DeviceView R W) (s : State) (y : Devices R W) wh
       (tt, closed_draws view serves.1.honest s.geometry story works.0 y works.2 works.1.2)
   begun_draws (Did Survey found ∷ story) x works serves allowed = (tt, found_draws story x found works serves (omega (arith, allowed)))
   begun_draws (deed ∷ story) x works serves allowed =
-      (tt, begun_draws story works.0 works.2 (subst Serves (sym works.1) serves) (omega (arith, allowed)))
+      (tt, begun_draws story works.0 works.2 (serves_on returning view s y deed story x works works.1 serves) (omega (arith, allowed)))
+
+-- ---- whole calls
 
 module _ {R W S K : Type 0} (view : DeviceView R W) (streams : Views S K) where
   -- so it is done
-  pub planned_sure : (plan : Plan) (status : Status) (s : State) (a b : Outside S K) (x y : R) (watchers left : List W)
+  pub planned_sure : (returning : Returning) (plan : Plan) (status : Status) (s : State) (a b : Outside S K) (x y : R) (watchers left : List W)
       (whole : MeansWhole view streams plan (Over status) a b x y watchers left) → AllowsAtMost most_allowed plan
-      → ServesThroughout view.rack s x y → HasNoFault streams a b
+      → ServesAlong returning view s whole.with.means.story (devices x Begun watchers) (devices y whole.session left) whole.with.works
+      → HasNoFault streams a b
       → EachCanReplace view s.geometry whole.with.means.story (devices x Begun watchers) (devices y whole.session left) whole.with.works
       → IsSure [] plan (without_seats s) (streams.source.left a.source) → IsDone status
-  planned_sure plan status s a b x y watchers left whole allowed serves unfailed can sure =
+  planned_sure returning plan status s a b x y watchers left whole allowed serves unfailed can sure =
       let first : Devices R W = devices x Begun watchers in
       let last : Devices R W = devices y whole.session left in
       let story = whole.with.means.story in
-      sure_done view streams plan status s a b first last whole.with serves.honest refl serves.history serves.represents serves.tolerated
-      serves.returned unfailed (all_lead NoneReturns view step_leads story first last whole.with.works)
-      (begun_draws view s last story first whole.with.works (refl, serves)
+      sure_done view streams returning plan status s a b first last whole.with serves.honest refl serves.history serves.stands serves.calm unfailed
+      (all_lead returning view (all_performed returning) story first last whole.with.works)
+      (begun_draws returning view s last story first whole.with.works (refl, serves)
       (allowed_along most_allowed story plan (Over status) allowed whole.with.means.follows)) can sure

@@ -119,7 +119,7 @@ module _ {R W : Type 0} (view : DeviceView R W) where
   pub record OneGoes (returning : Returning) (before : List Happening) (s : State) (stopped : Option Refusal) (deed : Deed) (x y : Devices R W) : Type 0 where
     pub state : State
     pub stop : Option Refusal
-    pub goes : Goes before deed (now s (h_of x) stopped) (now state (h_of y) stop)
+    pub goes : Goes returning before deed (now s (h_of x) stopped) (now state (h_of y) stop)
     pub is_at : IsAt returning before state stop y
     pub geometry : state.geometry ≡ s.geometry
 
@@ -127,7 +127,7 @@ module _ {R W : Type 0} (view : DeviceView R W) where
   same_ran {allowed} x y same = subst (λ (z : Devices R W). Ran allowed (h_of x) (h_of z)) (sym same) (ran_none (h_of x))
 
   still : (returning : Returning) (before : List Happening) (s : State) (stopped : Option Refusal) (deed : Deed) (x y : Devices R W)
-      → Goes before deed (now s (h_of x) stopped) (now s (h_of x) stopped) → IsAt returning before s stopped x → y ≡ x
+      → Goes returning before deed (now s (h_of x) stopped) (now s (h_of x) stopped) → IsAt returning before s stopped x → y ≡ x
       → OneGoes returning before s stopped deed x y
   still returning before s stopped deed x y goes is_at same =
       subst (OneGoes returning before s stopped deed x) (sym same)
@@ -320,7 +320,7 @@ module _ {R W : Type 0} (view : DeviceView R W) where
         : Type 0 where
       pub state : State
       pub stop : Option Refusal
-      pub runs : Runs before story (now s (h_of x) stopped) (now state (h_of y) stop)
+      pub runs : Runs returning before story (now s (h_of x) stopped) (now state (h_of y) stop)
       pub is_at : IsAt returning before state stop y
       pub geometry : state.geometry ≡ s.geometry
 

@@ -2,22 +2,25 @@
 use Rattle.std.proofs.Common.{◌≡◌, ◌∙◌, List, [], ◌∷◌, None, inl, inr, refl, sym, ap, subst}
 use Rattle.std.specs.Prelude.{IsTrue}
 use Rattle.stair_model.specs.Geometry.{Geometry}
-use Rattle.stair_rack.specs.Answers.{IsHistory}
+use Rattle.stair_rack.specs.Answers.{IsHistory, Ran}
 use Rattle.stair_rack.specs.Crash.{CrashMayLeave}
 use Rattle.stair_rack.specs.History.{Happening, Made}
 use Rattle.stair_rack.specs.Media.{Image}
+use Rattle.stair_rack.specs.Moments.{IsMoment}
 use Rattle.stair_rack.proofs.TidyLemmas.{history_made, history_on}
+use Rattle.stair_state.specs.Represents.{no_write}
 use Rattle.stair_state.specs.State.{State, without_seats}
-use Rattle.stair_state.specs.Tolerance.{IsTolerated, ToleratedSince}
 use Rattle.stair_state.proofs.OutsideLemmas.{looks_stand}
-use Rattle.stair_session.specs.Returning.{NoneReturns, Returning, StandsForAlone}
+use Rattle.stair_state.proofs.ReturnLemmas.{looked_consistent}
+use Rattle.stair_session.specs.Returning.{AnyReturns, NoneReturns, Returning, StandsFor, StandsForAlone}
 use Rattle.stair_array.specs.Promise.{Begun}
 use Rattle.stair_story.specs.Devices.{DeviceView, Devices, devices}
+use Rattle.stair_story.specs.Headline.{IsBorneOut}
 use Rattle.stair_story.specs.Lives.{Ended, Lives, Took, Turn, Turns, WasCut}
-use Rattle.stair_story.specs.Outside.{Views}
+use Rattle.stair_story.specs.Outside.{Outside, Views}
 use Rattle.stair_story.specs.Plan.{Plan}
 use Rattle.stair_story.specs.Run.{Goes, IsRun, IsSafe, Now, history_of, now}
-use Rattle.stair_story.specs.Sessions.{Between, Calls, Cut, Ends, IsLived, NextSession, RunsAreLived, Starts, TurnsOfCut, Within, turns_of, with_turn}
+use Rattle.stair_story.specs.Sessions.{Between, Calls, Cut, Ends, IsCalmMeanwhile, IsCalmOver, IsLived, NextSession, RunsAreLived, Starts, TurnsOfCut, Within, turns_of, with_turn}
 use Rattle.stair_story.specs.Story.{Deed, Found, Took as TookBytes, TookLast, TakeFailed, HasPut, PutFailed, Grew, RanOut, Did, Stepped}
 use Rattle.stair_story.proofs.LifeLaws.{reads_are_explained}
 use Rattle.stair_story.proofs.RunLaws.{forgets, works_ran}
@@ -27,26 +30,26 @@ use Rattle.stair_story.proofs.RunLaws.{forgets, works_ran}
 same_lives : (life : List Turn) (first : State) (old new : Now) → new ≡ old → Lives life first old.state → Lives life first new.state
 same_lives life first old new same lives = subst (λ (n : Now). Lives life first n.state) (sym same) lives
 
-one_lived : (before : List Happening) (deed : Deed) (old new : Now) (life : List Turn) (first : State) (goes : Goes before deed old new)
-    → Lives life first old.state → Lives (with_turn before deed old new goes life) first new.state
-one_lived before (Stepped step answer events left) old new life first (inl taken) lives =
+one_lived : (returning : Returning) (before : List Happening) (deed : Deed) (old new : Now) (life : List Turn) (first : State) (goes : Goes returning before deed old new)
+    → Lives life first old.state → Lives (with_turn returning before deed old new goes life) first new.state
+one_lived returning before (Stepped step answer events left) old new life first (inl taken) lives =
     (old.state, lives, (taken.is_step.begun, taken.is_step.row))
-one_lived before (Stepped step answer events left) old new life first (inr again) lives = same_lives life first old new again.same lives
-one_lived before (Did action outcome) old new life first goes lives = subst (λ (s : State). Lives life first s) (sym goes.state) lives
-one_lived before (Found question) old new life first goes lives = same_lives life first old new goes lives
-one_lived before (TookBytes bytes) old new life first goes lives = same_lives life first old new goes lives
-one_lived before (TookLast bytes) old new life first goes lives = same_lives life first old new goes lives
-one_lived before (TakeFailed bytes) old new life first goes lives = same_lives life first old new goes lives
-one_lived before (HasPut bytes) old new life first goes lives = same_lives life first old new goes lives
-one_lived before (PutFailed bytes) old new life first goes lives = same_lives life first old new goes lives
-one_lived before Grew old new life first goes lives = same_lives life first old new goes lives
-one_lived before RanOut old new life first goes lives = same_lives life first old new goes lives
+one_lived returning before (Stepped step answer events left) old new life first (inr again) lives = same_lives life first old new again.same lives
+one_lived returning before (Did action outcome) old new life first goes lives = subst (λ (s : State). Lives life first s) (sym goes.state) lives
+one_lived returning before (Found question) old new life first goes lives = same_lives life first old new goes lives
+one_lived returning before (TookBytes bytes) old new life first goes lives = same_lives life first old new goes lives
+one_lived returning before (TookLast bytes) old new life first goes lives = same_lives life first old new goes lives
+one_lived returning before (TakeFailed bytes) old new life first goes lives = same_lives life first old new goes lives
+one_lived returning before (HasPut bytes) old new life first goes lives = same_lives life first old new goes lives
+one_lived returning before (PutFailed bytes) old new life first goes lives = same_lives life first old new goes lives
+one_lived returning before Grew old new life first goes lives = same_lives life first old new goes lives
+one_lived returning before RanOut old new life first goes lives = same_lives life first old new goes lives
 
 pub runs_are_lived : RunsAreLived
-runs_are_lived before [] old new life first runs lives = same_lives life first old new runs lives
-runs_are_lived before (deed ∷ story) old new life first runs lives =
-    runs_are_lived before story runs.0 new (with_turn before deed old runs.0 runs.1 life) first runs.2
-    (one_lived before deed old runs.0 life first runs.1 lives)
+runs_are_lived returning before [] old new life first runs lives = same_lives life first old new runs lives
+runs_are_lived returning before (deed ∷ story) old new life first runs lives =
+    runs_are_lived returning before story runs.0 new (with_turn returning before deed old runs.0 runs.1 life) first runs.2
+    (one_lived returning before deed old runs.0 life first runs.1 lives)
 
 -- ---- a crash
 
@@ -64,9 +67,9 @@ module _ {R W : Type 0} (view : DeviceView R W) where
       (life : List Turn) (image : Image) → Lives life first s → (safe : IsSafe view returning before s plan story x y c) → CrashMayLeave c image
       → IsCutSo view returning before s plan story x y c safe life first image
   cut_so returning before c s first plan story x y life image lives safe left =
-      let so_far = runs_are_lived before safe.done (now s (history_of view x) None) (now safe.state (history_of view safe.mid) safe.stopped) life first
+      let so_far = runs_are_lived returning before safe.done (now s (history_of view x) None) (now safe.state (history_of view safe.mid) safe.stopped) life first
       safe.runs lives in
-      let turns = turns_of before safe.done (now s (history_of view x) None) (now safe.state (history_of view safe.mid) safe.stopped) safe.runs life in
+      let turns = turns_of returning before safe.done (now s (history_of view x) None) (now safe.state (history_of view safe.mid) safe.stopped) safe.runs life in
       elim (safe.images image left) as (λ _. IsCutSo view returning before s plan story x y c safe life first image) [
         | inl stands ↦ record { turns = turns; are_of = Between; state = safe.state; lives = so_far; stands = stands }
         | inr next ↦ record {
@@ -111,36 +114,62 @@ life_geometry (turn ∷ life) first s lives = turn_geometry turn lives.0 s lives
 forgotten : (s : State) → s.seats ≡ None → without_seats s ≡ s
 forgotten s unknown = λ i. record s { seats = sym unknown i }
 
-module _ {R W S K : Type 0} (view : DeviceView R W) (streams : Views S K) (first : State) (honest : IsTrue view.rack.honest) where
+-- what it stands for after looks, and whatever the outside did
+stands_between : (returning : Returning) (s : State) (old new : List Happening) → StandsFor returning s old → Ran no_write old new
+    → IsCalmMeanwhile returning s.geometry old new → StandsFor returning (without_seats s) new
+stands_between NoneReturns s old new stands acted calm = looks_stand s old old new stands acted calm.0 calm.1
+stands_between AnyReturns s old new stands acted calm = looked_consistent s old new stands acted
+
+module _ {R W S K : Type 0} (view : DeviceView R W) (streams : Views S K) (honest : IsTrue view.rack.honest) where
+  -- a call that is borne out is a run, whether media come back or not
+  borne_run : (returning : Returning) (s : State) (plan rest : Plan) (old new : Outside S K) (x y : R) (watchers left : List W)
+      (borne : IsBorneOut view streams plan rest old new x y watchers left) → IsHistory (view.rack.history x) → StandsFor returning s (view.rack.history x)
+      → IsCalmOver view returning s.geometry (view.rack.history y) borne.over.means.story (devices x Begun watchers) (devices y borne.session left)
+      borne.over.works
+      → IsRun view returning (view.rack.history x) (without_seats s) borne.over.means.story (devices x Begun watchers) (devices y borne.session left)
+  borne_run NoneReturns s plan rest old new x y watchers left borne history stands calm = borne.runs honest s history stands calm.0 calm.1
+  borne_run AnyReturns s plan rest old new x y watchers left borne history stands calm = borne.wherever.runs honest s history stands calm
+
+  -- and where a crash comes it cuts that
+  borne_cut : (returning : Returning) (s : State) (plan rest : Plan) (old new : Outside S K) (x y : R) (watchers left : List W)
+      (borne : IsBorneOut view streams plan rest old new x y watchers left) (c : List Happening) → IsHistory (view.rack.history x)
+      → StandsFor returning s (view.rack.history x) → IsMoment (view.rack.history x) c (view.rack.history y)
+      → IsCalmOver view returning s.geometry c borne.over.means.story (devices x Begun watchers) (devices y borne.session left) borne.over.works
+      → IsSafe view returning (view.rack.history x) (without_seats s) plan borne.over.means.story (devices x Begun watchers) (devices y borne.session left) c
+  borne_cut NoneReturns s plan rest old new x y watchers left borne c history stands at calm = borne.cuts honest s c history stands at calm.0 calm.1
+  borne_cut AnyReturns s plan rest old new x y watchers left borne c history stands at calm = borne.wherever.cuts honest s c history stands at calm
+
+module _ {R W S K : Type 0} (view : DeviceView R W) (streams : Views S K) (returning : Returning) (first : State) (honest : IsTrue view.rack.honest) where
   -- what has happened is a history of an honest rack
-  calls_history : (h : List Happening) → Calls view streams first h → IsHistory h
+  calls_history : (h : List Happening) → Calls view streams returning first h → IsHistory h
   calls_history h (Starts h' history stands) = history
-  calls_history h (Ends later plan rest old new x y watchers left calls borne within none acted kept tolerated) =
+  calls_history h (Ends later plan rest old new x y watchers left calls borne calm acted between) =
       history_on (history_on (calls_history (view.rack.history x) calls)
       (works_ran view honest borne.over.means.story (devices x Begun watchers) (devices y borne.session left) borne.over.works)) acted
-  calls_history h (Cut c image plan rest old new x y watchers left calls borne at within none crash) = history_made image
+  calls_history h (Cut c image plan rest old new x y watchers left calls borne at calm crash) = history_made image
 
-  pub calls_are_lived : (h : List Happening) (calls : Calls view streams first h) → IsLived view streams first h calls
+  pub calls_are_lived : (h : List Happening) (calls : Calls view streams returning first h) → IsLived view streams returning first h calls
   calls_are_lived h (Starts h' history stands) = record {
     life = [];
     state = without_seats first;
     is_of = (refl, refl);
     lives = refl;
     unknown = refl;
-    stands = forgets NoneReturns first h' stands;
+    stands = forgets returning first h' stands;
     explained = λ certain. reads_are_explained (without_seats first) (without_seats first) [] certain refl;
   }
-  calls_are_lived h (Ends later plan rest old new x y watchers left calls borne within none acted kept tolerated) =
+  calls_are_lived h (Ends later plan rest old new x y watchers left calls borne calm acted between) =
       let before = calls_are_lived (view.rack.history x) calls in
       let history = calls_history (view.rack.history x) calls in
       let same = life_geometry before.life (without_seats first) before.state before.lives in
-      let run = subst (λ (s : State). IsRun view NoneReturns (view.rack.history x) s borne.over.means.story (devices x Begun watchers)
+      let run = subst (λ (s : State). IsRun view returning (view.rack.history x) s borne.over.means.story (devices x Begun watchers)
       (devices y borne.session left)) (forgotten before.state before.unknown)
-      (borne.runs honest before.state history before.stands
-      (subst (λ (g : Geometry). ToleratedSince g (view.rack.history x) (view.rack.history y)) (sym same) within) none) in
-      let lived = runs_are_lived (view.rack.history x) borne.over.means.story (now before.state (view.rack.history x) None)
+      (borne_run view streams honest returning before.state plan rest old new x y watchers left borne history before.stands
+      (subst (λ (g : Geometry). IsCalmOver view returning g (view.rack.history y) borne.over.means.story (devices x Begun watchers)
+      (devices y borne.session left) borne.over.works) (sym same) calm)) in
+      let lived = runs_are_lived returning (view.rack.history x) borne.over.means.story (now before.state (view.rack.history x) None)
       (now run.state (view.rack.history y) run.stopped) before.life (without_seats first) run.runs before.lives in
-      let turns = turns_of (view.rack.history x) borne.over.means.story (now before.state (view.rack.history x) None)
+      let turns = turns_of returning (view.rack.history x) borne.over.means.story (now before.state (view.rack.history x) None)
       (now run.state (view.rack.history y) run.stopped) run.runs before.life in
       let last = life_geometry turns (without_seats first) run.state lived in
       record {
@@ -149,20 +178,21 @@ module _ {R W S K : Type 0} (view : DeviceView R W) (streams : Views S K) (first
         is_of = (before.life, before.state, before.is_of, run, refl {a = Ended ∷ turns}, refl);
         lives = (run.state, lived, refl);
         unknown = refl;
-        stands = looks_stand run.state (view.rack.history y) (view.rack.history y) later run.is_in.stands acted kept
-            (subst (λ (g : Geometry). IsTolerated g (view.rack.history y) later) (sym last) tolerated);
+        stands = stands_between returning run.state (view.rack.history y) later run.is_in.stands acted
+            (subst (λ (g : Geometry). IsCalmMeanwhile returning g (view.rack.history y) later) (sym last) between);
         explained = λ certain.
             reads_are_explained (without_seats first) (without_seats run.state) (Ended ∷ turns) certain (run.state, lived, refl {a = without_seats run.state});
       }
-  calls_are_lived h (Cut c image plan rest old new x y watchers left calls borne at within none crash) =
+  calls_are_lived h (Cut c image plan rest old new x y watchers left calls borne at calm crash) =
       let before = calls_are_lived (view.rack.history x) calls in
       let history = calls_history (view.rack.history x) calls in
       let same = life_geometry before.life (without_seats first) before.state before.lives in
-      let safe = subst (λ (s : State). IsSafe view NoneReturns (view.rack.history x) s plan borne.over.means.story (devices x Begun watchers)
+      let safe = subst (λ (s : State). IsSafe view returning (view.rack.history x) s plan borne.over.means.story (devices x Begun watchers)
       (devices y borne.session left) c) (forgotten before.state before.unknown)
-      (borne.cuts honest before.state c history before.stands at
-      (subst (λ (g : Geometry). ToleratedSince g (view.rack.history x) c) (sym same) within) none) in
-      let cut = cut_so view NoneReturns (view.rack.history x) c before.state (without_seats first) plan borne.over.means.story (devices x Begun watchers)
+      (borne_cut view streams honest returning before.state plan rest old new x y watchers left borne c history before.stands at
+      (subst (λ (g : Geometry). IsCalmOver view returning g c borne.over.means.story (devices x Begun watchers)
+      (devices y borne.session left) borne.over.works) (sym same) calm)) in
+      let cut = cut_so view returning (view.rack.history x) c before.state (without_seats first) plan borne.over.means.story (devices x Begun watchers)
       (devices y borne.session left) before.life image before.lives safe crash in
       record {
         life = Ended ∷ cut.turns;
@@ -170,7 +200,7 @@ module _ {R W S K : Type 0} (view : DeviceView R W) (streams : Views S K) (first
         is_of = (before.life, before.state, before.is_of, safe, cut.turns, cut.are_of, refl, refl);
         lives = (cut.state, cut.lives, refl);
         unknown = refl;
-        stands = forgets NoneReturns cut.state (Made image ∷ []) cut.stands;
+        stands = forgets returning cut.state (Made image ∷ []) cut.stands;
         explained = λ certain.
             reads_are_explained (without_seats first) (without_seats cut.state) (Ended ∷ cut.turns) certain (cut.state, cut.lives, refl {a = without_seats cut.state});
       }

@@ -17,7 +17,7 @@ use Rattle.stair_rack.specs.Crash.{image_now}
 use Rattle.stair_rack.proofs.CrashLemmas.{CrashMayLeave-now}
 use Rattle.stair_rack.proofs.MomentLemmas.{moment_between, moment_first, moment_last, moment_later, moment_sooner, ran_any, ran_before, ran_join, ran_none}
 use Rattle.stair_rack.proofs.OfflineLemmas.{pulls_on}
-use Rattle.stair_rack.proofs.StretchLemmas.{each_before, none_written}
+use Rattle.stair_rack.proofs.StretchLemmas.{none_written}
 use Rattle.stair_super.specs.Superblock.{Superblock, mark_in}
 use Rattle.stair_super.specs.declared.mark.Mark.TheVariants.{Down, Rebuilding}
 use Rattle.stair_member.specs.Aims.{mark_for}
@@ -37,12 +37,13 @@ use Rattle.stair_state.specs.State.{State}
 use Rattle.stair_state.specs.Surveyed.{FindsArray}
 use Rattle.stair_state.specs.Tolerance.{IsWithinTolerance}
 use Rattle.stair_state.proofs.SurveyedLemmas.{finds_array}
+use Rattle.stair_session.specs.Returning.{AnyReturns, NoneReturns, Returning, StandsFor}
 use Rattle.stair_session.specs.Session.{ArrayState}
 use Rattle.stair_array.specs.Causes.{MarkGoesOn, WhyGoesOn}
 use Rattle.stair_array.specs.Machine.{Answer, Chunk, Dropped, Nothing, Promoted, RebuildNext, Recover, Refusal, ReplaceSlot, Step}
 use Rattle.stair_array.specs.Promise.{Begun, Closed, Ends, Found, GoesOn, Opened, Performs, Seen, Session, StartsFrom, Stops, unopened}
 use Rattle.stair_array.proofs.OpenStepLemmas.{opening_or_open}
-use Rattle.stair_array.proofs.RecoverLemmas.{looks_write_none}
+use Rattle.stair_array.proofs.OpeningsLeadLemmas.{looks_write_none}
 use Rattle.stair_story.specs.Action.{Action, Create, OkOf, Outcome, Survey}
 use Rattle.stair_story.specs.Devices.{DeviceView, Devices, MeansWhole, WorksAll, devices, seen_of}
 use Rattle.stair_story.specs.Ending.{AdmitsNone, AdmitsOnce, EachStep}
@@ -50,7 +51,10 @@ use Rattle.stair_story.specs.Outside.{Outside, Views}
 use Rattle.stair_story.specs.Plan.{Plan, Ask, Take, Put, Allocate, Do, Try, RebuildAll, after_rebuild}
 use Rattle.stair_story.specs.Rack.{told_of}
 use Rattle.stair_story.specs.Story.{Deed, Found as FoundOut, Took, TookLast, TakeFailed, HasPut, PutFailed, Grew, RanOut, Did, Stepped, Leads, Moves, after}
-use Rattle.stair_story.specs.Sure.{CanReplaceAt, EachCanReplace, EachDeed, HasDevice, BearsNone, IsFitFrom, IsMarkedDown, ServesThroughout}
+use Rattle.stair_story.specs.Sure.{CanReplaceAt, EachCanReplace, EachDeed, HasDevice, BearsNone, IsCalmBetween, IsFitFrom, IsMarkedDown, ServesAlong}
+use Rattle.stair_return.proofs.SurveyLemmas.{current_together, together, together_mixed}
+use Rattle.stair_story.proofs.AlongLaws.{Serves, along_found, serves_on, survey_calm}
+use Rattle.stair_story.proofs.FoundLaws.{IsArrayFound}
 use Rattle.stair_story.proofs.KeptLaws.{known_begun, starts_known}
 use Rattle.stair_story.proofs.PlannedLaws.{steps_along}
 use Rattle.stair_story.proofs.PlannedSureLaws.{none_replaced_in}
@@ -104,33 +108,52 @@ module _ (s : State) (m : Membership) (old new : Telling) (last : List Happening
   found_there k super {cell = cell} place (found.Read reading) holds bare = was_there k super cell place reading holds bare
   found_there k super place (Unread gone is) holds bare = absurd (let good = holds.good in cc)
 
-  -- a slot that is bare, or marked Down, isn't here
-  not_here : FindsArray s (Ok m) old.history old.history new.history → IsWithinTolerance (IsOffline old.history old.history) s.geometry (image_now old.history)
-      → IsWithinTolerance (IsOffline old.history new.history) s.geometry (image_now new.history) → BearsNone old.history last j ⊎ IsMarkedDown s.geometry old.history last j
-      → ¬ IsHere m j
-  not_here finds first then (inl bare) here =
-      none_first here why.NoSuper (omega arith)
-      (λ has. found_there has.place has.super has.place_in ((surveys.found.each j (small here)).places has.place has.place_in) has.holds bare)
-  not_here finds first then (inr down) here =
-      none_first here why.MarkedDown (omega arith)
-      (ap (λ (c : Configuration). mark_in c j) (sym surveyed.array)
+  -- what the survey took for current marks it Down
+  marked_down : (returning : Returning) → StandsFor returning s old.history → IsCalmBetween returning s.geometry old.history old.history new.history
+      → IsMarkedDown returning s.geometry old.history last j → mark_in surveyed.current.array j ≡ Down
+  marked_down NoneReturns stands calm down =
+      ap (λ (c : Configuration). mark_in c j) (sym surveyed.array)
       ∙ elim (finds.named first.current then.current first.is_current then.is_current) [
         | inl same ↦
             ap (λ (c : Configuration). mark_in c j) (named ∙ same)
-            ∙ down new.history (until at_end) (unwritten at_end) then.current then.is_current
+            ∙ down new.history (until at_end) (unwritten at_end) (image_now new.history) refl then.current then.is_current
         | inr same ↦
             ap (λ (c : Configuration). mark_in c j) (named ∙ same)
-            ∙ down old.history (until at_start) (unwritten at_start) first.current first.is_current
-      ])
+            ∙ down old.history (until at_start) (unwritten at_start) (image_now old.history) refl first.current first.is_current
+      ]
     where
-      named : m.array ≡ finds.member.array
-      named = let is = finds.found in cc
+      finds : FindsArray s (Ok m) old.history old.history new.history
+      finds = finds_array s old.history old new (Ok m) surveys honest (ran_none (old.history)) stands calm.1 calm.0
 
       at_end : IsMoment old.history new.history new.history
       at_end = moment_last asked.more asked.is
 
       at_start : IsMoment old.history old.history new.history
       at_start = moment_first asked.more asked.is
+
+      first : IsWithinTolerance (IsOffline old.history old.history) s.geometry (image_now old.history)
+      first = calm.0 old.history at_start (image_now old.history) (CrashMayLeave-now old.history)
+
+      then : IsWithinTolerance (IsOffline old.history new.history) s.geometry (image_now new.history)
+      then = calm.0 new.history at_end (image_now new.history) (CrashMayLeave-now new.history)
+
+      named : m.array ≡ finds.member.array
+      named = let is = finds.found in cc
+  marked_down AnyReturns stands calm down =
+      down new.history (until at_end) (unwritten at_end) (together old.history old new (Ok m) surveys honest (ran_none old.history))
+      (together_mixed old.history old new (Ok m) surveys honest (ran_none old.history)) surveyed.current
+      (current_together old.history old new (Ok m) surveys honest (ran_none old.history) s.geometry calm.1 m surveyed)
+    where
+      at_end : IsMoment old.history new.history new.history
+      at_end = moment_last asked.more asked.is
+
+  -- a slot that is bare, or marked Down, isn't here
+  not_here : (returning : Returning) → StandsFor returning s old.history → IsCalmBetween returning s.geometry old.history old.history new.history
+      → BearsNone old.history last j ⊎ IsMarkedDown returning s.geometry old.history last j → ¬ IsHere m j
+  not_here returning stands calm (inl bare) here =
+      none_first here why.NoSuper (omega arith)
+      (λ has. found_there has.place has.super has.place_in ((surveys.found.each j (small here)).places has.place has.place_in) has.holds bare)
+  not_here returning stands calm (inr down) here = none_first here why.MarkedDown (omega arith) (marked_down returning stands calm down)
 
 -- ---- a slot that takes no part
 
@@ -263,7 +286,8 @@ module _ (slot : ℕ) where
       (StillOnce tt (rebuilt_once slots done k moves.0 once))
   move_admits _ _ rest once moves = absurd moves
 
-module _ {R W : Type 0} (view : DeviceView R W) (honest : IsTrue view.rack.honest) (g : Geometry) (slot : ℕ) (first : List Happening) where
+module _ {R W : Type 0} (returning : Returning) (view : DeviceView R W) (honest : IsTrue view.rack.honest) (g : Geometry) (slot : ℕ)
+    (first : List Happening) where
   abbrev h_of : Devices R W → List Happening
   h_of x = view.rack.history x.rack
 
@@ -275,7 +299,7 @@ module _ {R W : Type 0} (view : DeviceView R W) (honest : IsTrue view.rack.hones
       IsOffline.Unattached apart (omega (arith, fewer, pulled))
   offline_before ran (IsOffline.RackStopped stops) = IsOffline.RackStopped stops
 
-  fit_from : (from last : List Happening) → Ran any_call first from → Ran any_call from last → HasDevice g first last slot → IsFitFrom g from last slot
+  fit_from : (from last : List Happening) → Ran any_call first from → Ran any_call from last → HasDevice returning g first last slot → IsFitFrom g from last slot
   fit_from from last since ran device =
       let until : IsMoment first from last = moment_between since ran in
       record {
@@ -288,7 +312,7 @@ module _ {R W : Type 0} (view : DeviceView R W) (honest : IsTrue view.rack.hones
 
   -- as it is replaced the slot is Down
   can_replace : (deed : Deed) (x y : Devices R W) (last : List Happening) → IsOut slot x.session → Ran any_call first (h_of x) → Ran any_call (h_of x) last
-      → HasDevice g first last slot → Replaces slot deed → CanReplaceAt view g last deed x y
+      → HasDevice returning g first last slot → Replaces slot deed → CanReplaceAt view g last deed x y
   can_replace (Stepped (ReplaceSlot j) answer events left) x y last out since ran device same = (
     λ was opened.
         let is : IsOut slot (Opened was) = subst (IsOut slot) opened out in
@@ -331,7 +355,7 @@ module _ {R W : Type 0} (view : DeviceView R W) (honest : IsTrue view.rack.hones
 
   -- behind the survey
   found_can : (story : List Deed) (plan rest : Plan) (x y : Devices R W) (works : Leads (WorksAll view) story x y) → Leads Moves story plan rest
-      → AdmitsOnce slot plan → x.session ≢ Begun → IsOut slot x.session → Ran any_call first (h_of x) → HasDevice g first (h_of y) slot
+      → AdmitsOnce slot plan → x.session ≢ Begun → IsOut slot x.session → Ran any_call first (h_of x) → HasDevice returning g first (h_of y) slot
       → EachDeed view (CanReplaceAt view g (h_of y)) story x y works
   found_can [] plan rest x y works follows once begun out since device = tt
   found_can (deed ∷ story) plan rest x y works follows once begun out since device =
@@ -350,89 +374,80 @@ module _ {R W : Type 0} (view : DeviceView R W) (honest : IsTrue view.rack.hones
       ]
 
 -- from the beginning of a session
-module _ {R W : Type 0} (view : DeviceView R W) (s : State) (slot : ℕ) where
-  abbrev Serves : Devices R W → Devices R W → Type 0
-  Serves x y = (x.session ≡ Begun) × ServesThroughout view.rack s x.rack y.rack
-      × HasDevice s.geometry (view.rack.history x.rack) (view.rack.history y.rack) slot
+module _ {R W : Type 0} (returning : Returning) (view : DeviceView R W) (s : State) (slot : ℕ) (y : Devices R W) where
+  abbrev HasOne : Devices R W → Type 0
+  HasOne x = HasDevice returning s.geometry (view.rack.history x.rack) (view.rack.history y.rack) slot
 
-  surveyed_out : (found : Outcome Survey) (x mid y : Devices R W) → WorksAll view (Did Survey found) x mid → Ran any_call (view.rack.history mid.rack) (view.rack.history y.rack)
-      → Serves x y → IsOut slot mid.session
-  surveyed_out (Err fault) x mid y did later serves = subst (IsOut slot) (sym did.2) tt
-  surveyed_out (Ok m) x mid y did later serves =
-      let ready = serves.1 in
-      let device = serves.2 in
-      let ran = asked_ran 32 (view.rack.history x.rack) (view.rack.history mid.rack) (did.0.asked ready.honest) in
-      let until : IsMoment (view.rack.history x.rack) (view.rack.history mid.rack) (view.rack.history y.rack) =
-      moment_between (ran_any ran) later in
-      let finds =
-      finds_array s (view.rack.history x.rack) (told_of view.rack x.rack) (told_of view.rack mid.rack) (Ok m) did.0 ready.honest
-      (ran_none (view.rack.history x.rack)) ready.represents (each_before ready.returned until)
-      (λ h is. ready.tolerated h (moment_sooner is until)) in
-      let same : m ≡ finds.member = let is = finds.found in cc in
-      let geometry : m.array.geometry ≡ s.geometry = ap (λ (n : Membership). n.array.geometry) same ∙ finds.identity in
-      let within : (h : List Happening) → IsMoment (view.rack.history x.rack) h (view.rack.history mid.rack)
-      → IsWithinTolerance (IsOffline (view.rack.history x.rack) h) s.geometry (image_now h) =
-      λ h at. ready.tolerated h (moment_sooner at until) (image_now h) (CrashMayLeave-now h) in
-      subst (IsOut slot) (sym did.2) (
-        omega (arith, device.stays.below, ap (λ (g : Geometry). g.n) geometry),
-        not_here s m (told_of view.rack x.rack) (told_of view.rack mid.rack) (view.rack.history y.rack) slot ready.honest did.0 later finds
-            (within (view.rack.history x.rack) (moment_first ran.more ran.is)) (within (view.rack.history mid.rack) (moment_last ran.more ran.is)) device.out,
-      )
+  surveyed_out : (came : Outcome Survey) (story : List Deed) (x : Devices R W) (works : Leads (WorksAll view) (Did Survey came ∷ story) x y)
+      → Serves returning view s y (Did Survey came ∷ story) x works → HasOne x → IsOut slot works.0.session
+  surveyed_out came story x works serves device =
+      by came works.1 (along_found returning view s y came story x works serves)
+    where
+      by : (came : Outcome Survey) → WorksAll view (Did Survey came) x works.0 → IsArrayFound s.geometry came → IsOut slot works.0.session
+      by (Err fault) did finds = subst (IsOut slot) (sym did.2) tt
+      by (Ok m) did finds =
+          let same : m ≡ finds.member = let is = finds.found in cc in
+          let geometry : m.array.geometry ≡ s.geometry = ap (λ (n : Membership). n.array.geometry) same ∙ finds.geometry in
+          subst (IsOut slot) (sym did.2) (
+            omega (arith, device.stays.below, ap (λ (g : Geometry). g.n) geometry),
+            not_here s m (told_of view.rack x.rack) (told_of view.rack works.0.rack) (view.rack.history y.rack) slot serves.1.honest did.0
+                (works_ran view serves.1.honest story works.0 y works.2) returning serves.1.stands
+                (survey_calm returning view s y came story x works serves) device.out,
+          )
 
-  begun_can : (story : List Deed) (plan rest : Plan) (x y : Devices R W) (works : Leads (WorksAll view) story x y) → Leads Moves story plan rest
-      → AdmitsOnce slot plan → Serves x y → EachCanReplace view s.geometry story x y works
-  begun_can [] plan rest x y works follows once serves = tt
-  begun_can (Stepped step answer events left ∷ story) plan rest x y works follows once serves = absurd (
+  -- behind what was done to the array
+  behind_can : (deed : Deed) (story : List Deed) (plan rest : Plan) (x : Devices R W) (works : Leads (WorksAll view) (deed ∷ story) x y)
+      → IsTrue view.rack.honest → HasOne x → Leads Moves story plan rest → AdmitsOnce slot plan → works.0.session ≢ Begun → IsOut slot works.0.session
+      → EachDeed view (CanReplaceAt view s.geometry (view.rack.history y.rack)) story works.0 y works.2
+  behind_can deed story plan rest x works honest device follows once begun out =
+      found_can returning view honest s.geometry slot (view.rack.history x.rack) story plan rest works.0 y works.2 follows once begun out
+      (one_ran view honest deed x works.0 works.1) device
+
+  begun_can : (story : List Deed) (plan rest : Plan) (x : Devices R W) (works : Leads (WorksAll view) story x y) → Leads Moves story plan rest
+      → AdmitsOnce slot plan → Serves returning view s y story x works → HasOne x → EachCanReplace view s.geometry story x y works
+  begun_can [] plan rest x works follows once serves device = tt
+  begun_can (Stepped step answer events left ∷ story) plan rest x works follows once serves device = absurd (
       elim works.1.0 [
         | inl does ↦ known_begun x.session does.was.member serves.0 (starts_known step does.was x.session does.starts)
         | inr stopped ↦ let same : Begun ≡ Opened stopped.array = sym serves.0 ∙ stopped.is_open in cc
       ])
-  begun_can (Did action outcome ∷ story) plan rest x y works follows once serves =
-      by action outcome works.1 (move_admits slot (Did action outcome) plan follows.0 once follows.1)
+  begun_can (Did (Create array) outcome ∷ story) plan rest x works follows once serves device =
+      elim (move_admits slot (Did (Create array) outcome) plan follows.0 once follows.1) [
+        | StillOnce none still ↦ (
+          tt,
+          behind_can (Did (Create array) outcome) story follows.0 rest x works serves.1.honest device follows.2 still
+              (λ begun. let never : Closed ≡ Begun = sym works.1.2 ∙ begun in cc) (subst (IsOut slot) (sym works.1.2) tt),
+        )
+        | NoneMore replaces none ↦ absurd replaces
+      ]
+  begun_can (Did Survey came ∷ story) plan rest x works follows once serves device =
+      elim (move_admits slot (Did Survey came) plan follows.0 once follows.1) [
+        | StillOnce none still ↦ (
+          tt,
+          behind_can (Did Survey came) story follows.0 rest x works serves.1.honest device follows.2 still (ended came works.1)
+              (surveyed_out came story x works serves device),
+        )
+        | NoneMore replaces none ↦ absurd replaces
+      ]
     where
-      honest : IsTrue view.rack.honest
-      honest = serves.1.honest
-
-      one : WorksAll view (Did action outcome) x works.0 → Ran any_call (view.rack.history x.rack) (view.rack.history works.0.rack)
-      one did = one_ran view honest (Did action outcome) x works.0 did
-
-      later : Ran any_call (view.rack.history works.0.rack) (view.rack.history y.rack)
-      later = works_ran view honest story works.0 y works.2
-
-      behind : works.0.session ≢ Begun → IsOut slot works.0.session → AdmitsOnce slot follows.0
-          → EachDeed view (CanReplaceAt view s.geometry (view.rack.history y.rack)) story works.0 y works.2
-      behind begun out still =
-          found_can view honest s.geometry slot (view.rack.history x.rack) story follows.0 rest works.0 y works.2 follows.2 still begun out (one works.1)
-          serves.2
-
-      by : (action : Action) (outcome : Outcome action) (did : WorksAll view (Did action outcome) x works.0) → Admits slot (Did action outcome) follows.0
-          → EachDeed view (CanReplaceAt view s.geometry (view.rack.history y.rack)) (Did action outcome ∷ story) x y (works.0, did, works.2)
-      by action outcome did (NoneMore replaces none) = absurd replaces
-      by (Create array) outcome did (StillOnce none still) = (
-        tt,
-        behind (λ begun. let never : Closed ≡ Begun = sym did.2 ∙ begun in cc) (subst (IsOut slot) (sym did.2) tt) still,
-      )
-      by Survey found did (StillOnce none still) = (
-        tt,
-        behind (ended found did) (surveyed_out found x works.0 y did later serves) still,
-      )
-        where
-          ended : (found : Outcome Survey) → WorksAll view (Did Survey found) x works.0 → works.0.session ≢ Begun
-          ended (Ok m) did begun = let never : Found m ≡ Begun = sym did.2 ∙ begun in cc
-          ended (Err fault) did begun = let never : Closed ≡ Begun = sym did.2 ∙ begun in cc
-  begun_can (deed ∷ story) plan rest x y works follows once serves =
+      ended : (found : Outcome Survey) → WorksAll view (Did Survey found) x works.0 → works.0.session ≢ Begun
+      ended (Ok m) did begun = let never : Found m ≡ Begun = sym did.2 ∙ begun in cc
+      ended (Err fault) did begun = let never : Closed ≡ Begun = sym did.2 ∙ begun in cc
+  begun_can (deed ∷ story) plan rest x works follows once serves device =
       elim (move_admits slot deed plan follows.0 once follows.1) [
         | StillOnce none still ↦ (
           tt,
-          begun_can story follows.0 rest works.0 y works.2 follows.2 still (subst (λ (d : Devices R W). Serves d y) (sym works.1) serves),
+          begun_can story follows.0 rest works.0 works.2 follows.2 still (serves_on returning view s y deed story x works works.1 serves)
+              (subst HasOne (sym works.1) device),
         )
         | NoneMore replaces none ↦ absurd replaces
       ]
 
-pub devices_replace : {R W S K : Type 0} (view : DeviceView R W) (streams : Views S K) (plan rest : Plan) (s : State) (slot : ℕ) (a b : Outside S K)
-    (x y : R) (watchers left : List W) (whole : MeansWhole view streams plan rest a b x y watchers left) → AdmitsOnce slot plan
-    → ServesThroughout view.rack s x y → HasDevice s.geometry (view.rack.history x) (view.rack.history y) slot
+pub devices_replace : {R W S K : Type 0} (returning : Returning) (view : DeviceView R W) (streams : Views S K) (plan rest : Plan) (s : State) (slot : ℕ)
+    (a b : Outside S K) (x y : R) (watchers left : List W) (whole : MeansWhole view streams plan rest a b x y watchers left) → AdmitsOnce slot plan
+    → ServesAlong returning view s whole.with.means.story (devices x Begun watchers) (devices y whole.session left) whole.with.works
+    → HasDevice returning s.geometry (view.rack.history x) (view.rack.history y) slot
     → EachCanReplace view s.geometry whole.with.means.story (devices x Begun watchers) (devices y whole.session left) whole.with.works
-devices_replace view streams plan rest s slot a b x y watchers left whole once serves device =
-    begun_can view s slot whole.with.means.story plan rest (devices x Begun watchers) (devices y whole.session left) whole.with.works
-    whole.with.means.follows once (refl, serves, device)
+devices_replace returning view streams plan rest s slot a b x y watchers left whole once serves device =
+    begun_can returning view s slot (devices y whole.session left) whole.with.means.story plan rest (devices x Begun watchers) whole.with.works
+    whole.with.means.follows once (refl, serves) device

@@ -5,16 +5,13 @@ use Rattle.stair_model.specs.Geometry.{Geometry}
 use Rattle.stair_model.specs.Slots.{HasSlot, Slots}
 use Rattle.stair_rack.specs.Answers.{IsHistory, Ran, any_call}
 use Rattle.stair_rack.specs.History.{Happening}
-use Rattle.stair_rack.specs.Stretch.{NothingReturned}
 use Rattle.stair_rack.specs.declared.watcher.Event.{Event}
 use Rattle.stair_rack.proofs.MomentLemmas.{ran_join, ran_none}
 use Rattle.stair_rack.proofs.TidyLemmas.{history_on}
 use Rattle.stair_super.specs.Superblock.{mark_in}
 use Rattle.stair_super.specs.declared.mark.Mark.TheVariants.{Down}
-use Rattle.stair_state.specs.Represents.{Represents}
 use Rattle.stair_state.specs.State.{State, without_seats}
-use Rattle.stair_state.specs.Tolerance.{ToleratedSince}
-use Rattle.stair_session.specs.Returning.{NoneReturns}
+use Rattle.stair_session.specs.Returning.{Returning, StandsFor}
 use Rattle.stair_session.specs.Session.{ArrayState, seats_in}
 use Rattle.stair_array.specs.Causes.{MarkGoesOn}
 use Rattle.stair_array.specs.Machine.{Answer, Recover, Refusal, Step}
@@ -22,8 +19,7 @@ use Rattle.stair_array.specs.Promise.{AnswersStopped, Begun, EndsIn, Ends, GoesO
 use Rattle.stair_story.specs.Devices.{DeviceView, Devices, WorksAll, seen_of}
 use Rattle.stair_story.specs.Run.{IsCalmUpTo, StoryLeads}
 use Rattle.stair_story.specs.Story.{Deed, Stepped, Leads}
-use Rattle.stair_story.specs.Sure.{EachKeeps, KeepsAt, NoneGoesDown, StaysIn}
-use Rattle.stair_story.proofs.HeadlineLaws.{calm_story}
+use Rattle.stair_story.specs.Sure.{EachKeeps, IsCalmAlong, KeepsAt, NoneGoesDown, StaysIn}
 use Rattle.stair_story.proofs.RunLaws.{IsAt, one_goes, one_ran, upto_end, works_ran}
 use Rattle.stair_story.proofs.SureSlotLaws.{HoldsOver, stays_up, up_slot}
 use Rattle.stair_story.proofs.SureStepLaws.{begins_at, open_for}
@@ -46,12 +42,12 @@ ends_as : (step : Step) (answer : Answer step) (is array : ArrayState) (session 
 ends_as step answer is array session (Ends opens err closed) opened = absurd (let same = sym closed ∙ opened in cc)
 ends_as step answer is array session (GoesOn opens keeps same) opened = let both : Opened is ≡ Opened array = sym same ∙ opened in cc
 
-module _ {R W : Type 0} (view : DeviceView R W) (honest : IsTrue view.rack.honest) (kept : Slots) (before : List Happening) where
+module _ {R W : Type 0} (returning : Returning) (view : DeviceView R W) (honest : IsTrue view.rack.honest) (kept : Slots) (before : List Happening) where
   abbrev h_of : Devices R W → List Happening
   h_of x = view.rack.history x.rack
 
   -- what it is for one to stay in over a step of an open array
-  stays_over : (s : State) (was : ArrayState) (j : ℕ) (x y : Devices R W) (last : List Happening) → IsOpenFor NoneReturns before s was (h_of x)
+  stays_over : (s : State) (was : ArrayState) (j : ℕ) (x y : Devices R W) (last : List Happening) → IsOpenFor returning before s was (h_of x)
       → StaysIn s.geometry before last j → mark_in was.member.array j ≢ Down → Ran any_call before (h_of x) → Ran any_call (h_of x) (h_of y)
       → Ran any_call (h_of y) last → HoldsOver s.geometry before last was j (seen_of view x).told (seen_of view y).told
   stays_over s was j x y last serving stays up since ran later = record {
@@ -75,12 +71,12 @@ module _ {R W : Type 0} (view : DeviceView R W) (honest : IsTrue view.rack.hones
   EachStays s last = (j : ℕ) → HasSlot kept j → StaysIn s.geometry before last j
 
   performed_keeps : (s : State) (step : Step) (answer : Answer step) (events : List Event) (left : Bool) (x y : Devices R W) (last : List Happening)
-      → Performs step answer events (seen_of view x) (seen_of view y) → ServesState NoneReturns before s x.session (seen_of view x).told
+      → Performs step answer events (seen_of view x) (seen_of view y) → ServesState returning before s x.session (seen_of view x).told
       → Ran any_call before (h_of x) → Ran any_call (h_of y) last → EachStays s last → KeepsAt kept (Stepped step answer events left) x y
   performed_keeps s step answer events left x y last does serves since later stays was is opened ends =
       let began = begins_open step does.was was (subst (StartsFrom step does.was) opened does.starts) in
       let ended : does.is ≡ is = ends_as step answer does.is is y.session does.ends ends in
-      let serving = open_for before s was (seen_of view x) opened began.unstopped serves in
+      let serving = open_for returning before s was (seen_of view x) opened began.unstopped serves in
       subst (λ (a : ArrayState). NoneGoesDown (HasSlot kept) (seats_in was.member.array) (seats_in a.member.array)) ended
       (λ j is_kept up.
       let stay = stays j is_kept in
@@ -97,7 +93,7 @@ module _ {R W : Type 0} (view : DeviceView R W) (honest : IsTrue view.rack.hones
       subst (λ (a : ArrayState). NoneGoesDown (HasSlot kept) (seats_in was.member.array) (seats_in a.member.array)) (sym same) (λ j is_kept up. up)
 
   deed_keeps : (s : State) (stopped : Option Refusal) (deed : Deed) (x y : Devices R W) (last : List Happening) → WorksAll view deed x y
-      → IsAt view NoneReturns before s stopped x → Ran any_call before (h_of x) → Ran any_call (h_of y) last → EachStays s last → KeepsAt kept deed x y
+      → IsAt view returning before s stopped x → Ran any_call before (h_of x) → Ran any_call (h_of y) last → EachStays s last → KeepsAt kept deed x y
   deed_keeps s stopped (Stepped step answer events left) x y last works is_at since later stays =
       elim works.0 [
         | inl does ↦ performed_keeps s step answer events left x y last does is_at.is_in.serves since later stays
@@ -108,27 +104,26 @@ module _ {R W : Type 0} (view : DeviceView R W) (honest : IsTrue view.rack.hones
   -- ---- stories
 
   each_keeps : (s : State) (stopped : Option Refusal) (story : List Deed) (x y : Devices R W) (works : Leads (WorksAll view) story x y)
-      → StoryLeads NoneReturns view story x y works → IsHistory (h_of x) → IsAt view NoneReturns before s stopped x
-      → IsCalmUpTo view NoneReturns s.geometry before (h_of y) story x y works → Ran any_call before (h_of x) → EachStays s (h_of y)
+      → StoryLeads returning view story x y works → IsHistory (h_of x) → IsAt view returning before s stopped x
+      → IsCalmUpTo view returning s.geometry before (h_of y) story x y works → Ran any_call before (h_of x) → EachStays s (h_of y)
       → EachKeeps view kept story x y works
   each_keeps s stopped [] x y works lead history is_at calm since stays = tt
   each_keeps s stopped (deed ∷ story) x y works lead history is_at calm since stays =
       let ran = one_ran view honest deed x works.0 works.1 in
       let later = works_ran view honest story works.0 y works.2 in
-      let one = one_goes view honest NoneReturns before s stopped deed x works.0 works.1 lead.0 history is_at (λ h at. calm.0 h at (upto_end at later)) in (
+      let one = one_goes view honest returning before s stopped deed x works.0 works.1 lead.0 history is_at (λ h at. calm.0 h at (upto_end at later)) in (
         deed_keeps s stopped deed x works.0 (h_of y) works.1 is_at since later stays,
         each_keeps one.state one.stop story works.0 y works.2 lead.1 (history_on history ran) one.is_at
-            (subst (λ (g : Geometry). IsCalmUpTo view NoneReturns g before (h_of y) story works.0 y works.2) (sym one.geometry) calm.1) (ran_join since ran)
+            (subst (λ (g : Geometry). IsCalmUpTo view returning g before (h_of y) story works.0 y works.2) (sym one.geometry) calm.1) (ran_join since ran)
             (subst (λ (g : Geometry). (j : ℕ) → HasSlot kept j → StaysIn g before (h_of y) j) (sym one.geometry) stays),
       )
 
 -- from a session's beginning
-pub staying_kept : {R W : Type 0} (view : DeviceView R W) (s : State) (kept : Slots) (story : List Deed) (x y : Devices R W)
+pub staying_kept : {R W : Type 0} (returning : Returning) (view : DeviceView R W) (s : State) (kept : Slots) (story : List Deed) (x y : Devices R W)
     (works : Leads (WorksAll view) story x y) → IsTrue view.rack.honest → x.session ≡ Begun → IsHistory (view.rack.history x.rack)
-    → Represents s (view.rack.history x.rack) → ToleratedSince s.geometry (view.rack.history x.rack) (view.rack.history y.rack)
-    → NothingReturned (view.rack.history x.rack) (view.rack.history y.rack) → StoryLeads NoneReturns view story x y works
+    → StandsFor returning s (view.rack.history x.rack) → IsCalmAlong view returning s.geometry story x y works
+    → StoryLeads returning view story x y works
     → ((j : ℕ) → HasSlot kept j → StaysIn s.geometry (view.rack.history x.rack) (view.rack.history y.rack) j) → EachKeeps view kept story x y works
-staying_kept view s kept story x y works honest begun history represents tolerated returned lead stays =
-    each_keeps view honest kept (view.rack.history x.rack) (without_seats s) None story x y works lead history (begins_at view s x begun represents)
-    (calm_story view honest s.geometry (view.rack.history x.rack) (view.rack.history y.rack) story x y works (ran_none (view.rack.history x.rack))
-    tolerated returned) (ran_none (view.rack.history x.rack)) stays
+staying_kept returning view s kept story x y works honest begun history stands calm lead stays =
+    each_keeps returning view honest kept (view.rack.history x.rack) (without_seats s) None story x y works lead history
+    (begins_at returning view s x begun stands) calm (ran_none (view.rack.history x.rack)) stays

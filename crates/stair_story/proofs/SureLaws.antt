@@ -6,18 +6,13 @@ use Rattle.stair_rack.specs.Answers.{Ran, any_call}
 use Rattle.stair_rack.specs.Count.{Rose, Rose-kept, kept-Rose}
 use Rattle.stair_rack.specs.History.{Happening}
 use Rattle.stair_rack.specs.Moments.{IsMoment}
-use Rattle.stair_rack.specs.Stretch.{NothingReturned}
 use Rattle.stair_rack.specs.declared.watcher.Event.{Event}
-use Rattle.stair_rack.proofs.MomentLemmas.{moment_between, moment_sooner, ran_any, ran_join, ran_none}
-use Rattle.stair_rack.proofs.StretchLemmas.{each_after, each_before}
+use Rattle.stair_rack.proofs.MomentLemmas.{moment_between, moment_last, ran_any, ran_join, ran_none}
 use Rattle.stair_member.specs.Membership.{Membership}
 use Rattle.stair_member.proofs.AskedLemmas.{asked_ran}
-use Rattle.stair_state.specs.Represents.{Represents}
 use Rattle.stair_state.specs.State.{State, without_seats}
-use Rattle.stair_state.specs.Tolerance.{ToleratedSince}
-use Rattle.stair_state.proofs.OutsideLemmas.{looks_stand, unwritten_ran}
-use Rattle.stair_state.proofs.SurveyedLemmas.{finds_array}
-use Rattle.stair_session.specs.Returning.{NoneReturns}
+use Rattle.stair_state.proofs.OutsideLemmas.{unwritten_ran}
+use Rattle.stair_session.specs.Returning.{Returning, StandsFor}
 use Rattle.stair_array.specs.Machine.{Answer, Chunk, Dropped, GivenBy, Nothing, PassesTests, Progress, Promoted, RebuildNext, Step}
 use Rattle.stair_member.specs.Seats.{Seats}
 use Rattle.stair_story.specs.declared.status.Status.{Status}
@@ -28,11 +23,12 @@ use Rattle.stair_story.specs.Outside.{Outside, Views}
 use Rattle.stair_story.specs.Plan.{Plan, Over, Ask, Take, Put, Allocate, Do, Try, RebuildAll, after_rebuild}
 use Rattle.stair_story.specs.Rack.{MeansOver, RackView, Works, told_of}
 use Rattle.stair_story.specs.Story.{Deed, Found, Took, TookLast, TakeFailed, HasPut, PutFailed, Grew, RanOut, Did, Stepped, Leads, Moves, after}
-use Rattle.stair_story.specs.Sure.{HasNoFault, IsDone, IsDoneFrom, IsFreeFor, IsSure, Last, More, counted_behind}
+use Rattle.stair_story.specs.Sure.{HasNoFault, IsCalmBetween, IsDone, IsDoneFrom, IsFreeFor, IsSure, Last, More, counted_behind}
 use Rattle.stair_story.proofs.EndingLaws.{sink_on, source_on}
 use Rattle.stair_story.proofs.EndingLaws.{ends_so}
 use Rattle.stair_story.proofs.PlannedLaws.{took_last_told, took_told}
 use Rattle.stair_story.proofs.RackLaws.{IsOffDevices, works_still}
+use Rattle.stair_story.proofs.FoundLaws.{calm_first, calm_rest, looked_stands, survey_found}
 use Rattle.stair_story.proofs.RunLaws.{forgets}
 
 -- ---- a story, whatever bears it out
@@ -188,7 +184,7 @@ module _ {X S K : Type 0} (One : Deed → X → X → Type 0)
 
 -- ---- over a rack alone
 
-module _ {R : Type 0} (rack : RackView R) (honest : IsTrue rack.honest) (before : List Happening) where
+module _ {R : Type 0} (returning : Returning) (rack : RackView R) (honest : IsTrue rack.honest) (before : List Happening) where
   abbrev h_of : R → List Happening
   h_of x = rack.history x
 
@@ -205,13 +201,12 @@ module _ {R : Type 0} (rack : RackView R) (honest : IsTrue rack.honest) (before 
   all_ran [] x y works = same_ran works
   all_ran (deed ∷ story) x y works = ran_join (deed_ran deed x works.0 works.1) (all_ran story works.0 y works.2)
 
-  -- The rack represents a state whose seats aren't known, and is within tolerance from here to the end.
+  -- The rack is an array in a state whose seats aren't known, and is within tolerance from here to the end.
   pub record IsReadyOver (counted : List ℕ) (s : State) (story : List Deed) (x y : R) (works : Leads (Works rack) story x y) : Type 0 where
     pub since : Ran any_call before (h_of x)
-    pub represents : Represents s (h_of x)
+    pub stands : StandsFor returning s (h_of x)
     pub unknown : s.seats ≡ None
-    pub tolerated : ToleratedSince s.geometry before (h_of y)
-    pub returned : NothingReturned (h_of x) (h_of y)
+    pub calm : IsCalmBetween returning s.geometry before (h_of x) (h_of y)
 
   over_still : (counted : List ℕ) (s : State) (deed : Deed) (story : List Deed) (x y : R) (works : Leads (Works rack) (deed ∷ story) x y) → IsOffDevices deed
       → IsReadyOver counted s (deed ∷ story) x y works → IsReadyOver counted s story works.0 y works.2
@@ -219,10 +214,9 @@ module _ {R : Type 0} (rack : RackView R) (honest : IsTrue rack.honest) (before 
       let same : works.0 ≡ x = works_still rack deed x works.0 off works.1 in
       record {
         since = subst (λ (z : R). Ran any_call before (h_of z)) (sym same) ready.since;
-        represents = subst (λ (z : R). Represents s (h_of z)) (sym same) ready.represents;
+        stands = subst (λ (z : R). StandsFor returning s (h_of z)) (sym same) ready.stands;
         unknown = ready.unknown;
-        tolerated = ready.tolerated;
-        returned = subst (λ (z : R). NothingReturned (h_of z) (h_of y)) (sym same) ready.returned;
+        calm = subst (λ (z : R). IsCalmBetween returning s.geometry before (h_of z) (h_of y)) (sym same) ready.calm;
       }
 
   over_found : (counted : List ℕ) (s : State) (came : Outcome Survey) (story : List Deed) (x y : R) (works : Leads (Works rack) (Did Survey came ∷ story) x y)
@@ -232,22 +226,19 @@ module _ {R : Type 0} (rack : RackView R) (honest : IsTrue rack.honest) (before 
       let ran : Ran any_call (h_of x) (h_of works.0) = ran_any looked in
       let later = all_ran story works.0 y works.2 in
       let until : IsMoment (h_of x) (h_of works.0) (h_of y) = moment_between ran later in
-      let returned : NothingReturned (h_of x) (h_of works.0) = each_before ready.returned until in
-      let at : IsMoment before (h_of works.0) (h_of y) = moment_between (ran_join ready.since ran) later in
-      let finds =
-      finds_array s before (told_of rack x) (told_of rack works.0) came works.1 honest ready.since ready.represents returned
-      (λ h is. ready.tolerated h (moment_sooner is at)) in
+      let since = ran_join ready.since ran in
+      let calm = calm_first s.geometry before (h_of x) (h_of works.0) (h_of y) until returning ready.since ready.calm in
+      let finds = survey_found returning s before (told_of rack x) (told_of rack works.0) came works.1 honest ready.since ready.stands calm in
       record {
         member = finds.member;
         found = finds.found;
-        geometry = finds.identity;
+        geometry = finds.geometry;
         ready = record {
-          since = ran_join ready.since ran;
-          represents = subst (λ (t : State). Represents t (h_of works.0)) (λ i. record s { seats = sym ready.unknown i })
-              (looks_stand s before (h_of x) (h_of works.0) ready.represents (unwritten_ran looked) returned (ready.tolerated (h_of works.0) at));
+          since = since;
+          stands = subst (λ (t : State). StandsFor returning t (h_of works.0)) (λ i. record s { seats = sym ready.unknown i })
+              (looked_stands returning s before (h_of x) (h_of works.0) ready.stands (unwritten_ran looked) (moment_last since.more since.is) calm);
           unknown = ready.unknown;
-          tolerated = ready.tolerated;
-          returned = each_after ready.returned until;
+          calm = calm_rest s.geometry before (h_of x) (h_of works.0) (h_of y) until returning ready.calm;
         };
       }
 
@@ -260,18 +251,17 @@ module _ {R : Type 0} (rack : RackView R) (honest : IsTrue rack.honest) (before 
 
   -- a sure plan is done
   pub stepless_done : {S K : Type 0} (streams : Views S K) (plan : Plan) (status : Status) (s : State) (a b : Outside S K) (x y : R)
-      → MeansOver rack streams plan (Over status) a b x y → Ran any_call before (h_of x) → Represents s (h_of x)
-      → ToleratedSince s.geometry before (h_of y) → NothingReturned (h_of x) (h_of y) → HasNoFault streams a b
+      → MeansOver rack streams plan (Over status) a b x y → Ran any_call before (h_of x) → StandsFor returning s (h_of x)
+      → IsCalmBetween returning s.geometry before (h_of x) (h_of y) → HasNoFault streams a b
       → IsSure [] plan (without_seats s) (streams.source.left a.source) → IsDone status
-  stepless_done streams plan status s a b x y over since represents tolerated returned none sure =
+  stepless_done streams plan status s a b x y over since stands calm none sure =
       ends_done (Works rack) IsReadyOver over_carries streams [] over.means.story plan status (without_seats s) x y over.works a.source b.source
       a.sink b.sink over.means.follows over.means.bears.gives over.means.bears.holds none.source none.sink
       (record {
         since = since;
-        represents = forgets NoneReturns s (h_of x) represents;
+        stands = forgets returning s (h_of x) stands;
         unknown = refl;
-        tolerated = tolerated;
-        returned = returned;
+        calm = calm;
       }) sure
 
 -- ---- plans

@@ -2,13 +2,12 @@
 -- behind it is sure again.
 use Rattle.std.proofs.Common.{◌≡◌, ◌≢◌, ◌∙◌, ℕ, ◌<◌, List, [], ◌∷◌, Option, None, Some, Result, Ok, Err, inl, inr, refl, sym, ap, subst, arith}
 use Rattle.std.proofs.lemmas.Bool.{false≢true}
-use Rattle.std.specs.Prelude.{Bool, IsOk, IsSome, IsTrue}
+use Rattle.std.specs.Prelude.{Bool, IsOk, IsSome, IsTrue, false}
 use Rattle.stair_model.specs.Geometry.{Geometry}
 use Rattle.stair_rack.specs.Answers.{IsHistory, Ran, any_call}
 use Rattle.stair_rack.specs.History.{Happening}
 use Rattle.stair_rack.specs.Moments.{IsMoment}
 use Rattle.stair_rack.specs.Offline.{IsHeld, IsOffline}
-use Rattle.stair_rack.specs.Stretch.{NothingReturned}
 use Rattle.stair_rack.specs.Telling.{Telling}
 use Rattle.stair_rack.specs.declared.watcher.Event.{Event}
 use Rattle.stair_rack.proofs.MomentLemmas.{at_every_from, moment_between, moment_first, moment_last, moment_sooner, ran_join, ran_none}
@@ -19,11 +18,8 @@ use Rattle.stair_super.specs.declared.mark.Mark.TheVariants.{Down}
 use Rattle.stair_member.specs.Membership.{Membership}
 use Rattle.stair_member.specs.Seats.{Seats}
 use Rattle.stair_member.specs.declared.fault.FenceFault.{FenceFault}
-use Rattle.stair_state.specs.Represents.{Represents}
 use Rattle.stair_state.specs.State.{State, without_seats}
-use Rattle.stair_state.specs.Tolerance.{ToleratedSince}
-use Rattle.stair_state.proofs.SurveyedLemmas.{finds_array}
-use Rattle.stair_session.specs.Returning.{IsCalm, NoneReturns}
+use Rattle.stair_session.specs.Returning.{IsCalm, Returning, StandsFor}
 use Rattle.stair_session.specs.Courses.{point}
 use Rattle.stair_session.specs.Session.{ArrayState, seats_in}
 use Rattle.stair_array.specs.Draws.{HasDraws}
@@ -37,8 +33,8 @@ use Rattle.stair_story.specs.Outside.{Outside, Views}
 use Rattle.stair_story.specs.Plan.{Plan, Over}
 use Rattle.stair_story.specs.Run.{IsCalmUpTo, StoryLeads}
 use Rattle.stair_story.specs.Story.{Deed, Did, Stepped, Leads}
-use Rattle.stair_story.specs.Sure.{BeginsAs, CanReplaceAt, EachCanReplace, EachHasDraws, HasNoFault, IsCounted, IsDone, IsFitFrom, IsFreeFor, IsSure, IsThere, KeepsCounted, LeavesDraws, MediumLeavesDraws, NoneGoesDown, counted_behind}
-use Rattle.stair_story.proofs.HeadlineLaws.{calm_story}
+use Rattle.stair_story.specs.Sure.{BeginsAs, CanReplaceAt, EachCanReplace, EachHasDraws, HasNoFault, IsCalmAlong, IsCounted, IsDone, IsFitFrom, IsFreeFor, IsSure, IsThere, KeepsCounted, LeavesDraws, MediumLeavesDraws, NoneGoesDown, counted_behind}
+use Rattle.stair_story.proofs.FoundLaws.{calm_between, survey_found}
 use Rattle.stair_story.proofs.RackLaws.{IsOffDevices}
 use Rattle.stair_story.proofs.RunLaws.{IsAt, IsStoppedBy, forgets, one_goes, one_ran, refusal_kept, upto_end, works_ran}
 use Rattle.stair_story.proofs.SureSlotLaws.{replaced_held, stays_up}
@@ -79,28 +75,29 @@ never_opening step was session opening starts is =
     subst (λ (end : Session). StartsFrom Recover was end) is (subst (λ (begun : Step). StartsFrom begun was session) opening starts)
 
 -- what is so of an open array that isn't stopped
-pub open_for : (before : List Happening) (s : State) (array : ArrayState) (x : Seen) → x.session ≡ Opened array → array.stopped ≡ None
-    → ServesState NoneReturns before s x.session x.told → IsOpenFor NoneReturns before s array x.told.history
-open_for before s array x opened unstopped serves = at (subst (λ (session : Session). ServesState NoneReturns before s session x.told) opened serves)
+pub open_for : (returning : Returning) (before : List Happening) (s : State) (array : ArrayState) (x : Seen) → x.session ≡ Opened array → array.stopped ≡ None
+    → ServesState returning before s x.session x.told → IsOpenFor returning before s array x.told.history
+open_for returning before s array x opened unstopped serves = at (subst (λ (session : Session). ServesState returning before s session x.told) opened serves)
   where
-    at : ServesState NoneReturns before s (Opened array) x.told → IsOpenFor NoneReturns before s array x.told.history
+    at : ServesState returning before s (Opened array) x.told → IsOpenFor returning before s array x.told.history
     at (inl serving) = serving
     at (inr stopped) = absurd (none_some array.stopped unstopped stopped)
 
 -- so the seats that it knows are those of the state
-opened_seats : (before : List Happening) (s : State) (is : ArrayState) (session : Session) (told : Telling) → IsOpened is session
-    → ServesState NoneReturns before s session told → s.seats ≡ Some (seats_in is.member.array)
-opened_seats before s is session told opened serves =
-    (open_for before s is (record { told = told; session = session }) opened.is_open opened.unstopped serves).seats
+opened_seats : (returning : Returning) (before : List Happening) (s : State) (is : ArrayState) (session : Session) (told : Telling) → IsOpened is session
+    → ServesState returning before s session told → s.seats ≡ Some (seats_in is.member.array)
+opened_seats returning before s is session told opened serves =
+    (open_for returning before s is (record { told = told; session = session }) opened.is_open opened.unstopped serves).seats
 
 -- a slot that was to be replaced is one of the array
 replaced_below : (step : Step) (s : State) (seats : Seats) → PassesTests step s seats → (j : ℕ) → step ≡ ReplaceSlot j → j < s.geometry.n
 replaced_below step s seats passes j is = let passed : PassesTests (ReplaceSlot j) s seats = subst (λ (begun : Step). PassesTests begun s seats) is passes in passed.0
 
 -- the seats with which it begins
-begins_as : (step : Step) (m : Membership) (before h : List Happening) (s : State) (begun : Seats) → BeginsWith step m before h s begun → BeginsAs step s begun
-begins_as Recover m before h s begun begins = tt
-begins_as _ m before h s begun begins = begins
+begins_as : (returning : Returning) (step : Step) (m : Membership) (before h : List Happening) (s : State) (begun : Seats)
+    → BeginsWith returning step m before h s begun → BeginsAs step s begun
+begins_as returning Recover m before h s begun begins = tt
+begins_as returning _ m before h s begun begins = begins
 
 seats_once : {a b : Seats} → Some a ≡ Some b → a ≡ b
 seats_once same = cc
@@ -113,33 +110,33 @@ kept_twice slots begun ended was is known later is_begun is_was is_ended is_is k
     (subst (λ (new : Seats). NoneGoesDown slots was new) (seats_once (sym is_is ∙ is_ended)) kept)
 
 -- what the array's seats do the row's do
-keeps_by : (counted : List ℕ) (step : Step) (answer : Answer step) (events : List Event) (given : GivenBy step) (before h : List Happening)
+keeps_by : (returning : Returning) (counted : List ℕ) (step : Step) (answer : Answer step) (events : List Event) (given : GivenBy step) (before h : List Happening)
     (s later : State) (begun : Seats) (row : Row step (Ok given) begun s later) (x y : Seen) (does : Performs step answer events x y)
-    → BeginsWith step does.was.member before h s begun → IsOpened does.is y.session → ServesState NoneReturns before s x.session x.told
-    → ServesState NoneReturns before later y.session y.told
+    → BeginsWith returning step does.was.member before h s begun → IsOpened does.is y.session → ServesState returning before s x.session x.told
+    → ServesState returning before later y.session y.told
     → (IsOpened does.was x.session → NoneGoesDown (IsCounted counted) (seats_in does.was.member.array) (seats_in does.is.member.array))
     → KeepsCounted counted step begun row.seats
-keeps_by counted Recover answer events given before h s later begun row x y does begins opened serves serves_later kept = tt
-keeps_by counted step answer events given before h s later begun row x y does begins opened serves serves_later kept =
+keeps_by returning counted Recover answer events given before h s later begun row x y does begins opened serves serves_later kept = tt
+keeps_by returning counted step answer events given before h s later begun row x y does begins opened serves serves_later kept =
     elim (opening_or_open step does.was x.session does.starts) [
       | inl opening ↦ let same : step ≡ Recover = opening in absurd cc
       | inr began ↦
           kept_twice (IsCounted counted) begun row.seats (seats_in does.was.member.array) (seats_in does.is.member.array) s.seats later.seats begins
-          (opened_seats before s does.was x.session x.told began serves) row.known
-          (opened_seats before later does.is y.session y.told opened serves_later) (kept began)
+          (opened_seats returning before s does.was x.session x.told began serves) row.known
+          (opened_seats returning before later does.is y.session y.told opened serves_later) (kept began)
     ]
 
 -- the slot that is to be replaced is Down in the state's seats, where it is in the array's
-free_for : (step : Step) (before : List Happening) (s : State) (was : ArrayState) (session : Session) (told : Telling) (seats : Seats)
-    → StartsFrom step was session → ServesState NoneReturns before s session told → s.seats ≡ Some seats
+free_for : (returning : Returning) (step : Step) (before : List Happening) (s : State) (was : ArrayState) (session : Session) (told : Telling) (seats : Seats)
+    → StartsFrom step was session → ServesState returning before s session told → s.seats ≡ Some seats
     → ((j : ℕ) → step ≡ ReplaceSlot j → IsOpened was session → mark_in was.member.array j ≡ Down) → IsFreeFor step seats
-free_for (ReplaceSlot j) before s was session told seats starts serves known down =
+free_for returning (ReplaceSlot j) before s was session told seats starts serves known down =
     elim (opening_or_open (ReplaceSlot j) was session starts) [
       | inl opening ↦ let same : ReplaceSlot j ≡ Recover = opening in absurd cc
       | inr began ↦
-          subst (λ (is : Seats). (is j).mark ≡ Down) (seats_once (sym (opened_seats before s was session told began serves) ∙ known)) (down j refl began)
+          subst (λ (is : Seats). (is j).mark ≡ Down) (seats_once (sym (opened_seats returning before s was session told began serves) ∙ known)) (down j refl began)
     ]
-free_for _ before s was session told seats starts serves known down = tt
+free_for returning _ before s was session told seats starts serves known down = tt
 
 -- the moments of a step
 may_replace : (g : Geometry) (j : ℕ) (old new last : List Happening) → Ran any_call old new → Ran any_call new last → IsFitFrom g old last j
@@ -163,7 +160,7 @@ fit_for _ g old new last ran later fit draws = tt
 
 -- ---- stories
 
-module _ {R W : Type 0} (view : DeviceView R W) (honest : IsTrue view.rack.honest) (before : List Happening) where
+module _ {R W : Type 0} (returning : Returning) (view : DeviceView R W) (honest : IsTrue view.rack.honest) (before : List Happening) where
   abbrev h_of : Devices R W → List Happening
   h_of x = view.rack.history x.rack
 
@@ -191,21 +188,21 @@ module _ {R W : Type 0} (view : DeviceView R W) (honest : IsTrue view.rack.hones
   -- outside is in their way, and the slots that are counted on stay up.
   pub record IsReadyWith (counted : List ℕ) (s : State) (story : List Deed) (x y : Devices R W) (works : Leads (WorksAll view) story x y) : Type 0 where
     pub history : IsHistory (h_of x)
-    pub is_at : IsAt view NoneReturns before s None x
-    pub calm : IsCalmUpTo view NoneReturns s.geometry before (h_of y) story x y works
-    pub lead : StoryLeads NoneReturns view story x y works
+    pub is_at : IsAt view returning before s None x
+    pub calm : IsCalmUpTo view returning s.geometry before (h_of y) story x y works
+    pub lead : StoryLeads returning view story x y works
     pub draws : EachHasDraws view s.geometry story x y works
     pub can : EachCanReplace view s.geometry story x y works
     pub stay : StayUp counted s.geometry (h_of x) (h_of y)
 
   -- what comes behind a deed
   behind : (counted after : List ℕ) (s later : State) (deed : Deed) (story : List Deed) (x y : Devices R W)
-      (works : Leads (WorksAll view) (deed ∷ story) x y) → later.geometry ≡ s.geometry → IsAt view NoneReturns before later None works.0
+      (works : Leads (WorksAll view) (deed ∷ story) x y) → later.geometry ≡ s.geometry → IsAt view returning before later None works.0
       → StayUp after s.geometry (h_of works.0) (h_of y) → IsReadyWith counted s (deed ∷ story) x y works → IsReadyWith after later story works.0 y works.2
   behind counted after s later deed story x y works geometry is_at stay ready = record {
     history = history_on ready.history (one_ran view honest deed x works.0 works.1);
     is_at = is_at;
-    calm = subst (λ (g : Geometry). IsCalmUpTo view NoneReturns g before (h_of y) story works.0 y works.2) (sym geometry) ready.calm.1;
+    calm = subst (λ (g : Geometry). IsCalmUpTo view returning g before (h_of y) story works.0 y works.2) (sym geometry) ready.calm.1;
     lead = ready.lead.1;
     draws = subst (λ (g : Geometry). EachHasDraws view g story works.0 y works.2) (sym geometry) ready.draws.1;
     can = subst (λ (g : Geometry). EachCanReplace view g story works.0 y works.2) (sym geometry) ready.can.1;
@@ -220,13 +217,13 @@ module _ {R W : Type 0} (view : DeviceView R W) (honest : IsTrue view.rack.hones
   -- calm over the first deed
   calm_deed : (counted : List ℕ) (s : State) (deed : Deed) (story : List Deed) (x y : Devices R W) (works : Leads (WorksAll view) (deed ∷ story) x y)
       → IsReadyWith counted s (deed ∷ story) x y works → (h : List Happening) → IsMoment (h_of x) h (h_of works.0)
-      → IsCalm NoneReturns s.geometry (is_open x.session) before h
+      → IsCalm returning s.geometry (is_open x.session) before h
   calm_deed counted s deed story x y works ready h at = ready.calm.0 h at (upto_end at (works_ran view honest story works.0 y works.2))
 
   with_still : (counted : List ℕ) (s : State) (deed : Deed) (story : List Deed) (x y : Devices R W) (works : Leads (WorksAll view) (deed ∷ story) x y) → IsOffDevices deed
       → IsReadyWith counted s (deed ∷ story) x y works → IsReadyWith counted s story works.0 y works.2
   with_still counted s deed story x y works off ready =
-      behind counted counted s s deed story x y works refl (subst (IsAt view NoneReturns before s None) (sym (left deed works.0 off works.1)) ready.is_at)
+      behind counted counted s s deed story x y works refl (subst (IsAt view returning before s None) (sym (left deed works.0 off works.1)) ready.is_at)
       (stay_on counted s.geometry deed x works.0 y works.1 ready.stay) ready
     where
       left : (deed : Deed) (z : Devices R W) → IsOffDevices deed → WorksAll view deed x z → z ≡ x
@@ -240,31 +237,33 @@ module _ {R W : Type 0} (view : DeviceView R W) (honest : IsTrue view.rack.hones
       let surveys = works.1.0 in
       let calm = calm_deed counted s (Did Survey came) story x y works ready in
       let ran : Ran any_call (h_of x) (h_of works.0) = one_ran view honest (Did Survey came) x works.0 works.1 in
-      let one = one_goes view honest NoneReturns before s None (Did Survey came) x works.0 works.1 tt ready.history ready.is_at calm in
-      let serves = subst (λ (session : Session). ServesState NoneReturns before s session (seen_of view x).told) works.1.1 ready.is_at.is_in.serves in
-      let calm_now = calm (h_of works.0) (moment_last ran.more ran.is) in
+      let one = one_goes view honest returning before s None (Did Survey came) x works.0 works.1 tt ready.history ready.is_at calm in
+      let serves = subst (λ (session : Session). ServesState returning before s session (seen_of view x).told) works.1.1 ready.is_at.is_in.serves in
+      let calm_now : IsCalm returning s.geometry false (h_of x) (h_of works.0) =
+      subst (λ (h : List Happening). IsCalm returning s.geometry false h (h_of works.0)) serves.0
+      (subst (λ (session : Session). IsCalm returning s.geometry (is_open session) before (h_of works.0)) works.1.1
+      (calm (h_of works.0) (moment_last ran.more ran.is))) in
       let finds =
-      finds_array s before (seen_of view x).told (seen_of view works.0).told came surveys honest
-      (subst (λ (h : List Happening). Ran any_call h (h_of x)) (sym serves.0) (ran_none (h_of x))) ready.is_at.is_in.stands
-      (subst (λ (h : List Happening). NothingReturned h (h_of works.0)) serves.0 calm_now.1) calm_now.0 in
+      survey_found returning s (h_of x) (seen_of view x).told (seen_of view works.0).told came surveys honest (ran_none (h_of x)) ready.is_at.is_in.stands
+      (calm_between returning s.geometry (h_of x) (h_of works.0) calm_now) in
       record {
         member = finds.member;
         found = finds.found;
-        geometry = finds.identity;
+        geometry = finds.geometry;
         ready = behind counted counted s s (Did Survey came) story x y works refl
-            (subst (λ (t : State). IsAt view NoneReturns before t None works.0) one.goes.state
-            (subst (λ (stop : _). IsAt view NoneReturns before one.state stop works.0) one.goes.stopped one.is_at))
+            (subst (λ (t : State). IsAt view returning before t None works.0) one.goes.state
+            (subst (λ (stop : _). IsAt view returning before one.state stop works.0) one.goes.stopped one.is_at))
             (stay_on counted s.geometry (Did Survey came) x works.0 y works.1 ready.stay) ready;
       }
 
   -- no slot that is counted on goes Down over a step of an open array
   counted_up : (counted : List ℕ) (s : State) (step : Step) (answer : Answer step) (events : List Event) (x y : Devices R W) (last : List Happening)
       (does : Performs step answer events (seen_of view x) (seen_of view y)) → step ≢ Recover → IsOpened does.was x.session
-      → ServesState NoneReturns before s x.session (seen_of view x).told → Ran any_call (h_of y) last → StayUp counted s.geometry (h_of x) last
+      → ServesState returning before s x.session (seen_of view x).told → Ran any_call (h_of y) last → StayUp counted s.geometry (h_of x) last
       → NoneGoesDown (IsCounted counted) (seats_in does.was.member.array) (seats_in does.is.member.array)
   counted_up counted s step answer events x y last does other began serves later stay j is up =
       let up_to = stay j is in
-      let serving = open_for before s does.was (seen_of view x) began.is_open began.unstopped serves in
+      let serving = open_for returning before s does.was (seen_of view x) began.is_open began.unstopped serves in
       let below : j < does.was.member.array.geometry.n = omega (arith, up_to.below, ap (λ (g : Geometry). g.n) serving.geometry) in
       stays_up s.geometry up_to.from last does.was j (seen_of view x).told (seen_of view y).told
       (record {
@@ -315,7 +314,7 @@ module _ {R W : Type 0} (view : DeviceView R W) (honest : IsTrue view.rack.hones
       (steps.complete honest before s ready.history ready.is_at.is_in calm
       (record {
         passes = λ seats known. passes seats known
-            (free_for step before s does.was x.session (seen_of view x).told seats does.starts ready.is_at.is_in.serves known
+            (free_for returning step before s does.was x.session (seen_of view x).told seats does.starts ready.is_at.is_in.serves known
             (λ j is began. (can j is).0 does.was began.is_open));
         draws = starts_drawn step does.was x.session does.starts ready.draws.0.0;
         fit = fit_for step s.geometry (h_of x) (h_of works.0) (h_of y) ran later (λ j is. (can j is).1) ready.draws.0.1;
@@ -328,9 +327,9 @@ module _ {R W : Type 0} (view : DeviceView R W) (honest : IsTrue view.rack.hones
         later = leads.state;
         done = record {
           begun = leads.is_step.begun;
-          begins = begins_as step does.was.member before (h_of works.0) s leads.is_step.begun leads.is_step.begins;
+          begins = begins_as returning step does.was.member before (h_of works.0) s leads.is_step.begun leads.is_step.begins;
           row = row;
-          keeps = keeps_by counted step answer events given.0 before (h_of works.0) s leads.state leads.is_step.begun row (seen_of view x)
+          keeps = keeps_by returning counted step answer events given.0 before (h_of works.0) s leads.state leads.is_step.begun row (seen_of view x)
               (seen_of view works.0) does leads.is_step.begins opened ready.is_at.is_in.serves leads.is_in.serves
               (λ began.
               counted_up counted s step answer events x works.0 (h_of y) does
@@ -374,12 +373,12 @@ module _ {R W : Type 0} (view : DeviceView R W) (honest : IsTrue view.rack.hones
 -- ---- from a session's beginning
 
 -- before anything was done in it
-pub begins_at : {R W : Type 0} (view : DeviceView R W) (s : State) (x : Devices R W) → x.session ≡ Begun → Represents s (view.rack.history x.rack)
-    → IsAt view NoneReturns (view.rack.history x.rack) (without_seats s) None x
-begins_at view s x begun represents = record {
+pub begins_at : {R W : Type 0} (returning : Returning) (view : DeviceView R W) (s : State) (x : Devices R W) → x.session ≡ Begun
+    → StandsFor returning s (view.rack.history x.rack) → IsAt view returning (view.rack.history x.rack) (without_seats s) None x
+begins_at returning view s x begun stands = record {
   is_in = record {
-    stands = forgets NoneReturns s (view.rack.history x.rack) represents;
-    serves = subst (λ (session : Session). ServesState NoneReturns (view.rack.history x.rack) (without_seats s) session (seen_of view x).told) (sym begun)
+    stands = forgets returning s (view.rack.history x.rack) stands;
+    serves = subst (λ (session : Session). ServesState returning (view.rack.history x.rack) (without_seats s) session (seen_of view x).told) (sym begun)
         (refl, refl);
   };
   kept = subst (λ (session : Session). IsStoppedBy session None) (sym begun) refl;
@@ -387,23 +386,21 @@ begins_at view s x begun represents = record {
 
 module _ {R W S K : Type 0} (view : DeviceView R W) (streams : Views S K) where
   -- a command whose plan is sure is done
-  pub sure_done : (plan : Plan) (status : Status) (s : State) (a b : Outside S K) (x y : Devices R W)
+  pub sure_done : (returning : Returning) (plan : Plan) (status : Status) (s : State) (a b : Outside S K) (x y : Devices R W)
       (with : MeansWith view streams plan (Over status) a b x y) → IsTrue view.rack.honest → x.session ≡ Begun
-      → IsHistory (view.rack.history x.rack) → Represents s (view.rack.history x.rack)
-      → ToleratedSince s.geometry (view.rack.history x.rack) (view.rack.history y.rack)
-      → NothingReturned (view.rack.history x.rack) (view.rack.history y.rack) → HasNoFault streams a b
-      → StoryLeads NoneReturns view with.means.story x y with.works → EachHasDraws view s.geometry with.means.story x y with.works
+      → IsHistory (view.rack.history x.rack) → StandsFor returning s (view.rack.history x.rack)
+      → IsCalmAlong view returning s.geometry with.means.story x y with.works → HasNoFault streams a b
+      → StoryLeads returning view with.means.story x y with.works → EachHasDraws view s.geometry with.means.story x y with.works
       → EachCanReplace view s.geometry with.means.story x y with.works
       → IsSure [] plan (without_seats s) (streams.source.left a.source) → IsDone status
-  sure_done plan status s a b x y with honest begun history represents tolerated returned none lead draws can sure =
-      ends_done (WorksAll view) (IsReadyWith view honest (view.rack.history x.rack))
-      (with_carries view honest (view.rack.history x.rack)) streams [] with.means.story plan status (without_seats s) x y with.works a.source b.source
+  sure_done returning plan status s a b x y with honest begun history stands calm none lead draws can sure =
+      ends_done (WorksAll view) (IsReadyWith returning view honest (view.rack.history x.rack))
+      (with_carries returning view honest (view.rack.history x.rack)) streams [] with.means.story plan status (without_seats s) x y with.works a.source b.source
       a.sink b.sink with.means.follows with.means.bears.gives with.means.bears.holds none.source none.sink
       (record {
         history = history;
-        is_at = begins_at view s x begun represents;
-        calm = calm_story view honest s.geometry (view.rack.history x.rack) (view.rack.history y.rack) with.means.story x y with.works
-            (ran_none (view.rack.history x.rack)) tolerated returned;
+        is_at = begins_at returning view s x begun stands;
+        calm = calm;
         lead = lead;
         draws = draws;
         can = can;

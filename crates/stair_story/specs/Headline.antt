@@ -8,10 +8,11 @@ use Rattle.stair_rack.specs.Moments.{IsMoment}
 use Rattle.stair_rack.specs.Stretch.{NothingReturned, NothingWritten}
 use Rattle.stair_rack.specs.Telling.{Telling}
 use Rattle.stair_rack.specs.declared.watcher.Event.{Event}
+use Rattle.stair_state.specs.Holding.{IsConsistentUnderReassembly}
 use Rattle.stair_state.specs.Represents.{Represents}
 use Rattle.stair_state.specs.State.{State, without_seats}
 use Rattle.stair_state.specs.Tolerance.{ToleratedSince}
-use Rattle.stair_session.specs.Returning.{IsCalm, NoneReturns, Returning, StandsFor}
+use Rattle.stair_session.specs.Returning.{AnyReturns, IsCalm, NoneReturns, Returning, StandsFor}
 use Rattle.stair_array.specs.Creates.{Creates}
 use Rattle.stair_array.specs.declared.fault.CreateFault.{CreateFault}
 use Rattle.stair_array.specs.Machine.{GivenBy, Step}
@@ -48,6 +49,30 @@ pub record IsRunOf {R W : Type 0} (view : DeviceView R W) (plan : Plan) (story :
   pub runs : RunsInTolerance view story x y
   pub cuts : IsSafeInTolerance view plan story x y
 
+-- Where media come back both are so of a rack that is consistent under reassembly: at each moment failures stay within tolerance, and
+-- while the array isn't open they do in each image in which the slots are as they were at moments of their own.
+abbrev pub RunsWherever : {R W : Type 0} → (view : DeviceView R W) → (story : List Deed)
+    → (x y : Devices R W) → Leads (WorksAll view) story x y → Type 0
+RunsWherever view story x y works = IsTrue view.rack.honest → (s : State)
+    → IsHistory (history_of view x) → IsConsistentUnderReassembly s (history_of view x)
+    → IsCalmUpTo view AnyReturns s.geometry (history_of view x) (history_of view y) story x y works
+    → IsRun view AnyReturns (history_of view x) (without_seats s) story x y
+
+abbrev pub IsSafeWherever : {R W : Type 0} → (view : DeviceView R W) → Plan
+    → (story : List Deed) → (x y : Devices R W) → Leads (WorksAll view) story x y → Type 0
+IsSafeWherever view plan story x y works = IsTrue view.rack.honest → (s : State)
+    (c : List Happening) → IsHistory (history_of view x)
+    → IsConsistentUnderReassembly s (history_of view x)
+    → IsMoment (history_of view x) c (history_of view y)
+    → IsCalmUpTo view AnyReturns s.geometry (history_of view x) c story x y works
+    → IsSafe view AnyReturns (history_of view x) (without_seats s) plan story x y c
+
+pub record IsRunWherever {R W : Type 0} (view : DeviceView R W) (plan : Plan)
+    (story : List Deed) (x y : Devices R W) (works : Leads (WorksAll view) story x y) : Type 0
+  where
+    pub runs : RunsWherever view story x y works
+    pub cuts : IsSafeWherever view plan story x y works
+
 -- A whole call: a session of its own, from its beginning on. What it has of an array in the end is let go.
 pub record IsBorneOut {R W S K : Type 0} (view : DeviceView R W) (streams : Views S K)
     (plan rest : Plan) (old new : Outside S K) (first last : R) (watchers left : List W) : Type 0
@@ -61,15 +86,18 @@ pub record IsBorneOut {R W S K : Type 0} (view : DeviceView R W) (streams : View
         (devices last session left)
     pub cuts : IsSafeInTolerance view plan over.means.story (devices first Begun watchers)
         (devices last session left)
+    -- and so it is where media come back
+    pub wherever : IsRunWherever view plan over.means.story (devices first Begun watchers)
+        (devices last session left) over.works
 
 -- LAWS
 
 -- A step that was acknowledged is one of the machine, so none is missing from a run.
 abbrev pub AcknowledgedAreTaken : Type 0
-AcknowledgedAreTaken = (before : List Happening) (step : Step) (given : GivenBy step)
-    (events : List Event) (left : Bool) (old new : Now)
-    → Goes before (Stepped step (Ok given) events left) old new
-    → TakesStep before step (Ok given) old new
+AcknowledgedAreTaken = (returning : Returning) (before : List Happening) (step : Step)
+    (given : GivenBy step) (events : List Event) (left : Bool) (old new : Now)
+    → Goes returning before (Stepped step (Ok given) events left) old new
+    → TakesStep returning before step (Ok given) old new
 
 -- A story from the beginning of a session on an honest rack that is an array in a state is a run of the machine, where its
 -- steps lead on and all of it was calm.
@@ -109,6 +137,14 @@ CallsAreRuns R W S K = (view : DeviceView R W) (streams : Views S K) (plan rest 
     (with : MeansWith view streams plan rest old new first last) → first.session ≡ Begun
     → StoryLeads NoneReturns view with.means.story first last with.works
     → IsRunOf view plan with.means.story first last
+
+-- With media that come back it does too.
+abbrev pub CallsAreRunsWherever : (R W S K : Type 0) → Type 0
+CallsAreRunsWherever R W S K = (view : DeviceView R W) (streams : Views S K) (plan rest : Plan)
+    (old new : Outside S K) (first last : Devices R W)
+    (with : MeansWith view streams plan rest old new first last) → first.session ≡ Begun
+    → StoryLeads AnyReturns view with.means.story first last with.works
+    → IsRunWherever view plan with.means.story first last with.works
 
 -- all that is performed leads on
 abbrev pub PerformedLeads : Returning → Type 0

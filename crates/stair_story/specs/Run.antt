@@ -50,13 +50,13 @@ stop_of (Err EpochsSpent) = Some EpochsSpent
 stop_of _ = None
 
 -- A step of the machine, which a stopped array doesn't take. A refusal for good stops the array.
-pub record TakesStep (before : List Happening) (step : Step) (answer : Answer step)
-    (old new : Now) : Type 0 where
+pub record TakesStep (returning : Returning) (before : List Happening) (step : Step)
+    (answer : Answer step) (old new : Now) : Type 0 where
   pub unstopped : old.stopped ≡ None
   pub stops : new.stopped ≡ stop_of answer
   pub later : IsUpTo old.history new.history
   pub member : Membership
-  pub is_step : IsStep step answer member before new.history old.state new.state
+  pub is_step : IsStep returning step answer member before new.history old.state new.state
 
 -- A stopped array answers the refusal by which it was stopped, and nothing happens.
 pub record IsRefusedAgain (step : Step) (answer : Answer step) (old new : Now) : Type 0 where
@@ -74,15 +74,15 @@ pub record KeepsState (old new : Now) : Type 0 where
 -- What a deed is, in the session that began at `before`: a step of the machine, or the answer of an array that an earlier deed
 -- had stopped. An array that is looked for, or isn't made, keeps its state; at any other deed nothing happens. So no step that
 -- was acknowledged is missing.
-abbrev pub Goes : List Happening → Deed → Now → Now → Type 0
-Goes before (Stepped step answer events left) old new =
-    TakesStep before step answer old new ⊎ IsRefusedAgain step answer old new
-Goes before (Did action outcome) old new = KeepsState old new
-Goes before _ old new = new ≡ old
+abbrev pub Goes : Returning → List Happening → Deed → Now → Now → Type 0
+Goes returning before (Stepped step answer events left) old new =
+    TakesStep returning before step answer old new ⊎ IsRefusedAgain step answer old new
+Goes returning before (Did action outcome) old new = KeepsState old new
+Goes returning before _ old new = new ≡ old
 
 -- the story is a run of the machine
-abbrev pub Runs : List Happening → List Deed → Now → Now → Type 0
-Runs before story old new = Leads (Goes before) story old new
+abbrev pub Runs : Returning → List Happening → List Deed → Now → Now → Type 0
+Runs returning before story old new = Leads (Goes returning before) story old new
 
 -- WITHIN TOLERANCE
 
@@ -126,7 +126,7 @@ pub record IsRun {R W : Type 0} (view : DeviceView R W) (returning : Returning)
     (before : List Happening) (s : State) (story : List Deed) (x y : Devices R W) : Type 0 where
   pub state : State
   pub stopped : Option Refusal
-  pub runs : Runs before story (now s (history_of view x) None)
+  pub runs : Runs returning before story (now s (history_of view x) None)
       (now state (history_of view y) stopped)
   pub is_in : IsInState returning before state (seen_of view y)
 
@@ -173,7 +173,7 @@ pub record IsSafe {R W : Type 0} (view : DeviceView R W) (returning : Returning)
   -- the run up to there
   pub state : State
   pub stopped : Option Refusal
-  pub runs : Runs before done (now s (history_of view x) None)
+  pub runs : Runs returning before done (now s (history_of view x) None)
       (now state (history_of view mid) stopped)
   pub images : EachImage (λ image. StandsForAlone returning state image
       ⊎ IsLeftByNext returning before c rest (now state (history_of view mid) stopped) image) c

@@ -1,43 +1,44 @@
 -- Sessions as parts of a life: a run, and a session that a crash cut, go on with a life; and calls of the program, one after the
 -- other, on one array.
-use Rattle.std.specs.Prelude.{◌≡◌, ◌⊎◌, Bool, List, [], ◌∷◌, None, IsTrue}
+use Rattle.std.specs.Prelude.{◌≡◌, ◌⊎◌, Bool, List, [], ◌∷◌, None, IsTrue, ⊤}
 use Rattle.std.proofs.Common.{inl, inr}
+use Rattle.stair_model.specs.Geometry.{Geometry}
 use Rattle.stair_rack.specs.Answers.{IsHistory, Ran}
 use Rattle.stair_rack.specs.Crash.{CrashMayLeave}
 use Rattle.stair_rack.specs.History.{Happening, Made}
 use Rattle.stair_rack.specs.Media.{Image}
 use Rattle.stair_rack.specs.Moments.{IsMoment}
 use Rattle.stair_rack.specs.Stretch.{NothingReturned}
-use Rattle.stair_state.specs.Represents.{Represents, no_write}
+use Rattle.stair_state.specs.Represents.{no_write}
 use Rattle.stair_state.specs.State.{State, without_seats}
 use Rattle.stair_state.specs.Tolerance.{IsTolerated, ToleratedSince}
-use Rattle.stair_session.specs.Returning.{NoneReturns, Returning, StandsForAlone}
+use Rattle.stair_session.specs.Returning.{AnyReturns, NoneReturns, Returning, StandsFor, StandsForAlone}
 use Rattle.stair_array.specs.Machine.{Step}
 use Rattle.stair_array.specs.Promise.{Begun}
-use Rattle.stair_story.specs.Devices.{DeviceView, Devices, devices}
+use Rattle.stair_story.specs.Devices.{DeviceView, Devices, WorksAll, devices}
 use Rattle.stair_story.specs.Headline.{IsBorneOut}
 use Rattle.stair_story.specs.Lives.{EachReadsLast, Ended, Lives, Took, Turn, WasCut}
 use Rattle.stair_story.specs.Outside.{Outside, Views}
 use Rattle.stair_story.specs.Plan.{Plan}
-use Rattle.stair_story.specs.Run.{Goes, IsRun, IsSafe, Now, IsRefusedAgain, Runs, TakesStep, history_of, now}
-use Rattle.stair_story.specs.Story.{Deed, Stepped}
+use Rattle.stair_story.specs.Run.{Goes, IsCalmUpTo, IsRun, IsSafe, Now, IsRefusedAgain, Runs, TakesStep, history_of, now}
+use Rattle.stair_story.specs.Story.{Deed, Leads, Stepped}
 
 -- A RUN AS TURNS
 
 -- a deed as a turn of a life: a step is one, and nothing else is, the answer of an array that was stopped neither
-abbrev pub with_turn : (before : List Happening) (deed : Deed) (old new : Now) → Goes before deed old new → List Turn → List Turn
-with_turn before (Stepped step answer events left) old new goes life = if_taken goes
+abbrev pub with_turn : (returning : Returning) (before : List Happening) (deed : Deed) (old new : Now) → Goes returning before deed old new → List Turn → List Turn
+with_turn returning before (Stepped step answer events left) old new goes life = if_taken goes
   where
-    if_taken : TakesStep before step answer old new ⊎ IsRefusedAgain step answer old new → List Turn
+    if_taken : TakesStep returning before step answer old new ⊎ IsRefusedAgain step answer old new → List Turn
     if_taken (inl taken) = Took step answer ∷ life
     if_taken (inr again) = life
-with_turn before _ old new goes life = life
+with_turn returning before _ old new goes life = life
 
 -- the turns of a run, after those of a life
-abbrev pub turns_of : (before : List Happening) (story : List Deed) (old new : Now) → Runs before story old new → List Turn → List Turn
-turns_of before [] old new runs life = life
-turns_of before (deed ∷ story) old new runs life =
-    turns_of before story runs.0 new runs.2 (with_turn before deed old runs.0 runs.1 life)
+abbrev pub turns_of : (returning : Returning) (before : List Happening) (story : List Deed) (old new : Now) → Runs returning before story old new → List Turn → List Turn
+turns_of returning before [] old new runs life = life
+turns_of returning before (deed ∷ story) old new runs life =
+    turns_of returning before story runs.0 new runs.2 (with_turn returning before deed old runs.0 runs.1 life)
 
 -- the turns of a session that a crash cut, after those of a life: where it left what the next step leaves, that one was cut
 pub data TurnsOfCut {R W : Type 0} (view : DeviceView R W) (returning : Returning)
@@ -45,60 +46,77 @@ pub data TurnsOfCut {R W : Type 0} (view : DeviceView R W) (returning : Returnin
     (c : List Happening) (safe : IsSafe view returning before s plan story x y c)
     (life : List Turn) : List Turn → Type 0 where
   Between : TurnsOfCut view returning before s plan story x y c safe life
-      (turns_of before safe.done (now s (history_of view x) None)
+      (turns_of returning before safe.done (now s (history_of view x) None)
       (now safe.state (history_of view safe.mid) safe.stopped) safe.runs life)
   Within : (step : Step) → TurnsOfCut view returning before s plan story x y c safe life
-      (WasCut step ∷ turns_of before safe.done (now s (history_of view x) None)
+      (WasCut step ∷ turns_of returning before safe.done (now s (history_of view x) None)
       (now safe.state (history_of view safe.mid) safe.stopped) safe.runs life)
 
 -- CALLS, ONE AFTER THE OTHER
 
+-- Up to c the outside keeps to what is asked of it over a call with this story: failures stay within tolerance, and no medium that
+-- was pulled is put back; or, where media come back, they do in images in which the slots are as they were at moments of their own
+-- too, while the array isn't open.
+abbrev pub IsCalmOver : {R W : Type 0} → (view : DeviceView R W) → Returning → Geometry
+    → (c : List Happening) → (story : List Deed) → (x y : Devices R W)
+    → Leads (WorksAll view) story x y → Type 0
+IsCalmOver view NoneReturns g c story x y works =
+    ToleratedSince g (history_of view x) c × NothingReturned (history_of view x) c
+IsCalmOver view AnyReturns g c story x y works = IsCalmUpTo view AnyReturns g (history_of view x) c story x y works
+
+-- And between two calls: no medium is put back, and at the next one's beginning failures are within tolerance. Where media come
+-- back nothing is asked.
+abbrev pub IsCalmMeanwhile : Returning → Geometry → List Happening → List Happening → Type 0
+IsCalmMeanwhile NoneReturns g old new = NothingReturned old new × IsTolerated g old new
+IsCalmMeanwhile AnyReturns g old new = ⊤
+
 -- Calls on an array, of which this is what has happened to the rack that the next one begins with. Each call means what it
--- promises; what has failed stays within tolerance, and no medium that was pulled is put back.
-pub data Calls {R W S K : Type 0} (view : DeviceView R W) (streams : Views S K) (first : State)
-    : List Happening → Type 0 where
+-- promises, and the outside keeps to what is asked of it.
+pub data Calls {R W S K : Type 0} (view : DeviceView R W) (streams : Views S K)
+    (returning : Returning) (first : State) : List Happening → Type 0 where
   -- an array is there
-  Starts : (h : List Happening) → IsHistory h → Represents first h
-      → Calls view streams first h
+  Starts : (h : List Happening) → IsHistory h → StandsFor returning first h
+      → Calls view streams returning first h
   -- One more call ended; until the next one begins media may fail, and the rack may be looked at.
   Ends : (later : List Happening) (plan rest : Plan) (old new : Outside S K) (x y : R)
-      (watchers left : List W) → Calls view streams first (view.rack.history x)
-      → IsBorneOut view streams plan rest old new x y watchers left
-      → ToleratedSince first.geometry (view.rack.history x) (view.rack.history y)
-      → NothingReturned (view.rack.history x) (view.rack.history y)
-      → Ran no_write (view.rack.history y) later → NothingReturned (view.rack.history y) later
-      → IsTolerated first.geometry (view.rack.history y) later
-      → Calls view streams first later
+      (watchers left : List W) → Calls view streams returning first (view.rack.history x)
+      → (borne : IsBorneOut view streams plan rest old new x y watchers left)
+      → IsCalmOver view returning first.geometry (view.rack.history y) borne.over.means.story
+      (devices x Begun watchers) (devices y borne.session left) borne.over.works
+      → Ran no_write (view.rack.history y) later
+      → IsCalmMeanwhile returning first.geometry (view.rack.history y) later
+      → Calls view streams returning first later
   -- a crash cut it at c, and the rack is made anew over what that left
   Cut : (c : List Happening) (image : Image) (plan rest : Plan) (old new : Outside S K) (x y : R)
-      (watchers left : List W) → Calls view streams first (view.rack.history x)
-      → IsBorneOut view streams plan rest old new x y watchers left
+      (watchers left : List W) → Calls view streams returning first (view.rack.history x)
+      → (borne : IsBorneOut view streams plan rest old new x y watchers left)
       → IsMoment (view.rack.history x) c (view.rack.history y)
-      → ToleratedSince first.geometry (view.rack.history x) c
-      → NothingReturned (view.rack.history x) c → CrashMayLeave c image
-      → Calls view streams first (Made image ∷ [])
+      → IsCalmOver view returning first.geometry c borne.over.means.story
+      (devices x Begun watchers) (devices y borne.session left) borne.over.works
+      → CrashMayLeave c image → Calls view streams returning first (Made image ∷ [])
 
 -- The life of these calls, up to a state: each call is a run from the state before, or was cut, and then its session ended.
 abbrev pub IsLifeOf : {R W S K : Type 0} (view : DeviceView R W) (streams : Views S K)
-    (first : State) (h : List Happening) → Calls view streams first h → List Turn → State → Type 0
-IsLifeOf view streams first h (Starts h' history stands) life s =
+    (returning : Returning) (first : State) (h : List Happening)
+    → Calls view streams returning first h → List Turn → State → Type 0
+IsLifeOf view streams returning first h (Starts h' history stands) life s =
     (life ≡ []) × (s ≡ without_seats first)
-IsLifeOf view streams first h (Ends later plan rest old new x y watchers left calls borne within none acted kept tolerated) life s =
+IsLifeOf view streams returning first h (Ends later plan rest old new x y watchers left calls borne calm acted between) life s =
     (before : List Turn) × (from : State)
-    × IsLifeOf view streams first (view.rack.history x) calls before from
-    × (run : IsRun view NoneReturns (view.rack.history x) from borne.over.means.story
+    × IsLifeOf view streams returning first (view.rack.history x) calls before from
+    × (run : IsRun view returning (view.rack.history x) from borne.over.means.story
     (devices x Begun watchers) (devices y borne.session left))
-    × (life ≡ Ended ∷ turns_of (view.rack.history x) borne.over.means.story
+    × (life ≡ Ended ∷ turns_of returning (view.rack.history x) borne.over.means.story
     (now from (view.rack.history x) None)
     (now run.state (view.rack.history y) run.stopped) run.runs before)
     × (s ≡ without_seats run.state)
-IsLifeOf view streams first h (Cut c image plan rest old new x y watchers left calls borne at within none crash) life s =
+IsLifeOf view streams returning first h (Cut c image plan rest old new x y watchers left calls borne at calm crash) life s =
     (before : List Turn) × (from : State)
-    × IsLifeOf view streams first (view.rack.history x) calls before from
-    × (safe : IsSafe view NoneReturns (view.rack.history x) from plan borne.over.means.story
+    × IsLifeOf view streams returning first (view.rack.history x) calls before from
+    × (safe : IsSafe view returning (view.rack.history x) from plan borne.over.means.story
     (devices x Begun watchers) (devices y borne.session left) c)
     × (turns : List Turn)
-    × TurnsOfCut view NoneReturns (view.rack.history x) from plan borne.over.means.story
+    × TurnsOfCut view returning (view.rack.history x) from plan borne.over.means.story
     (devices x Begun watchers) (devices y borne.session left) c safe before turns
     × (life ≡ Ended ∷ turns) × (s.seats ≡ None)
 
@@ -114,9 +132,10 @@ pub record NextSession (returning : Returning) (first : State) (image : Image) :
 
 -- a run goes on with a life
 abbrev pub RunsAreLived : Type 0
-RunsAreLived = (before : List Happening) (story : List Deed) (old new : Now) (life : List Turn)
-    (first : State) (runs : Runs before story old new) → Lives life first old.state
-    → Lives (turns_of before story old new runs life) first new.state
+RunsAreLived = (returning : Returning) (before : List Happening) (story : List Deed)
+    (old new : Now) (life : List Turn) (first : State) (runs : Runs returning before story old new)
+    → Lives life first old.state
+    → Lives (turns_of returning before story old new runs life) first new.state
 
 -- And so does a session that is cut at a moment, with whatever the crash leaves; then the next one begins.
 abbrev pub CrashesAreLived : (R W : Type 0) → Type 0
@@ -127,20 +146,21 @@ CrashesAreLived R W = (view : DeviceView R W) (returning : Returning) (before c 
 
 -- what becomes of an array by some calls on it
 pub record IsLived {R W S K : Type 0} (view : DeviceView R W) (streams : Views S K)
-    (first : State) (h : List Happening) (calls : Calls view streams first h) : Type 0 where
+    (returning : Returning) (first : State) (h : List Happening)
+    (calls : Calls view streams returning first h) : Type 0 where
   pub life : List Turn
   pub state : State
-  pub is_of : IsLifeOf view streams first h calls life state
+  pub is_of : IsLifeOf view streams returning first h calls life state
   pub lives : Lives life (without_seats first) state
   pub unknown : state.seats ≡ None
-  pub stands : Represents state h
+  pub stands : StandsFor returning state h
   -- one list of fates, given once for all, explains every read of all these calls
   pub explained : first.in_doubt ≡ None
       → (fates : List Bool) × EachReadsLast life fates first.content
 
 -- Calls one after the other, each whole or cut by a crash, are one life, which explains every read, and the rack is the array
--- that it leads to.
+-- that it leads to, whether media come back or not.
 abbrev pub CallsAreLived : (R W S K : Type 0) → Type 0
-CallsAreLived R W S K = (view : DeviceView R W) (streams : Views S K) (first : State)
-    (h : List Happening) (calls : Calls view streams first h) → IsTrue view.rack.honest
-    → IsLived view streams first h calls
+CallsAreLived R W S K = (view : DeviceView R W) (streams : Views S K) (returning : Returning)
+    (first : State) (h : List Happening) (calls : Calls view streams returning first h)
+    → IsTrue view.rack.honest → IsLived view streams returning first h calls

@@ -6,6 +6,7 @@ use Rattle.stair_rack.specs.Answers.{IsHistory, Ran, any_call}
 use Rattle.stair_rack.specs.Count.{Rose}
 use Rattle.stair_rack.specs.Crash.{image_now}
 use Rattle.stair_rack.specs.History.{Happening, slot_state}
+use Rattle.stair_rack.specs.Media.{Image}
 use Rattle.stair_rack.specs.Moments.{IsMoment}
 use Rattle.stair_rack.specs.Offline.{IsOffline}
 use Rattle.stair_rack.specs.Stretch.{NoneWritten, NothingReturned, NothingWritten}
@@ -18,7 +19,8 @@ use Rattle.stair_member.specs.Superblocks.{HasSuper, HoldsSuper}
 use Rattle.stair_state.specs.Represents.{IsLargeEnough, Represents}
 use Rattle.stair_state.specs.State.{State, without_seats}
 use Rattle.stair_state.specs.Tolerance.{ToleratedSince}
-use Rattle.stair_session.specs.Returning.{NoneReturns}
+use Rattle.stair_session.specs.Mixed.{IsMixed, IsToleratedMixed}
+use Rattle.stair_session.specs.Returning.{AnyReturns, NoneReturns, Returning, StandsFor}
 use Rattle.stair_session.specs.Session.{ArrayState, seats_in}
 use Rattle.stair_array.specs.Draws.{HasDraws, most_drawn}
 use Rattle.stair_array.specs.Looking.{cells_at}
@@ -34,7 +36,7 @@ use Rattle.stair_story.specs.Outside.{Outside, Views}
 use Rattle.stair_story.specs.Plan.{Plan, Over, Ask, Take, Put, Allocate, Do, Try, RebuildAll}
 use Rattle.stair_story.specs.Question.{IsReply, Reply}
 use Rattle.stair_story.specs.Rack.{MeansOver, RackView}
-use Rattle.stair_story.specs.Run.{StoryLeads, history_of}
+use Rattle.stair_story.specs.Run.{IsCalmUpTo, StoryLeads, history_of}
 use Rattle.stair_story.specs.Story.{AreEnough, Deed, Stepped, Leads}
 
 -- the source tells what is left, and it is so
@@ -204,19 +206,33 @@ pub record HasNoFault {S K : Type 0} (view : Views S K) (old new : Outside S K) 
 abbrev pub IsDone : Status → Type 0
 IsDone status = (status ≡ Done) ⊎ (status ≡ OutOfMemory)
 
+-- From a session's beginning to its end failures stay within tolerance, along its story.
+abbrev pub IsCalmAlong : {R W : Type 0} → (view : DeviceView R W) → Returning → Geometry
+    → (story : List Deed) → (first last : Devices R W) → Leads (WorksAll view) story first last
+    → Type 0
+IsCalmAlong view returning g story first last works = IsCalmUpTo view returning g
+    (history_of view first) (history_of view last) story first last works
+
+-- They do so along every story of an honest rack that is within tolerance at every moment, and to which no medium comes back.
+abbrev pub ToleratedIsCalm : (R W : Type 0) → Type 0
+ToleratedIsCalm R W = (view : DeviceView R W) (g : Geometry) (story : List Deed)
+    (first last : Devices R W) (works : Leads (WorksAll view) story first last)
+    → IsTrue view.rack.honest → ToleratedSince g (history_of view first) (history_of view last)
+    → NothingReturned (history_of view first) (history_of view last)
+    → IsCalmAlong view NoneReturns g story first last works
+
 -- A command whose plan is sure is done, if there is memory: on an honest rack that is an array in this state as the session
--- begins, within tolerance and with no medium that comes back, where neither source nor sink fails, each step that is performed
+-- begins, within tolerance, whether media come back or not, where neither source nor sink fails, each step that is performed
 -- leads on, there are draws left at each, and each slot that is to be replaced can be.
 abbrev pub SureIsDone : (R W S K : Type 0) → Type 0
-SureIsDone R W S K = (view : DeviceView R W) (streams : Views S K) (plan : Plan) (status : Status)
-    (s : State) (old new : Outside S K) (first last : Devices R W)
+SureIsDone R W S K = (returning : Returning) (view : DeviceView R W) (streams : Views S K)
+    (plan : Plan) (status : Status) (s : State) (old new : Outside S K) (first last : Devices R W)
     (with : MeansWith view streams plan (Over status) old new first last)
     → IsTrue view.rack.honest → first.session ≡ Begun
-    → IsHistory (history_of view first) → Represents s (history_of view first)
-    → ToleratedSince s.geometry (history_of view first) (history_of view last)
-    → NothingReturned (history_of view first) (history_of view last)
+    → IsHistory (history_of view first) → StandsFor returning s (history_of view first)
+    → IsCalmAlong view returning s.geometry with.means.story first last with.works
     → HasNoFault streams old new
-    → StoryLeads NoneReturns view with.means.story first last with.works
+    → StoryLeads returning view with.means.story first last with.works
     → EachHasDraws view s.geometry with.means.story first last with.works
     → EachCanReplace view s.geometry with.means.story first last with.works
     → IsSure [] plan (without_seats s) (streams.source.left old.source) → IsDone status
@@ -236,6 +252,23 @@ pub record ServesThroughout {R : Type 0} (rack : RackView R) (s : State) (first 
     pub returned : NothingReturned (rack.history first) (rack.history last)
     pub drawn : IsBoundedAt s.geometry most_borne (rack.history first)
 
+-- So it is along a story, whether media come back or not.
+pub record ServesAlong {R W : Type 0} (returning : Returning) (view : DeviceView R W) (s : State)
+    (story : List Deed) (first last : Devices R W) (works : Leads (WorksAll view) story first last)
+    : Type 0 where
+  pub honest : IsTrue view.rack.honest
+  pub history : IsHistory (history_of view first)
+  pub stands : StandsFor returning s (history_of view first)
+  pub calm : IsCalmAlong view returning s.geometry story first last works
+  pub drawn : IsBoundedAt s.geometry most_borne (history_of view first)
+
+-- An array that serves throughout serves along every story.
+abbrev pub ServesAlongAny : (R W : Type 0) → Type 0
+ServesAlongAny R W = (view : DeviceView R W) (s : State) (story : List Deed)
+    (first last : Devices R W) (works : Leads (WorksAll view) story first last)
+    → ServesThroughout view.rack s first.rack last.rack
+    → ServesAlong NoneReturns view s story first last works
+
 -- so many draws are left then for the steps of a plan
 abbrev pub most_allowed : ℕ
 most_allowed = 2 ^ 38
@@ -243,10 +276,13 @@ most_allowed = 2 ^ 38
 -- Of a plan that draws few numbers nothing is asked of the story but that each slot which is to be replaced can be: it is done
 -- where it is sure.
 abbrev pub PlannedSureIsDone : (R W S K : Type 0) → Type 0
-PlannedSureIsDone R W S K = (view : DeviceView R W) (streams : Views S K) (plan : Plan)
-    (status : Status) (s : State) (old new : Outside S K) (first last : R) (watchers left : List W)
+PlannedSureIsDone R W S K = (returning : Returning) (view : DeviceView R W) (streams : Views S K)
+    (plan : Plan) (status : Status) (s : State) (old new : Outside S K) (first last : R)
+    (watchers left : List W)
     (whole : MeansWhole view streams plan (Over status) old new first last watchers left)
-    → AllowsAtMost most_allowed plan → ServesThroughout view.rack s first last
+    → AllowsAtMost most_allowed plan
+    → ServesAlong returning view s whole.with.means.story (devices first Begun watchers)
+    (devices last whole.session left) whole.with.works
     → HasNoFault streams old new
     → EachCanReplace view s.geometry whole.with.means.story (devices first Begun watchers)
     (devices last whole.session left) whole.with.works
@@ -264,50 +300,65 @@ abbrev pub BearsNone : List Happening → List Happening → ℕ → Type 0
 BearsNone before h j = (moment : List Happening) → IsMoment before moment h
     → NothingWritten before moment → ¬ HasSuper (cells_at moment j)
 
--- or the array's current superblock marks it Down.
-abbrev pub IsMarkedDown : Geometry → List Happening → List Happening → ℕ → Type 0
-IsMarkedDown g before h j = (moment : List Happening) → IsMoment before moment h
-    → NothingWritten before moment → (current : Superblock)
-    → IsCurrent g (image_now moment) current → mark_in current.array j ≡ Down
+-- or the array's current superblock marks it Down. Where media come back it is that of each image in which the slots are as they
+-- were at moments of their own.
+abbrev pub MayShow : Returning → List Happening → List Happening → Image → Type 0
+MayShow NoneReturns before moment image = image ≡ image_now moment
+MayShow AnyReturns before moment image = IsMixed before before moment image
+
+abbrev pub IsMarkedDown : Returning → Geometry → List Happening → List Happening → ℕ → Type 0
+IsMarkedDown returning g before h j = (moment : List Happening) → IsMoment before moment h
+    → NothingWritten before moment → (image : Image) → MayShow returning before moment image
+    → (current : Superblock) → IsCurrent g image current → mark_in current.array j ≡ Down
 
 -- In a session from `before` to h slot j has a device that can be admitted: it is there, bears no superblock of another array, and
 -- takes no part before anything is written.
-pub record HasDevice (g : Geometry) (before h : List Happening) (j : ℕ) : Type 0 where
+pub record HasDevice (returning : Returning) (g : Geometry) (before h : List Happening) (j : ℕ)
+    : Type 0 where
   pub stays : StaysIn g before h j
   pub own : (moment : List Happening) (k : ℕ) (super : Superblock) → IsMoment before moment h → k < 2
       → HoldsSuper (cells_at moment j k) super → super.array.geometry ≡ g
-  pub out : BearsNone before h j ⊎ IsMarkedDown g before h j
+  pub out : BearsNone before h j ⊎ IsMarkedDown returning g before h j
 
 -- Such a device can replace what its slot had, where that slot is the one that is to be replaced.
 abbrev pub DevicesCanReplace : (R W S K : Type 0) → Type 0
-DevicesCanReplace R W S K = (view : DeviceView R W) (streams : Views S K) (plan rest : Plan)
-    (s : State) (slot : ℕ) (old new : Outside S K) (first last : R) (watchers left : List W)
+DevicesCanReplace R W S K = (returning : Returning) (view : DeviceView R W) (streams : Views S K)
+    (plan rest : Plan) (s : State) (slot : ℕ) (old new : Outside S K) (first last : R)
+    (watchers left : List W)
     (whole : MeansWhole view streams plan rest old new first last watchers left)
-    → AdmitsOnce slot plan → ServesThroughout view.rack s first last
-    → HasDevice s.geometry (view.rack.history first) (view.rack.history last) slot
+    → AdmitsOnce slot plan
+    → ServesAlong returning view s whole.with.means.story (devices first Begun watchers)
+    (devices last whole.session left) whole.with.works
+    → HasDevice returning s.geometry (view.rack.history first) (view.rack.history last) slot
     → EachCanReplace view s.geometry whole.with.means.story (devices first Begun watchers)
     (devices last whole.session left) whole.with.works
 
+-- In a session that began at `before` failures stay within tolerance from `from` to h, while no array is open.
+abbrev pub IsCalmBetween : Returning → Geometry → (before from h : List Happening) → Type 0
+IsCalmBetween NoneReturns g before from h = ToleratedSince g before h × NothingReturned from h
+IsCalmBetween AnyReturns g before from h =
+    ToleratedSince g before h × IsToleratedMixed g before from h
+
 -- Over a rack alone, which suffices for a plan that takes no step, nothing is asked of steps. The session began at `before`.
 abbrev pub SteplessSureIsDone : (R S K : Type 0) → Type 0
-SteplessSureIsDone R S K = (rack : RackView R) (streams : Views S K) (plan : Plan) (status : Status)
-    (s : State) (before : List Happening) (old new : Outside S K) (first last : R)
-    → MeansOver rack streams plan (Over status) old new first last → IsTrue rack.honest
-    → Ran any_call before (rack.history first) → Represents s (rack.history first)
-    → ToleratedSince s.geometry before (rack.history last)
-    → NothingReturned (rack.history first) (rack.history last) → HasNoFault streams old new
+SteplessSureIsDone R S K = (returning : Returning) (rack : RackView R) (streams : Views S K)
+    (plan : Plan) (status : Status) (s : State) (before : List Happening) (old new : Outside S K)
+    (first last : R) → MeansOver rack streams plan (Over status) old new first last
+    → IsTrue rack.honest → Ran any_call before (rack.history first)
+    → StandsFor returning s (rack.history first)
+    → IsCalmBetween returning s.geometry before (rack.history first) (rack.history last)
+    → HasNoFault streams old new
     → IsSure [] plan (without_seats s) (streams.source.left old.source) → IsDone status
 
--- A slot that stays in isn't given up: on an honest rack that is an array in this state as the session begins, within tolerance
--- and with no medium that comes back, where each step that is performed leads on.
+-- A slot that stays in isn't given up: on an honest rack that is an array in this state as the session begins, within tolerance,
+-- whether media come back or not, where each step that is performed leads on.
 abbrev pub StayingAreKept : (R W : Type 0) → Type 0
-StayingAreKept R W = (view : DeviceView R W) (s : State) (kept : Slots) (story : List Deed)
-    (first last : Devices R W) (works : Leads (WorksAll view) story first last)
+StayingAreKept R W = (returning : Returning) (view : DeviceView R W) (s : State) (kept : Slots)
+    (story : List Deed) (first last : Devices R W) (works : Leads (WorksAll view) story first last)
     → IsTrue view.rack.honest → first.session ≡ Begun
-    → IsHistory (history_of view first) → Represents s (history_of view first)
-    → ToleratedSince s.geometry (history_of view first) (history_of view last)
-    → NothingReturned (history_of view first) (history_of view last)
-    → StoryLeads NoneReturns view story first last works
+    → IsHistory (history_of view first) → StandsFor returning s (history_of view first)
+    → IsCalmAlong view returning s.geometry story first last works
+    → StoryLeads returning view story first last works
     → ((j : ℕ) → HasSlot kept j
     → StaysIn s.geometry (history_of view first) (history_of view last) j)
     → EachKeeps view kept story first last works

@@ -4,13 +4,14 @@ ghost use Rattle.stair_story.specs.Headline.{
   AcknowledgedAreTaken,
   AllAreBorneOut,
   CallsAreRuns,
+  CallsAreRunsWherever,
   CreatesAreRefused,
   PerformedLeads,
   StoriesAreCutSafely,
   StoriesAreRuns,
   StoriesLead,
 };
-ghost use Rattle.stair_session.specs.Returning.{NoneReturns};
+ghost use Rattle.stair_session.specs.Returning.{Returning};
 
 /// What follows of every story whose steps lead on. It does nothing.
 pub fn run_laws<R, W, S, K>()
@@ -26,8 +27,10 @@ pub fn run_laws<R, W, S, K>()
     ensures refused { CreatesAreRefused }
     // what a call means gives both, where no medium comes back
     ensures borne_out { CallsAreRuns R W S K }
-    // where no medium comes back all that is performed leads on
-    ensures performed { PerformedLeads NoneReturns }
+    // and so it does where media come back
+    ensures wherever { CallsAreRunsWherever R W S K }
+    // all that is performed leads on, whether media come back or not
+    ensures performed { (returning : Returning) → PerformedLeads returning }
     // so every call is borne out
     ensures called { AllAreBorneOut R W S K }
 {}

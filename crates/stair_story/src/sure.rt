@@ -4,17 +4,23 @@ ghost use Rattle.stair_story.specs.Sure.{
   DevicesCanReplace,
   NoneIsReplaced,
   PlannedSureIsDone,
+  ServesAlongAny,
   StayingAreKept,
   SteplessSureIsDone,
   SureIsDone,
+  ToleratedIsCalm,
 };
 
 /// What follows of every call whose plan is sure to end with Done. It does nothing.
 pub fn sure_laws<R, W, S, K>()
-    // on an array within tolerance it is done, where nothing of the outside is in its way
+    // where no medium comes back and failures are within tolerance at every moment, they are so along every story
+    ensures calm { ToleratedIsCalm R W }
+    // on an array within tolerance it is done, where nothing of the outside is in its way, whether media come back or not
     ensures done { SureIsDone R W S K }
     // a slot is kept that is never offline, and whose medium is large enough
     ensures kept { StayingAreKept R W }
+    // an array that serves throughout, while no medium comes back, serves along every story
+    ensures serves { ServesAlongAny R W }
     // where it draws few numbers nothing is asked of its story but that each slot which is to be replaced can be
     ensures planned { PlannedSureIsDone R W S K }
     // and none is where it admits no medium

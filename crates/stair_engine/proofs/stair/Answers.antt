@@ -10,7 +10,8 @@ use Rattle.stair_story.specs.Devices.{device_view}
 use Rattle.stair_story.specs.Outside.{outside, views}
 use Rattle.stair_story.specs.Rack.{rack_view}
 use Rattle.stair_engine.proofs.CallLaws.{array_is_left, array_is_made, arrays_are_spared, still_spared}
-use Rattle.stair_engine.proofs.CompleteLaws.{all_is_complete}
+use Rattle.stair_session.specs.Returning.{AnyReturns}
+use Rattle.stair_engine.proofs.CompleteLaws.{all_is_complete, all_is_complete_wherever}
 use Rattle.stair_engine.proofs.CountedLaws.{scrubs_are_counted}
 use Rattle.stair_engine.proofs.MendedLaws.{array_is_mended}
 use Rattle.stair_engine.proofs.SpelledLaws.{call_borne, job_done, short_borne, spelled}
@@ -39,6 +40,7 @@ returns-in-Ok g c =
       spared = λ honest spells. arrays_are_spared _ _ _ _ devices view words c.work.result old _ c.args.rack.now _ _ _ whole spells honest;
       stands = λ honest other. array_is_left _ _ _ _ devices view words c.work.result old _ c.args.rack.now _ _ _ whole other honest;
       complete = λ job spells. all_is_complete _ _ _ _ devices view words job c.work.result old _ c.args.rack.now _ _ _ spells whole;
+      complete_wherever = λ job spells. all_is_complete_wherever _ _ _ _ AnyReturns devices view words job c.work.result old _ c.args.rack.now _ _ _ spells;
       mended = λ job spells honest. array_is_mended _ _ _ _ devices view words job c.work.result old _ c.args.rack.now _ _ _ spells whole honest;
       counted = λ honest spells. scrubs_are_counted _ _ _ _ devices view words c.work.result old _ c.args.rack.now _ _ _ spells whole honest;
     }

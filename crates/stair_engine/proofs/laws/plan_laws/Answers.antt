@@ -3,7 +3,7 @@ use Rattle.stair_story.specs.Outside.{views}
 use Rattle.stair_engine.proofs.MeaningLaws.{bytes_are_answered, words_are_done}
 use Rattle.stair_engine.proofs.CallLaws.{all_is_kept, array_is_left, array_is_made, arrays_are_spared, memory_comes_first, rack_is_left, show_only_looks, source_is_left, usage_is_exact}
 use Rattle.stair_engine.proofs.CameLaws.{whole_blocks_stand}
-use Rattle.stair_engine.proofs.CompleteLaws.{all_is_complete, replacement_is_done, script_is_done}
+use Rattle.stair_engine.proofs.CompleteLaws.{all_is_complete, all_is_complete_wherever, replacement_is_done, script_is_done}
 use Rattle.stair_engine.proofs.CountedLaws.{scrubs_are_counted}
 use Rattle.stair_engine.proofs.MendedLaws.{array_is_mended, session_is_mended}
 use Rattle.stair_engine.proofs.laws.plan_laws.Goals as goal
@@ -25,6 +25,7 @@ returns g c =
       created = array_is_made _ _ _ _;
       spared = arrays_are_spared _ _ _ _;
       complete = all_is_complete _ _ _ _;
+      complete_wherever = all_is_complete_wherever _ _ _ _;
       mended = array_is_mended _ _ _ _;
       ended = session_is_mended _ _ _ _;
       replaced = replacement_is_done _ _ _ _;

@@ -7,5 +7,5 @@ returns g c = record {
   runs = runs_are_lived;
   crashes = λ view returning before c s first plan story x y life image lives safe left.
       crashes_are_lived view returning before c s first plan story x y life image lives safe left;
-  calls = λ view streams first h calls honest. calls_are_lived view streams first honest h calls;
+  calls = λ view streams returning first h calls honest. calls_are_lived view streams returning first honest h calls;
 }

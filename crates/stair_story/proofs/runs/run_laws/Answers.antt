@@ -1,7 +1,7 @@
 -- Each law, by the induction on stories.
 use Rattle.stair_story.proofs.CreateLaws.{none_made}
-use Rattle.stair_story.proofs.HeadlineLaws.{acknowledged_taken, all_lead, is_run, is_safe, run_of}
-use Rattle.stair_story.proofs.PerformedLaws.{borne_whole, step_leads}
+use Rattle.stair_story.proofs.HeadlineLaws.{acknowledged_taken, all_lead, is_run, is_safe, run_of, run_wherever}
+use Rattle.stair_story.proofs.PerformedLaws.{all_performed, borne_whole}
 use Rattle.stair_story.proofs.runs.run_laws.Goals as goal
 
 pub returns : goal.returns
@@ -15,6 +15,8 @@ returns g c = record {
   refused = λ returning array g came old new honest creates calm. none_made returning g array old new honest came creates calm;
   borne_out = λ view streams plan rest old new first last with begun led.
       run_of view plan rest with.means.story first last with.works with.means.follows begun led;
-  performed = step_leads;
+  wherever = λ view streams plan rest old new first last with begun led.
+      run_wherever view plan rest with.means.story first last with.works with.means.follows begun led;
+  performed = all_performed;
   called = λ view streams plan rest old new first last watchers left whole. borne_whole view streams plan rest old new first last watchers left whole;
 }

@@ -1,4 +1,8 @@
 -- Each law, by the one induction on stories.
+use Rattle.stair_rack.proofs.MomentLemmas.{ran_none}
+use Rattle.stair_story.specs.Run.{history_of}
+use Rattle.stair_story.proofs.AlongLaws.{along_any}
+use Rattle.stair_story.proofs.HeadlineLaws.{calm_story}
 use Rattle.stair_story.proofs.PlannedSureLaws.{none_replaced, planned_sure}
 use Rattle.stair_story.proofs.SureDeviceLaws.{devices_replace}
 use Rattle.stair_story.proofs.SureKeptLaws.{staying_kept}
@@ -8,16 +12,20 @@ use Rattle.stair_story.proofs.sure.sure_laws.Goals as goal
 
 pub returns : goal.returns
 returns g c = record {
-  done = λ view streams plan status s old new first last with honest begun history represents tolerated returned none lead draws can sure.
-      sure_done view streams plan status s old new first last with honest begun history represents tolerated returned none lead draws can sure;
-  kept = λ view s kept story first last works honest begun history represents tolerated returned lead stays.
-      staying_kept view s kept story first last works honest begun history represents tolerated returned lead stays;
-  planned = λ view streams plan status s old new first last watchers left whole allowed serves unfailed can sure.
-      planned_sure view streams plan status s old new first last watchers left whole allowed serves unfailed can sure;
+  calm = λ view g story first last works honest tolerated returned.
+      calm_story view honest g (history_of view first) (history_of view last) story first last works (ran_none (history_of view first)) tolerated
+      returned;
+  done = λ returning view streams plan status s old new first last with honest begun history stands calm none lead draws can sure.
+      sure_done view streams returning plan status s old new first last with honest begun history stands calm none lead draws can sure;
+  kept = λ returning view s kept story first last works honest begun history stands calm lead stays.
+      staying_kept returning view s kept story first last works honest begun history stands calm lead stays;
+  serves = λ view s story first last works serves. along_any view s story first last works serves;
+  planned = λ returning view streams plan status s old new first last watchers left whole allowed serves unfailed can sure.
+      planned_sure view streams returning plan status s old new first last watchers left whole allowed serves unfailed can sure;
   unreplaced = λ view streams plan rest g old new first last with none.
       none_replaced view streams plan rest g old new first last with none;
-  replaceable = λ view streams plan rest s slot old new first last watchers left whole once serves device.
-      devices_replace view streams plan rest s slot old new first last watchers left whole once serves device;
-  stepless = λ rack streams plan status s before old new first last over honest since represents tolerated returned none sure.
-      stepless_done rack honest before streams plan status s old new first last over since represents tolerated returned none sure;
+  replaceable = λ returning view streams plan rest s slot old new first last watchers left whole once serves device.
+      devices_replace returning view streams plan rest s slot old new first last watchers left whole once serves device;
+  stepless = λ returning rack streams plan status s before old new first last over honest since stands calm none sure.
+      stepless_done returning rack honest before streams plan status s old new first last over since stands calm none sure;
 }

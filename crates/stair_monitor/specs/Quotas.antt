@@ -1,0 +1,33 @@
+-- A watcher with a limit of events of one kind, as contracts see it.
+use Rattle.std.proofs.Common.{arith}
+use Rattle.std.proofs.lemmas.Bool.Decides.{nat_tests}
+use Rattle.std.specs.Prelude.{◌≡◌, ◌-◌, ◌^◌, ◌||◌, ℕ, Bool, false, [], None, Some, nat_le}
+use Rattle.stair_rack.specs.Watching.{IsPatient, Patience, WatcherView, watcher_view}
+use Rattle.stair_rack.specs.declared.watcher.Counts.{Counts}
+use Rattle.stair_rack.specs.declared.watcher.EventKind.{EventKind}
+use Rattle.stair_watch.specs.Watchers.{count_in, sum_in}
+
+-- the sink that the lines go to, the number of events by kind, and of how many of which kind it waits for
+pub record QuotaState (K : Type 0) : Type 0 where
+  pub sink : K
+  pub counts : Counts
+  pub kind : EventKind
+  pub limit : ℕ
+
+-- the limit of its kind is reached, or an event more could not be counted
+abbrev pub quota_left : {K : Type 0} → QuotaState K → Bool
+quota_left q = nat_le q.limit (count_in q.counts q.kind) || nat_le (2 ^ 64 - 1) (sum_in q.counts)
+
+-- so many events of all kinds are waited for, and so many of its kind
+abbrev pub quota_patience : {K : Type 0} → QuotaState K → Patience
+quota_patience q = record {
+  all = 2 ^ 64 - 1 - sum_in q.counts;
+  kind = Some (q.kind, q.limit - count_in q.counts q.kind);
+}
+
+-- one that hasn't left waits for an event more of its kind at least
+pub quota_waits : {K : Type 0} (q : QuotaState K) → quota_left q ≡ false → IsPatient [] (quota_patience q)
+quota_waits q stays = (grind (arith, nat_tests), grind (arith, nat_tests))
+
+abbrev pub quota_view : {K : Type 0} → WatcherView (QuotaState K)
+quota_view = watcher_view (λ q. None) (λ q. count_in q.counts) quota_left (λ q. Some (quota_patience q))

@@ -1,0 +1,162 @@
+// A watcher with a limit of events of one kind.
+ghost use Rattle.std.specs.Prelude.{◌≡◌, ◌≢◌, ◌≤◌, ◌^◌, ◌-◌, ◌↔◌, IsTrue, None, Some, false};
+ghost use Rattle.stair_rack.specs.Watching.{HearsOne, kind_of};
+ghost use Rattle.stair_rack.specs.declared.watcher.Next.{Next};
+ghost use Rattle.stair_watch.specs.Lines.{Prints, event_line};
+ghost use Rattle.stair_watch.specs.Watchers.{count_in, no_counts, sum_in};
+ghost use Rattle.stair_monitor.specs.Quotas.{quota_left, quota_patience, quota_view, quota_waits};
+
+use crate::printing::text_of;
+use stair_rack::{Counts, Event, EventKind, Next, Sink, Watcher};
+use stair_watch::{Tally, put_until_fault};
+use std::marker::Model;
+
+/// A watcher for one who stops before events of one kind pile up: it prints a line for each of this kind to its sink, and leaves
+/// once it was told of a chosen number of them, or of 2^64 - 1 events in all.
+///
+/// Where its sink fails it writes nothing more of that line, and counts the event all the same.
+#[derive(Drop)]
+pub struct Quota<K: Sink + Drop> {
+    sink: K,
+    kind: EventKind,
+    limit: u64,
+    tally: Tally,
+}
+
+impl<K: Sink + Drop> Model for Quota<K> {
+    ghost use Rattle.std.specs.Prelude.{◌≡◌, ◌^◌, ◌-◌};
+    ghost use Rattle.stair_monitor.specs.Quotas.{QuotaState};
+
+    ghost Value = { QuotaState K };
+
+    ghost view = { λ q. record {
+      sink = q.sink;
+      counts = q.tally.counts;
+      kind = q.kind;
+      limit = q.limit;
+    } };
+
+    ghost invariant = { λ q. q.tally.limit ≡ 2 ^ 64 - 1 };
+}
+
+impl<K: Sink + Drop> Quota<K> {
+    /// A watcher that was told of no event, and leaves at event number `limit` of this kind.
+    pub fn new(kind: EventKind, limit: u64, sink: K) -> Quota<K>
+        requires { 1 ≤ limit }
+        ensures state { result ≡ record {
+          sink = sink;
+          counts = no_counts;
+          kind = kind;
+          limit = limit;
+        } }
+        ensures stays { quota_left result ≡ false }
+    {
+        Quota {
+            sink,
+            kind,
+            limit,
+            tally: Tally::new(u64::MAX),
+        }
+    }
+}
+
+impl<K: Sink + Drop> Watcher for Quota<K> {
+    ghost left = { quota_left };
+
+    ghost count = { λ q. count_in q.counts };
+
+    ghost told = { λ _. None };
+
+    ghost patience = { λ q. Some (quota_patience q) };
+
+    ghost waits = { quota_waits };
+
+    fn notice(&mut self, event: Event) -> Next
+        requires { quota_left self.old ≡ false }
+        ensures left { (result ≡ Next.Leave) ↔ IsTrue (quota_left self.new) }
+        ensures heard { HearsOne quota_view event self.old self.new }
+        ensures full { 2 ^ 64 - 1 ≤ sum_in self.new.counts → result ≡ Next.Leave }
+        ensures printed { kind_of event ≡ self.old.kind →
+            Prints K.held K.faults (event_line event) self.old.sink self.new.sink }
+        ensures silent { kind_of event ≢ self.old.kind → self.new.sink ≡ self.old.sink }
+        ensures kind { self.new.kind ≡ self.old.kind }
+        ensures limit { self.new.limit ≡ self.old.limit }
+    {
+        if event.kind() == self.kind {
+            put_line(&mut self.sink, event);
+        }
+        match self.tally.notice(event) {
+            Next::Stay if number_of(self.tally.counts(), self.kind) < self.limit => Next::Stay,
+            _ => Next::Leave,
+        }
+    }
+
+    fn counts(&self) -> Counts {
+        self.tally.counts()
+    }
+
+    fn kept(&self, _at: u64) -> Option<Event> {
+        None
+    }
+}
+
+// Puts the line of an event into a sink, up to a fault.
+fn put_line<K: Sink>(sink: &mut K, event: Event)
+    ensures { Prints K.held K.faults (event_line event) sink.old sink.new }
+{
+    let mut line = text_of(event);
+    line.push(b"\n");
+    put_until_fault(sink, line.bytes());
+}
+
+// How many events there were of a kind.
+fn number_of(counts: Counts, kind: EventKind) -> u64
+    ensures { result ≡ count_in counts kind }
+{
+    match kind {
+        EventKind::Fenced => counts.fenced,
+        EventKind::Repaired => counts.repaired,
+        EventKind::Admitted => counts.admitted,
+        EventKind::Promoted => counts.promoted,
+    }
+}
+
+#[cfg(test)]
+mod tests {
+    use super::*;
+    use stair_rack::MemSink;
+    use std::alloc::AllocError;
+
+    const EVENTS: [Event; 4] = [
+        Event::Fenced { slot: 3 },
+        Event::Repaired {
+            stripe: 70_000,
+            cells: 2,
+        },
+        Event::Promoted { slot: 9 },
+        Event::Fenced { slot: 4 },
+    ];
+
+    // A watcher of two fenced slots leaves at the second one, whatever else it is told and however much its sink takes.
+    #[test]
+    fn leaves_at_the_second_slot_fenced(rt: HostRuntime) -> Result<(), AllocError> {
+        let rows: [(usize, &[u8]); 3] = [
+            (64, b"fenced 3\nfenced 4\n"),
+            (12, b"fenced 3\nfen"),
+            (0, b""),
+        ];
+        let [fenced, repaired, promoted, last] = EVENTS;
+        for (room, lines) in rows {
+            let mut quota = Quota::new(EventKind::Fenced, 2, MemSink::new(rt.alloc(), room)?);
+            assert_eq!(rt; quota.notice(fenced), Next::Stay);
+            assert_eq!(rt; quota.notice(repaired), Next::Stay);
+            assert_eq!(rt; quota.notice(promoted), Next::Stay);
+            assert_eq!(rt; quota.notice(last), Next::Leave);
+            assert_eq!(rt; quota.sink.bytes(), lines);
+            assert_eq!(rt; quota.counts().fenced, 2);
+            assert_eq!(rt; quota.counts().repaired, 1);
+            assert_eq!(rt; quota.kept(0), None);
+        }
+        Ok(())
+    }
+}

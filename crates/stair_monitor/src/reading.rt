@@ -1,0 +1,71 @@
+ghost use Rattle.std.specs.Prelude.{◌≡◌, ◌↔◌, ◌++◌, ◌<◌, ℕ, Some, codes};
+ghost use Rattle.std.specs.Int.{IsInRange};
+ghost use Rattle.stair_conf.specs.Words.{IsNumber};
+ghost use Rattle.stair_rack.specs.declared.watcher.Event.{Event};
+ghost use Rattle.stair_monitor.specs.Events.{SpellsEvent};
+
+use stair_conf::read_number;
+use stair_rack::Event;
+use std::str;
+
+/// Reads the line of an event, without its end: `fenced J`, `repaired stripe S cells K`, `admitted J` or `promoted J`.
+///
+/// Words are divided by exactly one space, and there is no other blank. A number is decimal digits with no sign and no leading
+/// zero. J is a slot, below 32, S a stripe, below 65,536, and K a number of cells, from 1 to 1,024. All other lines are None. It
+/// takes no memory.
+pub fn read_event(line: &[u8]) -> Option<Event>
+    ensures { (said : Event) → (result ≡ Some said) ↔ SpellsEvent line.now said }
+{
+    read_text(str::from_utf8(line).ok()?)
+}
+
+// Reads a line that is a text.
+fn read_text(line: &str) -> Option<Event>
+    ensures { (said : Event) → (result ≡ Some said) ↔ SpellsEvent line.now said }
+{
+    let (word, values) = line.split_once(' ')?;
+    match word {
+        "fenced" => Some(Event::Fenced {
+            slot: read_slot(values)?,
+        }),
+        "repaired" => read_repaired(values),
+        "admitted" => Some(Event::Admitted {
+            slot: read_slot(values)?,
+        }),
+        "promoted" => Some(Event::Promoted {
+            slot: read_slot(values)?,
+        }),
+        _ => None,
+    }
+}
+
+// Reads what stands behind the word `repaired`: the number of the stripe, and that of the cells.
+fn read_repaired(values: &str) -> Option<Event>
+    ensures { (said : Event) → (result ≡ Some said)
+        ↔ SpellsEvent (codes "repaired " ++ values.now) said }
+{
+    let (stripe, cells) = values.strip_prefix("stripe ")?.split_once(' ')?;
+    Some(Event::Repaired {
+        stripe: read_within(stripe, 0, 65_535)? as u32,
+        cells: read_within(cells.strip_prefix("cells ")?, 1, 1_024)? as u16,
+    })
+}
+
+// Reads the number of a slot.
+fn read_slot(word: &str) -> Option<u8>
+    ensures { (n : ℕ) → (result ≡ Some n) ↔ IsNumber word.now n × (n < 32) }
+{
+    Some(read_within(word, 0, 31)? as u8)
+}
+
+// Reads a number within bounds.
+fn read_within(word: &str, least: u64, greatest: u64) -> Option<u64>
+    ensures { (n : ℕ) → (result ≡ Some n) ↔ IsNumber word.now n × IsInRange least greatest n }
+{
+    let number = read_number(word)?;
+    if least <= number && number <= greatest {
+        Some(number)
+    } else {
+        None
+    }
+}

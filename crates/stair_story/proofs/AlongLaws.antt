@@ -1,0 +1,68 @@
+-- An array that serves along a story is found by its survey, and serves along what is left of the story until then; where no medium
+-- comes back it is enough that it serves throughout.
+use Rattle.std.proofs.Common.{◌≡◌, ◌∙◌, List, ◌∷◌, ap, subst, sym}
+use Rattle.stair_rack.specs.Answers.{IsHistory}
+use Rattle.stair_rack.specs.History.{Happening}
+use Rattle.stair_rack.proofs.MomentLemmas.{moment_last, ran_none}
+use Rattle.stair_state.specs.State.{State}
+use Rattle.stair_session.specs.Returning.{IsCalm, NoneReturns, Returning, StandsFor}
+use Rattle.stair_array.specs.Promise.{Begun, Session, is_open}
+use Rattle.stair_story.specs.Action.{Outcome, Survey}
+use Rattle.stair_story.specs.Bounded.{IsBoundedAt}
+use Rattle.stair_story.specs.Devices.{DeviceView, Devices, WorksAll, seen_of}
+use Rattle.stair_story.specs.Run.{IsCalmUpTo, history_of}
+use Rattle.stair_story.specs.Story.{Deed, Did, Leads}
+use Rattle.stair_story.specs.Sure.{IsCalmBetween, ServesAlong, ServesThroughout, most_borne}
+use Rattle.stair_story.proofs.FoundLaws.{IsArrayFound, calm_between, survey_found}
+use Rattle.stair_story.proofs.HeadlineLaws.{calm_story}
+use Rattle.stair_story.proofs.RunLaws.{one_ran, upto_end, works_ran}
+
+module _ {R W : Type 0} (returning : Returning) (view : DeviceView R W) (s : State) (y : Devices R W) where
+  -- before anything was done in the session
+  abbrev pub Serves : (story : List Deed) (x : Devices R W) → Leads (WorksAll view) story x y → Type 0
+  Serves story x works = (x.session ≡ Begun) × ServesAlong returning view s story x y works
+
+  -- a deed that leaves the devices is passed
+  pub serves_on : (deed : Deed) (story : List Deed) (x : Devices R W) (works : Leads (WorksAll view) (deed ∷ story) x y) → works.0 ≡ x
+      → Serves (deed ∷ story) x works → Serves story works.0 works.2
+  serves_on deed story x works same serves = (
+    ap (λ (z : Devices R W). z.session) same ∙ serves.0,
+    record {
+      honest = serves.1.honest;
+      history = subst (λ (z : Devices R W). IsHistory (history_of view z)) (sym same) serves.1.history;
+      stands = subst (λ (z : Devices R W). StandsFor returning s (history_of view z)) (sym same) serves.1.stands;
+      calm = subst (λ (h : List Happening). IsCalmUpTo view returning s.geometry h (history_of view y) story works.0 y works.2)
+          (ap (λ (z : Devices R W). history_of view z) (sym same)) serves.1.calm.1;
+      drawn = subst (λ (z : Devices R W). IsBoundedAt s.geometry most_borne (history_of view z)) (sym same) serves.1.drawn;
+    },
+  )
+
+  module _ (came : Outcome Survey) (story : List Deed) (x : Devices R W) (works : Leads (WorksAll view) (Did Survey came ∷ story) x y)
+      (serves : Serves (Did Survey came ∷ story) x works) where
+    -- a survey is calm
+    pub survey_calm : IsCalmBetween returning s.geometry (history_of view x) (history_of view x) (history_of view works.0)
+    survey_calm =
+        let ready = serves.1 in
+        let ran = one_ran view ready.honest (Did Survey came) x works.0 works.1 in
+        let at = moment_last ran.more ran.is in
+        calm_between returning s.geometry (history_of view x) (history_of view works.0)
+        (subst (λ (session : Session). IsCalm returning s.geometry (is_open session) (history_of view x) (history_of view works.0)) serves.0
+        (ready.calm.0 (history_of view works.0) at (upto_end at (works_ran view ready.honest story works.0 y works.2))))
+
+    -- and finds the array
+    pub along_found : IsArrayFound s.geometry came
+    along_found =
+        survey_found returning s (history_of view x) (seen_of view x).told (seen_of view works.0).told came works.1.0 serves.1.honest
+        (ran_none (history_of view x)) serves.1.stands survey_calm
+
+-- where no medium comes back
+pub along_any : {R W : Type 0} (view : DeviceView R W) (s : State) (story : List Deed) (x y : Devices R W) (works : Leads (WorksAll view) story x y)
+    → ServesThroughout view.rack s x.rack y.rack → ServesAlong NoneReturns view s story x y works
+along_any view s story x y works serves = record {
+  honest = serves.honest;
+  history = serves.history;
+  stands = serves.represents;
+  calm = calm_story view serves.honest s.geometry (history_of view x) (history_of view y) story x y works (ran_none (history_of view x))
+      serves.tolerated serves.returned;
+  drawn = serves.drawn;
+}
