@@ -13,6 +13,8 @@ mod reading;
 #[cfg(test)]
 mod refusals;
 #[cfg(test)]
+mod returns;
+#[cfg(test)]
 mod rows;
 #[cfg(test)]
 mod scripts;

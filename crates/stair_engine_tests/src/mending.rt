@@ -1,7 +1,7 @@
 // Devices that are scrubbed, replaced and rebuilt, and arrays that are frozen.
 use crate::calls::{
-    EIGHT, Ends, FOUR, NOTHING_TOLD, Told, WHOLE, act, call, created, fenced, gives, is_refused,
-    is_shown, restarted, says, told, with_array, with_bad_cells, with_blocks, writes,
+    EIGHT, Ends, NOTHING_TOLD, WHOLE, act, call, fenced, gives, is_refused, restarted, says, told,
+    with_array, with_bad_cells, with_blocks, writes,
 };
 use stair_engine::Status;
 use stair_memrack::{Act, MemRack, What};
@@ -11,11 +11,6 @@ use std::alloc::{AllocError, Global};
 use std::test::Fail;
 
 const WROTE: &str = "wrote 1 blocks\n";
-
-// A slot was admitted, and promoted.
-fn renewed(slot: u8) -> Told {
-    told(&[Event::Admitted { slot }, Event::Promoted { slot }])
-}
 
 // SCRUBS
 
@@ -45,28 +40,6 @@ fn bad_cells_are_written_anew(rt: HostRuntime) -> Result<(), Fail> {
 }
 
 // REPLACEMENTS
-
-const BACK: &str =
-    "array 00000000000000000000000000000004\ngeometry n 4 m 1 r 2 e 1 stripes 3 blocks 15\nepoch 8\nslot 0 live 7\nslot 1 live 1\nslot 2 live 1\nslot 3 live 1\n";
-
-// A device that was pulled and comes back, after a write without it, is replaced by itself.
-#[test]
-fn a_device_that_comes_back_is_replaced(rt: HostRuntime) -> Result<(), Fail> {
-    let alloc = rt.alloc();
-    let mut rack = created(alloc, &FOUR)?;
-    let _ = call(alloc, &mut rack, "write 0 1", &[0xFF; 512], WHOLE)?;
-    let mut rack = restarted(alloc, rack, &[act(0, What::Pull { slot: 0 })])?;
-    assert!(rt; gives(alloc, &mut rack, "read 0 1", &[0xFF], fenced(0))?);
-    assert!(rt; writes(alloc, &mut rack, "write 0 1", &[0xAA], WROTE, NOTHING_TOLD)?);
-    let back = What::InsertOld { slot: 0, index: 0 };
-    let mut rack = restarted(alloc, rack, &[act(0, back)])?;
-    assert!(rt; gives(alloc, &mut rack, "read 0 1", &[0xAA], NOTHING_TOLD)?);
-    assert!(rt; says(alloc, &mut rack, "replace 0", "replaced 0\n", renewed(0))?);
-    assert!(rt; is_shown(alloc, &mut rack, BACK)?);
-    let mut rack = restarted(alloc, rack, &[act(0, What::Pull { slot: 2 })])?;
-    assert!(rt; gives(alloc, &mut rack, "read 0 1", &[0xAA], fenced(2))?);
-    Ok(())
-}
 
 // The array of four devices, all of whose blocks were written, with another device in slot 3.
 fn with_another(alloc: Global, sectors: u32) -> Result<MemRack, AllocError> {

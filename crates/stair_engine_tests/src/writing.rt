@@ -1,10 +1,10 @@
 // Blocks that are written: what they leave, and sources of all kinds.
 use crate::calls::{
-    Came, Ends, FILLINGS, FOUR, NOTHING_TOLD, WHOLE, act, blocks_of, call, created, fenced, gives,
-    is_shown, restarted, sector, sectors_of, with_array, with_blocks, writes,
+    Came, Ends, FILLINGS, FOUR, NOTHING_TOLD, WHOLE, blocks_of, call, created, gives, restarted,
+    sector, sectors_of, with_array, with_blocks, writes,
 };
 use stair_engine::Status;
-use stair_memrack::{MemRack, What};
+use stair_memrack::MemRack;
 use stair_rack::Rack;
 use std::alloc::{AllocError, Global};
 use std::test::Fail;
@@ -98,47 +98,6 @@ fn blocks_of_some_stripes(rt: HostRuntime) -> Result<(), Fail> {
     for (line, first, count) in rows {
         assert!(rt; writes_some(rt.alloc(), line, first, count)?, "{line}");
     }
-    Ok(())
-}
-
-// A DEVICE THAT IS AWAY
-
-const AWAY: &str =
-    "array 00000000000000000000000000000004\ngeometry n 4 m 1 r 2 e 1 stripes 3 blocks 15\nepoch 4\nslot 0 down\nslot 1 live 1\nslot 2 live 1\nslot 3 live 1\n";
-
-const BACK: &str =
-    "array 00000000000000000000000000000004\ngeometry n 4 m 1 r 2 e 1 stripes 3 blocks 15\nepoch 5\nslot 0 down\nslot 1 live 1\nslot 2 live 1\nslot 3 live 1\n";
-
-// The device of a block is pulled once it is written: it is read and written all the same, and the slot is left out, also once
-// the old medium is back.
-#[test]
-fn a_device_is_pulled_after_a_write(rt: HostRuntime) -> Result<(), Fail> {
-    let mut rack = created(rt.alloc(), &FOUR)?;
-    let is_so = writes(
-        rt.alloc(),
-        &mut rack,
-        "write 0 1",
-        &[0xFF],
-        WROTE,
-        NOTHING_TOLD,
-    )?;
-    assert!(rt; is_so);
-    let mut rack = restarted(rt.alloc(), rack, &[act(0, What::Pull { slot: 0 })])?;
-    assert!(rt; gives(rt.alloc(), &mut rack, "read 0 1", &[0xFF], fenced(0))?);
-    let is_so = writes(
-        rt.alloc(),
-        &mut rack,
-        "write 0 1",
-        &[0xAA],
-        WROTE,
-        NOTHING_TOLD,
-    )?;
-    assert!(rt; is_so);
-    assert!(rt; is_shown(rt.alloc(), &mut rack, AWAY)?);
-    let back = What::InsertOld { slot: 0, index: 0 };
-    let mut rack = restarted(rt.alloc(), rack, &[act(0, back)])?;
-    assert!(rt; gives(rt.alloc(), &mut rack, "read 0 1", &[0xAA], NOTHING_TOLD)?);
-    assert!(rt; is_shown(rt.alloc(), &mut rack, BACK)?);
     Ok(())
 }
 
