@@ -1,5 +1,5 @@
-//! `stair_tables [whole]`: tries the array of four devices by tables of stops, damage, superblocks and gates that are changed, racks that
-//! aren't honest, and input and output that fail.
+//! `stair_tables [whole]`: tries the array of four devices by tables of stops, damage, returns, superblocks and gates that are changed,
+//! racks that aren't honest, and input and output that fail.
 #![tactic(auto)]
 
 mod command;
@@ -7,6 +7,7 @@ mod contents;
 mod damage;
 mod gates;
 mod racks;
+mod returns;
 mod script;
 mod stops;
 mod streams;
@@ -54,6 +55,7 @@ fn run(rt: &HostRuntime) -> Result<(), Fault> {
         are_right &= print_part(rt, extent, stops::stops(alloc, work)?)?;
     }
     are_right &= print_part(rt, extent, damage::damage(alloc)?)?;
+    are_right &= print_part(rt, extent, returns::returns(alloc, extent)?)?;
     are_right &= print_part(rt, extent, superblocks::unreadable(alloc)?)?;
     are_right &= print_part(rt, extent, superblocks::changed(alloc, extent)?)?;
     are_right &= print_part(rt, extent, gates::unreadable(alloc)?)?;
