@@ -20,15 +20,17 @@ pub(crate) fn access_of(job: &Job) -> Access {
         | Job::Thaw
         | Job::Label { .. }
         | Job::Run
-        | Job::Exercise { .. } => Access::Writing,
-        Job::Show | Job::OneStripe { .. } => Access::Reading,
+        | Job::Exercise { .. }
+        | Job::Guard { .. } => Access::Writing,
+        Job::Show | Job::OneStripe { .. } | Job::Report => Access::Reading,
     }
 }
 
-/// How many bytes of its input may be read ahead. A script is taken byte by byte; of what another command doesn't take nothing is read.
+/// How many bytes of its input may be read ahead. A text of lines is taken byte by byte; of what another command doesn't take nothing is
+/// read.
 pub(crate) fn ahead_of(job: &Job) -> usize {
     match job {
-        Job::Run => 64 * 1024,
+        Job::Run | Job::Guard { .. } | Job::Report => 64 * 1024,
         _ => 0,
     }
 }
@@ -46,7 +48,9 @@ pub(crate) fn measure_of(job: &Job) -> Measure {
         | Job::Thaw
         | Job::Label { .. }
         | Job::Run
-        | Job::Exercise { .. } => Measure::Sectors,
+        | Job::Exercise { .. }
+        | Job::Guard { .. }
+        | Job::Report => Measure::Sectors,
     }
 }
 

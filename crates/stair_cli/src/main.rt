@@ -1,7 +1,7 @@
 //! `stair FOLDER COMMAND ..`: the words after the folder are done over standard input and output and the folder's image files.
 #![tactic(auto)]
 
-ghost use Rattle.std.specs.Prelude.{◌≡◌, ◌<◌};
+ghost use Rattle.std.specs.Prelude.{◌≡◌, ◌<◌, ◌≤◌, IfSome};
 
 mod devices;
 mod hearing;
@@ -16,7 +16,8 @@ use stair_conf::{Job, WordsFault};
 use stair_engine::{Status, stair};
 use stair_filerack::{Access, FileRack};
 use stair_gf::Steps;
-use stair_rack::{Counts, FromRead, FromWrite};
+use stair_monitor::Quota;
+use stair_rack::{Counts, EventKind, FromRead, FromWrite};
 use stair_watch::{Printer, Tally, add};
 use std::alloc::AllocError;
 use std::cell::Cell;
@@ -120,8 +121,29 @@ fn run<L: Ledger>(rt: &HostRuntime, blank: Blank) -> Outcome
         promoted: 0,
     };
     let ended = run_words::<L>(rt, &words, &job, blank, &mut told);
-    let events = matches!(job, Ok(Job::Run)).then_some(told);
+    let events = matches!(job, Ok(Job::Run | Job::Guard { .. })).then_some(told);
     Outcome { ended, events }
+}
+
+/// After how many events in all, and after how many slots that were fenced, a watcher of a guarded script leaves.
+#[derive(Clone, Copy)]
+struct Limits {
+    events: u64,
+    fences: u64,
+}
+
+/// The limits of the watchers of this command, if it is a guarded script.
+fn limits_of(job: &Job) -> Option<Limits>
+    ensures { IfSome result (λ l. (1 ≤ l.events) × (1 ≤ l.fences)) }
+{
+    match job {
+        // words spell no others
+        Job::Guard { events, fences } if *events > 0 && *fences > 0 => Some(Limits {
+            events: *events,
+            fences: *fences,
+        }),
+        _ => None,
+    }
 }
 
 /// Does what these words say. A command that writes has the folder for itself, and is begun only where no device of the folder is
@@ -141,6 +163,10 @@ fn run_words<L: Ledger>(
     let measure = job.as_ref().map_or(Measure::Sectors, measure_of);
     let measure = rt.stderr().is_terminal().then_some(measure);
     let ahead = job.as_ref().map_or(0, ahead_of);
+    let limits = match job {
+        Ok(job) => limits_of(job),
+        Err(_) => None,
+    };
     let _lock = match access {
         Access::Writing => lock_folder(rt, words.folder.as_str())?,
         Access::Reading => None,
@@ -154,18 +180,28 @@ fn run_words<L: Ledger>(
         tell_reason(rt, &refused);
         return Ok(Status::Gone(refused.slot));
     }
-    let called = call::<L>(rt, rack, measure, ahead, &words.command, blank, told);
+    let called = call::<L>(
+        rt,
+        rack,
+        measure,
+        ahead,
+        limits,
+        &words.command,
+        blank,
+        told,
+    );
     Ok(called.unwrap_or(Status::OutOfMemory))
 }
 
 /// Makes the call, and tells of the devices that were gone why. What happens to an array is printed on standard error as it
-/// comes, and counted, and while the call works how far it is. So many bytes of the input may be read ahead. The only error is want
-/// of memory before the call.
+/// comes, and counted, and while the call works how far it is. So many bytes of the input may be read ahead. Watchers of these limits
+/// stand behind the two that print and count. The only error is want of memory before the call.
 fn call<L: Ledger>(
     rt: &HostRuntime,
     rack: FileRack<&HostRuntime>,
     measure: Option<Measure>,
     ahead: usize,
+    limits: Option<Limits>,
     command: &[String],
     blank: Blank,
     told: &mut Counts,
@@ -173,6 +209,7 @@ fn call<L: Ledger>(
     requires name { blank.name ≡ L.name }
     requires parts { blank.parts ≡ L.parts }
     requires some { 0 < L.parts }
+    requires limits { IfSome limits (λ l. (1 ≤ l.events) × (1 ≤ l.fences)) }
 {
     let screen = Rc::new(rt.alloc(), Screen::new(rt.stderr()))?;
     let geometry = Cell::new(None);
@@ -197,6 +234,12 @@ fn call<L: Ledger>(
     add(&mut watchers, Box::new(rt.alloc(), printer)?)?;
     let tally = Tally::new(u64::MAX);
     add(&mut watchers, Box::new(rt.alloc(), tally)?)?;
+    if let Some(Limits { events, fences }) = limits {
+        add(&mut watchers, Box::new(rt.alloc(), Tally::new(events))?)?;
+        let errors = FromWrite::new(Cleared::new(rt.stderr(), Some(screen.clone()?)));
+        let quota = Quota::new(EventKind::Fenced, fences, errors);
+        add(&mut watchers, Box::new(rt.alloc(), quota)?)?;
+    }
     let mut steps = Steps::<L>::new(blank);
     let status = stair(
         rt.alloc(),
@@ -209,9 +252,9 @@ fn call<L: Ledger>(
     );
     screen.clear();
     tell_reasons(rt, &rack.into_inner());
-    // the last one that is left counts them all
-    for watcher in &watchers {
-        *told = watcher.counts();
+    // the tally behind the printer never leaves, and counts them all
+    if let Some(tally) = watchers.get(1) {
+        *told = tally.counts();
     }
     Ok(status)
 }

@@ -11,7 +11,7 @@ use Rattle.std.proofs.lemmas.Slice.Eq.{bytes_eq-Decides}
 use Rattle.stair_conf.specs.declared.job.Method.{Method}
 use Rattle.stair_conf.specs.declared.job.Method.TheVariants.{Standard, Up, Down, Fewest}
 use Rattle.stair_conf.specs.declared.job.Job.{Job}
-use Rattle.stair_conf.specs.declared.job.Job.TheVariants.{OneStripe, Create, Show, Read, Write, Scrub, Replace, Rebuild, Freeze, Thaw, Label, Run, Exercise}
+use Rattle.stair_conf.specs.declared.job.Job.TheVariants.{OneStripe, Create, Show, Read, Write, Scrub, Replace, Rebuild, Freeze, Thaw, Label, Run, Exercise, Guard, Report}
 use Rattle.stair_conf.specs.declared.job.StripeCommand.{StripeCommand}
 use Rattle.stair_conf.specs.declared.job.StripeCommand.TheVariants.{Check, Encode, Restore}
 use Rattle.stair_conf.specs.Commands.{HasNoOption, IsPlainWord}
@@ -61,6 +61,8 @@ word_of Thaw = codes "thaw"
 word_of (Label text) = codes "label"
 word_of Run = codes "run"
 word_of (Exercise number count) = codes "exercise"
+word_of (Guard events fences) = codes "guard"
+word_of Report = codes "report"
 
 -- the words of a job begin with the command's
 pub first_word : (words : List (List ℕ)) (job : Job) → Spells words job → get_or words 0 [] ≡ word_of job
@@ -79,6 +81,8 @@ first_word words Thaw spells = ap (λ ws. get_or ws 0 []) spells
 first_word words (Label text) spells = ap (λ ws. get_or ws 0 []) spells.spelled
 first_word words Run spells = ap (λ ws. get_or ws 0 []) spells
 first_word words (Exercise number count) spells = ap (λ ws. get_or ws 0 []) spells.spelled
+first_word words (Guard events fences) spells = ap (λ ws. get_or ws 0 []) spells.counted.spelled
+first_word words Report spells = ap (λ ws. get_or ws 0 []) spells
 
 -- ---- no word of a job begins with a hyphen
 
@@ -137,6 +141,8 @@ job_plain words Thaw spells = rw spells (one_plain (codes "thaw") (omega arith))
 job_plain words (Label text) spells = text_plain _ words text (one_plain (codes "label") (omega arith)) spells
 job_plain words Run spells = rw spells (one_plain (codes "run") (omega arith))
 job_plain words (Exercise number count) spells = counted_plain _ words number count (one_plain (codes "exercise") (omega arith)) spells
+job_plain words (Guard events fences) spells = counted_plain _ words events fences (one_plain (codes "guard") (omega arith)) spells.counted
+job_plain words Report spells = rw spells (one_plain (codes "report") (omega arith))
 
 command_word : (words : List (List ℕ)) (job : Job) → Spells words job → IsCommandWord (get_or words 0 [])
 command_word words (OneStripe Check n m r e) spells = inl (ap (λ ws. get_or ws 0 []) spells.spelled)
@@ -153,7 +159,9 @@ command_word words Freeze spells = inr (inr (inr (inr (inr (inr (inr (inr (inr (
 command_word words Thaw spells = inr (inr (inr (inr (inr (inr (inr (inr (inr (inr (inr (inl (ap (λ ws. get_or ws 0 []) spells))))))))))))
 command_word words (Label text) spells = inr (inr (inr (inr (inr (inr (inr (inr (inr (inr (inr (inr (inl (ap (λ ws. get_or ws 0 []) spells.spelled)))))))))))))
 command_word words Run spells = inr (inr (inr (inr (inr (inr (inr (inr (inr (inr (inr (inr (inr (inl (ap (λ ws. get_or ws 0 []) spells))))))))))))))
-command_word words (Exercise number count) spells = inr (inr (inr (inr (inr (inr (inr (inr (inr (inr (inr (inr (inr (inr (ap (λ ws. get_or ws 0 []) spells.spelled))))))))))))))
+command_word words (Exercise number count) spells = inr (inr (inr (inr (inr (inr (inr (inr (inr (inr (inr (inr (inr (inr (inl (ap (λ ws. get_or ws 0 []) spells.spelled)))))))))))))))
+command_word words (Guard events fences) spells = inr (inr (inr (inr (inr (inr (inr (inr (inr (inr (inr (inr (inr (inr (inr (inl (ap (λ ws. get_or ws 0 []) spells.counted.spelled))))))))))))))))
+command_word words Report spells = inr (inr (inr (inr (inr (inr (inr (inr (inr (inr (inr (inr (inr (inr (inr (inr (ap (λ ws. get_or ws 0 []) spells))))))))))))))))
 
 -- the words of a job are a command line
 pub job_line : (words : List (List ℕ)) (job : Job) → Spells words job → IsCommandLine words
@@ -205,6 +213,12 @@ one_stripe_once words a b n m r e n' m' r' e' one two =
     let first = sym (first_word words (OneStripe a n m r e) one) ∙ first_word words (OneStripe b n' m' r' e') two in
     cc
 
+-- words that begin with `guard` spell no job of another command
+not_guard : (words : List (List ℕ)) (job : Job) → get_or words 0 [] ≡ codes "guard" → Spells words job → bytes_eq (codes "guard") (word_of job) ≡ false → ⊥
+not_guard words job first spells apart =
+    not_from_Decides (bytes_eq (codes "guard") (word_of job)) (bytes_eq-Decides (codes "guard") (word_of job)) apart
+    (sym first ∙ first_word words job spells)
+
 -- words with the same words before spell one number and one count
 counted_once : (before words : List (List ℕ)) (number count number' count' : ℕ)
     → SpellsCounted before words number count → SpellsCounted before words number' count' → (number ≡ number') × (count ≡ count')
@@ -215,6 +229,22 @@ counted_once before words number count number' count' one two =
       decimal_injective number number' one.number_fits two.number_fits number_texts,
       decimal_injective count count' one.count_fits two.count_fits count_texts,
     )
+
+-- behind `guard` two numbers are limits of a watcher only where each is at least 1
+pub limits_some : (words : List (List ℕ)) (number count : ℕ) (job : Job) → get_or words 0 [] ≡ codes "guard"
+    → SpellsCounted [] (drop 1 words) number count → Spells words job → (0 < number) × (0 < count)
+limits_some words number count (Guard events fences) first counted spells =
+    let behind_word : SpellsCounted [] (drop 1 words) events fences = record {
+      spelled = ap (drop 1) spells.counted.spelled;
+      number_fits = spells.counted.number_fits;
+      count_fits = spells.counted.count_fits;
+    } in
+    let same = counted_once [] (drop 1 words) number count events fences counted behind_word in
+    (rw same.0 spells.some_events, rw same.1 spells.some_fences)
+limits_some words number count (OneStripe Check n m r e) first counted spells = absurd (not_guard words (OneStripe Check n m r e) first spells refl)
+limits_some words number count (OneStripe (Encode method) n m r e) first counted spells = absurd (not_guard words (OneStripe (Encode method) n m r e) first spells refl)
+limits_some words number count (OneStripe Restore n m r e) first counted spells = absurd (not_guard words (OneStripe Restore n m r e) first spells refl)
+limits_some words number count job first counted spells = absurd (not_guard words job first spells refl)
 
 -- words with the same words before spell one slot
 slot_once : (before words : List (List ℕ)) (slot slot' : ℕ) → SpellsSlot before words slot → SpellsSlot before words slot' → slot ≡ slot'
@@ -255,6 +285,10 @@ spells_once words Run Run one two = refl
 spells_once words (Exercise number count) (Exercise number' count') one two =
     let same = counted_once (codes "exercise" ∷ []) words number count number' count' one two in
     λ i. Exercise (same.0 i) (same.1 i)
+spells_once words (Guard events fences) (Guard events' fences') one two =
+    let same = counted_once (codes "guard" ∷ []) words events fences events' fences' one.counted two.counted in
+    λ i. Guard (same.0 i) (same.1 i)
+spells_once words Report Report one two = refl
 spells_once words (OneStripe Check n m r e) b one two = absurd (no_other_job words (OneStripe Check n m r e) b one two refl)
 spells_once words (OneStripe (Encode method) n m r e) b one two = absurd (no_other_job words (OneStripe (Encode method) n m r e) b one two refl)
 spells_once words (OneStripe Restore n m r e) b one two = absurd (no_other_job words (OneStripe Restore n m r e) b one two refl)

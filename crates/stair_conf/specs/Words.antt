@@ -6,7 +6,7 @@ use Rattle.stair_conf.specs.Commands.{HasNoOption, IsPlainWord}
 use Rattle.stair_conf.specs.declared.job.Method.{Method}
 use Rattle.stair_conf.specs.declared.job.Method.TheVariants.{Standard, Up, Down, Fewest}
 use Rattle.stair_conf.specs.declared.job.Job.{Job}
-use Rattle.stair_conf.specs.declared.job.Job.TheVariants.{OneStripe, Create, Show, Read, Write, Scrub, Replace, Rebuild, Freeze, Thaw, Label, Run, Exercise}
+use Rattle.stair_conf.specs.declared.job.Job.TheVariants.{OneStripe, Create, Show, Read, Write, Scrub, Replace, Rebuild, Freeze, Thaw, Label, Run, Exercise, Guard, Report}
 use Rattle.stair_conf.specs.declared.job.StripeCommand.{StripeCommand}
 use Rattle.stair_conf.specs.declared.job.StripeCommand.TheVariants.{Check, Encode, Restore}
 use Rattle.stair_super.specs.Label.{IsLabel}
@@ -64,6 +64,12 @@ pub record SpellsText (before words : List (List ℕ)) (text : List ℕ) : Type 
   pub is_text : IsText text
   pub plain : IsPlainWord text
 
+-- the words are `guard`, and then the decimal texts of a watcher's limits of events and of slots that were fenced, each at least 1
+pub record SpellsLimits (words : List (List ℕ)) (events fences : ℕ) : Type 0 where
+  pub counted : SpellsCounted (codes "guard" ∷ []) words events fences
+  pub some_events : 0 < events
+  pub some_fences : 0 < fences
+
 -- the words before the numbers
 abbrev pub command_words : StripeCommand → List (List ℕ)
 command_words Check = codes "check" ∷ []
@@ -85,6 +91,8 @@ Spells words Thaw = words ≡ codes "thaw" ∷ []
 Spells words (Label text) = SpellsText (codes "label" ∷ []) words text
 Spells words Run = words ≡ codes "run" ∷ []
 Spells words (Exercise number count) = SpellsCounted (codes "exercise" ∷ []) words number count
+Spells words (Guard events fences) = SpellsLimits words events fences
+Spells words Report = words ≡ codes "report" ∷ []
 
 -- the words spell a job
 abbrev pub IsSpelled : List (List ℕ) → Type 0
@@ -97,7 +105,7 @@ IsCommandWord word = (word ≡ codes "check") ⊎ (word ≡ codes "stripe")
     ⊎ (word ≡ codes "read") ⊎ (word ≡ codes "write") ⊎ (word ≡ codes "scrub")
     ⊎ (word ≡ codes "replace") ⊎ (word ≡ codes "rebuild") ⊎ (word ≡ codes "freeze")
     ⊎ (word ≡ codes "thaw") ⊎ (word ≡ codes "label") ⊎ (word ≡ codes "run")
-    ⊎ (word ≡ codes "exercise")
+    ⊎ (word ≡ codes "exercise") ⊎ (word ≡ codes "guard") ⊎ (word ≡ codes "report")
 
 -- a command's word comes first, and no word begins with a hyphen: memory is taken for such words alone
 pub record IsCommandLine (words : List (List ℕ)) : Type 0 where

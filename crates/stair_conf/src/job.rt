@@ -90,4 +90,13 @@ pub enum Job {
         /// How many steps.
         count: u64,
     },
+    /// `guard EVENTS FENCES`: the lines of a script are done, up to one at which a watcher leaves.
+    Guard {
+        /// After how many events in all a watcher leaves, at least 1.
+        events: u64,
+        /// After how many slots that were fenced, at least 1.
+        fences: u64,
+    },
+    /// `report`: the events of lines are counted.
+    Report,
 }

@@ -1,8 +1,8 @@
-ghost use Rattle.std.specs.Prelude.{◌≡◌, ◌≢◌, false, true, length, map, string_bytes, IfOk, Any, slice_index};
+ghost use Rattle.std.specs.Prelude.{◌≡◌, ◌≢◌, ◌<◌, false, true, length, map, string_bytes, IfOk, Any, slice_index};
 ghost use Rattle.stair_conf.specs.Commands.{HasNoOption};
 ghost use Rattle.stair_conf.specs.Words.{Spells, IsCommandLine};
 ghost use Rattle.stair_conf.specs.declared.job.Job.{Job};
-ghost use Rattle.stair_conf.specs.declared.job.Job.TheVariants.{OneStripe};
+ghost use Rattle.stair_conf.specs.declared.job.Job.TheVariants.{Guard, OneStripe};
 
 use crate::commands::{read_counted, read_geometry, read_label, read_slot, read_stripe};
 use crate::matches::{Counted, GeometryNumbers};
@@ -10,12 +10,13 @@ use crate::{Job, StripeCommand, WordsFault};
 use std::alloc::Global;
 
 /// Reads the words of a command: `check N M R E..`, `stripe METHOD N M R E..` or `restore N M R E..`, with at least one E,
-/// `read BLOCK COUNT`, `write BLOCK COUNT`, `replace SLOT`, `label TEXT` or `exercise NUMBER COUNT`, or `create`, `show`, `scrub`,
-/// `rebuild`, `freeze`, `thaw` or `run` alone.
+/// `read BLOCK COUNT`, `write BLOCK COUNT`, `replace SLOT`, `label TEXT`, `exercise NUMBER COUNT` or `guard EVENTS FENCES`, or
+/// `create`, `show`, `scrub`, `rebuild`, `freeze`, `thaw`, `run` or `report` alone.
 ///
 /// METHOD is `standard`, `up`, `down` or `fewest`. A number is decimal digits with no sign and no leading zero, below 2^64.
-/// TEXT is 1 to 64 bytes of printable ASCII, the first of which isn't a hyphen. All other words are `Usage`, unless memory runs
-/// out before that is known. Memory is taken only where a command's word comes first and no word begins with a hyphen.
+/// EVENTS and FENCES are at least 1. TEXT is 1 to 64 bytes of printable ASCII, the first of which isn't a hyphen. All other words
+/// are `Usage`, unless memory runs out before that is known. Memory is taken only where a command's word comes first and no word
+/// begins with a hyphen.
 pub fn read_words(alloc: Global, words: &[String]) -> Result<Job, WordsFault>
     ensures ok { IfOk result (λ job. Spells (map string_bytes words.now) job) }
     ensures usage { result ≡ Err WordsFault.Usage
@@ -66,6 +67,8 @@ pub fn read_words(alloc: Global, words: &[String]) -> Result<Job, WordsFault>
             let Counted { number, count } = read_counted(alloc, words)?;
             Ok(Job::Exercise { number, count })
         }
+        "guard" => limits(read_counted(alloc, words)?),
+        "report" => alone(words, Job::Report),
         _ => Err(WordsFault::Usage),
     }
 }
@@ -81,6 +84,24 @@ fn one_stripe(command: StripeCommand, numbers: GeometryNumbers) -> Job
         m,
         r,
         e,
+    }
+}
+
+// The job of a watcher's limits, where each is at least 1.
+fn limits(counted: Counted) -> Result<Job, WordsFault>
+    ensures ok { IfOk result (λ job. (job ≡ Guard counted.number counted.count)
+        × (0 < counted.number) × (0 < counted.count)) }
+    ensures usage { result ≡ Err WordsFault.Usage → 0 < counted.number → 0 < counted.count → ⊥ }
+    ensures memory { result ≢ Err WordsFault.Memory }
+{
+    let Counted {
+        number: events,
+        count: fences,
+    } = counted;
+    if events > 0 && fences > 0 {
+        Ok(Job::Guard { events, fences })
+    } else {
+        Err(WordsFault::Usage)
     }
 }
 

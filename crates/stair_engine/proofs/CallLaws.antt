@@ -16,7 +16,7 @@ use Rattle.stair_conf.specs.Words.{IsSpelled, Spells}
 use Rattle.stair_conf.specs.declared.fault.ConfigFault.{ConfigFault}
 use Rattle.stair_conf.proofs.WordsLemmas.{spells_once}
 use Rattle.stair_conf.specs.declared.job.Job.{Job}
-use Rattle.stair_conf.specs.declared.job.Job.TheVariants.{OneStripe, Create, Show}
+use Rattle.stair_conf.specs.declared.job.Job.TheVariants.{OneStripe, Create, Report, Show}
 use Rattle.stair_story.specs.Action.{status_of_create}
 use Rattle.stair_story.specs.Action as action
 use Rattle.stair_story.specs.Story.{Did}
@@ -33,6 +33,7 @@ use Rattle.stair_story.specs.declared.status.Status.{Status}
 use Rattle.stair_story.specs.declared.status.Status.TheVariants.{Done, Usage, InputFault, OutputFault, OutOfMemory}
 use Rattle.stair_engine.proofs.JobLaws.{config_own, create_own, job_looks, job_own, survey_own, words_first, words_no_step, words_put, words_tell, words_untaken, words_unwritten}
 use Rattle.stair_engine.proofs.OpenLaws.{IsOfJob}
+use Rattle.stair_engine.proofs.ReportLaws.{report_so}
 use Rattle.stair_engine.specs.Jobs.{MakesCalls, MayWrite, NotSpelled, OpensArray}
 use Rattle.stair_story.specs.Devices.{DeviceView, MeansWhole}
 use Rattle.stair_story.proofs.DeviceLaws.{over_rack}
@@ -91,6 +92,17 @@ module _ {R S K : Type 0} (rack : RackView R) (view : Views S K) (a : Outside S 
   left_all : (job : Job) → ¬ MakesCalls job → AllEnd (Works rack) view Left (job_plan job) a x
   left_all (OneStripe command n m r e) other =
       tested_all (Works rack) view (one_stripe n m r e) a x Left command (λ end o does refused. (refl, refused))
+  left_all Report other = report_so (λ plan. (o : Outside S K) → AllEnd (Works rack) view Left plan o x) (record {
+    long = λ o. (refl, tt);
+    bad = λ number o. (refl, tt);
+    over = λ events o. (λ s holds. (refl, tt), λ part s is holds. (refl, tt));
+    asks = λ bytes k behind o reply n is counts. behind reply (outside o.source o.sink n);
+    takes = λ k short behind end o. (
+      λ bytes s enough gives. behind bytes (outside s o.sink o.counter),
+      λ bytes s few gives. end bytes (outside s o.sink o.counter),
+      λ bytes s few gives. (refl, tt),
+    );
+  }) a
   left_all _ other = absurd (other tt)
 
   -- the source and the counter are left, and the source can't fail the call
@@ -210,11 +222,13 @@ none_opened words of spells not = only OpensArray words of spells not
 
 opens_calls : (job : Job) → OpensArray job → MakesCalls job
 opens_calls (OneStripe command n m r e) opens = absurd opens
+opens_calls Report opens = absurd opens
 opens_calls _ opens = tt
 
 opens_writes : (job : Job) → OpensArray job → MayWrite job
 opens_writes (OneStripe command n m r e) opens = absurd opens
 opens_writes Show opens = absurd opens
+opens_writes Report opens = absurd opens
 opens_writes _ opens = tt
 
 pub rack_is_left : (R W S K : Type 0) → RackIsLeft R W S K

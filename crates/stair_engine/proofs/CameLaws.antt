@@ -16,7 +16,7 @@ use Rattle.stair_conf.specs.declared.job.Job.{Job}
 use Rattle.stair_conf.specs.declared.job.Job.TheVariants.{Write}
 use Rattle.stair_conf.proofs.WordsLemmas.{spells_once}
 use Rattle.stair_story.specs.Action.{Outcome, Survey, status_of_survey}
-use Rattle.stair_story.specs.Plan.{Plan, Over, Ask, Put, Allocate, take_step, unless_refused}
+use Rattle.stair_story.specs.Plan.{Plan, Over, Ask, Put, Allocate, take_step, unless_refused, if_so}
 use Rattle.stair_story.specs.Question.{IsReply, Words}
 use Rattle.stair_story.specs.Refused.{status_of_refusal}
 use Rattle.stair_story.specs.Story.{Deed, Found, Took, TookLast, TakeFailed, HasPut, PutFailed, Grew, RanOut, Did, Stepped, Leads, Moves, after}
@@ -24,7 +24,7 @@ use Rattle.stair_story.specs.declared.status.Status.{Status}
 use Rattle.stair_story.specs.declared.status.Status.TheVariants.{Done, Input, InputFault, OutOfMemory, OutputFault}
 use Rattle.stair_story.proofs.EndLaws.{no_move}
 use Rattle.stair_story.proofs.EndingLaws.{ends_so}
-use Rattle.stair_engine.specs.Blocks.{if_in_range, if_so, is_in_range, part_of, piece_blocks, whole_of, within_range, write_plan, writes, wrote, wrote_line}
+use Rattle.stair_engine.specs.Blocks.{if_in_range, is_in_range, part_of, piece_blocks, whole_of, within_range, write_plan, writes, wrote, wrote_line}
 use Rattle.stair_engine.specs.Came.{AreWritten, IsUnrefused, taken_in}
 use Rattle.stair_engine.specs.Laws.{WholeBlocksStand}
 use Rattle.stair_engine.specs.Plans.{if_spelled, job_plan, plan_of}

@@ -16,14 +16,14 @@ use Rattle.stair_base.specs.Equations.{equation_of}
 use Rattle.stair_base.proofs.EquationLaws.{not_codeword}
 use Rattle.stair_array.specs.Creates.{CanBeMade, Creates}
 use Rattle.stair_state.specs.Blocks.{AreOfOneStripe}
-use Rattle.stair_state.specs.State.{Content, State, without_seats}
+use Rattle.stair_state.specs.State.{Content, State, without_seats, created_state}
 use Rattle.stair_array.specs.Arrays.{blocks_of}
 use Rattle.stair_member.specs.Seats.{Seat, Seats}
 use Rattle.stair_array.specs.Machine.{PassesTests, SetFrozen, SetLabel, Step, WriteBlocks}
 use Rattle.stair_conf.specs.Config.{TextReadsAs}
 use Rattle.stair_conf.specs.declared.fault.ConfigFault.{ConfigFault}
 use Rattle.stair_conf.specs.declared.job.Job.{Job}
-use Rattle.stair_conf.specs.declared.job.Job.TheVariants.{OneStripe, Create, Exercise, Freeze, Label, Read, Rebuild, Replace, Run, Scrub, Show, Thaw, Write}
+use Rattle.stair_conf.specs.declared.job.Job.TheVariants.{OneStripe, Create, Exercise, Freeze, Guard, Label, Read, Rebuild, Replace, Report, Run, Scrub, Show, Thaw, Write}
 use Rattle.stair_conf.specs.declared.job.StripeCommand.{StripeCommand}
 use Rattle.stair_conf.specs.declared.job.StripeCommand.TheVariants.{Check, Encode, Restore}
 use Rattle.stair_conf.specs.Words.{Spells}
@@ -31,13 +31,13 @@ use Rattle.stair_conf.proofs.ConfigLaws.{one_answer}
 use Rattle.stair_conf.proofs.WordsLemmas.{spells_once}
 use Rattle.stair_story.specs.Answer.{HasBytes, Judges}
 use Rattle.stair_engine.specs.Cause.{HasCause}
-use Rattle.stair_engine.specs.Complete.{CanBeDone, IsComplete, IsThawed, IsValidInput}
+use Rattle.stair_engine.specs.Complete.{CanBeDone, IsComplete, IsThawed, IsValidInput, IsFinished, IsScriptOf}
 use Rattle.stair_engine.specs.Laws.{AllIsComplete, AllIsCompleteWherever, ReplacementIsDone, ScriptIsDone}
 use Rattle.stair_engine.specs.Stands.{StandsThroughout}
 use Rattle.stair_session.specs.Returning.{NoneReturns, Returning}
 use Rattle.stair_story.specs.Outside.{Outside, Views, outside}
 use Rattle.stair_engine.specs.Plans.{create_plan, if_spelled, job_plan, making_plan, plan_of}
-use Rattle.stair_engine.specs.Scripts.{run_plan}
+use Rattle.stair_engine.specs.Scripts.{run_plan, guard_plan}
 use Rattle.stair_engine.specs.Show.{show_text}
 use Rattle.stair_story.specs.Rack.{MeansOver, RackView, Works, told_of}
 use Rattle.stair_story.specs.Restore.{HoldsCells, IsErasedBy}
@@ -45,16 +45,16 @@ use Rattle.stair_engine.specs.Task.{one_stripe}
 use Rattle.stair_story.specs.declared.status.Status.{Status}
 use Rattle.stair_story.specs.declared.status.Status.TheVariants.{Done, NotCodeword, NoCodeword, Limit, Input, InputFault, OutputFault, Lost, OutOfMemory}
 use Rattle.stair_engine.proofs.MeaningLaws.{told_more, words_are_done}
-use Rattle.stair_engine.specs.Blocks.{IsInRange, if_in_range, if_so, part_of, piece_blocks, read_plan, reads, whole_of, within_range, write_plan, writes, wrote}
-use Rattle.stair_engine.specs.Jobs.{MayAdmit}
+use Rattle.stair_engine.specs.Blocks.{IsInRange, if_in_range, part_of, piece_blocks, read_plan, reads, whole_of, within_range, write_plan, writes, wrote}
+use Rattle.stair_engine.specs.Jobs.{MayAdmit, IsScripted}
 use Rattle.stair_engine.specs.Mending.{if_live, if_slot, rebuild_plan, rebuilt_line, replace_plan, replaces, scrub_plan, scrubs, stamps}
 use Rattle.stair_array.specs.Promise.{Begun}
 use Rattle.stair_session.specs.SeatSteps.{MayDrop}
 use Rattle.stair_super.specs.declared.mark.Mark.{Mark}
 use Rattle.stair_super.specs.declared.mark.Mark.TheVariants.{Down, Live, Rebuilding}
 use Rattle.stair_story.specs.Devices.{DeviceView, MeansWhole, devices as at}
-use Rattle.stair_story.specs.Ending.{AdmitsNone, AdmitsOnce, AllowsAtMost, EachStep}
-use Rattle.stair_story.specs.Plan.{Plan, Over, Ask, Put, RebuildAll, Take, take_step}
+use Rattle.stair_story.specs.Ending.{AdmitsNone, AdmitsOnce, AllowsAtMost, EachStep, MakesNoCall}
+use Rattle.stair_story.specs.Plan.{Plan, Over, Ask, Put, RebuildAll, Take, take_step, if_so}
 use Rattle.stair_engine.proofs.CallLaws.{none_opened, stepless}
 use Rattle.stair_engine.proofs.JobLaws.{job_admits_none, job_allowed, words_tell}
 use Rattle.stair_engine.proofs.RangeLaws.{in_range_is}
@@ -69,10 +69,16 @@ use Rattle.stair_story.proofs.SureDeviceLaws.{devices_replace}
 use Rattle.stair_engine.proofs.MendLaws.{replaces_once}
 use Rattle.stair_engine.proofs.OpenLaws.{opening_once}
 use Rattle.stair_engine.proofs.ExerciseSureLaws.{exercise_sure}
-use Rattle.stair_engine.proofs.ScriptSureLaws.{run_admits_none, run_sure}
+use Rattle.stair_engine.proofs.HaltLaws.{guarded_ends}
+use Rattle.stair_engine.proofs.ReportLaws.{callless_done, report_calls_none, report_sure}
+use Rattle.stair_engine.specs.Halts.{unguarded, unguarded_plan}
+use Rattle.stair_engine.proofs.ScriptSureLaws.{run_sure, script_admits_none}
 use Rattle.stair_engine.proofs.SureLaws.{opens_sure, serves_limits, still_thawed}
 use Rattle.stair_story.proofs.AllEnds.{AllEnd}
 use Rattle.stair_story.proofs.AlongLaws.{along_any}
+use Rattle.stair_script.specs.declared.line.Line.{Line}
+use Rattle.stair_monitor.specs.Reports.{report_plan}
+use Rattle.stair_story.specs.Story.{Leads, Moves}
 use Rattle.stair_story.proofs.SureLaws.{look_sure, stepless_done}
 
 -- ---- bytes make one stripe
@@ -434,6 +440,61 @@ module _ {R W S K : Type 0} (returning : Returning) (devices : DeviceView R W) (
         serves_limits returning devices s whole.with.means.story (Ask (Words words) if_spelled) status (at x Begun watchers) (at y whole.session left)
         whole.with.works refl whole.with.means.follows serves
 
+-- ---- scripts
+
+-- the plan without a guard is sure, and allows as many draws
+unguarded_so : (IsSo : Plan → Type 0) (words : List (List ℕ)) (events fences : ℕ) → Spells words (Guard events fences) → IsSo run_plan
+    → (reply : Option Job) → IsReply (Words words) reply → IsSo (unguarded reply)
+unguarded_so IsSo words events fences spells so None not = absurd (not (Guard events fences, spells))
+unguarded_so IsSo words events fences spells so (Some job) read =
+    subst (λ (j : Job). IsSo (unguarded (Some j))) (spells_once words (Guard events fences) job spells read) so
+
+module _ {R W S K : Type 0} (returning : Returning) (devices : DeviceView R W) (view : Views S K) (words : List (List ℕ)) where
+  script_finished : (of : Job) → IsScripted of → Spells words of → (status : Status) (a b : Outside S K) (x y : R) (watchers left : List W)
+      → (whole : MeansWhole devices view (plan_of words) (Over status) a b x y watchers left) → HasNoFault view a b → (s : State) (input : List ℕ)
+      (script : List Line) → IsScriptOf s script input
+      → ServesAlong returning devices s whole.with.means.story (at x Begun watchers) (at y whole.session left) whole.with.works
+      → EachCanReplace devices s.geometry whole.with.means.story (at x Begun watchers) (at y whole.session left) whole.with.works
+      → view.source.left a.source ≡ Some input → IsFinished of status
+  script_finished Run scripted spells status a b x y watchers left whole none s input script is serves can told =
+      served_where returning devices view words Run spells status a b x y watchers left whole none s serves can
+      (subst (λ (left : Option (List ℕ)). IsSure [] run_plan (without_seats s) left) (sym told) (run_sure s script input is))
+  script_finished (Guard events fences) scripted spells status a b x y watchers left whole none s input script is serves can told =
+      elim (guarded_ends words events fences spells whole.with.means.story status whole.with.means.follows) [
+        | inr halted ↦ inr (halted.0, halted.1)
+        | inl own ↦ inl (done own.1)
+      ]
+    where
+      -- it did as one that isn't guarded
+      done : Leads Moves whole.with.means.story (unguarded_plan words) (Over status) → IsDone status
+      done follows =
+          planned_sure devices view returning (unguarded_plan words) status s a b x y watchers left (record {
+            session = whole.session;
+            with = record {
+              means = record { story = whole.with.means.story; follows = follows; bears = whole.with.means.bears };
+              works = whole.with.works;
+            };
+          }) (unguarded_so (AllowsAtMost most_allowed) words events fences spells (job_allowed Run)) serves none can
+          (unguarded_so (λ plan. IsSure [] plan (without_seats s) (view.source.left a.source)) words events fences spells
+          (subst (λ (left : Option (List ℕ)). IsSure [] run_plan (without_seats s) left) (sym told) (run_sure s script input is)))
+  script_finished (OneStripe command n m r e) scripted spells status a b x y watchers left whole none s input script is serves can told = absurd scripted
+  script_finished Create scripted spells status a b x y watchers left whole none s input script is serves can told = absurd scripted
+  script_finished Show scripted spells status a b x y watchers left whole none s input script is serves can told = absurd scripted
+  script_finished (Read first count) scripted spells status a b x y watchers left whole none s input script is serves can told = absurd scripted
+  script_finished (Write first count) scripted spells status a b x y watchers left whole none s input script is serves can told = absurd scripted
+  script_finished Scrub scripted spells status a b x y watchers left whole none s input script is serves can told = absurd scripted
+  script_finished (Replace slot) scripted spells status a b x y watchers left whole none s input script is serves can told = absurd scripted
+  script_finished Rebuild scripted spells status a b x y watchers left whole none s input script is serves can told = absurd scripted
+  script_finished Freeze scripted spells status a b x y watchers left whole none s input script is serves can told = absurd scripted
+  script_finished Thaw scripted spells status a b x y watchers left whole none s input script is serves can told = absurd scripted
+  script_finished (Label text) scripted spells status a b x y watchers left whole none s input script is serves can told = absurd scripted
+  script_finished (Exercise number count) scripted spells status a b x y watchers left whole none s input script is serves can told = absurd scripted
+  script_finished Report scripted spells status a b x y watchers left whole none s input script is serves can told = absurd scripted
+
+-- a state of some array, for what depends on none
+any_state : State
+any_state = created_state (one_stripe 0 0 0 [])
+
 pub all_is_complete_wherever : (R W S K : Type 0) → AllIsCompleteWherever R W S K
 all_is_complete_wherever R W S K returning devices view words (OneStripe command n m r e) status a b x y watchers left spells whole none can =
     let of = one_stripe n m r e in
@@ -488,8 +549,24 @@ all_is_complete_wherever R W S K returning devices view words Run status a b x y
     let script = is.2 in
     served_none returning devices view words Run spells status a b x y watchers left whole none is.0 is.1
     (subst (λ (told : Option (List ℕ)). EachStepOf AdmitsNone run_plan told) (sym can.1)
-    (run_admits_none script.0 can.0 script.1.few script.1.script script.2))
+    (script_admits_none false script.0 can.0 script.1.few script.1.script script.2))
     (subst (λ (told : Option (List ℕ)). IsSure [] run_plan (without_seats is.0) told) (sym can.1) (run_sure is.0 script.0 can.0 script.1))
+all_is_complete_wherever R W S K returning devices view words (Guard events fences) status a b x y watchers left spells whole none can =
+    let is = can.2 in
+    let script = is.2 in
+    script_finished returning devices view words (Guard events fences) tt spells status a b x y watchers left whole none is.0 can.0 script.0 script.1 is.1
+    (none_replaced_in devices is.0.geometry (history_of devices (at y whole.session left)) whole.with.means.story (at x Begun watchers)
+    (at y whole.session left) whole.with.works
+    (steps_of AdmitsNone view.source whole.with.means.story (plan_of words) (Over status) a.source b.source
+    (spelled_so (λ plan. EachStepOf AdmitsNone plan (view.source.left a.source)) words (Guard events fences) spells
+    (subst (λ (told : Option (List ℕ)). EachStepOf AdmitsNone guard_plan told) (sym can.1)
+    (script_admits_none true script.0 can.0 script.1.few script.1.script script.2)))
+    whole.with.means.follows whole.with.means.bears.gives)) can.1
+all_is_complete_wherever R W S K returning devices view words Report status a b x y watchers left spells whole none can =
+    let events = can.2 in
+    callless_done view (plan_of words) status a b whole.with.means (spelled_so MakesNoCall words Report spells report_calls_none) none any_state
+    (spelled_so (λ plan. IsSure [] plan any_state (view.source.left a.source)) words Report spells
+    (subst (λ (told : Option (List ℕ)). IsSure [] report_plan any_state told) (sym can.1) (report_sure any_state events.0 can.0 events.1 events.2)))
 
 -- what serves throughout serves along the story
 can_along : {R : Type 0} (returning : Returning) (Serves Also : State → Type 0) (rack : RackView R) (of : Job) (told : Option (List ℕ)) (x y : R)
@@ -508,6 +585,8 @@ can_along returning Serves Also rack Thaw told x y also can = (can.0, also can.0
 can_along returning Serves Also rack (Label text) told x y also can = (can.0, also can.0 can.1)
 can_along returning Serves Also rack (Exercise number count) told x y also can = (can.0, also can.0 can.1, can.2, can.3)
 can_along returning Serves Also rack Run told x y also can = (can.0, can.1, (can.2.0, also can.2.0 can.2.1, can.2.2))
+can_along returning Serves Also rack (Guard events fences) told x y also can = (can.0, can.1, (can.2.0, also can.2.0 can.2.1, can.2.2))
+can_along returning Serves Also rack Report told x y also can = can
 
 pub all_is_complete : (R W S K : Type 0) → AllIsComplete R W S K
 all_is_complete R W S K devices view words of status a b x y watchers left spells whole none can =
@@ -519,9 +598,8 @@ all_is_complete R W S K devices view words of status a b x y watchers left spell
     (λ s serves. along_any devices s whole.with.means.story first last whole.with.works serves) can)
 
 pub script_is_done : (R W S K : Type 0) → ScriptIsDone R W S K
-script_is_done R W S K returning devices view words script input status s a b x y watchers left spells whole none serves told is can =
-    served_where returning devices view words Run spells status a b x y watchers left whole none s serves can
-    (subst (λ (left : Option (List ℕ)). IsSure [] run_plan (without_seats s) left) (sym told) (run_sure s script input is))
+script_is_done R W S K returning devices view words of script input status s a b x y watchers left spells scripted whole none serves told is can =
+    script_finished returning devices view words of scripted spells status a b x y watchers left whole none s input script is serves can told
 
 pub replacement_is_done : (R W S K : Type 0) → ReplacementIsDone R W S K
 replacement_is_done R W S K returning devices view words slot status s a b x y watchers left spells whole none serves below can =

@@ -11,7 +11,7 @@ use Rattle.stair_array.specs.declared.fault.ArrayFault.{ArrayFault}
 use Rattle.stair_session.specs.Session.{ArrayState}
 use Rattle.stair_story.specs.Comes.{ComesTo}
 use Rattle.stair_story.specs.Devices.{DeviceView, Devices, devices}
-use Rattle.stair_story.specs.Plan.{Plan, Over, Put, take_step}
+use Rattle.stair_story.specs.Plan.{Plan, Over, Put, take_step, if_so}
 use Rattle.stair_story.specs.Refused.{status_of_refusal}
 use Rattle.stair_story.specs.Steps.{Takes}
 use Rattle.stair_story.specs.declared.status.Status.{Status}
@@ -19,7 +19,6 @@ use Rattle.stair_story.specs.declared.status.Status.TheVariants.{Done, OutOfRang
 use Rattle.stair_watch.specs.WatcherList.{AllStay}
 use Rattle.stair_story.proofs.ComesLaws.{comes_none, comes_refusal, comes_step, comes_then}
 use Rattle.stair_engine.specs.declared.exercise.Exercised.{Exercised}
-use Rattle.stair_engine.specs.Blocks.{if_so}
 use Rattle.stair_engine.specs.Exercise.{choice_of, exercise_steps, exercised_line, exercises, if_few, kind_of, most_steps, next_number, none_exercised, read_one, scrub_one, step_one, write_one}
 
 -- ---- the step of a number, by its kind

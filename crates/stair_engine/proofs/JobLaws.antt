@@ -1,10 +1,11 @@
 -- What each command's plan does by itself: a row for each command, and what follows of every call.
-use Rattle.std.proofs.Common.{◌≡◌, ◌≢◌, ◌≤◌, ℕ, List, Option, None, Some, Result, Ok, Err, arith, false, refl, true}
+use Rattle.std.proofs.Common.{◌≡◌, ◌≢◌, ◌≤◌, ℕ, Bool, List, Option, None, Some, Result, Ok, Err, arith, false, refl, true}
 use Rattle.stair_model.specs.Geometry.{Geometry}
 use Rattle.stair_array.specs.Draws.{allowance}
 use Rattle.stair_array.specs.Machine.{SetFrozen, SetLabel, Step}
 use Rattle.stair_array.specs.declared.fault.CreateFault.{CreateFault}
 use Rattle.stair_array.specs.declared.fault.CreateFault.TheVariants as create
+use Rattle.stair_monitor.specs.Reports.{report_plan}
 use Rattle.stair_conf.specs.declared.fault.ConfigFault.{ConfigFault}
 use Rattle.stair_conf.specs.declared.fault.ConfigFault.TheVariants as config
 use Rattle.stair_conf.specs.declared.job.Job.{Job}
@@ -28,13 +29,13 @@ use Rattle.stair_story.proofs.EndingLaws.{nothing_put, tells_faults, weaker}
 use Rattle.stair_story.proofs.LookLaws.{calls_look, first_unwritten}
 use Rattle.stair_story.proofs.PlannedLaws.{none_allows, none_each}
 use Rattle.stair_engine.proofs.ExerciseLaws.{exercise_admits_none, exercise_allowed, exercise_last, exercise_none, exercise_own, exercise_untaken}
-use Rattle.stair_engine.proofs.LineLaws.{lines_allowed, lines_none, lines_own}
+use Rattle.stair_engine.proofs.LineLaws.{script_allowed, script_none, script_own}
+use Rattle.stair_engine.proofs.ReportLaws.{report_calls_none, report_first, report_last, report_own}
 use Rattle.stair_engine.proofs.MendLaws.{done_own, replaces_allowed, replaces_last, replaces_none, replaces_own, replaces_untaken, scrubs_admit_none, scrubs_allowed, scrubs_last, scrubs_none, scrubs_own, scrubs_untaken}
 use Rattle.stair_engine.proofs.OpenLaws.{IsOfJob, opening_admits_none, opening_allowed, read_admits_none, read_allowed, read_none, read_own, read_untaken, refusal_own, unless_so, write_admits_none, write_allowed, write_last, write_none, write_own}
-use Rattle.stair_engine.specs.Blocks.{opens_array}
+use Rattle.stair_engine.specs.Blocks.{opens_array, watches_array}
 use Rattle.stair_engine.specs.Exercise.{exercise_steps}
 use Rattle.stair_engine.specs.Mending.{scrubs, stamps}
-use Rattle.stair_engine.specs.Scripts.{all_lines}
 use Rattle.stair_engine.specs.Jobs.{MayAdmit, MayWrite, NotSpelled, OpensArray, PutsOnTheWay, TakesInput}
 use Rattle.stair_engine.proofs.StripeLaws.{stripe_calls_none}
 use Rattle.stair_engine.specs.Plans.{create_plan, job_plan, making_plan, plan_of, show_plan, stripe_plan, tested_plan, within_limits}
@@ -81,11 +82,14 @@ making_own : (reply : Result Geometry ConfigFault) → EndsIn IsOfJob (making_pl
 making_own (Ok g) = (λ done. ((λ is. cc, λ is. cc), λ is. cc), λ fault. (create_own fault).0)
 making_own (Err fault) = (config_own fault).0
 
-opens_own : (k : Geometry → Plan) → ((g : Geometry) → EndsIn IsOfJob (k g)) → EndsIn IsOfJob (opens_array k)
-opens_own k own = (
-  λ member. unless_so (EndsIn IsOfJob) member.array.geometry.n (λ g left. k g) (λ g left. own g) (λ refusal. (refusal_own member.array.geometry.n refusal).0),
+watches_own : (k : Geometry → Bool → Plan) → ((g : Geometry) (left : Bool) → EndsIn IsOfJob (k g left)) → EndsIn IsOfJob (watches_array k)
+watches_own k own = (
+  λ member. unless_so (EndsIn IsOfJob) member.array.geometry.n k own (λ refusal. (refusal_own member.array.geometry.n refusal).0),
   λ fault. (survey_own fault).0,
 )
+
+opens_own : (k : Geometry → Plan) → ((g : Geometry) → EndsIn IsOfJob (k g)) → EndsIn IsOfJob (opens_array k)
+opens_own k own = watches_own (λ g left. k g) (λ g left. own g)
 
 stamps_own : (step : Step) (line : List ℕ) → EndsIn IsOfJob (stamps step line)
 stamps_own step line = opens_own _ (λ g. unless_so (EndsIn IsOfJob) g.n _ (λ given left. done_own) (λ refusal. (refusal_own g.n refusal).0))
@@ -102,8 +106,10 @@ job_own job.Rebuild = opens_own _ (λ g. (λ steps. done_own, λ refusal. (refus
 job_own job.Freeze = stamps_own (SetFrozen true) _
 job_own job.Thaw = stamps_own (SetFrozen false) _
 job_own (job.Label text) = stamps_own (SetLabel text) _
-job_own job.Run = opens_own all_lines lines_own
+job_own job.Run = watches_own _ (script_own false)
 job_own (job.Exercise number count) = opens_own (exercise_steps number count) (exercise_own number count)
+job_own (job.Guard events fences) = watches_own _ (script_own true)
+job_own job.Report = report_own
 
 -- ---- what is put out is put out last
 
@@ -139,6 +145,8 @@ job_last job.Thaw other = stamps_last (SetFrozen false) _
 job_last (job.Label text) other = stamps_last (SetLabel text) _
 job_last job.Run other = absurd (other tt)
 job_last (job.Exercise number count) other = opens_last (exercise_steps number count) (exercise_last number count)
+job_last (job.Guard events fences) other = absurd (other tt)
+job_last job.Report other = report_last
 
 -- ---- memory is asked for before anything is done to an array, or before it is written
 
@@ -158,15 +166,19 @@ job_first : (of : Job) → ¬ OpensArray of → AsksFirst (job_plan of)
 job_first (job.OneStripe command n m r e) other = λ reply is. stripe_first command _ reply
 job_first job.Create other = (λ more. tt, λ text reply is. making_first reply)
 job_first job.Show other = (λ member is. cc, λ fault. (survey_own fault).1)
+job_first job.Report other = report_first
 job_first _ other = absurd (other tt)
 
 pub words_first : (words : List (List ℕ)) → NotSpelled OpensArray words → AsksFirst (plan_of words)
 words_first words other None is = tt
 words_first words other (Some of) spells = job_first of (other of spells)
 
+watches_none : (k : Geometry → Bool → Plan) → ((g : Geometry) (left : Bool) → AsksForNone (k g left)) → AsksUnwritten (watches_array k)
+watches_none k none = λ member.
+    unless_so AsksForNone member.array.geometry.n k none (λ refusal. (refusal_own member.array.geometry.n refusal).1)
+
 opens_none : (k : Geometry → Plan) → ((g : Geometry) → AsksForNone (k g)) → AsksUnwritten (opens_array k)
-opens_none k none = λ member.
-    unless_so AsksForNone member.array.geometry.n (λ g left. k g) (λ g left. none g) (λ refusal. (refusal_own member.array.geometry.n refusal).1)
+opens_none k none = watches_none (λ g left. k g) (λ g left. none g)
 
 stamps_none : (step : Step) (line : List ℕ) → AsksUnwritten (stamps step line)
 stamps_none step line = opens_none _ (λ g. unless_so AsksForNone g.n _ (λ given left is. cc) (λ refusal. (refusal_own g.n refusal).1))
@@ -180,8 +192,10 @@ job_unwritten job.Rebuild = opens_none _ (λ g steps is. cc)
 job_unwritten job.Freeze = stamps_none (SetFrozen true) _
 job_unwritten job.Thaw = stamps_none (SetFrozen false) _
 job_unwritten (job.Label text) = stamps_none (SetLabel text) _
-job_unwritten job.Run = opens_none all_lines lines_none
+job_unwritten job.Run = watches_none _ (script_none false)
 job_unwritten (job.Exercise number count) = opens_none (exercise_steps number count) (exercise_none number count)
+job_unwritten (job.Guard events fences) = watches_none _ (script_none true)
+job_unwritten job.Report = first_unwritten report_plan (job_first job.Report (λ no. no))
 job_unwritten (job.OneStripe command n m r e) = first_unwritten (job_plan (job.OneStripe command n m r e)) (job_first (job.OneStripe command n m r e) (λ no. no))
 job_unwritten job.Create = first_unwritten create_plan (job_first job.Create (λ no. no))
 job_unwritten job.Show = first_unwritten show_plan (job_first job.Show (λ no. no))
@@ -202,6 +216,7 @@ job_once (job.OneStripe command n m r e) other =
     calls_once (tested_plan command of) (stripe_calls_none command of)
 job_once job.Create other = (λ more. tt, λ text reply is. making_once reply)
 job_once job.Show other = λ member. tt
+job_once job.Report other = calls_once report_plan report_calls_none
 job_once _ other = absurd (other tt)
 
 -- where no array is opened no step is taken
@@ -212,13 +227,14 @@ pub words_no_step : (words : List (List ℕ)) → NotSpelled OpensArray words �
 words_no_step words other None is = tt
 words_no_step words other (Some of) spells = job_no_step of (other of spells)
 
--- ---- no medium is admitted but by `replace` and `run`, and few numbers are drawn
+-- ---- no medium is admitted but by `replace`, `run` and `guard`, and few numbers are drawn
 
 pub job_admits_none : (of : Job) → ¬ MayAdmit of → EachStep AdmitsNone (job_plan of)
 job_admits_none (job.OneStripe command n m r e) other =
     none_each AdmitsNone (job_plan (job.OneStripe command n m r e)) (job_no_step (job.OneStripe command n m r e) (λ no. no))
 job_admits_none job.Create other = none_each AdmitsNone create_plan (job_no_step job.Create (λ no. no))
 job_admits_none job.Show other = none_each AdmitsNone show_plan (job_no_step job.Show (λ no. no))
+job_admits_none job.Report other = none_each AdmitsNone report_plan (job_no_step job.Report (λ no. no))
 job_admits_none (job.Read first count) other = λ member. opening_admits_none member.array.geometry.n _ (read_admits_none first count)
 job_admits_none (job.Write first count) other = λ member. opening_admits_none member.array.geometry.n _ (write_admits_none first count)
 job_admits_none job.Scrub other = λ member. opening_admits_none member.array.geometry.n _ (λ g. scrubs_admit_none g 0 g.stripes 0)
@@ -231,6 +247,7 @@ job_admits_none job.Thaw other =
 job_admits_none (job.Label text) other =
     λ member. opening_admits_none member.array.geometry.n _ (λ g. (tt, unless_so (EachStep AdmitsNone) g.n _ (λ given left. tt) (λ refusal. tt)))
 job_admits_none job.Run other = absurd (other tt)
+job_admits_none (job.Guard events fences) other = absurd (other tt)
 job_admits_none (job.Exercise number count) other =
     λ member. opening_admits_none member.array.geometry.n (exercise_steps number count) (exercise_admits_none number count)
 
@@ -243,6 +260,7 @@ job_allowed (job.OneStripe command n m r e) =
     none_allows most_allowed (job_plan (job.OneStripe command n m r e)) (job_no_step (job.OneStripe command n m r e) (λ no. no))
 job_allowed job.Create = none_allows most_allowed create_plan (job_no_step job.Create (λ no. no))
 job_allowed job.Show = none_allows most_allowed show_plan (job_no_step job.Show (λ no. no))
+job_allowed job.Report = none_allows most_allowed report_plan (job_no_step job.Report (λ no. no))
 job_allowed (job.Read first count) = λ member. opening_allowed member.array.geometry.n _ (read_allowed 3 first count)
 job_allowed (job.Write first count) = λ member. opening_allowed member.array.geometry.n _ (write_allowed 3 first count)
 job_allowed job.Scrub = λ member. opening_allowed member.array.geometry.n _ (λ g. scrubs_allowed 3 g 0 g.stripes 0)
@@ -251,7 +269,8 @@ job_allowed job.Rebuild = λ member. opening_allowed member.array.geometry.n _ (
 job_allowed job.Freeze = stamps_allowed (SetFrozen true) _ (omega arith)
 job_allowed job.Thaw = stamps_allowed (SetFrozen false) _ (omega arith)
 job_allowed (job.Label text) = stamps_allowed (SetLabel text) _ (omega arith)
-job_allowed job.Run = λ member. lines_allowed member.array.geometry.n
+job_allowed job.Run = λ member. script_allowed false member.array.geometry.n
+job_allowed (job.Guard events fences) = λ member. script_allowed true member.array.geometry.n
 job_allowed (job.Exercise number count) =
     λ member. opening_allowed member.array.geometry.n (exercise_steps number count) (exercise_allowed 3 number count)
 
@@ -289,6 +308,7 @@ job_looks (job.OneStripe command n m r e) other =
     let of = one_stripe n m r e in
     calls_look (tested_plan command of) (stripe_calls_none command of)
 job_looks job.Show other = λ member. tt
+job_looks job.Report other = calls_look report_plan report_calls_none
 job_looks _ other = absurd (other tt)
 
 -- ---- so of every call

@@ -40,3 +40,5 @@ mod ExercisedLaws
 mod SureLaws
 mod ExerciseSureLaws
 mod ScriptSureLaws
+mod ReportLaws
+mod HaltLaws

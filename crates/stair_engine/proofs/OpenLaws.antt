@@ -6,10 +6,10 @@ use Rattle.stair_array.specs.Machine as array
 use Rattle.stair_story.specs.declared.status.Status.{Status}
 use Rattle.stair_story.specs.declared.status.Status.TheVariants.{Usage, OutOfMemory}
 use Rattle.stair_story.specs.Ending.{AdmitsNone, AdmitsOnce, AllowsAtMost, AsksForNone, EachStep, EndsIn, IsNoFault, PutsLast, TakesNothing}
-use Rattle.stair_story.specs.Plan.{Plan, Over, take_step, unless_refused}
+use Rattle.stair_story.specs.Plan.{Plan, Over, take_step, unless_refused, if_so}
 use Rattle.stair_story.specs.Refused.{status_of_refusal}
 use Rattle.stair_story.specs.declared.status.Status.TheVariants.{OutOfRange}
-use Rattle.stair_engine.specs.Blocks.{if_in_range, if_so, is_in_range, part_of, reads, within_range, writes, wrote}
+use Rattle.stair_engine.specs.Blocks.{if_in_range, is_in_range, part_of, reads, within_range, writes, wrote}
 use Rattle.stair_story.specs.Sure.{most_allowed}
 use Rattle.std.specs.Prelude.{max}
 

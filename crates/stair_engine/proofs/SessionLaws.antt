@@ -12,11 +12,11 @@ use Rattle.stair_array.specs.declared.fault.RecoverFault.{RecoverFault}
 use Rattle.stair_array.specs.declared.fault.RecoverFault.TheVariants as recover
 use Rattle.stair_story.specs.Action.{Survey}
 use Rattle.stair_story.specs.Comes.{ComesTo}
-use Rattle.stair_story.specs.Devices.{DeviceView, MeansWhole, MeansWith, devices}
+use Rattle.stair_story.specs.Devices.{DeviceView, MeansWhole, MeansWith, devices, some_left}
 use Rattle.stair_story.specs.Fault.{status_of, status_of_fault}
 use Rattle.stair_story.specs.Means.{Means}
 use Rattle.stair_story.specs.Outside.{Outside, Views, outside}
-use Rattle.stair_story.specs.Plan.{Plan, Over, Put, Allocate, take_step}
+use Rattle.stair_story.specs.Plan.{Plan, Over, Put, Allocate, watch_step}
 use Rattle.stair_story.specs.Rack.{told_of}
 use Rattle.stair_story.specs.Refused.{status_of_refusal}
 use Rattle.stair_story.specs.Steps.{Takes}
@@ -25,10 +25,10 @@ use Rattle.stair_story.specs.declared.fault.Fault.{Fault}
 use Rattle.stair_story.specs.declared.fault.Fault.TheVariants as fault
 use Rattle.stair_story.specs.declared.status.Status.{Status}
 use Rattle.stair_story.specs.declared.status.Status.TheVariants.{Done, OutOfMemory}
-use Rattle.stair_story.proofs.ComesLaws.{comes_by, comes_refusal, comes_step, comes_then, with_comes}
+use Rattle.stair_story.proofs.ComesLaws.{comes_by, comes_refused, comes_watched, comes_then, with_comes}
 use Rattle.stair_story.proofs.DeviceLaws.{with_still, with_then}
 use Rattle.stair_story.proofs.TakenLaws.{taken_geometry}
-use Rattle.stair_engine.specs.Blocks.{BeginsSession, EndsSession, IsPast, IsUnopened, if_in_range, is_in_range, opens_array, within_range}
+use Rattle.stair_engine.specs.Blocks.{BeginsSession, EndsSession, IsPast, IsUnopened, if_in_range, is_in_range, opens_array, watches_array, within_range}
 use Rattle.std.specs.Prelude.{Bool, IfErr, IfOk, Result, true}
 
 -- why an array that was found isn't open
@@ -51,39 +51,39 @@ pub if_err_so : {T E : Type 0} (result : Result T E) (P Q : E → Type 0) → ((
 if_err_so (Ok given) P Q so is = tt
 if_err_so (Err fault) P Q so is = so fault is
 
-module _ {R W : Type 0} (view : DeviceView R W) (k : Geometry → Plan) (x y : R) (watchers : List W) where
+module _ {R W : Type 0} (view : DeviceView R W) (k : Geometry → Bool → Plan) (x y : R) (watchers : List W) where
   -- none was found
   none_comes : (refused : SurveyFault) → Surveys (Err refused) (told_of view.rack x) (told_of view.rack y)
-      → ComesTo view (opens_array k) (Over (status_of_fault (fault.Survey refused))) (devices x Begun watchers) (devices y Closed watchers)
+      → ComesTo view (watches_array k) (Over (status_of_fault (fault.Survey refused))) (devices x Begun watchers) (devices y Closed watchers)
   none_comes refused surveys =
-      comes_by view (Did Survey (Err refused)) (opens_array k) (Over (status_of_fault (fault.Survey refused))) (devices x Begun watchers)
+      comes_by view (Did Survey (Err refused)) (watches_array k) (Over (status_of_fault (fault.Survey refused))) (devices x Begun watchers)
       (devices y Closed watchers) tt (Err refused, refl, refl) (surveys, refl, refl, refl)
 
   -- one was
   module _ (member : Membership) (surveys : Surveys (Ok member) (told_of view.rack x) (told_of view.rack y)) where
     abbrev rest : Plan
-    rest = Allocate (take_step member.array.geometry.n Recover k)
+    rest = Allocate (watch_step member.array.geometry.n Recover k)
 
-    found : ComesTo view (opens_array k) rest (devices x Begun watchers) (devices y (Found member) watchers)
+    found : ComesTo view (watches_array k) rest (devices x Begun watchers) (devices y (Found member) watchers)
     found =
-        comes_by view (Did Survey (Ok member)) (opens_array k) rest (devices x Begun watchers) (devices y (Found member) watchers) tt
+        comes_by view (Did Survey (Ok member)) (watches_array k) rest (devices x Begun watchers) (devices y (Found member) watchers) tt
         (Ok member, refl, refl) (surveys, refl, refl, refl)
 
     -- and there was no memory
-    memory_comes : ComesTo view (opens_array k) (Over OutOfMemory) (devices x Begun watchers) (devices y (Found member) watchers)
+    memory_comes : ComesTo view (watches_array k) (Over OutOfMemory) (devices x Begun watchers) (devices y (Found member) watchers)
     memory_comes =
         comes_then view found
         (comes_by view RanOut rest (Over OutOfMemory) (devices y (Found member) watchers) (devices y (Found member) watchers) tt refl refl)
 
-    grown : ComesTo view (opens_array k) (take_step member.array.geometry.n Recover k) (devices x Begun watchers) (devices y (Found member) watchers)
+    grown : ComesTo view (watches_array k) (watch_step member.array.geometry.n Recover k) (devices x Begun watchers) (devices y (Found member) watchers)
     grown =
         comes_then view found
-        (comes_by view Grew rest (take_step member.array.geometry.n Recover k) (devices y (Found member) watchers) (devices y (Found member) watchers)
+        (comes_by view Grew rest (watch_step member.array.geometry.n Recover k) (devices y (Found member) watchers) (devices y (Found member) watchers)
         tt refl refl)
 
     module _ (z : R) (left : List W) where
       abbrev Ends : Status → Type 0
-      Ends status = (session : Session) × ComesTo view (opens_array k) (Over status) (devices x Begun watchers) (devices z session left)
+      Ends status = (session : Session) × ComesTo view (watches_array k) (Over status) (devices x Begun watchers) (devices z session left)
 
       -- or it wasn't opened
       refused_by : (refusal : Refusal) → Takes view Recover (Err refusal) (devices y (Found member) watchers) (devices z Closed left)
@@ -91,14 +91,14 @@ module _ {R W : Type 0} (view : DeviceView R W) (k : Geometry → Plan) (x y : R
       refused_by refusal takes = (
         Closed,
         comes_then view grown
-            (comes_refusal view member.array.geometry.n Recover refusal k (devices y (Found member) watchers) (devices z Closed left) takes),
+            (comes_refused view member.array.geometry.n Recover refusal k (devices y (Found member) watchers) (devices z Closed left) takes),
       )
 
       same_end : (z ≡ y) × (left ≡ watchers) → Ends OutOfMemory
       same_end same = (
         Found member,
-        subst (λ (r : R). ComesTo view (opens_array k) (Over OutOfMemory) (devices x Begun watchers) (devices r (Found member) left)) (sym same.0)
-            (subst (λ (ws : List W). ComesTo view (opens_array k) (Over OutOfMemory) (devices x Begun watchers) (devices y (Found member) ws)) (sym same.1)
+        subst (λ (r : R). ComesTo view (watches_array k) (Over OutOfMemory) (devices x Begun watchers) (devices r (Found member) left)) (sym same.0)
+            (subst (λ (ws : List W). ComesTo view (watches_array k) (Over OutOfMemory) (devices x Begun watchers) (devices y (Found member) ws)) (sym same.1)
             memory_comes),
       )
 
@@ -120,10 +120,10 @@ module _ {R W : Type 0} (view : DeviceView R W) (k : Geometry → Plan) (x y : R
       -- it was
       pub opened_comes : (array : ArrayState)
           → Takes view Recover (Ok member.array.geometry) (devices y (Found member) watchers) (devices z (Opened array) left)
-          → ComesTo view (opens_array k) (k member.array.geometry) (devices x Begun watchers) (devices z (Opened array) left)
+          → ComesTo view (watches_array k) (k member.array.geometry (some_left watchers left)) (devices x Begun watchers) (devices z (Opened array) left)
       opened_comes array takes =
           comes_then view grown
-          (comes_step view member.array.geometry.n Recover member.array.geometry k (devices y (Found member) watchers) (devices z (Opened array) left)
+          (comes_watched view member.array.geometry.n Recover member.array.geometry k (devices y (Found member) watchers) (devices z (Opened array) left)
           takes)
 
 -- a session that was begun, or wasn't
@@ -143,21 +143,26 @@ module _ {R W : Type 0} (view : DeviceView R W) (x y : R) (watchers : List W) wh
         let same : array.member.array.geometry ≡ member.array.geometry =
         taken_geometry view Recover (Ok member.array.geometry) (devices y (Found member) watchers) (devices z (Opened array) left) member array.member
         takes refl refl in
-        subst (λ (g : Geometry). ComesTo view (opens_array k) (k g) (devices x Begun watchers) (devices z (Opened array) left)) (sym same)
+        subst (λ (g : Geometry). ComesTo view (watches_array k) (k g (some_left watchers left)) (devices x Begun watchers) (devices z (Opened array) left)) (sym same)
         (opened_comes view k x y watchers member surveys z left array takes)
 
 -- ---- whole calls
 
+-- a session that isn't begun ends the call
+pub watched_ended : {R W S K : Type 0} (view : DeviceView R W) (streams : Views S K) (k : Geometry → Bool → Plan) (a : Outside S K) (x z : R)
+    (watchers left : List W) (why : Fault) → EndsSession view why x z watchers left
+    → MeansWhole view streams (watches_array k) (Over (status_of_fault why)) a a x z watchers left
+watched_ended view streams k a x z watchers left why ends =
+    let comes = ends k in
+    record {
+      session = comes.0;
+      with = with_comes view streams (watches_array k) (Over (status_of_fault why)) a (devices x Begun watchers) (devices z comes.0 left) comes.1;
+    }
+
 module _ {R W S K : Type 0} (view : DeviceView R W) (streams : Views S K) (k : Geometry → Plan) (a : Outside S K) where
-  -- a session that isn't begun ends the call
   pub ended : (x z : R) (watchers left : List W) (why : Fault) → EndsSession view why x z watchers left
       → MeansWhole view streams (opens_array k) (Over (status_of_fault why)) a a x z watchers left
-  ended x z watchers left why ends =
-      let comes = ends k in
-      record {
-        session = comes.0;
-        with = with_comes view streams (opens_array k) (Over (status_of_fault why)) a (devices x Begun watchers) (devices z comes.0 left) comes.1;
-      }
+  ended x z watchers left why ends = watched_ended view streams (λ g gone. k g) a x z watchers left why ends
 
   module _ (x y : R) (watchers : List W) where
     pub none_found : (refused : SurveyFault) → Surveys (Err refused) (told_of view.rack x) (told_of view.rack y)
@@ -177,7 +182,7 @@ module _ {R W S K : Type 0} (view : DeviceView R W) (streams : Views S K) (k : G
           → MeansWith view streams (opens_array k) (k member.array.geometry) a a (devices x Begun watchers) (devices z (Opened array) left)
       opened z left array takes =
           with_comes view streams (opens_array k) (k member.array.geometry) a (devices x Begun watchers) (devices z (Opened array) left)
-          (opened_comes view k x y watchers member surveys z left array takes)
+          (opened_comes view (λ g gone. k g) x y watchers member surveys z left array takes)
 
 -- ---- ranges
 
@@ -204,7 +209,7 @@ module _ {R W K : Type 0} (view : DeviceView R W) (streams : Views (Unit {0}) K)
   ends_with status sink counter comes = record {
     session = Opened last;
     with = with_comes view streams (opens_array k) (Over status) (outside tt sink counter) (devices x Begun watchers) (devices z (Opened last) left)
-        (comes_then view (begins k) comes);
+        (comes_then view (begins (λ g gone. k g)) comes);
   }
 
   -- or it came to the line, which is put out
@@ -217,7 +222,7 @@ module _ {R W K : Type 0} (view : DeviceView R W) (streams : Views (Unit {0}) K)
     session = Opened last;
     with = with_then view streams
         (with_comes view streams (opens_array k) (Put line (Over Done)) (outside tt sink counter) (devices x Begun watchers) (devices z (Opened last) left)
-        (comes_then view (begins k) comes))
+        (comes_then view (begins (λ g gone. k g)) comes))
         (with_still view streams (Put line (Over Done)) (Over (status_of result)) (outside tt sink counter) (outside tt later counter) z (Opened last) left tt
         (subst (λ (l : List ℕ). Means streams (Put l (Over Done)) (Over (status_of result)) (outside tt sink counter) (outside tt later counter)) same
         (means counter)));

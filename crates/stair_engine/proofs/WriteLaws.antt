@@ -18,7 +18,7 @@ use Rattle.stair_story.specs.Devices.{DeviceView, MeansWith, devices}
 use Rattle.stair_story.specs.Fault.{status_of_fault}
 use Rattle.stair_story.specs.Means.{Gives, Holds}
 use Rattle.stair_story.specs.Outside.{Views, outside}
-use Rattle.stair_story.specs.Plan.{Plan, Over, Put, Take, take_step}
+use Rattle.stair_story.specs.Plan.{Plan, Over, Put, Take, take_step, if_so}
 use Rattle.stair_story.specs.Refused.{status_of_refusal}
 use Rattle.stair_story.specs.Steps.{Takes}
 use Rattle.stair_story.specs.Story.{AreEnough, HasPut, IsPart, PutFailed, Took, TookLast, TakeFailed}
@@ -27,7 +27,7 @@ use Rattle.stair_story.proofs.DeviceLaws.{with_none, with_one, with_part, with_p
 use Rattle.stair_story.proofs.IntakeLaws.{are_all}
 use Rattle.stair_story.proofs.TakenLaws.{taken_geometry}
 use Rattle.stair_watch.specs.WatcherList.{AllStay}
-use Rattle.stair_engine.specs.Blocks.{if_so, part_of, piece_blocks, whole_of, writes, wrote, wrote_line}
+use Rattle.stair_engine.specs.Blocks.{part_of, piece_blocks, whole_of, writes, wrote, wrote_line}
 use Rattle.stair_engine.specs.Piece.{Held, TakesPiece}
 use Rattle.stair_engine.proofs.TurnLaws.{all_within, few_whole, part_long, part_short, some_whole, whole_long}
 

@@ -16,14 +16,18 @@ use Rattle.stair_story.specs.declared.status.Status.TheVariants.{Done, Input, Ou
 use Rattle.stair_story.specs.Action.{Survey}
 use Rattle.stair_story.specs.Comes.{ComesTo}
 use Rattle.stair_story.specs.Fault.{status_of_fault}
-use Rattle.stair_story.specs.Devices.{DeviceView, devices}
-use Rattle.stair_story.specs.Plan.{Plan, Over, Put, Allocate, Do, Take, take_exactly, take_step}
+use Rattle.stair_story.specs.Devices.{DeviceView, devices, some_left}
+use Rattle.stair_story.specs.Plan.{Plan, Over, Put, Allocate, Do, Take, if_so, take_exactly, take_step, watch_step}
 use Rattle.stair_story.specs.Steps.{Takes}
 
--- A session: an array is looked for, memory is taken, and it is opened.
+-- A session: an array is looked for, memory is taken, and it is opened; the rest takes whether a watcher left by then.
+abbrev pub watches_array : (Geometry → Bool → Plan) → Plan
+watches_array k =
+    Do Survey (λ member. Allocate (watch_step member.array.geometry.n Recover k))
+
+-- and to most it is all the same
 abbrev pub opens_array : (Geometry → Plan) → Plan
-opens_array k =
-    Do Survey (λ member. Allocate (take_step member.array.geometry.n Recover k))
+opens_array k = watches_array (λ g left. k g)
 
 -- Why an array that was found isn't opened: memory was short before any call was made, or its opening was refused.
 abbrev pub IsUnopened : {R W : Type 0} → DeviceView R W → Membership → Fault → R → R → List W → List W
@@ -39,14 +43,15 @@ IsUnopened view member _ old new watchers left = ⊥
 
 -- The session is begun: its array was looked for and is open, and so goes on every plan that opens one.
 abbrev pub BeginsSession : {R W : Type 0} → DeviceView R W → ArrayState → R → R → List W → List W → Type 0
-BeginsSession view array old new watchers left = (k : Geometry → Plan)
-    → ComesTo view (opens_array k) (k array.member.array.geometry) (devices old Begun watchers)
+BeginsSession view array old new watchers left = (k : Geometry → Bool → Plan)
+    → ComesTo view (watches_array k)
+    (k array.member.array.geometry (some_left watchers left)) (devices old Begun watchers)
     (devices new (Opened array) left)
 
 -- or it isn't, by which every such plan ends
 abbrev pub EndsSession : {R W : Type 0} → DeviceView R W → Fault → R → R → List W → List W → Type 0
-EndsSession view why old new watchers left = (k : Geometry → Plan)
-    → (session : Session) × ComesTo view (opens_array k) (Over (status_of_fault why))
+EndsSession view why old new watchers left = (k : Geometry → Bool → Plan)
+    → (session : Session) × ComesTo view (watches_array k) (Over (status_of_fault why))
     (devices old Begun watchers) (devices new session left)
 
 -- RANGES
@@ -104,11 +109,6 @@ wrote_line count = codes "wrote " ++ (decimal count ++ (codes " blocks" ++ 10 �
 abbrev pub wrote : ℕ → Plan
 wrote all = take_exactly 1 (λ more. Over (Input (SECTOR * all) (SECTOR * all + 1)))
     (λ none. Put (wrote_line all) (Over Done))
-
--- the one plan where this is so, and else the other
-abbrev pub if_so : Bool → Plan → Plan → Plan
-if_so true this that = this
-if_so false this that = that
 
 -- What is left of a write of `all` blocks from `first` on, of which so many are done, behind bytes that were taken and are less
 -- than a block. A piece has one whole block at least, and is within a stripe; its whole blocks are written as one step. So there

@@ -1,5 +1,5 @@
 -- When a command is sure to be done.
-use Rattle.std.specs.Prelude.{◌≡◌, ◌⊎◌, ◌*◌, ◌<◌, ◌≤◌, ℕ, false, IsTrue, List, [], ◌∷◌, ◌++◌, All, length, drop, take, Option, Some, Ok, ⊤}
+use Rattle.std.specs.Prelude.{◌≡◌, ◌⊎◌, ◌*◌, ◌<◌, ◌≤◌, ℕ, false, IsTrue, List, All, length, drop, take, Option, Some, Ok, ⊤}
 use Rattle.stair_model.specs.CellSet.{CellSet}
 use Rattle.stair_model.specs.Codeword.{IsCodeword}
 use Rattle.stair_model.specs.Coverage.{IsCovered}
@@ -14,6 +14,8 @@ use Rattle.stair_conf.specs.declared.job.Job.{Job}
 use Rattle.stair_conf.specs.declared.job.Job.TheVariants as job
 use Rattle.stair_conf.specs.declared.job.StripeCommand.{StripeCommand}
 use Rattle.stair_conf.specs.declared.job.StripeCommand.TheVariants.{Check, Encode, Restore}
+use Rattle.stair_rack.specs.declared.watcher.Event.{Event}
+use Rattle.stair_script.specs.Events.{SpellsEvent}
 use Rattle.stair_script.specs.Line.{SpellsLine}
 use Rattle.stair_script.specs.declared.line.Line.{Line}
 use Rattle.stair_script.specs.declared.line.Line.TheVariants as line
@@ -25,14 +27,15 @@ use Rattle.stair_story.specs.Plan.{Over}
 use Rattle.stair_engine.specs.Blocks.{IsInRange}
 use Rattle.stair_engine.specs.Exercise.{most_steps}
 use Rattle.stair_engine.specs.Plans.{TEXT_LIMIT, plan_of}
-use Rattle.stair_engine.specs.Scripts.{SCRIPT_LIMIT}
 use Rattle.stair_story.specs.Rack.{RackView}
 use Rattle.stair_story.specs.Restore.{HoldsCells, IsErasedBy}
 use Rattle.stair_story.specs.Story.{Deed, Leads}
 use Rattle.stair_story.specs.Sure.{HasDevice, HasNoFault, IsDone, ServesAlong, ServesThroughout}
+use Rattle.stair_story.specs.Texts.{AreLines, SCRIPT_LIMIT}
 use Rattle.stair_engine.specs.Stands.{StandsThroughout}
 use Rattle.stair_engine.specs.Task.{one_stripe}
 use Rattle.stair_story.specs.declared.status.Status.{Status}
+use Rattle.stair_story.specs.declared.status.Status.TheVariants.{Halted}
 
 -- what is judged Done: the cells of a codeword, any blocks, and cells of which the erased ones are covered and the others are
 -- those of some codeword
@@ -62,14 +65,6 @@ IsThawed s =
 
 -- SCRIPTS
 
--- The lines of these bytes, in order: each but the last has its end (10). The last may have none, unless it is blank.
-abbrev pub IsScript : List Line → List ℕ → Type 0
-IsScript [] bytes = bytes ≡ []
-IsScript (said ∷ lines) bytes =
-    ((lines ≡ []) × SpellsLine bytes said × (0 < length bytes))
-    ⊎ ((text rest : List ℕ) × SpellsLine text said × (bytes ≡ text ++ 10 ∷ rest)
-    × IsScript lines rest)
-
 -- an array in this state has the block, the stripe or the slot of a line, and isn't frozen where a block is written
 abbrev pub IsLineOf : State → Line → Type 0
 IsLineOf s Blank = ⊤
@@ -87,8 +82,19 @@ PutsNoneIn _ = ⊤
 -- an input is a script of such lines, and is not too long
 pub record IsScriptOf (s : State) (lines : List Line) (input : List ℕ) : Type 0 where
   pub few : length input ≤ SCRIPT_LIMIT
-  pub script : IsScript lines input
+  pub script : AreLines SpellsLine lines input
   pub each : All (IsLineOf s) lines
+
+-- lines of events alone, and not too many
+abbrev pub IsEventText : List ℕ → Type 0
+IsEventText input = (events : List Event) × AreLines SpellsEvent events input
+    × (length input ≤ SCRIPT_LIMIT)
+
+-- The job is done, if there was memory. A guarded script may be halted.
+abbrev pub IsFinished : Job → Status → Type 0
+IsFinished (job.Guard events fences) status =
+    IsDone status ⊎ ((number : ℕ) × (status ≡ Halted number))
+IsFinished job status = IsDone status
 
 -- What is told and the rack are such that the job can be done, where an array in some state serves the call. A replacement can be
 -- where the slot takes no part before anything is written, and has a device that can be admitted. Of a script in which a device is
@@ -113,14 +119,18 @@ CanBeDone returning Serves rack (job.Exercise number count) told first last =
     (s : State) × Serves s × (count ≤ most_steps) × (0 < count → IsThawed s)
 CanBeDone returning Serves rack job.Run told first last = TellsInput told (λ input.
     (s : State) × Serves s × ((lines : List Line) × IsScriptOf s lines input × All PutsNoneIn lines))
+CanBeDone returning Serves rack (job.Guard events fences) told first last =
+    TellsInput told (λ input. (s : State) × Serves s
+    × ((lines : List Line) × IsScriptOf s lines input × All PutsNoneIn lines))
+CanBeDone returning Serves rack job.Report told first last = TellsInput told IsEventText
 CanBeDone returning Serves rack job told first last = (s : State) × Serves s
 
--- The job is done, if there was memory, where it can be and neither source nor sink failed. No medium comes back.
+-- It is finished where it can be done and neither source nor sink failed. No medium comes back.
 abbrev pub IsComplete : {R S K : Type 0} → RackView R → Views S K → Job → Status → Outside S K →
     Outside S K → R → R → Type 0
 IsComplete rack view job status old new first last = HasNoFault view old new
     → CanBeDone NoneReturns (λ s. ServesThroughout rack s first last) rack job
-    (view.source.left old.source) first last → IsDone status
+    (view.source.left old.source) first last → IsFinished job status
 
 -- So it is along the story of its call, whether media come back or not.
 abbrev pub IsCompleteAlong : {R W S K : Type 0} → Returning → (view : DeviceView R W)
@@ -129,7 +139,7 @@ abbrev pub IsCompleteAlong : {R W S K : Type 0} → Returning → (view : Device
 IsCompleteAlong returning view streams job status old new story first last works =
     HasNoFault streams old new
     → CanBeDone returning (λ s. ServesAlong returning view s story first last works) view.rack job
-    (streams.source.left old.source) first.rack last.rack → IsDone status
+    (streams.source.left old.source) first.rack last.rack → IsFinished job status
 
 -- It is so along each story that bears out this call.
 abbrev pub IsCompleteWherever : {R W S K : Type 0} → Returning → DeviceView R W → Views S K

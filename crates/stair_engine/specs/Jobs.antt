@@ -2,12 +2,13 @@
 use Rattle.std.specs.Prelude.{ℕ, List, ⊤}
 use Rattle.stair_conf.specs.Words.{Spells}
 use Rattle.stair_conf.specs.declared.job.Job.{Job}
-use Rattle.stair_conf.specs.declared.job.Job.TheVariants.{Create, Exercise, Freeze, Label, OneStripe, Read, Rebuild, Replace, Run, Scrub, Show, Thaw, Write}
+use Rattle.stair_conf.specs.declared.job.Job.TheVariants.{Create, Exercise, Freeze, Guard, Label, OneStripe, Read, Rebuild, Replace, Report, Run, Scrub, Show, Thaw, Write}
 
 -- blocks of an array, or the replies to lines, are put out before all is done
 abbrev pub PutsOnTheWay : Job → Type 0
 PutsOnTheWay (Read block count) = ⊤
 PutsOnTheWay Run = ⊤
+PutsOnTheWay (Guard events fences) = ⊤
 PutsOnTheWay _ = ⊥
 
 -- an array that is there is opened
@@ -21,13 +22,21 @@ OpensArray Freeze = ⊤
 OpensArray Thaw = ⊤
 OpensArray (Label text) = ⊤
 OpensArray Run = ⊤
+OpensArray (Guard events fences) = ⊤
 OpensArray (Exercise number count) = ⊤
 OpensArray _ = ⊥
+
+-- the lines of a script are done
+abbrev pub IsScripted : Job → Type 0
+IsScripted Run = ⊤
+IsScripted (Guard events fences) = ⊤
+IsScripted _ = ⊥
 
 -- a medium may be admitted
 abbrev pub MayAdmit : Job → Type 0
 MayAdmit (Replace slot) = ⊤
 MayAdmit Run = ⊤
+MayAdmit (Guard events fences) = ⊤
 MayAdmit _ = ⊥
 
 -- an input is taken
@@ -36,6 +45,8 @@ TakesInput (OneStripe command n m r e) = ⊤
 TakesInput Create = ⊤
 TakesInput (Write block count) = ⊤
 TakesInput Run = ⊤
+TakesInput (Guard events fences) = ⊤
+TakesInput Report = ⊤
 TakesInput _ = ⊥
 
 -- devices may be written: an array is made, or opened

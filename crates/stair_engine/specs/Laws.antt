@@ -7,15 +7,17 @@ use Rattle.stair_rack.specs.Count.{Rose}
 use Rattle.stair_member.specs.Asked.{LeavesSectors}
 use Rattle.stair_conf.specs.Words.{IsSpelled, Spells}
 use Rattle.stair_conf.specs.declared.job.Job.{Job}
-use Rattle.stair_conf.specs.declared.job.Job.TheVariants.{OneStripe, Create, Replace, Run, Scrub, Show, Write}
+use Rattle.stair_conf.specs.declared.job.Job.TheVariants.{OneStripe, Create, Guard, Replace, Scrub, Show, Write}
 use Rattle.stair_conf.specs.declared.job.StripeCommand.{StripeCommand}
 use Rattle.stair_script.specs.declared.line.Line.{Line}
 use Rattle.stair_story.specs.declared.status.Status.{Status}
 use Rattle.stair_story.specs.declared.status.Status.TheVariants.{Done, Usage, InputFault, OutOfMemory}
 use Rattle.stair_story.specs.Answer.{map_bytes}
 use Rattle.stair_engine.specs.Cause.{Answers, IfRefusedAtOnce}
-use Rattle.stair_engine.specs.Complete.{IsComplete, IsCompleteWherever, IsScriptOf}
+use Rattle.stair_watch.specs.WatcherList.{AllStay}
+use Rattle.stair_engine.specs.Complete.{IsComplete, IsCompleteWherever, IsFinished, IsScriptOf}
 use Rattle.stair_engine.specs.Counted.{TellsCount}
+use Rattle.stair_engine.specs.Halts.{IsGuarded}
 use Rattle.stair_engine.specs.Create.{IsOnceMade, MakesArray, SparesArrays}
 use Rattle.stair_engine.specs.Does.{Does}
 use Rattle.stair_array.specs.Arrays.{blocks_of}
@@ -24,7 +26,7 @@ use Rattle.stair_state.specs.State.{State}
 use Rattle.stair_session.specs.Returning.{Returning}
 use Rattle.stair_engine.specs.Blocks.{whole_of}
 use Rattle.stair_engine.specs.Came.{AreWritten, IsUnrefused, taken_in}
-use Rattle.stair_engine.specs.Jobs.{PutsOnTheWay, MakesCalls, MayWrite, NotSpelled, OpensArray, TakesInput}
+use Rattle.stair_engine.specs.Jobs.{IsScripted, PutsOnTheWay, MakesCalls, MayWrite, NotSpelled, OpensArray, TakesInput}
 use Rattle.stair_story.specs.Devices.{DeviceView, MeansWhole, devices}
 use Rattle.stair_story.specs.Ending.{IfNothingIsPutOut, TellsFaults}
 use Rattle.stair_story.specs.Means.{Means}
@@ -79,8 +81,8 @@ BytesAreAnswered {S} {K} view =
     IfSome (view.source.left old.source) (λ bytes. Answers command (one_stripe n m r e) bytes
     (view.sink.held old.sink) (view.sink.held new.sink) status)
 
--- A fault comes only where its count rose, and no count falls, whatever the words are. No command but `read` and `run` puts
--- anything out that isn't done.
+-- A fault comes only where its count rose, and no count falls, whatever the words are. No command but `read`, `run` and `guard`
+-- puts anything out that isn't done.
 abbrev pub AllIsKept : (S K : Type 0) → Type 0
 AllIsKept S K = (view : Views S K) (words : List (List ℕ)) (status : Status)
     (old new : Outside S K) → Means view (plan_of words) (Over status) old new
@@ -210,15 +212,24 @@ ReplacementIsDone R W S K = (returning : Returning) (view : DeviceView R W) (str
     (devices last whole.session left) whole.with.works → IsDone status
 
 -- A script is done, if there was memory, where each of its lines can be: the array serves along the story, no fault is counted, and
--- each slot that is to be replaced can be as that step begins.
+-- each slot that is to be replaced can be as that step begins. A guarded one may be halted.
 abbrev pub ScriptIsDone : (R W S K : Type 0) → Type 0
 ScriptIsDone R W S K = (returning : Returning) (view : DeviceView R W) (streams : Views S K)
-    (words : List (List ℕ)) (lines : List Line) (input : List ℕ) (status : Status) (s : State)
-    (old new : Outside S K) (first last : R) (watchers left : List W) → Spells words Run
+    (words : List (List ℕ)) (job : Job) (lines : List Line) (input : List ℕ) (status : Status)
+    (s : State) (old new : Outside S K) (first last : R) (watchers left : List W)
+    → Spells words job → IsScripted job
     → (whole : MeansWhole view streams (plan_of words) (Over status) old new first last watchers left)
     → HasNoFault streams old new
     → ServesAlong returning view s whole.with.means.story (devices first Begun watchers)
     (devices last whole.session left) whole.with.works
     → streams.source.left old.source ≡ Some input → IsScriptOf s lines input
     → EachCanReplace view s.geometry whole.with.means.story (devices first Begun watchers)
-    (devices last whole.session left) whole.with.works → IsDone status
+    (devices last whole.session left) whole.with.works → IsFinished job status
+
+-- `guard` is halted exactly where a watcher left, if the list had none that had left
+abbrev pub GuardsHalt : (R W S K : Type 0) → Type 0
+GuardsHalt R W S K = (view : DeviceView R W) (streams : Views S K) (words : List (List ℕ))
+    (events fences : ℕ) (status : Status) (old new : Outside S K) (first last : R)
+    (watchers left : List W) → Spells words (Guard events fences)
+    → AllStay view.watcher watchers
+    → IsGuarded view streams words status old new first last watchers left

@@ -1,4 +1,5 @@
 -- What the top call does.
+pub mod Halts
 pub mod Jobs
 pub mod Task
 pub mod Blocks

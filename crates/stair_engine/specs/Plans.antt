@@ -17,7 +17,8 @@ use Rattle.stair_story.specs.Question.{Words, Limits, Text, Judgement}
 use Rattle.stair_engine.specs.Blocks.{read_plan, write_plan}
 use Rattle.stair_engine.specs.Exercise.{exercise_plan}
 use Rattle.stair_engine.specs.Mending.{freeze_plan, label_plan, rebuild_plan, replace_plan, scrub_plan, thaw_plan}
-use Rattle.stair_engine.specs.Scripts.{run_plan}
+use Rattle.stair_monitor.specs.Reports.{report_plan}
+use Rattle.stair_engine.specs.Scripts.{guard_plan, run_plan}
 use Rattle.stair_engine.specs.Show.{show_text}
 use Rattle.stair_engine.specs.Task.{one_stripe}
 
@@ -78,6 +79,8 @@ job_plan job.Thaw = thaw_plan
 job_plan (job.Label text) = label_plan text
 job_plan job.Run = run_plan
 job_plan (job.Exercise number count) = exercise_plan number count
+job_plan (job.Guard events fences) = guard_plan
+job_plan job.Report = report_plan
 
 abbrev pub if_spelled : Option Job → Plan
 if_spelled None = Over Usage

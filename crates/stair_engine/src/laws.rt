@@ -13,6 +13,7 @@ ghost use Rattle.stair_engine.specs.Laws.{
   ArraysAreSpared,
   BytesAreAnswered,
   DifferAtErased,
+  GuardsHalt,
   MemoryComesFirst,
   RackIsLeft,
   ReplacementIsDone,
@@ -65,8 +66,10 @@ pub fn plan_laws<R, W, S: Source, K: Sink>()
     ensures complete_wherever { AllIsCompleteWherever R W S K }
     // and so is a replacement by any medium, where its slot is Down and the medium fit as that step begins
     ensures replaced { ReplacementIsDone R W S K }
-    // and so is a script, where each of its lines can be done
+    // and so is a script, where each of its lines can be done; a guarded one may be halted
     ensures scripted { ScriptIsDone R W S K }
+    // `guard` is halted exactly where a watcher left
+    ensures halted { GuardsHalt R W S K }
     // what a scrub, a replacement and a rebuild leave good
     ensures mended { ArrayIsMended R W S K }
     // and to the session, whatever the rack was before

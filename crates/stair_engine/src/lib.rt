@@ -24,16 +24,18 @@ mod stamp;
 mod task;
 mod write;
 
-ghost use Rattle.std.specs.Prelude.{◌≡◌, IsTrue, map, string_bytes};
+ghost use Rattle.std.specs.Prelude.{◌≡◌, ℕ, IsTrue, map, string_bytes};
 ghost use Rattle.stair_conf.specs.Words.{IsCommandLine, Spells};
 ghost use Rattle.stair_conf.specs.declared.job.Job.{Job as Jobs};
-ghost use Rattle.stair_conf.specs.declared.job.Job.TheVariants.{Create, Scrub};
+ghost use Rattle.stair_conf.specs.declared.job.Job.TheVariants.{Create, Guard, Scrub};
 ghost use Rattle.stair_session.specs.Returning.{AnyReturns};
 ghost use Rattle.stair_engine.specs.Complete.{IsComplete, IsCompleteWherever};
 ghost use Rattle.stair_engine.specs.Counted.{TellsCount};
 ghost use Rattle.stair_engine.specs.Create.{IsOnceMade, MakesArray, SparesArrays};
+ghost use Rattle.stair_monitor.specs.Reports.{status_of as status_of_report};
 ghost use Rattle.stair_story.specs.Fault.{status_of};
 ghost use Rattle.stair_rack.specs.Watching.{watcher_view};
+ghost use Rattle.stair_engine.specs.Halts.{IsGuarded};
 ghost use Rattle.stair_engine.specs.Jobs.{MayWrite, NotSpelled};
 ghost use Rattle.stair_engine.specs.Mended.{IsMended};
 ghost use Rattle.stair_story.specs.Devices.{MeansWhole, device_view};
@@ -60,6 +62,7 @@ use show::show;
 use stair_base::Geometry;
 use stair_conf::{Job, StripeCommand, WordsFault, read_words};
 use stair_gf::Steps;
+use stair_monitor::{ReportFault, report};
 use stair_rack::{Rack, Sink, Source, Watcher};
 use stair_story::Fault;
 pub use stair_story::Status;
@@ -82,12 +85,14 @@ use write::write;
 /// a line once all is done.
 /// `run` opens the array and does the lines of a script ([`stair_script::read_line`]), one after the other: each once its end came,
 /// or that of the input, and its reply is put out before more is taken. `exercise` opens it and takes the steps that a number gives;
-/// it takes nothing, and puts out a line once all is done.
+/// it takes nothing, and puts out a line once all is done. `guard` is `run` that is halted behind the first line at which a watcher
+/// left, or before its first line where one left as the array was opened: whoever calls it chooses the watchers, whatever its numbers
+/// are. `report` counts the events that the lines of its input tell ([`stair_monitor::report`]), and makes no call on the rack.
 ///
 /// The words are tested first, then the limits of the geometry of a stripe, then the input: what is refused before the input
 /// is taken leaves input, output and counter as they were, and nothing is put out before the answer is known. `InputFault`
 /// leaves the output as it was, and after `OutputFault` a part of the output stands; after that of `create` there is an array.
-/// What `read` and `run` put out before a refusal stands, and so does each block that `write` wrote before one, or before an input
+/// What `read`, `run` and `guard` put out before a refusal stands, and so does each block that `write` wrote before one, or before an input
 /// that ends or fails, and each step of the others that came before one. Where a step is refused with `TooFew` or `EpochsSpent` its blocks are old, new, or in doubt.
 ///
 /// The counter rises by exactly the steps of the encoder that METHOD of `stripe` chooses. No other command counts.
@@ -138,12 +143,21 @@ pub fn stair<R: Rack, S: Source, K: Sink, L: Ledger>(
     ensures stands { IsTrue R.is_honest → NotSpelled MayWrite (map string_bytes words.now) →
         ArrayStands (R.history rack.old) (R.history rack.new) }
 
-    // Where it can be done, and neither source nor sink fails, the answer is Done or want of memory.
+    // Where it can be done, and neither source nor sink fails, the answer is Done or want of memory, or of `guard` that it was halted.
     ensures complete { (job : Jobs) → Spells (map string_bytes words.now) job →
         IsComplete (rack_view R.is_honest R.history R.bads R.gones)
         (views S.left S.ended S.faults K.held K.faults) job result
         (outside input.old output.old steps.old) (outside input.new output.new steps.new)
         rack.old rack.new }
+
+    // `guard` is halted exactly behind the first line at which a watcher left, once its steps were done and its reply was put out; up
+    // to there it went as `run` does. A watcher that tells its patience is waiting for more where none left.
+    ensures halted { (events fences : ℕ) → Spells (map string_bytes words.now) (Guard events fences) →
+        IsGuarded (device_view (rack_view R.is_honest R.history R.bads R.gones)
+        (watcher_view told count (λ w. (Watcher-box w).left w.value) patience))
+        (views S.left S.ended S.faults K.held K.faults) (map string_bytes words.now) result
+        (outside input.old output.old steps.old) (outside input.new output.new steps.new)
+        rack.old rack.new watchers.old.items watchers.new.items }
 
     // So it is too where media that were pulled are put back, along each story that bears out the call: where the array serves along it,
     // failures staying within tolerance.
@@ -229,13 +243,28 @@ fn work<R: Rack, S: Source, K: Sink, L: Ledger>(
             done.unwrap_or_else(Status::from)
         }
         Job::Run => {
-            let done = run_script(alloc, rack, input, output, watchers);
+            let done = run_script(alloc, false, rack, input, output, watchers);
             done.unwrap_or_else(Status::from)
         }
         Job::Exercise { number, count } => {
             let done = exercise(alloc, number, count, rack, output, watchers);
             done.unwrap_or_else(Status::from)
         }
+        Job::Guard { .. } => {
+            let done = run_script(alloc, true, rack, input, output, watchers);
+            done.unwrap_or_else(Status::from)
+        }
+        Job::Report => reported(report(input, output)),
+    }
+}
+
+/// The status of a report.
+fn reported(done: Result<(), ReportFault>) -> Status
+    ensures { result ≡ status_of_report done }
+{
+    match done {
+        Ok(()) => Status::Done,
+        Err(fault) => Status::from(fault),
     }
 }
 

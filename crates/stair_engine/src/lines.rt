@@ -1,5 +1,5 @@
 // What each line of a script does.
-ghost use Rattle.std.specs.Prelude.{◌≡◌, ℕ, IfErr, IfOk, OnOk};
+ghost use Rattle.std.specs.Prelude.{◌≡◌, ℕ, Bool, false, IfErr, IfOk, OnOk};
 ghost use Rattle.stair_rack.specs.Watching.{watcher_view};
 ghost use Rattle.stair_array.specs.Promise.{Opened as IsOpen};
 ghost use Rattle.stair_engine.specs.Scripts.{
@@ -16,7 +16,7 @@ ghost use Rattle.stair_engine.specs.Scripts.{
 };
 ghost use Rattle.stair_script.specs.declared.line.Line.TheVariants.{Read, Replace, Scrub, Write};
 ghost use Rattle.stair_story.specs.Comes.{ComesTo};
-ghost use Rattle.stair_story.specs.Devices.{device_view, devices};
+ghost use Rattle.stair_story.specs.Devices.{device_view, devices, some_left};
 ghost use Rattle.stair_story.specs.Fault.{status_of_fault};
 ghost use Rattle.stair_story.specs.Outside.{sink_view};
 ghost use Rattle.stair_story.specs.Plan.{Over, Plan, Put};
@@ -40,12 +40,13 @@ pub(crate) fn take_line<C: StripeCode, R: Rack>(
     watchers: &mut Vec<Box<dyn Watcher>>,
 ) -> Result<Option<Reply>, Fault>
     requires stay { AllStay (watcher_view told count (λ w. (Watcher-box w).left w.value) patience) watchers.old.items }
-    ensures done { IfOk result (λ reply. (rest : Plan) → ComesTo
+    ensures done { IfOk result (λ reply. (rest : Bool → Plan) → ComesTo
         (device_view (rack_view R.is_honest R.history R.bads R.gones) (watcher_view told count (λ w. (Watcher-box w).left w.value) patience))
-        (does_line array.old.member.array.geometry number line.now rest) (replies reply rest)
+        (does_line array.old.member.array.geometry number line.now rest)
+        (replies reply (rest (some_left watchers.old.items watchers.new.items)))
         (devices rack.old (IsOpen array.old) watchers.old.items)
         (devices rack.new (IsOpen array.new) watchers.new.items)) }
-    ensures refused { IfErr result (λ fault. (rest : Plan) → ComesTo
+    ensures refused { IfErr result (λ fault. (rest : Bool → Plan) → ComesTo
         (device_view (rack_view R.is_honest R.history R.bads R.gones) (watcher_view told count (λ w. (Watcher-box w).left w.value) patience))
         (does_line array.old.member.array.geometry number line.now rest) (Over (status_of_fault fault))
         (devices rack.old (IsOpen array.old) watchers.old.items)
@@ -80,12 +81,13 @@ fn do_line<C: StripeCode, R: Rack>(
     watchers: &mut Vec<Box<dyn Watcher>>,
 ) -> Result<Option<Reply>, Fault>
     requires stay { AllStay (watcher_view told count (λ w. (Watcher-box w).left w.value) patience) watchers.old.items }
-    ensures done { IfOk result (λ reply. (rest : Plan) → ComesTo
+    ensures done { IfOk result (λ reply. (rest : Bool → Plan) → ComesTo
         (device_view (rack_view R.is_honest R.history R.bads R.gones) (watcher_view told count (λ w. (Watcher-box w).left w.value) patience))
-        (line_plan array.old.member.array.geometry said rest) (replies reply rest)
+        (line_plan array.old.member.array.geometry said rest)
+        (replies reply (rest (some_left watchers.old.items watchers.new.items)))
         (devices rack.old (IsOpen array.old) watchers.old.items)
         (devices rack.new (IsOpen array.new) watchers.new.items)) }
-    ensures refused { IfErr result (λ fault. (rest : Plan) → ComesTo
+    ensures refused { IfErr result (λ fault. (rest : Bool → Plan) → ComesTo
         (device_view (rack_view R.is_honest R.history R.bads R.gones) (watcher_view told count (λ w. (Watcher-box w).left w.value) patience))
         (line_plan array.old.member.array.geometry said rest) (Over (status_of_fault fault))
         (devices rack.old (IsOpen array.old) watchers.old.items)
@@ -120,12 +122,13 @@ fn read_block<C: StripeCode, R: Rack>(
     watchers: &mut Vec<Box<dyn Watcher>>,
 ) -> Result<Reply, Fault>
     requires stay { AllStay (watcher_view told count (λ w. (Watcher-box w).left w.value) patience) watchers.old.items }
-    ensures done { IfOk result (λ reply. (rest : Plan) → ComesTo
+    ensures done { IfOk result (λ reply. (rest : Bool → Plan) → ComesTo
         (device_view (rack_view R.is_honest R.history R.bads R.gones) (watcher_view told count (λ w. (Watcher-box w).left w.value) patience))
-        (line_plan array.old.member.array.geometry (Read block) rest) (Put reply rest)
+        (line_plan array.old.member.array.geometry (Read block) rest)
+        (Put reply (rest (some_left watchers.old.items watchers.new.items)))
         (devices rack.old (IsOpen array.old) watchers.old.items)
         (devices rack.new (IsOpen array.new) watchers.new.items)) }
-    ensures refused { IfErr result (λ fault. (rest : Plan) → ComesTo
+    ensures refused { IfErr result (λ fault. (rest : Bool → Plan) → ComesTo
         (device_view (rack_view R.is_honest R.history R.bads R.gones) (watcher_view told count (λ w. (Watcher-box w).left w.value) patience))
         (line_plan array.old.member.array.geometry (Read block) rest) (Over (status_of_fault fault))
         (devices rack.old (IsOpen array.old) watchers.old.items)
@@ -150,13 +153,13 @@ fn write_block<C: StripeCode, R: Rack>(
     watchers: &mut Vec<Box<dyn Watcher>>,
 ) -> Result<(), Fault>
     requires stay { AllStay (watcher_view told count (λ w. (Watcher-box w).left w.value) patience) watchers.old.items }
-    ensures done { OnOk result ((rest : Plan) → ComesTo
+    ensures done { OnOk result ((rest : Bool → Plan) → ComesTo
         (device_view (rack_view R.is_honest R.history R.bads R.gones) (watcher_view told count (λ w. (Watcher-box w).left w.value) patience))
         (line_plan array.old.member.array.geometry (Write block contents.now) rest)
-        (Put (reply_of_wrote block) rest)
+        (Put (reply_of_wrote block) (rest (some_left watchers.old.items watchers.new.items)))
         (devices rack.old (IsOpen array.old) watchers.old.items)
         (devices rack.new (IsOpen array.new) watchers.new.items)) }
-    ensures refused { IfErr result (λ fault. (rest : Plan) → ComesTo
+    ensures refused { IfErr result (λ fault. (rest : Bool → Plan) → ComesTo
         (device_view (rack_view R.is_honest R.history R.bads R.gones) (watcher_view told count (λ w. (Watcher-box w).left w.value) patience))
         (line_plan array.old.member.array.geometry (Write block contents.now) rest)
         (Over (status_of_fault fault))
@@ -180,12 +183,13 @@ fn scrub_stripe<C: StripeCode, R: Rack>(
     watchers: &mut Vec<Box<dyn Watcher>>,
 ) -> Result<Reply, Fault>
     requires stay { AllStay (watcher_view told count (λ w. (Watcher-box w).left w.value) patience) watchers.old.items }
-    ensures done { IfOk result (λ reply. (rest : Plan) → ComesTo
+    ensures done { IfOk result (λ reply. (rest : Bool → Plan) → ComesTo
         (device_view (rack_view R.is_honest R.history R.bads R.gones) (watcher_view told count (λ w. (Watcher-box w).left w.value) patience))
-        (line_plan array.old.member.array.geometry (Scrub stripe) rest) (Put reply rest)
+        (line_plan array.old.member.array.geometry (Scrub stripe) rest)
+        (Put reply (rest (some_left watchers.old.items watchers.new.items)))
         (devices rack.old (IsOpen array.old) watchers.old.items)
         (devices rack.new (IsOpen array.new) watchers.new.items)) }
-    ensures refused { IfErr result (λ fault. (rest : Plan) → ComesTo
+    ensures refused { IfErr result (λ fault. (rest : Bool → Plan) → ComesTo
         (device_view (rack_view R.is_honest R.history R.bads R.gones) (watcher_view told count (λ w. (Watcher-box w).left w.value) patience))
         (line_plan array.old.member.array.geometry (Scrub stripe) rest) (Over (status_of_fault fault))
         (devices rack.old (IsOpen array.old) watchers.old.items)
@@ -221,13 +225,13 @@ fn admit<C: StripeCode, R: Rack>(
     watchers: &mut Vec<Box<dyn Watcher>>,
 ) -> Result<(), Fault>
     requires stay { AllStay (watcher_view told count (λ w. (Watcher-box w).left w.value) patience) watchers.old.items }
-    ensures done { OnOk result ((rest : Plan) → ComesTo
+    ensures done { OnOk result ((rest : Bool → Plan) → ComesTo
         (device_view (rack_view R.is_honest R.history R.bads R.gones) (watcher_view told count (λ w. (Watcher-box w).left w.value) patience))
         (line_plan array.old.member.array.geometry (Replace slot) rest)
-        (Put (reply_of_admitted slot) rest)
+        (Put (reply_of_admitted slot) (rest (some_left watchers.old.items watchers.new.items)))
         (devices rack.old (IsOpen array.old) watchers.old.items)
         (devices rack.new (IsOpen array.new) watchers.new.items)) }
-    ensures refused { IfErr result (λ fault. (rest : Plan) → ComesTo
+    ensures refused { IfErr result (λ fault. (rest : Bool → Plan) → ComesTo
         (device_view (rack_view R.is_honest R.history R.bads R.gones) (watcher_view told count (λ w. (Watcher-box w).left w.value) patience))
         (line_plan array.old.member.array.geometry (Replace slot) rest) (Over (status_of_fault fault))
         (devices rack.old (IsOpen array.old) watchers.old.items)
@@ -254,14 +258,15 @@ fn rebuild_some<C: StripeCode, R: Rack>(
     watchers: &mut Vec<Box<dyn Watcher>>,
 ) -> Result<u64, Fault>
     requires stay { AllStay (watcher_view told count (λ w. (Watcher-box w).left w.value) patience) watchers.old.items }
-    ensures done { IfOk result (λ done. (k : ℕ → Plan) → ComesTo
+    ensures done { IfOk result (λ done. (k : ℕ → Bool → Plan) → ComesTo
         (device_view (rack_view R.is_honest R.history R.bads R.gones) (watcher_view told count (λ w. (Watcher-box w).left w.value) patience))
-        (some_rebuilds array.old.member.array.geometry.n steps 0 k) (k done)
+        (some_rebuilds array.old.member.array.geometry.n steps 0 false k)
+        (k done (some_left watchers.old.items watchers.new.items))
         (devices rack.old (IsOpen array.old) watchers.old.items)
         (devices rack.new (IsOpen array.new) watchers.new.items)) }
-    ensures refused { IfErr result (λ fault. (k : ℕ → Plan) → ComesTo
+    ensures refused { IfErr result (λ fault. (k : ℕ → Bool → Plan) → ComesTo
         (device_view (rack_view R.is_honest R.history R.bads R.gones) (watcher_view told count (λ w. (Watcher-box w).left w.value) patience))
-        (some_rebuilds array.old.member.array.geometry.n steps 0 k) (Over (status_of_fault fault))
+        (some_rebuilds array.old.member.array.geometry.n steps 0 false k) (Over (status_of_fault fault))
         (devices rack.old (IsOpen array.old) watchers.old.items)
         (devices rack.new (IsOpen array.new) watchers.new.items)) }
     ensures geometry { array.new.member.array.geometry ≡ array.old.member.array.geometry }

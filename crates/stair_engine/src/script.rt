@@ -1,31 +1,31 @@
-ghost use Rattle.std.specs.Prelude.{ℕ, IfErr, IfOk};
+ghost use Rattle.std.specs.Prelude.{◌≡◌, ◌<◌, ◌≤◌, ℕ, false, true, IfErr, IfOk};
 ghost use Rattle.stair_rack.specs.Watching.{watcher_view};
 ghost use Rattle.stair_array.specs.Promise.{Opened as IsOpen};
-ghost use Rattle.stair_engine.specs.Scripts.{FailsByte, TakesByte, all_lines, last_line, run_plan};
+ghost use Rattle.stair_engine.specs.Scripts.{all_lines, last_line, script_plan};
 ghost use Rattle.stair_story.specs.Devices.{MeansWhole, MeansWith, device_view, devices};
 ghost use Rattle.stair_story.specs.Fault.{status_of};
 ghost use Rattle.stair_story.specs.Outside.{outside, sink_alone, source_view, views};
 ghost use Rattle.stair_story.specs.Plan.{Over};
 ghost use Rattle.stair_story.specs.Rack.{rack_view};
+ghost use Rattle.stair_story.specs.Texts.{FailsByte, TakesByte};
 ghost use Rattle.stair_watch.specs.WatcherList.{AllStay};
 
 use crate::lines::{put_reply, take_line};
 use crate::open::session;
 use stair_base::StripeCode;
 use stair_rack::{Rack, Sink, Source, Watcher};
-use stair_script::LINE_LIMIT;
+use stair_script::{LINE_LIMIT, SCRIPT_LIMIT};
 use stair_story::{Fault, Filled, Opened, Status, take_at_least};
 use stair_watch::Line;
 use std::alloc::Global;
 
-// A script has at most so many bytes.
-const SCRIPT_LIMIT: u64 = 1_073_741_824;
-
 /// Opens the array of the rack, and does the lines of a script, which is the input.
 ///
-/// It is taken byte by byte, so that the reply to a line is put out before anything behind it is taken.
+/// It is taken byte by byte, so that the reply to a line is put out before anything behind it is taken. A guarded script is halted
+/// behind the first line at which a watcher left, or before its first line where one left as the array was opened.
 pub(crate) fn run_script<R: Rack, S: Source, K: Sink>(
     alloc: Global,
+    guarded: bool,
     rack: &mut R,
     input: &mut S,
     output: &mut K,
@@ -35,18 +35,23 @@ pub(crate) fn run_script<R: Rack, S: Source, K: Sink>(
     ensures means { (counter : ℕ) → MeansWhole
         (device_view (rack_view R.is_honest R.history R.bads R.gones) (watcher_view told count (λ w. (Watcher-box w).left w.value) patience))
         (views S.left S.ended S.faults K.held K.faults)
-        run_plan (Over (status_of result))
+        (script_plan guarded) (Over (status_of result))
         (outside input.old output.old counter) (outside input.new output.new counter)
         rack.old rack.new watchers.old.items watchers.new.items }
     ensures stay { AllStay (watcher_view told count (λ w. (Watcher-box w).left w.value) patience) watchers.new.items }
 {
+    let before = watchers.len();
     let mut array = session(alloc, rack, watchers)?;
-    do_lines(&mut array, rack, input, output, watchers)
+    if is_halted(guarded, before, watchers.len()) {
+        return Ok(Status::Halted(0));
+    }
+    do_lines(&mut array, guarded, rack, input, output, watchers)
 }
 
 // Does each line once its end came.
 fn do_lines<C: StripeCode, R: Rack, S: Source, K: Sink>(
     array: &mut Opened<C>,
+    guarded: bool,
     rack: &mut R,
     input: &mut S,
     output: &mut K,
@@ -56,7 +61,7 @@ fn do_lines<C: StripeCode, R: Rack, S: Source, K: Sink>(
     ensures means { (counter : ℕ) → MeansWith
         (device_view (rack_view R.is_honest R.history R.bads R.gones) (watcher_view told count (λ w. (Watcher-box w).left w.value) patience))
         (views S.left S.ended S.faults K.held K.faults)
-        (all_lines array.old.member.array.geometry) (Over (status_of result))
+        (all_lines guarded array.old.member.array.geometry) (Over (status_of result))
         (outside input.old output.old counter) (outside input.new output.new counter)
         (devices rack.old (IsOpen array.old) watchers.old.items)
         (devices rack.new (IsOpen array.new) watchers.new.items) }
@@ -66,12 +71,16 @@ fn do_lines<C: StripeCode, R: Rack, S: Source, K: Sink>(
     let mut number = 1;
     for _ in 0..SCRIPT_LIMIT {
         let Some(byte) = next_byte(input)? else {
-            return do_last(array, line.bytes(), number, rack, output, watchers);
+            return do_last(array, guarded, line.bytes(), number, rack, output, watchers);
         };
         if byte == b'\n' {
+            let before = watchers.len();
             let reply = take_line(array, line.bytes(), number, rack, watchers)?;
             put_reply(output, &reply)?;
-            line = Line::new();
+            if is_halted(guarded, before, watchers.len()) {
+                return Ok(Status::Halted(number));
+            }
+            line.clear();
             number += 1;
         } else if line.bytes().len() < LINE_LIMIT {
             line.push(&[byte]);
@@ -85,12 +94,13 @@ fn do_lines<C: StripeCode, R: Rack, S: Source, K: Sink>(
             took: SCRIPT_LIMIT + 1,
         });
     }
-    do_last(array, line.bytes(), number, rack, output, watchers)
+    do_last(array, guarded, line.bytes(), number, rack, output, watchers)
 }
 
 // Does what stands behind the last end of a line, which is no line where it is nothing.
 fn do_last<C: StripeCode, R: Rack, K: Sink>(
     array: &mut Opened<C>,
+    guarded: bool,
     line: &[u8],
     number: u64,
     rack: &mut R,
@@ -101,17 +111,30 @@ fn do_last<C: StripeCode, R: Rack, K: Sink>(
     ensures means { (counter : ℕ) → MeansWith
         (device_view (rack_view R.is_honest R.history R.bads R.gones) (watcher_view told count (λ w. (Watcher-box w).left w.value) patience))
         (sink_alone K.held K.faults)
-        (last_line array.old.member.array.geometry number line.now) (Over (status_of result))
+        (last_line guarded array.old.member.array.geometry number line.now) (Over (status_of result))
         (outside tt output.old counter) (outside tt output.new counter)
         (devices rack.old (IsOpen array.old) watchers.old.items)
         (devices rack.new (IsOpen array.new) watchers.new.items) }
     ensures stay { AllStay (watcher_view told count (λ w. (Watcher-box w).left w.value) patience) watchers.new.items }
 {
-    if !line.is_empty() {
-        let reply = take_line(array, line, number, rack, watchers)?;
-        put_reply(output, &reply)?;
+    if line.is_empty() {
+        return Ok(Status::Done);
+    }
+    let before = watchers.len();
+    let reply = take_line(array, line, number, rack, watchers)?;
+    put_reply(output, &reply)?;
+    if is_halted(guarded, before, watchers.len()) {
+        return Ok(Status::Halted(number));
     }
     Ok(Status::Done)
+}
+
+// Whether a script is halted where there were so many watchers, and so many are left.
+fn is_halted(guarded: bool, before: usize, left: usize) -> bool
+    ensures halted { result ≡ true → (guarded ≡ true) × (left < before) }
+    ensures goes_on { result ≡ false → guarded ≡ true → before ≤ left }
+{
+    guarded && left < before
 }
 
 // Takes the next byte of the input, unless that has ended.

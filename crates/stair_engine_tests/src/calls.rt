@@ -1,5 +1,7 @@
 // Whole calls over racks in memory, what came of them, and what a rack holds then.
 ghost use Rattle.std.specs.Prelude.{◌≡◌, ◌<◌};
+ghost use Rattle.stair_rack.specs.Watching.{watcher_view};
+ghost use Rattle.stair_watch.specs.WatcherList.{AllStay};
 
 use stair_engine::{Status, stair};
 use stair_gf::Steps;
@@ -106,7 +108,39 @@ pub fn call_into<R: Rack, K: Sink>(
     ends: Ends,
     sink: &mut K,
 ) -> Result<Ended, AllocError> {
-    call_on::<R, K, Brand>(Blank::new(1), alloc, rack, words, input, ends, sink)
+    let mut watchers = Vec::new(alloc);
+    add(&mut watchers, Box::new(alloc, Kept::new(alloc, 100)?)?)?;
+    let (status, left) = call_watched(alloc, rack, words, input, ends, sink, &mut watchers)?;
+    let told = match watchers.pop() {
+        Some(kept) => Some([kept.kept(0), kept.kept(1), kept.kept(2)]),
+        None => None,
+    };
+    Ok(Ended { status, told, left })
+}
+
+/// Calls with these words, this sink and these watchers: the status, and how many bytes of the input weren't taken.
+pub fn call_watched<R: Rack, K: Sink>(
+    alloc: Global,
+    rack: &mut R,
+    words: &[String],
+    input: &[u8],
+    ends: Ends,
+    sink: &mut K,
+    watchers: &mut Vec<Box<dyn Watcher>>,
+) -> Result<(Status, usize), AllocError>
+    requires { AllStay (watcher_view told count left patience) watchers.old.items }
+    ensures { AllStay (watcher_view told count left patience) watchers.new.items }
+{
+    call_on::<R, K, Brand>(
+        Blank::new(1),
+        alloc,
+        rack,
+        words,
+        input,
+        ends,
+        sink,
+        watchers,
+    )
 }
 
 // The same, with the counter on a ledger of its own.
@@ -118,33 +152,18 @@ fn call_on<R: Rack, K: Sink, L: Ledger>(
     input: &[u8],
     ends: Ends,
     sink: &mut K,
-) -> Result<Ended, AllocError>
+    watchers: &mut Vec<Box<dyn Watcher>>,
+) -> Result<(Status, usize), AllocError>
     requires name { blank.name ≡ L.name }
     requires parts { blank.parts ≡ L.parts }
     requires some { 0 < L.parts }
+    requires stay { AllStay (watcher_view told count left patience) watchers.old.items }
+    ensures stay { AllStay (watcher_view told count left patience) watchers.new.items }
 {
     let mut source = MemSource::new(alloc, input, ends.piece.max(1), ends.fails_at)?;
     let mut steps = Steps::<L>::new(blank);
-    let mut watchers = Vec::new(alloc);
-    add(&mut watchers, Box::new(alloc, Kept::new(alloc, 100)?)?)?;
-    let status = stair(
-        alloc,
-        words,
-        rack,
-        &mut source,
-        sink,
-        &mut watchers,
-        &mut steps,
-    );
-    let told = match watchers.pop() {
-        Some(kept) => Some([kept.kept(0), kept.kept(1), kept.kept(2)]),
-        None => None,
-    };
-    Ok(Ended {
-        status,
-        told,
-        left: source.left().len(),
-    })
+    let status = stair(alloc, words, rack, &mut source, sink, watchers, &mut steps);
+    Ok((status, source.left().len()))
 }
 
 pub fn words_of(alloc: Global, line: &str) -> Result<Vec<String>, AllocError> {

@@ -5,6 +5,8 @@ pub mod calls;
 #[cfg(test)]
 mod crashes;
 #[cfg(test)]
+mod guards;
+#[cfg(test)]
 mod mending;
 #[cfg(test)]
 mod range;
@@ -12,6 +14,8 @@ mod range;
 mod reading;
 #[cfg(test)]
 mod refusals;
+#[cfg(test)]
+mod reports;
 #[cfg(test)]
 mod returns;
 #[cfg(test)]

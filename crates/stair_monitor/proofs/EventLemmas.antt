@@ -13,7 +13,7 @@ use Rattle.stair_rack.specs.declared.watcher.Event.TheVariants.{Fenced, Repaired
 use Rattle.stair_conf.specs.Words.{IsNumber}
 use Rattle.stair_script.proofs.WordLemmas.{number-IsWord, one_cut, word-HasNoSpace}
 use Rattle.stair_script.specs.Line.{SpellsNumber}
-use Rattle.stair_monitor.specs.Events.{IsEvent, SpellsEvent, event_text}
+use Rattle.stair_script.specs.Events.{IsEvent, SpellsEvent, event_text}
 
 -- ---- they are those as which it is printed
 

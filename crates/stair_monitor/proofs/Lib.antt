@@ -1,2 +1,4 @@
 pub mod EventLemmas
 pub mod ReadLemmas
+pub mod ReportLemmas
+pub mod SeenLemmas

@@ -16,7 +16,7 @@ use Rattle.stair_conf.specs.Words.{IsNumber}
 use Rattle.stair_script.proofs.ReadLemmas.{ReadsExactly}
 use Rattle.stair_script.proofs.WordLemmas.{HasNoSpace, IsWord, number-IsWord, one_cut, some_space, tested-IsWord, word-HasNoSpace}
 use Rattle.stair_script.specs.Line.{SpellsNumber}
-use Rattle.stair_monitor.specs.Events.{IsEvent, SpellsEvent}
+use Rattle.stair_script.specs.Events.{IsEvent, SpellsEvent}
 use Rattle.stair_monitor.proofs.EventLemmas.{event_once}
 
 abbrev pub ReadsEvent : List ℕ → Option Event → Type 0
@@ -32,33 +32,42 @@ some_read bytes event spells said = (
 none_read : (bytes : List ℕ) → ((said : Event) → SpellsEvent bytes said → ⊥) → ReadsEvent bytes None
 none_read bytes none said = ((λ same. cc), (λ spells. absurd (none said spells)))
 
+-- ---- each byte of a line is that of a word, or a space
+
+module _ (Is : ℕ → Type 0) (of_word : (b : ℕ) → IsInRange 33 126 b → Is b) (space : Is 32) where
+  one_word : (word : List ℕ) → IsWord word → All Is word
+  one_word word is = All-weaker (IsInRange 33 126) Is of_word word is
+
+  two_words : (word rest : List ℕ) → IsWord word → All Is rest → All Is (word ++ 32 ∷ rest)
+  two_words word rest is so = All-append Is word (32 ∷ rest) (one_word word is) (All-cons Is 32 rest space so)
+
+  number_so : (name bytes : List ℕ) (n : ℕ) → IsWord name → SpellsNumber name bytes n → All Is bytes
+  number_so name bytes n is spells =
+      rw spells.spelled (two_words name spells.word is (one_word spells.word (number-IsWord spells.word n spells.number)))
+
+  bytes_so : (bytes : List ℕ) (said : Event) → SpellsEvent bytes said → All Is bytes
+  bytes_so bytes (Fenced slot) spells = number_so (codes "fenced") bytes slot (tested-IsWord (codes "fenced") refl) spells.words
+  bytes_so bytes (Repaired stripe cells) spells =
+      let words = spells.words in
+      let last = one_word words.cells_word (number-IsWord words.cells_word cells words.cells_number) in
+      let third = two_words (codes "cells") words.cells_word (tested-IsWord (codes "cells") refl) last in
+      let second = two_words words.stripe_word (codes "cells " ++ words.cells_word)
+      (number-IsWord words.stripe_word stripe words.stripe_number) third in
+      let first = two_words (codes "stripe") (words.stripe_word ++ (codes " cells " ++ words.cells_word)) (tested-IsWord (codes "stripe") refl) second in
+      rw words.spelled
+      (two_words (codes "repaired") (codes "stripe " ++ (words.stripe_word ++ (codes " cells " ++ words.cells_word)))
+      (tested-IsWord (codes "repaired") refl) first)
+  bytes_so bytes (Admitted slot) spells = number_so (codes "admitted") bytes slot (tested-IsWord (codes "admitted") refl) spells.words
+  bytes_so bytes (Promoted slot) spells = number_so (codes "promoted") bytes slot (tested-IsWord (codes "promoted") refl) spells.words
+
+-- none ends a line
+pub spells-inner : (bytes : List ℕ) (said : Event) → SpellsEvent bytes said → All (λ b. b ≢ 10) bytes
+spells-inner = bytes_so (λ b. b ≢ 10) (λ b range is. omega (arith, range.0, is)) (λ is. omega (arith, is))
+
 -- ---- what is no text spells no event
 
-one_word : (word : List ℕ) → IsWord word → All (λ b. b < 128) word
-one_word word is = All-weaker (IsInRange 33 126) (λ b. b < 128) (λ b range. omega arith) word is
-
-two_words : (word rest : List ℕ) → IsWord word → All (λ b. b < 128) rest → All (λ b. b < 128) (word ++ 32 ∷ rest)
-two_words word rest is small =
-    All-append (λ b. b < 128) word (32 ∷ rest) (one_word word is) (All-cons (λ b. b < 128) 32 rest (omega arith) small)
-
-number_small : (name bytes : List ℕ) (n : ℕ) → IsWord name → SpellsNumber name bytes n → All (λ b. b < 128) bytes
-number_small name bytes n is spells =
-    rw spells.spelled (two_words name spells.word is (one_word spells.word (number-IsWord spells.word n spells.number)))
-
 spells_small : (bytes : List ℕ) (said : Event) → SpellsEvent bytes said → All (λ b. b < 128) bytes
-spells_small bytes (Fenced slot) spells = number_small (codes "fenced") bytes slot (tested-IsWord (codes "fenced") refl) spells.words
-spells_small bytes (Repaired stripe cells) spells =
-    let words = spells.words in
-    let last = one_word words.cells_word (number-IsWord words.cells_word cells words.cells_number) in
-    let third = two_words (codes "cells") words.cells_word (tested-IsWord (codes "cells") refl) last in
-    let second = two_words words.stripe_word (codes "cells " ++ words.cells_word)
-    (number-IsWord words.stripe_word stripe words.stripe_number) third in
-    let first = two_words (codes "stripe") (words.stripe_word ++ (codes " cells " ++ words.cells_word)) (tested-IsWord (codes "stripe") refl) second in
-    rw words.spelled
-    (two_words (codes "repaired") (codes "stripe " ++ (words.stripe_word ++ (codes " cells " ++ words.cells_word)))
-    (tested-IsWord (codes "repaired") refl) first)
-spells_small bytes (Admitted slot) spells = number_small (codes "admitted") bytes slot (tested-IsWord (codes "admitted") refl) spells.words
-spells_small bytes (Promoted slot) spells = number_small (codes "promoted") bytes slot (tested-IsWord (codes "promoted") refl) spells.words
+spells_small = bytes_so (λ b. b < 128) (λ b range. omega arith) (omega arith)
 
 spells-IsUtf8 : (bytes : List ℕ) (said : Event) → SpellsEvent bytes said → IsUtf8 bytes
 spells-IsUtf8 bytes said spells = IsUtf8-from_ascii bytes (IsAscii-from_all bytes (spells_small bytes said spells))

@@ -1,2 +1,3 @@
-pub mod Events
 pub mod Quotas
+pub mod Reports
+pub mod Seen

@@ -3,7 +3,7 @@
 ghost use Rattle.std.specs.Prelude.{◌≡◌, ◌⊎◌, ◌≤◌, ◌++◌, ℕ, List, length};
 ghost use Rattle.stair_rack.specs.declared.watcher.Event.{Event};
 ghost use Rattle.stair_watch.specs.Lines.{event_line, newline};
-ghost use Rattle.stair_monitor.specs.Events.{IsEvent, SpellsEvent, event_text};
+ghost use Rattle.stair_script.specs.Events.{IsEvent, SpellsEvent, event_text};
 
 /// Bytes spell one event at most, and whether they spell one is decided. Each event within the bounds, and no other, is spelled
 /// by some bytes, which are those as which it is printed; they are at most 32. What a `Printer` and a `Quota` put out for an

@@ -1,16 +1,18 @@
-//! A watcher with a limit of events of one kind, and the lines of events: printed, and read back.
+//! A watcher with a limit of events of one kind, and the lines of events: printed, read back, and counted.
 //!
 //! [`Quota`] prints the events of its kind and leaves before they pile up. [`read_event`] reads the line of an event, or refuses
-//! it. [`print_event`] prints one, and what it printed is read back.
+//! it. [`print_event`] prints one, and what it printed is read back. [`report`] counts the events of a text of such lines.
 #![tactic(auto)]
 
 pub mod laws;
 mod printing;
 mod quota;
 mod reading;
+mod reporting;
 #[cfg(test)]
 mod tests;
 
 pub use printing::{TEXT_LIMIT, print_event};
 pub use quota::Quota;
 pub use reading::read_event;
+pub use reporting::{ReportFault, report};

@@ -1,5 +1,5 @@
 ghost use Rattle.std.specs.Prelude.{◌≡◌, ◌≤◌, drop, length, take};
-ghost use Rattle.stair_monitor.specs.Events.{IsEvent, SpellsEvent, event_text};
+ghost use Rattle.stair_script.specs.Events.{IsEvent, SpellsEvent, event_text};
 
 use stair_rack::Event;
 use stair_watch::Line;

@@ -2,7 +2,7 @@ ghost use Rattle.std.specs.Prelude.{◌≡◌, ◌↔◌, ◌++◌, ◌<◌, ℕ
 ghost use Rattle.std.specs.Int.{IsInRange};
 ghost use Rattle.stair_conf.specs.Words.{IsNumber};
 ghost use Rattle.stair_rack.specs.declared.watcher.Event.{Event};
-ghost use Rattle.stair_monitor.specs.Events.{SpellsEvent};
+ghost use Rattle.stair_script.specs.Events.{SpellsEvent};
 
 use stair_conf::read_number;
 use stair_rack::Event;

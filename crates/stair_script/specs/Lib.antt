@@ -1,2 +1,3 @@
--- The lines of a script.
+-- The lines of a script, and lines of events.
+pub mod Events
 pub mod Line

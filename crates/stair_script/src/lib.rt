@@ -10,6 +10,6 @@ mod reading;
 #[cfg(test)]
 mod tests;
 
-pub use line::{LINE_LIMIT, Line};
+pub use line::{LINE_LIMIT, Line, SCRIPT_LIMIT};
 pub use printing::print_line;
 pub use reading::read_line;

@@ -6,6 +6,9 @@ use stair_base::SECTOR;
 /// as soon as it is longer, without having seen its end.
 pub const LINE_LIMIT: usize = 1_100;
 
+/// A script has at most so many bytes, and so has any other text that is taken line by line.
+pub const SCRIPT_LIMIT: u64 = 1_073_741_824;
+
 /// What a line of a script says.
 ///
 /// Whether an array has the block, the stripe or the slot is not tested here.

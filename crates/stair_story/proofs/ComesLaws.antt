@@ -1,16 +1,19 @@
 -- What was done to devices alone, one thing after the other, and over any streams.
-use Rattle.std.proofs.Common.{ℕ, List, [], ◌∷◌, ◌++◌, Ok, Err, refl}
-use Rattle.stair_array.specs.Machine.{GivenBy, Refusal, Step}
+use Rattle.std.proofs.Common.{◌≡◌, ◌≤◌, ℕ, Bool, List, [], ◌∷◌, ◌++◌, Ok, Err, arith, length, refl, subst}
+use Rattle.std.proofs.lemmas.Bool.Decides.{nat_tests}
+use Rattle.std.specs.Prelude.{◌||◌, false}
+use Rattle.stair_array.specs.Machine.{Answer, GivenBy, Refusal, Step}
 use Rattle.stair_story.specs.Comes.{AreApart, ComesTo, IsApart}
-use Rattle.stair_story.specs.Devices.{DeviceView, Devices, MeansWith, WorksAll}
+use Rattle.stair_story.specs.Devices.{DeviceView, Devices, MeansWith, WorksAll, some_left}
 use Rattle.stair_story.specs.Means.{Counts, Gives, Holds}
 use Rattle.stair_story.specs.Outside.{Outside, SinkView, SourceView, Views}
-use Rattle.stair_story.specs.Plan.{Plan, Over, take_step}
-use Rattle.stair_story.specs.Question.{Judgement, Limits, ScriptLine, Text, Words}
+use Rattle.stair_story.specs.Plan.{Plan, Over, take_step, watch_step}
+use Rattle.stair_story.specs.Question.{EventLine, Judgement, Limits, ScriptLine, Text, Words}
 use Rattle.stair_story.specs.Refused.{status_of_refusal}
 use Rattle.stair_story.specs.Steps.{Takes}
 use Rattle.stair_story.specs.Story.{Deed, Did, Found, Grew, Leads, Moves, RanOut, Stepped}
 use Rattle.stair_story.proofs.PlanLaws.{leads_then}
+use Rattle.stair_watch.proofs.WatchLemmas.{no_more_told}
 
 -- ---- streams are as they were
 
@@ -45,6 +48,7 @@ counter_same (Found (Words words)) n apart = refl
 counter_same (Found (Limits g)) n apart = refl
 counter_same (Found (Text text)) n apart = refl
 counter_same (Found (ScriptLine bytes)) n apart = refl
+counter_same (Found (EventLine bytes)) n apart = refl
 counter_same (Found (Judgement command g input)) n apart = absurd apart
 counter_same (Did action outcome) n apart = refl
 counter_same (Stepped step answer events left) n apart = refl
@@ -59,6 +63,15 @@ counter_still (deed ∷ story) n apart = (n, counter_same deed n apart.0, counte
 both_apart : (first later : List Deed) → AreApart first → AreApart later → AreApart (first ++ later)
 both_apart [] later one both = both
 both_apart (deed ∷ first) later one both = (one.0, both_apart first later one.1 both)
+
+-- ---- whether a watcher left
+
+-- none did where there are as many, and over two stretches one did where it did over either
+pub none_left : {W : Type 0} (list : List W) → some_left list list ≡ false
+none_left list = grind (arith, nat_tests)
+
+pub left_either : {W : Type 0} (x y z : List W) → length y ≤ length x → length z ≤ length y → (some_left x y || some_left y z) ≡ some_left x z
+left_either x y z first later = grind (arith, nat_tests, first, later)
 
 -- ---- one thing after the other
 
@@ -79,17 +92,31 @@ module _ {R W : Type 0} (view : DeviceView R W) where
   comes_by deed plan rest x y apart moves works =
       record { story = deed ∷ []; apart = (apart, tt); follows = (rest, moves, refl); works = (y, works, refl) }
 
-  -- a step that was done, and one that was refused
+  -- no watcher comes at a step
+  pub takes_fewer : (step : Step) (answer : Answer step) (x y : Devices R W) → Takes view step answer x y → length y.watchers ≤ length x.watchers
+  takes_fewer step answer x y takes = no_more_told view.watcher takes.events x.watchers y.watchers takes.works.1
+
+  -- a step that was done, where it matters whether a watcher left
+  pub comes_watched : (slots : ℕ) (step : Step) (given : GivenBy step) (k : GivenBy step → Bool → Plan) (x y : Devices R W) → Takes view step (Ok given) x y
+      → ComesTo view (watch_step slots step k) (k given (some_left x.watchers y.watchers)) x y
+  comes_watched slots step given k x y takes =
+      subst (λ (left : Bool). ComesTo view (watch_step slots step k) (k given left) x y) takes.works.2
+      (comes_by (Stepped step (Ok given) takes.events takes.left) (watch_step slots step k) (k given takes.left) x y tt (Ok given, refl, refl) takes.works)
+
+  -- where it doesn't, and one that was refused
   pub comes_step : (slots : ℕ) (step : Step) (given : GivenBy step) (k : GivenBy step → Plan) (x y : Devices R W) → Takes view step (Ok given) x y
       → ComesTo view (take_step slots step k) (k given) x y
-  comes_step slots step given k x y takes =
-      comes_by (Stepped step (Ok given) takes.events takes.left) (take_step slots step k) (k given) x y tt (Ok given, refl, refl) takes.works
+  comes_step slots step given k x y takes = comes_watched slots step given (λ x left. k x) x y takes
+
+  pub comes_refused : (slots : ℕ) (step : Step) (refusal : Refusal) (k : GivenBy step → Bool → Plan) (x y : Devices R W)
+      → Takes view step (Err refusal) x y → ComesTo view (watch_step slots step k) (Over (status_of_refusal slots refusal)) x y
+  comes_refused slots step refusal k x y takes =
+      comes_by (Stepped step (Err refusal) takes.events takes.left) (watch_step slots step k) (Over (status_of_refusal slots refusal)) x y tt
+      (Err refusal, refl, refl) takes.works
 
   pub comes_refusal : (slots : ℕ) (step : Step) (refusal : Refusal) (k : GivenBy step → Plan) (x y : Devices R W) → Takes view step (Err refusal) x y
       → ComesTo view (take_step slots step k) (Over (status_of_refusal slots refusal)) x y
-  comes_refusal slots step refusal k x y takes =
-      comes_by (Stepped step (Err refusal) takes.events takes.left) (take_step slots step k) (Over (status_of_refusal slots refusal)) x y tt
-      (Err refusal, refl, refl) takes.works
+  comes_refusal slots step refusal k x y takes = comes_refused slots step refusal (λ x left. k x) x y takes
 
   -- over any streams
   pub with_comes : {S K : Type 0} (streams : Views S K) (plan rest : Plan) (a : Outside S K) (x y : Devices R W) → ComesTo view plan rest x y

@@ -3,6 +3,7 @@ pub mod TellingLaws
 pub mod TakenLaws
 pub mod IntakeLaws
 pub mod TextLaws
+pub mod TextSureLaws
 pub mod EndLaws
 pub mod PlanLaws
 pub mod RackLaws

@@ -38,9 +38,12 @@ abbrev pub session_after : Result Membership SurveyFault → Session
 session_after (Ok member) = Found member
 session_after (Err fault) = Closed
 
--- a watcher left, or none did
+-- a watcher left, or none did: there are fewer
+abbrev pub some_left : {W : Type 0} → List W → List W → Bool
+some_left old new = not (nat_le (length old) (length new))
+
 abbrev pub SomeLeft : {W : Type 0} → Bool → List W → List W → Type 0
-SomeLeft left old new = left ≡ not (nat_le (length old) (length new))
+SomeLeft left old new = left ≡ some_left old new
 
 -- what was found of an array keeps the rules of what is known of one
 abbrev pub KeepsRules : Session → Type 0

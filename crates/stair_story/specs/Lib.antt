@@ -20,6 +20,7 @@ pub mod Run
 pub mod Headline
 pub mod Streams
 pub mod Taking
+pub mod Texts
 pub mod Laws
 pub mod Lives
 pub mod Sessions

@@ -1,5 +1,5 @@
 -- What a command does, whatever comes of it.
-use Rattle.std.specs.Prelude.{ℕ, ◌+◌, Bool, List, length, Result, Ok, Err}
+use Rattle.std.specs.Prelude.{ℕ, ◌+◌, Bool, true, false, List, length, Result, Ok, Err}
 use Rattle.stair_array.specs.Machine.{Answer, GivenBy, Nothing, Progress, Refusal, Step}
 use Rattle.stair_story.specs.declared.status.Status.{Status}
 use Rattle.stair_story.specs.declared.status.Status.TheVariants.{Done, Input}
@@ -26,6 +26,11 @@ pub data Plan : Type 0 where
   -- In an array of so many slots steps of a rebuild are taken until there is nothing, after so many, and the rest takes their
   -- number. A refusal ends the call.
   RebuildAll : (slots done : ℕ) → (ℕ → Plan) → Plan
+
+-- the one plan where this is so, and else the other
+abbrev pub if_so : Bool → Plan → Plan → Plan
+if_so true this that = this
+if_so false this that = that
 
 -- exactly so many bytes
 abbrev pub take_exactly : ℕ → (List ℕ → Plan) → (List ℕ → Plan) → Plan

@@ -5,6 +5,8 @@ use Rattle.stair_conf.specs.Config.{TextReadsAs}
 use Rattle.stair_conf.specs.Words.{IsSpelled, Spells}
 use Rattle.stair_conf.specs.declared.fault.ConfigFault.{ConfigFault}
 use Rattle.stair_conf.specs.declared.job.Job.{Job}
+use Rattle.stair_rack.specs.declared.watcher.Event.{Event}
+use Rattle.stair_script.specs.Events.{SpellsEvent}
 use Rattle.stair_script.specs.Line.{SpellsLine}
 use Rattle.stair_script.specs.declared.line.Line.{Line}
 use Rattle.stair_story.specs.declared.status.Status.{Status}
@@ -22,6 +24,8 @@ pub data Question : Type 0 where
   Judgement : StripeCommand → Geometry → List ℕ → Question
   -- what a line of a script says, if it is one
   ScriptLine : List ℕ → Question
+  -- the event that a line tells, if it is the line of one
+  EventLine : List ℕ → Question
 
 abbrev pub Reply : Question → Type 0
 Reply (Words words) = Option Job
@@ -29,6 +33,7 @@ Reply (Limits g) = Option ℕ
 Reply (Text text) = Result Geometry ConfigFault
 Reply (Judgement command g input) = Status × List ℕ
 Reply (ScriptLine bytes) = Option Line
+Reply (EventLine bytes) = Option Event
 
 -- the right reply
 abbrev pub IsReply : (question : Question) → Reply question → Type 0
@@ -40,3 +45,5 @@ IsReply (Text text) reply = TextReadsAs text reply
 IsReply (Judgement command g input) reply = Judges command g input reply.0 reply.1
 IsReply (ScriptLine bytes) None = (said : Line) → ¬ SpellsLine bytes said
 IsReply (ScriptLine bytes) (Some said) = SpellsLine bytes said
+IsReply (EventLine bytes) None = (said : Event) → ¬ SpellsEvent bytes said
+IsReply (EventLine bytes) (Some said) = SpellsEvent bytes said

@@ -85,6 +85,9 @@ pub enum Status {
     },
     /// The array is frozen.
     Frozen,
+    /// A watcher left at this line of a guarded script, counted from 1, or as the array was opened, which is 0; no more lines
+    /// were done.
+    Halted(u64),
 }
 
 impl From<Fault> for Status {
@@ -250,6 +253,7 @@ impl Status {
             Status::BadLine(_) => 18,
             Status::JournalLost { .. } => 19,
             Status::Frozen => 20,
+            Status::Halted(_) => 21,
         }
     }
 }
@@ -273,7 +277,7 @@ impl fmt::Display for Status {
             Status::NoCodeword => write!(f, "no codeword holds these cells"),
             Status::Usage => write!(
                 f,
-                "usage: stair FOLDER check|stripe|restore|create|show|read|write|scrub|replace|rebuild|run|exercise|freeze|thaw|label"
+                "usage: stair FOLDER check|stripe|restore|create|show|read|write|scrub|replace|rebuild|run|exercise|freeze|thaw|label|guard|report"
             ),
             Status::Limit(limit) => write!(f, "geometry: limit {limit}"),
             Status::Key(key) => write!(f, "geometry: key {}", key.name()),
@@ -312,6 +316,7 @@ impl fmt::Display for Status {
             Status::BadLine(number) => write!(f, "bad line {number}"),
             Status::JournalLost { sector } => write!(f, "journal lost: sector {sector}"),
             Status::Frozen => write!(f, "frozen"),
+            Status::Halted(number) => write!(f, "halted after line {number}"),
         }
     }
 }

@@ -264,6 +264,19 @@ module _ {W : Type 0} (view : WatcherView W) where
   length-heard event [] heard each = ap length each
   length-heard event (w ∷ old) heard each = ap length each.4 ∙ ap (λ (n : ℕ). suc n) (length-heard event old each.1 each.3)
 
+  -- none comes
+  pub no_more_told : (events : List Event) (old new : List W) → TellsAll view events old new → length new ≤ length old
+  no_more_told [] old new tells = omega (arith, ap length tells)
+  no_more_told (event ∷ events) old new tells =
+      let one = tells.1 in
+      omega (
+        arith,
+        no_more_told events tells.0 new tells.2,
+        ap length one.left,
+        length-stayed-le one.heard,
+        length-heard event old one.heard one.each,
+      )
+
   pub as_many : (event : Event) (old new : List W) (tells : Tells view event old new) → (length new ≡ length old) ↔ AllStay view tells.heard
   as_many event old new tells =
       let all = length-heard event old tells.heard tells.each in (

@@ -58,6 +58,14 @@ impl Line {
         self.push(itoa::Buffer::new().format(number).as_bytes());
     }
 
+    /// Takes all of it out again.
+    pub fn clear(&mut self)
+        ensures text { self.new ≡ [] }
+        ensures len { length self.new ≡ 0 }
+    {
+        self.len = 0;
+    }
+
     /// The bytes.
     pub fn bytes(&self) -> &[u8]
         ensures { result.now ≡ self.now }

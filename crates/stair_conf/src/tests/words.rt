@@ -2,9 +2,9 @@ use crate::{Job, Method, StripeCommand, WordsFault, read_words};
 use std::alloc::{AllocError, Global};
 use std::test::Fail;
 
-// Each row is a command line, a blank behind each word but the last, and the numbers N M R E.., BLOCK COUNT, SLOT or NUMBER
-// COUNT that it has, None where it is faulty.
-const LINES: [(&str, Option<&[u64]>); 70] = [
+// Each row is a command line, a blank behind each word but the last, and the numbers N M R E.., BLOCK COUNT, SLOT, NUMBER
+// COUNT or EVENTS FENCES that it has, None where it is faulty.
+const LINES: [(&str, Option<&[u64]>); 85] = [
     ("check 4 1 2 1", Some(&[4, 1, 2, 1])),
     ("restore 8 2 4 1 1 2", Some(&[8, 2, 4, 1, 1, 2])),
     (
@@ -84,6 +84,21 @@ const LINES: [(&str, Option<&[u64]>); 70] = [
     ("exercise 0 1 2", None),
     ("exercise 0 01", None),
     ("exercise", None),
+    ("guard 1 1", Some(&[1, 1])),
+    ("guard 2 18446744073709551615", Some(&[2, u64::MAX])),
+    ("guard 18446744073709551615 2", Some(&[u64::MAX, 2])),
+    ("guard 0 1", None),
+    ("guard 1 0", None),
+    ("guard 0 0", None),
+    ("guard", None),
+    ("guard 1", None),
+    ("guard 1 2 3", None),
+    ("guard 01 1", None),
+    ("guard -1 1", None),
+    ("guard 1 18446744073709551616", None),
+    ("report", Some(&[])),
+    ("report x", None),
+    ("reports", None),
 ];
 
 // Each row is the word TEXT, and whether it is one.
@@ -139,6 +154,8 @@ fn front_of(job: &Job) -> &'static str {
         Job::Label { .. } => "label ",
         Job::Run => "run",
         Job::Exercise { .. } => "exercise ",
+        Job::Guard { .. } => "guard ",
+        Job::Report => "report",
     }
 }
 
@@ -156,9 +173,11 @@ fn numbers_of(alloc: Global, job: &Job) -> Result<Vec<u64>, AllocError> {
         | Job::Freeze
         | Job::Thaw
         | Job::Label { .. }
-        | Job::Run => Ok(Vec::new(alloc)),
+        | Job::Run
+        | Job::Report => Ok(Vec::new(alloc)),
         Job::Read { block, count } | Job::Write { block, count } => [*block, *count].to_vec(alloc),
         Job::Exercise { number, count } => [*number, *count].to_vec(alloc),
+        Job::Guard { events, fences } => [*events, *fences].to_vec(alloc),
         Job::Replace { slot } => [*slot].to_vec(alloc),
     }
 }

@@ -7,14 +7,16 @@ use Rattle.stair_story.specs.Fault.{status_of, status_of_fault}
 use Rattle.stair_story.specs.Means.{Means}
 use Rattle.stair_story.specs.Outside.{outside, sink_alone, views}
 use Rattle.stair_rack.specs.Watching.{watcher_view}
-use Rattle.stair_conf.specs.declared.job.Job.TheVariants.{Create, Exercise, Freeze, Label, Read, Rebuild, Replace, Scrub, Show, Thaw}
+use Rattle.stair_conf.specs.declared.job.Job.TheVariants.{Create, Exercise, Freeze, Label, Read, Rebuild, Replace, Report, Scrub, Show, Thaw}
 use Rattle.stair_story.specs.Devices.{MeansWhole, device_view}
 use Rattle.stair_story.proofs.DeviceLaws.{any_source, calls_once, with_once}
 use Rattle.stair_engine.specs.Blocks.{read_plan, write_plan}
 use Rattle.stair_engine.proofs.ArmLaws.{arm}
 use Rattle.stair_engine.proofs.JobLaws.{job_once, job_untaken}
 use Rattle.stair_story.specs.Plan.{Over}
-use Rattle.stair_engine.specs.Scripts.{run_plan}
+use Rattle.stair_engine.proofs.ReportLaws.{report_calls_none}
+use Rattle.stair_engine.specs.Scripts.{guard_plan, run_plan}
+use Rattle.stair_monitor.specs.Reports.{report_plan}
 use Rattle.stair_engine.specs.Plans.{create_plan, job_plan, show_plan, stripe_plan, tested_plan, within_limits}
 use Rattle.stair_story.specs.Question.{Limits}
 use Rattle.stair_story.specs.Rack.{MeansOver, rack_view}
@@ -187,6 +189,46 @@ returns-in-Run-clause-means g c =
     (subst (λ (s : Status). MeansWhole devices view run_plan (Over s) old new c.args.rack.now c.run_script-done.new.rack
     c.args.watchers.now.items c.run_script-done.new.watchers.items) (sym is) (c.run_script-done.ensures.means c.args.steps.now))
 
+pub returns-in-Guard-clause-means : goal.returns-in-Guard-clause-means
+returns-in-Guard-clause-means g c =
+    let view = views g.S.Source.left g.S.Source.ended g.S.Source.faults g.K.Sink.held g.K.Sink.faults in
+    let rack = rack_view g.R.Rack.is_honest g.R.Rack.history g.R.Rack.bads g.R.Rack.gones in
+    let told = watcher_view
+    (λ b. (goal.Watcher-dyn g (b.vtable, b.value)).told b.value)
+    (λ b. (goal.Watcher-dyn g (b.vtable, b.value)).count b.value)
+    (λ b. (goal.Watcher-dyn g (b.vtable, b.value)).left b.value)
+    (λ b. (goal.Watcher-dyn g (b.vtable, b.value)).patience b.value)
+    in
+    let devices = device_view rack told in
+    let status = c.unwrap_or_else-in-Guard.result in
+    let is : status ≡ status_of c.run_script-done-in-Guard.result = status_is _ c.run_script-done-in-Guard.result c.unwrap_or_else-in-Guard.ensures in
+    let old = outside c.args.input.now c.args.output.now c.args.steps.now in
+    let new = outside c.run_script-done-in-Guard.new.input c.run_script-done-in-Guard.new.output c.args.steps.now in
+    subst (λ (of : Job). MeansWhole devices view (job_plan of) (Over status) old new c.args.rack.now c.run_script-done-in-Guard.new.rack c.args.watchers.now.items c.run_script-done-in-Guard.new.watchers.items)
+    (sym c.in-Guard.is)
+    (subst (λ (s : Status). MeansWhole devices view guard_plan (Over s) old new c.args.rack.now c.run_script-done-in-Guard.new.rack
+    c.args.watchers.now.items c.run_script-done-in-Guard.new.watchers.items) (sym is) (c.run_script-done-in-Guard.ensures.means c.args.steps.now))
+
+pub returns-clause-means : goal.returns-clause-means
+returns-clause-means g c =
+    let view = views g.S.Source.left g.S.Source.ended g.S.Source.faults g.K.Sink.held g.K.Sink.faults in
+    let rack = rack_view g.R.Rack.is_honest g.R.Rack.history g.R.Rack.bads g.R.Rack.gones in
+    let told = watcher_view
+    (λ b. (goal.Watcher-dyn g (b.vtable, b.value)).told b.value)
+    (λ b. (goal.Watcher-dyn g (b.vtable, b.value)).count b.value)
+    (λ b. (goal.Watcher-dyn g (b.vtable, b.value)).left b.value)
+    (λ b. (goal.Watcher-dyn g (b.vtable, b.value)).patience b.value)
+    in
+    let devices = device_view rack told in
+    let status = c.reported.result in
+    let old = outside c.args.input.now c.args.output.now c.args.steps.now in
+    let new = outside c.report.new.input c.report.new.output c.args.steps.now in
+    subst (λ (of : Job). MeansWhole devices view (job_plan of) (Over status) old new c.args.rack.now c.args.rack.now c.args.watchers.now.items c.args.watchers.now.items)
+    (sym c.in-Report.is)
+    (with_once devices view report_plan (Over status) old new c.args.rack.now c.args.rack.now c.args.watchers.now.items (job_once Report (λ no. no))
+    (over_still rack view report_plan (Over status) old new c.args.rack.now report_calls_none
+    (subst (λ (s : Status). Means view report_plan (Over s) old new) (sym c.reported.ensures) (c.report.ensures c.args.steps.now))))
+
 pub returns-in-Scrub-clause-means : goal.returns-in-Scrub-clause-means
 returns-in-Scrub-clause-means g c =
     let rack = rack_view g.R.Rack.is_honest g.R.Rack.history g.R.Rack.bads g.R.Rack.gones in
@@ -271,8 +313,8 @@ returns-in-Label-clause-means g c =
     (status_is _ c.label-done.result c.unwrap_or_else-in-Label.ensures) _ c.in-Label.is c.args.input.now c.args.output.now c.label-done.new.output c.args.steps.now
     c.args.rack.now c.label-done.new.rack c.args.watchers.now.items c.label-done.new.watchers.items c.label-done.ensures.means
 
-pub returns-clause-means : goal.returns-clause-means
-returns-clause-means g c =
+pub returns-in-Exercise-clause-means : goal.returns-in-Exercise-clause-means
+returns-in-Exercise-clause-means g c =
     let rack = rack_view g.R.Rack.is_honest g.R.Rack.history g.R.Rack.bads g.R.Rack.gones in
     let told = watcher_view
     (λ b. (goal.Watcher-dyn g (b.vtable, b.value)).told b.value)

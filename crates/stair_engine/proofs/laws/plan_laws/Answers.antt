@@ -5,6 +5,7 @@ use Rattle.stair_engine.proofs.CallLaws.{all_is_kept, array_is_left, array_is_ma
 use Rattle.stair_engine.proofs.CameLaws.{whole_blocks_stand}
 use Rattle.stair_engine.proofs.CompleteLaws.{all_is_complete, all_is_complete_wherever, replacement_is_done, script_is_done}
 use Rattle.stair_engine.proofs.CountedLaws.{scrubs_are_counted}
+use Rattle.stair_engine.proofs.HaltLaws.{guards_halt}
 use Rattle.stair_engine.proofs.MendedLaws.{array_is_mended, session_is_mended}
 use Rattle.stair_engine.proofs.laws.plan_laws.Goals as goal
 
@@ -30,5 +31,6 @@ returns g c =
       ended = session_is_mended _ _ _ _;
       replaced = replacement_is_done _ _ _ _;
       scripted = script_is_done _ _ _ _;
+      halted = guards_halt _ _ _ _;
       counted = scrubs_are_counted _ _ _ _;
     }

@@ -22,7 +22,7 @@ returns-in-Err-clause-refused g c rest =
     let of = c.args.array.now.member.array.geometry in
     let first = devices c.args.rack.now (Opened c.args.array.now) c.args.watchers.now.items in
     let next = devices c.read.new.rack (Opened c.read.new.self) c.read.new.watchers.items in
-    line_refused view of first next (ReadBlock c.args.block) (refusal_for c.in-Err.fault) (λ contents. Put (read_reply c.args.block contents) rest) _ (search rules)
+    line_refused view of first next (ReadBlock c.args.block) (refusal_for c.in-Err.fault) (λ contents left. Put (read_reply c.args.block contents) (rest left)) _ (search rules)
     c.in-Err.ensures.taken
 
 pub returns-clause-done : goal.returns-clause-done

@@ -3,7 +3,7 @@ use Rattle.std.proofs.Common.{◌≡◌, None, Some, refl}
 use Rattle.std.proofs.lemmas.Result.{IfErr-weaker, IfOk-weaker}
 use Rattle.stair_array.specs.Promise.{Opened}
 use Rattle.stair_rack.specs.Watching.{watcher_view}
-use Rattle.stair_story.specs.Devices.{device_view, devices}
+use Rattle.stair_story.specs.Devices.{device_view, devices, some_left}
 use Rattle.stair_story.specs.Fault.{status_of_fault}
 use Rattle.stair_story.specs.Plan.{Over}
 use Rattle.stair_story.specs.Rack.{rack_view}
@@ -24,7 +24,8 @@ returns-in-Some-clause-done g c =
     let next = devices c.do_line.new.rack (Opened c.do_line.new.array) c.do_line.new.watchers.items in
     let spells = (c.in-Some.ensures c.in-Some.said).0 refl in
     IfOk-weaker c.do_line.result _ _
-    (λ reply comes rest. line_read view of c.args.number c.args.line.now rest first next c.in-Some.said spells (replies reply rest) (comes rest)) c.do_line.ensures.done
+    (λ reply comes rest. line_read view of c.args.number c.args.line.now rest first next c.in-Some.said spells
+    (replies reply (rest (some_left first.watchers next.watchers))) (comes rest)) c.do_line.ensures.done
 
 pub returns-in-Some-clause-refused : goal.returns-in-Some-clause-refused
 returns-in-Some-clause-refused g c =

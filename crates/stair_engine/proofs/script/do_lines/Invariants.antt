@@ -17,5 +17,5 @@ invariant-loop g l =
     (λ b. (goal.Watcher-dyn g (b.vtable, b.value)).left b.value)
     (λ b. (goal.Watcher-dyn g (b.vtable, b.value)).patience b.value)))
     (source_view g.S.Source.left g.S.Source.ended g.S.Source.faults) (sink_view g.K.Sink.held g.K.Sink.faults)
-    l.fn.array.member.array.geometry (devices l.fn.rack (Opened l.fn.array) l.fn.watchers.items) l.fn.input l.fn.output
+    l.fn.guarded l.fn.array.member.array.geometry (devices l.fn.rack (Opened l.fn.array) l.fn.watchers.items) l.fn.input l.fn.output
     l.counter l.number l.line l.rack l.array l.watchers.items l.input l.output

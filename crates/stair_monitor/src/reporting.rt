@@ -1,0 +1,206 @@
+// Events are counted that lines tell.
+ghost use Rattle.std.specs.Prelude.{◌≡◌, ◌+◌, ◌<◌, ◌≤◌, ◌++◌, ℕ, IfErr, IfOk, List, [], ◌∷◌, length};
+ghost use Rattle.stair_rack.specs.declared.watcher.Event.{Event};
+ghost use Rattle.stair_script.specs.Events.{IsEvent};
+ghost use Rattle.stair_story.specs.Means.{Means};
+ghost use Rattle.stair_story.specs.Outside.{outside, source_view, views};
+ghost use Rattle.stair_story.specs.Plan.{Over};
+ghost use Rattle.stair_story.specs.Texts.{TakesByte};
+ghost use Rattle.stair_monitor.specs.Reports.{counts_line, report_plan, report_text, slot_line, status_of};
+ghost use Rattle.stair_monitor.specs.Seen.{CountsOf, FailsByte, IsEventOf, IsFew, ReadsText, SeesLast, Tells};
+
+use crate::printing::TEXT_LIMIT;
+use crate::reading::read_event;
+use stair_rack::{Counts, Event, Sink, Source};
+use stair_script::SCRIPT_LIMIT;
+use stair_story::{Filled, Status, take_at_least};
+use stair_watch::{Line, put_until_fault};
+
+/// Why no report was put out, or only a part of one.
+#[derive(Clone, Copy, Debug, PartialEq, Eq)]
+pub enum ReportFault {
+    /// The text was longer than a script may be, in bytes. One byte more was taken.
+    Input { needed: u64, took: u64 },
+    /// The source failed.
+    InputFault,
+    /// The sink failed, and a part of the report may have been put out.
+    OutputFault,
+    /// This line, counted from 1, is not that of an event, or too long.
+    BadLine(u64),
+}
+
+/// Counts the events of a text, and puts out how many there were: a line for all kinds, and then one for each slot that was fenced,
+/// rising.
+///
+/// A line ends with a newline; behind the last one there may be a line without an end. Each line is that of an event
+/// ([`read_event`]). A text has at most as many bytes as a script. It is taken byte by byte, and nothing is put out before all of it
+/// was. It takes no memory.
+pub fn report<S: Source, K: Sink>(input: &mut S, output: &mut K) -> Result<(), ReportFault>
+    ensures { (counter : ℕ) → Means (views S.left S.ended S.faults K.held K.faults)
+        report_plan (Over (status_of result))
+        (outside input.old output.old counter) (outside input.new output.new counter) }
+{
+    let seen = take_events(input)?;
+    let text = seen.text();
+    if put_until_fault(output, text.bytes()) < text.bytes().len() {
+        return Err(ReportFault::OutputFault);
+    }
+    Ok(())
+}
+
+impl From<ReportFault> for Status {
+    ghost use Rattle.std.specs.Prelude.{◌≡◌};
+    ghost use Rattle.stair_monitor.specs.Reports.{status_of_report};
+
+    ghost from_gives = { λ fault status. status ≡ status_of_report fault };
+
+    fn from(fault: ReportFault) -> Status {
+        match fault {
+            ReportFault::Input { needed, took } => Status::Input { needed, took },
+            ReportFault::InputFault => Status::InputFault,
+            ReportFault::OutputFault => Status::OutputFault,
+            ReportFault::BadLine(number) => Status::BadLine(number),
+        }
+    }
+}
+
+/// How many events of each kind there were, and how often each slot was fenced.
+#[derive(Clone, Copy)]
+struct Seen {
+    counts: Counts,
+    fences: [u32; 32],
+}
+
+impl Seen {
+    fn none() -> Seen
+        ensures { Tells [] result }
+    {
+        Seen {
+            counts: Counts {
+                fenced: 0,
+                repaired: 0,
+                admitted: 0,
+                promoted: 0,
+            },
+            fences: [0; 32],
+        }
+    }
+
+    fn add(&mut self, event: Event)
+        requires slot { IsEvent event }
+        requires few { IsFew self.old }
+        ensures { (events : List Event) → Tells events self.old → Tells (event ∷ events) self.new }
+    {
+        match event {
+            Event::Fenced { slot } => {
+                self.counts.fenced += 1;
+                self.fences[usize::from(slot)] += 1;
+            }
+            Event::Repaired { .. } => self.counts.repaired += 1,
+            Event::Admitted { .. } => self.counts.admitted += 1,
+            Event::Promoted { .. } => self.counts.promoted += 1,
+        }
+    }
+
+    // What is put out of them.
+    fn text(&self) -> Line
+        ensures { (events : List Event) → Tells events self.now → result ≡ report_text events }
+    {
+        let mut text = line_of(self.counts);
+        for slot in 0..32u8 {
+            push_slot(&mut text, slot, self.fences[usize::from(slot)]);
+        }
+        text
+    }
+}
+
+// The line of the counts.
+fn line_of(counts: Counts) -> Line
+    ensures text { (events : List Event) → CountsOf events counts → result ≡ counts_line events }
+    ensures short { length result ≤ 126 }
+{
+    let mut text = Line::new();
+    text.push_named(b"events: fenced ", counts.fenced);
+    text.push_named(b" repaired ", counts.repaired);
+    text.push_named(b" admitted ", counts.admitted);
+    text.push_named(b" promoted ", counts.promoted);
+    text.push(b"\n");
+    text
+}
+
+// Appends the line of a slot that was fenced so often, which is none where it wasn't, and has at most 26 bytes.
+fn push_slot(text: &mut Line, slot: u8, fences: u32)
+    requires slot { slot < 32 }
+    requires room { length text.old + 35 ≤ 1100 }
+    ensures text { text.new ≡ text.old ++ slot_line slot fences }
+    ensures short { length text.new ≤ length text.old + 26 }
+{
+    if fences > 0 {
+        text.push_named(b"slot ", u64::from(slot));
+        text.push_named(b" fenced ", u64::from(fences));
+        text.push(b"\n");
+    }
+}
+
+// Takes the whole text, and counts its events.
+fn take_events<S: Source>(input: &mut S) -> Result<Seen, ReportFault>
+    ensures { ReadsText (source_view S.left S.ended S.faults) result input.old input.new }
+{
+    let mut seen = Seen::none();
+    let mut line = Line::new();
+    let mut number = 1;
+    for _ in 0..SCRIPT_LIMIT {
+        let Some(byte) = next_byte(input)? else {
+            return take_last(seen, line.bytes(), number);
+        };
+        if byte == b'\n' {
+            seen.add(event_of(line.bytes(), number)?);
+            line.clear();
+            number += 1;
+        } else if line.bytes().len() < TEXT_LIMIT {
+            line.push(&[byte]);
+        } else {
+            return Err(ReportFault::BadLine(number));
+        }
+    }
+    if let Some(_) = next_byte(input)? {
+        return Err(ReportFault::Input {
+            needed: SCRIPT_LIMIT,
+            took: SCRIPT_LIMIT + 1,
+        });
+    }
+    take_last(seen, line.bytes(), number)
+}
+
+// Counts what stands behind the last end of a line, which is no line where it is nothing.
+fn take_last(mut seen: Seen, line: &[u8], number: u64) -> Result<Seen, ReportFault>
+    requires { IsFew seen }
+    ensures { (events : List Event) → Tells events seen → SeesLast number line.now events result }
+{
+    if !line.is_empty() {
+        seen.add(event_of(line, number)?);
+    }
+    Ok(seen)
+}
+
+// The event that a line of this number tells.
+fn event_of(line: &[u8], number: u64) -> Result<Event, ReportFault>
+    ensures { IsEventOf number line.now result }
+{
+    read_event(line).ok_or(ReportFault::BadLine(number))
+}
+
+// Takes the next byte of the input, unless that has ended.
+fn next_byte<S: Source>(input: &mut S) -> Result<Option<u8>, ReportFault>
+    ensures taken { IfOk result (λ byte. TakesByte (source_view S.left S.ended S.faults)
+        byte input.old input.new) }
+    ensures failed { IfErr result (λ why. FailsByte (source_view S.left S.ended S.faults)
+        why input.old input.new) }
+{
+    let mut piece = [0];
+    match take_at_least(input, 1, &mut piece) {
+        Filled::Enough(_) => Ok(Some(piece[0])),
+        Filled::Short(_) => Ok(None),
+        Filled::Failed => Err(ReportFault::InputFault),
+    }
+}
