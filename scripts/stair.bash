@@ -9,7 +9,7 @@ _stair() {
   elif [ "$COMP_CWORD" = 1 ]; then
     offered=(-d)
   elif [ "$COMP_CWORD" = 2 ]; then
-    offered=(-W 'check stripe restore create show read write scrub replace rebuild freeze thaw label run exercise guard report')
+    offered=(-W 'check stripe restore create show read write scrub replace rebuild freeze thaw label run exercise guard report serve')
   elif [ "$COMP_CWORD:$before" = 3:stripe ]; then
     offered=(-W 'standard up down fewest')
   else

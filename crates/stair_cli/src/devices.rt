@@ -21,13 +21,14 @@ pub(crate) fn access_of(job: &Job) -> Access {
         | Job::Label { .. }
         | Job::Run
         | Job::Exercise { .. }
-        | Job::Guard { .. } => Access::Writing,
+        | Job::Guard { .. }
+        | Job::Serve => Access::Writing,
         Job::Show | Job::OneStripe { .. } | Job::Report => Access::Reading,
     }
 }
 
 /// How many bytes of its input may be read ahead. A text of lines is taken byte by byte; of what another command doesn't take nothing is
-/// read.
+/// read. A client's messages are taken header by header, and their data at once.
 pub(crate) fn ahead_of(job: &Job) -> usize {
     match job {
         Job::Run | Job::Guard { .. } | Job::Report => 64 * 1024,
@@ -50,7 +51,8 @@ pub(crate) fn measure_of(job: &Job) -> Measure {
         | Job::Run
         | Job::Exercise { .. }
         | Job::Guard { .. }
-        | Job::Report => Measure::Sectors,
+        | Job::Report
+        | Job::Serve => Measure::Sectors,
     }
 }
 

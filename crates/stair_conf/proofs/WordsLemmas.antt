@@ -11,7 +11,7 @@ use Rattle.std.proofs.lemmas.Slice.Eq.{bytes_eq-Decides}
 use Rattle.stair_conf.specs.declared.job.Method.{Method}
 use Rattle.stair_conf.specs.declared.job.Method.TheVariants.{Standard, Up, Down, Fewest}
 use Rattle.stair_conf.specs.declared.job.Job.{Job}
-use Rattle.stair_conf.specs.declared.job.Job.TheVariants.{OneStripe, Create, Show, Read, Write, Scrub, Replace, Rebuild, Freeze, Thaw, Label, Run, Exercise, Guard, Report}
+use Rattle.stair_conf.specs.declared.job.Job.TheVariants.{OneStripe, Create, Show, Read, Write, Scrub, Replace, Rebuild, Freeze, Thaw, Label, Run, Exercise, Guard, Report, Serve}
 use Rattle.stair_conf.specs.declared.job.StripeCommand.{StripeCommand}
 use Rattle.stair_conf.specs.declared.job.StripeCommand.TheVariants.{Check, Encode, Restore}
 use Rattle.stair_conf.specs.Commands.{HasNoOption, IsPlainWord}
@@ -63,6 +63,7 @@ word_of Run = codes "run"
 word_of (Exercise number count) = codes "exercise"
 word_of (Guard events fences) = codes "guard"
 word_of Report = codes "report"
+word_of Serve = codes "serve"
 
 -- the words of a job begin with the command's
 pub first_word : (words : List (List ℕ)) (job : Job) → Spells words job → get_or words 0 [] ≡ word_of job
@@ -83,6 +84,7 @@ first_word words Run spells = ap (λ ws. get_or ws 0 []) spells
 first_word words (Exercise number count) spells = ap (λ ws. get_or ws 0 []) spells.spelled
 first_word words (Guard events fences) spells = ap (λ ws. get_or ws 0 []) spells.counted.spelled
 first_word words Report spells = ap (λ ws. get_or ws 0 []) spells
+first_word words Serve spells = ap (λ ws. get_or ws 0 []) spells
 
 -- ---- no word of a job begins with a hyphen
 
@@ -143,6 +145,7 @@ job_plain words Run spells = rw spells (one_plain (codes "run") (omega arith))
 job_plain words (Exercise number count) spells = counted_plain _ words number count (one_plain (codes "exercise") (omega arith)) spells
 job_plain words (Guard events fences) spells = counted_plain _ words events fences (one_plain (codes "guard") (omega arith)) spells.counted
 job_plain words Report spells = rw spells (one_plain (codes "report") (omega arith))
+job_plain words Serve spells = rw spells (one_plain (codes "serve") (omega arith))
 
 command_word : (words : List (List ℕ)) (job : Job) → Spells words job → IsCommandWord (get_or words 0 [])
 command_word words (OneStripe Check n m r e) spells = inl (ap (λ ws. get_or ws 0 []) spells.spelled)
@@ -161,7 +164,8 @@ command_word words (Label text) spells = inr (inr (inr (inr (inr (inr (inr (inr 
 command_word words Run spells = inr (inr (inr (inr (inr (inr (inr (inr (inr (inr (inr (inr (inr (inl (ap (λ ws. get_or ws 0 []) spells))))))))))))))
 command_word words (Exercise number count) spells = inr (inr (inr (inr (inr (inr (inr (inr (inr (inr (inr (inr (inr (inr (inl (ap (λ ws. get_or ws 0 []) spells.spelled)))))))))))))))
 command_word words (Guard events fences) spells = inr (inr (inr (inr (inr (inr (inr (inr (inr (inr (inr (inr (inr (inr (inr (inl (ap (λ ws. get_or ws 0 []) spells.counted.spelled))))))))))))))))
-command_word words Report spells = inr (inr (inr (inr (inr (inr (inr (inr (inr (inr (inr (inr (inr (inr (inr (inr (ap (λ ws. get_or ws 0 []) spells))))))))))))))))
+command_word words Report spells = inr (inr (inr (inr (inr (inr (inr (inr (inr (inr (inr (inr (inr (inr (inr (inr (inl (ap (λ ws. get_or ws 0 []) spells)))))))))))))))))
+command_word words Serve spells = inr (inr (inr (inr (inr (inr (inr (inr (inr (inr (inr (inr (inr (inr (inr (inr (inr (ap (λ ws. get_or ws 0 []) spells)))))))))))))))))
 
 -- the words of a job are a command line
 pub job_line : (words : List (List ℕ)) (job : Job) → Spells words job → IsCommandLine words
@@ -289,6 +293,7 @@ spells_once words (Guard events fences) (Guard events' fences') one two =
     let same = counted_once (codes "guard" ∷ []) words events fences events' fences' one.counted two.counted in
     λ i. Guard (same.0 i) (same.1 i)
 spells_once words Report Report one two = refl
+spells_once words Serve Serve one two = refl
 spells_once words (OneStripe Check n m r e) b one two = absurd (no_other_job words (OneStripe Check n m r e) b one two refl)
 spells_once words (OneStripe (Encode method) n m r e) b one two = absurd (no_other_job words (OneStripe (Encode method) n m r e) b one two refl)
 spells_once words (OneStripe Restore n m r e) b one two = absurd (no_other_job words (OneStripe Restore n m r e) b one two refl)

@@ -6,7 +6,7 @@ use Rattle.stair_conf.specs.Commands.{HasNoOption, IsPlainWord}
 use Rattle.stair_conf.specs.declared.job.Method.{Method}
 use Rattle.stair_conf.specs.declared.job.Method.TheVariants.{Standard, Up, Down, Fewest}
 use Rattle.stair_conf.specs.declared.job.Job.{Job}
-use Rattle.stair_conf.specs.declared.job.Job.TheVariants.{OneStripe, Create, Show, Read, Write, Scrub, Replace, Rebuild, Freeze, Thaw, Label, Run, Exercise, Guard, Report}
+use Rattle.stair_conf.specs.declared.job.Job.TheVariants.{OneStripe, Create, Show, Read, Write, Scrub, Replace, Rebuild, Freeze, Thaw, Label, Run, Exercise, Guard, Report, Serve}
 use Rattle.stair_conf.specs.declared.job.StripeCommand.{StripeCommand}
 use Rattle.stair_conf.specs.declared.job.StripeCommand.TheVariants.{Check, Encode, Restore}
 use Rattle.stair_super.specs.Label.{IsLabel}
@@ -93,6 +93,7 @@ Spells words Run = words ≡ codes "run" ∷ []
 Spells words (Exercise number count) = SpellsCounted (codes "exercise" ∷ []) words number count
 Spells words (Guard events fences) = SpellsLimits words events fences
 Spells words Report = words ≡ codes "report" ∷ []
+Spells words Serve = words ≡ codes "serve" ∷ []
 
 -- the words spell a job
 abbrev pub IsSpelled : List (List ℕ) → Type 0
@@ -106,6 +107,7 @@ IsCommandWord word = (word ≡ codes "check") ⊎ (word ≡ codes "stripe")
     ⊎ (word ≡ codes "replace") ⊎ (word ≡ codes "rebuild") ⊎ (word ≡ codes "freeze")
     ⊎ (word ≡ codes "thaw") ⊎ (word ≡ codes "label") ⊎ (word ≡ codes "run")
     ⊎ (word ≡ codes "exercise") ⊎ (word ≡ codes "guard") ⊎ (word ≡ codes "report")
+    ⊎ (word ≡ codes "serve")
 
 -- a command's word comes first, and no word begins with a hyphen: memory is taken for such words alone
 pub record IsCommandLine (words : List (List ℕ)) : Type 0 where

@@ -99,4 +99,6 @@ pub enum Job {
     },
     /// `report`: the events of lines are counted.
     Report,
+    /// `serve`: a client of the protocol NBD has the array as its block device.
+    Serve,
 }

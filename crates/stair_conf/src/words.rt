@@ -11,7 +11,7 @@ use std::alloc::Global;
 
 /// Reads the words of a command: `check N M R E..`, `stripe METHOD N M R E..` or `restore N M R E..`, with at least one E,
 /// `read BLOCK COUNT`, `write BLOCK COUNT`, `replace SLOT`, `label TEXT`, `exercise NUMBER COUNT` or `guard EVENTS FENCES`, or
-/// `create`, `show`, `scrub`, `rebuild`, `freeze`, `thaw`, `run` or `report` alone.
+/// `create`, `show`, `scrub`, `rebuild`, `freeze`, `thaw`, `run`, `report` or `serve` alone.
 ///
 /// METHOD is `standard`, `up`, `down` or `fewest`. A number is decimal digits with no sign and no leading zero, below 2^64.
 /// EVENTS and FENCES are at least 1. TEXT is 1 to 64 bytes of printable ASCII, the first of which isn't a hyphen. All other words
@@ -69,6 +69,7 @@ pub fn read_words(alloc: Global, words: &[String]) -> Result<Job, WordsFault>
         }
         "guard" => limits(read_counted(alloc, words)?),
         "report" => alone(words, Job::Report),
+        "serve" => alone(words, Job::Serve),
         _ => Err(WordsFault::Usage),
     }
 }

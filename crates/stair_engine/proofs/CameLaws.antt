@@ -24,7 +24,8 @@ use Rattle.stair_story.specs.declared.status.Status.{Status}
 use Rattle.stair_story.specs.declared.status.Status.TheVariants.{Done, Input, InputFault, OutOfMemory, OutputFault}
 use Rattle.stair_story.proofs.EndLaws.{no_move}
 use Rattle.stair_story.proofs.EndingLaws.{ends_so}
-use Rattle.stair_engine.specs.Blocks.{if_in_range, is_in_range, part_of, piece_blocks, whole_of, within_range, write_plan, writes, wrote, wrote_line}
+use Rattle.stair_engine.specs.Blocks.{if_in_range, is_in_range, part_of, whole_of, within_range, write_plan, writes, wrote, wrote_line}
+use Rattle.stair_story.specs.Pieces.{piece_blocks}
 use Rattle.stair_engine.specs.Came.{AreWritten, IsUnrefused, taken_in}
 use Rattle.stair_engine.specs.Laws.{WholeBlocksStand}
 use Rattle.stair_engine.specs.Plans.{if_spelled, job_plan, plan_of}

@@ -23,7 +23,7 @@ use Rattle.stair_array.specs.Machine.{PassesTests, SetFrozen, SetLabel, Step, Wr
 use Rattle.stair_conf.specs.Config.{TextReadsAs}
 use Rattle.stair_conf.specs.declared.fault.ConfigFault.{ConfigFault}
 use Rattle.stair_conf.specs.declared.job.Job.{Job}
-use Rattle.stair_conf.specs.declared.job.Job.TheVariants.{OneStripe, Create, Exercise, Freeze, Guard, Label, Read, Rebuild, Replace, Report, Run, Scrub, Show, Thaw, Write}
+use Rattle.stair_conf.specs.declared.job.Job.TheVariants.{OneStripe, Create, Exercise, Freeze, Guard, Label, Read, Rebuild, Replace, Report, Run, Scrub, Serve, Show, Thaw, Write}
 use Rattle.stair_conf.specs.declared.job.StripeCommand.{StripeCommand}
 use Rattle.stair_conf.specs.declared.job.StripeCommand.TheVariants.{Check, Encode, Restore}
 use Rattle.stair_conf.specs.Words.{Spells}
@@ -45,7 +45,8 @@ use Rattle.stair_engine.specs.Task.{one_stripe}
 use Rattle.stair_story.specs.declared.status.Status.{Status}
 use Rattle.stair_story.specs.declared.status.Status.TheVariants.{Done, NotCodeword, NoCodeword, Limit, Input, InputFault, OutputFault, Lost, OutOfMemory}
 use Rattle.stair_engine.proofs.MeaningLaws.{told_more, words_are_done}
-use Rattle.stair_engine.specs.Blocks.{IsInRange, if_in_range, part_of, piece_blocks, read_plan, reads, whole_of, within_range, write_plan, writes, wrote}
+use Rattle.stair_engine.specs.Blocks.{IsInRange, if_in_range, part_of, read_plan, reads, whole_of, within_range, write_plan, writes, wrote}
+use Rattle.stair_story.specs.Pieces.{piece_blocks}
 use Rattle.stair_engine.specs.Jobs.{MayAdmit, IsScripted}
 use Rattle.stair_engine.specs.Mending.{if_live, if_slot, rebuild_plan, rebuilt_line, replace_plan, replaces, scrub_plan, scrubs, stamps}
 use Rattle.stair_array.specs.Promise.{Begun}
@@ -59,7 +60,8 @@ use Rattle.stair_engine.proofs.CallLaws.{none_opened, stepless}
 use Rattle.stair_engine.proofs.JobLaws.{job_admits_none, job_allowed, words_tell}
 use Rattle.stair_engine.proofs.RangeLaws.{in_range_is}
 use Rattle.stair_engine.proofs.TurnLaws.{blocks_count, few_whole, part_long, part_short, piece_left, piece_some, piece_together, some_whole}
-use Rattle.stair_engine.proofs.WordLaws.{over_spelled}
+use Rattle.stair_engine.proofs.ServeLaws.{serve_done}
+use Rattle.stair_engine.proofs.WordLaws.{over_spelled, spelled_so}
 use Rattle.stair_story.specs.Question.{IsReply, Words}
 use Rattle.stair_story.specs.Sure.{EachCanReplace, HasNoFault, IsDone, IsSure, IsRebuiltFrom, Last, More, ServesAlong, ServesThroughout, most_allowed}
 use Rattle.stair_story.specs.Run.{history_of}
@@ -386,12 +388,6 @@ write_sure first count s told within long thawed =
         writes_sure g first (suc count) (within (omega arith)) (suc count) 0 [] later told (omega arith) (omega arith) (omega (arith, long)) (omega arith)
         same (thawed (omega arith))
 
--- what is so of a command's plan is so of what is done for words that spell it
-spelled_so : (IsSo : Plan → Type 0) (words : List (List ℕ)) (of : Job) → Spells words of → IsSo (job_plan of) → (reply : Option Job)
-    → IsReply (Words words) reply → IsSo (if_spelled reply)
-spelled_so IsSo words of spells so None not = absurd (not (of, spells))
-spelled_so IsSo words of spells so (Some job) read = subst (λ (j : Job). IsSo (job_plan j)) (spells_once words of job spells read) so
-
 module _ {R S K : Type 0} (returning : Returning) (rack : RackView R) (view : Views S K) where
   show_done : (words : List (List ℕ)) (status : Status) (a b : Outside S K) (x y : R) → Spells words Show
       → MeansOver rack view (plan_of words) (Over status) a b x y → HasNoFault view a b → IsTrue rack.honest
@@ -490,6 +486,7 @@ module _ {R W S K : Type 0} (returning : Returning) (devices : DeviceView R W) (
   script_finished (Label text) scripted spells status a b x y watchers left whole none s input script is serves can told = absurd scripted
   script_finished (Exercise number count) scripted spells status a b x y watchers left whole none s input script is serves can told = absurd scripted
   script_finished Report scripted spells status a b x y watchers left whole none s input script is serves can told = absurd scripted
+  script_finished Serve scripted spells status a b x y watchers left whole none s input script is serves can told = absurd scripted
 
 -- a state of some array, for what depends on none
 any_state : State
@@ -567,6 +564,9 @@ all_is_complete_wherever R W S K returning devices view words Report status a b 
     callless_done view (plan_of words) status a b whole.with.means (spelled_so MakesNoCall words Report spells report_calls_none) none any_state
     (spelled_so (λ plan. IsSure [] plan any_state (view.source.left a.source)) words Report spells
     (subst (λ (told : Option (List ℕ)). IsSure [] report_plan any_state told) (sym can.1) (report_sure any_state events.0 can.0 events.1 events.2)))
+all_is_complete_wherever R W S K returning devices view words Serve status a b x y watchers left spells whole none can =
+    let is = can.2 in
+    serve_done returning devices view words spells status a b x y watchers left whole none is.0 is.1 can.0 can.1 is.2
 
 -- what serves throughout serves along the story
 can_along : {R : Type 0} (returning : Returning) (Serves Also : State → Type 0) (rack : RackView R) (of : Job) (told : Option (List ℕ)) (x y : R)
@@ -587,6 +587,7 @@ can_along returning Serves Also rack (Exercise number count) told x y also can =
 can_along returning Serves Also rack Run told x y also can = (can.0, can.1, (can.2.0, also can.2.0 can.2.1, can.2.2))
 can_along returning Serves Also rack (Guard events fences) told x y also can = (can.0, can.1, (can.2.0, also can.2.0 can.2.1, can.2.2))
 can_along returning Serves Also rack Report told x y also can = can
+can_along returning Serves Also rack Serve told x y also can = (can.0, can.1, (can.2.0, also can.2.0 can.2.1, can.2.2))
 
 pub all_is_complete : (R W S K : Type 0) → AllIsComplete R W S K
 all_is_complete R W S K devices view words of status a b x y watchers left spells whole none can =

@@ -30,6 +30,8 @@ use Rattle.stair_story.proofs.LookLaws.{calls_look, first_unwritten}
 use Rattle.stair_story.proofs.PlannedLaws.{none_allows, none_each}
 use Rattle.stair_engine.proofs.ExerciseLaws.{exercise_admits_none, exercise_allowed, exercise_last, exercise_none, exercise_own, exercise_untaken}
 use Rattle.stair_engine.proofs.LineLaws.{script_allowed, script_none, script_own}
+use Rattle.stair_nbd.specs.Client.{client_plan}
+use Rattle.stair_engine.proofs.ClientLaws.{client_admits_none, client_allowed, client_none, client_own}
 use Rattle.stair_engine.proofs.ReportLaws.{report_calls_none, report_first, report_last, report_own}
 use Rattle.stair_engine.proofs.MendLaws.{done_own, replaces_allowed, replaces_last, replaces_none, replaces_own, replaces_untaken, scrubs_admit_none, scrubs_allowed, scrubs_last, scrubs_none, scrubs_own, scrubs_untaken}
 use Rattle.stair_engine.proofs.OpenLaws.{IsOfJob, opening_admits_none, opening_allowed, read_admits_none, read_allowed, read_none, read_own, read_untaken, refusal_own, unless_so, write_admits_none, write_allowed, write_last, write_none, write_own}
@@ -110,6 +112,7 @@ job_own job.Run = watches_own _ (script_own false)
 job_own (job.Exercise number count) = opens_own (exercise_steps number count) (exercise_own number count)
 job_own (job.Guard events fences) = watches_own _ (script_own true)
 job_own job.Report = report_own
+job_own job.Serve = opens_own client_plan client_own
 
 -- ---- what is put out is put out last
 
@@ -147,6 +150,7 @@ job_last job.Run other = absurd (other tt)
 job_last (job.Exercise number count) other = opens_last (exercise_steps number count) (exercise_last number count)
 job_last (job.Guard events fences) other = absurd (other tt)
 job_last job.Report other = report_last
+job_last job.Serve other = absurd (other tt)
 
 -- ---- memory is asked for before anything is done to an array, or before it is written
 
@@ -195,6 +199,7 @@ job_unwritten (job.Label text) = stamps_none (SetLabel text) _
 job_unwritten job.Run = watches_none _ (script_none false)
 job_unwritten (job.Exercise number count) = opens_none (exercise_steps number count) (exercise_none number count)
 job_unwritten (job.Guard events fences) = watches_none _ (script_none true)
+job_unwritten job.Serve = opens_none client_plan client_none
 job_unwritten job.Report = first_unwritten report_plan (job_first job.Report (λ no. no))
 job_unwritten (job.OneStripe command n m r e) = first_unwritten (job_plan (job.OneStripe command n m r e)) (job_first (job.OneStripe command n m r e) (λ no. no))
 job_unwritten job.Create = first_unwritten create_plan (job_first job.Create (λ no. no))
@@ -235,6 +240,7 @@ job_admits_none (job.OneStripe command n m r e) other =
 job_admits_none job.Create other = none_each AdmitsNone create_plan (job_no_step job.Create (λ no. no))
 job_admits_none job.Show other = none_each AdmitsNone show_plan (job_no_step job.Show (λ no. no))
 job_admits_none job.Report other = none_each AdmitsNone report_plan (job_no_step job.Report (λ no. no))
+job_admits_none job.Serve other = λ member. opening_admits_none member.array.geometry.n client_plan client_admits_none
 job_admits_none (job.Read first count) other = λ member. opening_admits_none member.array.geometry.n _ (read_admits_none first count)
 job_admits_none (job.Write first count) other = λ member. opening_admits_none member.array.geometry.n _ (write_admits_none first count)
 job_admits_none job.Scrub other = λ member. opening_admits_none member.array.geometry.n _ (λ g. scrubs_admit_none g 0 g.stripes 0)
@@ -261,6 +267,7 @@ job_allowed (job.OneStripe command n m r e) =
 job_allowed job.Create = none_allows most_allowed create_plan (job_no_step job.Create (λ no. no))
 job_allowed job.Show = none_allows most_allowed show_plan (job_no_step job.Show (λ no. no))
 job_allowed job.Report = none_allows most_allowed report_plan (job_no_step job.Report (λ no. no))
+job_allowed job.Serve = λ member. opening_allowed member.array.geometry.n client_plan (client_allowed 3)
 job_allowed (job.Read first count) = λ member. opening_allowed member.array.geometry.n _ (read_allowed 3 first count)
 job_allowed (job.Write first count) = λ member. opening_allowed member.array.geometry.n _ (write_allowed 3 first count)
 job_allowed job.Scrub = λ member. opening_allowed member.array.geometry.n _ (λ g. scrubs_allowed 3 g 0 g.stripes 0)

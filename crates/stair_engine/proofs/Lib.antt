@@ -41,4 +41,6 @@ mod SureLaws
 mod ExerciseSureLaws
 mod ScriptSureLaws
 mod ReportLaws
+mod ClientLaws
+mod ServeLaws
 mod HaltLaws

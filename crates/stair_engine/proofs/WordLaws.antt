@@ -4,7 +4,7 @@ use Rattle.stair_conf.specs.Words.{IsSpelled, Spells}
 use Rattle.stair_conf.specs.declared.job.Job.{Job}
 use Rattle.stair_conf.proofs.WordsLemmas.{spells_once}
 use Rattle.stair_story.specs.Outside.{Outside, Views, outside}
-use Rattle.stair_story.specs.Plan.{Over}
+use Rattle.stair_story.specs.Plan.{Plan, Over}
 use Rattle.stair_story.specs.Question.{IsReply, Words}
 use Rattle.stair_story.specs.Rack.{MeansOver, RackView, Works}
 use Rattle.stair_story.specs.Story.{Deed}
@@ -12,6 +12,12 @@ use Rattle.stair_story.specs.declared.status.Status.{Status}
 use Rattle.stair_story.specs.declared.status.Status.TheVariants.{Usage, OutOfMemory}
 use Rattle.stair_story.proofs.AllEnds.{AllEnd, over_all}
 use Rattle.stair_engine.specs.Plans.{if_spelled, job_plan, plan_of}
+
+-- what is so of a command's plan is so of what is done for words that spell it
+pub spelled_so : (IsSo : Plan → Type 0) (words : List (List ℕ)) (of : Job) → Spells words of → IsSo (job_plan of) → (reply : Option Job)
+    → IsReply (Words words) reply → IsSo (if_spelled reply)
+spelled_so IsSo words of spells so None not = absurd (not (of, spells))
+spelled_so IsSo words of spells so (Some job) read = subst (λ (j : Job). IsSo (job_plan j)) (spells_once words of job spells read) so
 
 module _ {X S K : Type 0} (One : Deed → X → X → Type 0) (view : Views S K) (Q : Status → Outside S K → X → Type 0) (words : List (List ℕ))
     (a : Outside S K) (x : X) where

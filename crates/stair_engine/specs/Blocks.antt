@@ -1,7 +1,7 @@
 -- What `read` and `write` do: an array is opened, and blocks of it are put out, or taken and written.
-use Rattle.std.specs.Prelude.{◌≡◌, ◌+◌, ◌-◌, ◌*◌, ◌/◌, ◌%◌, ◌<◌, ◌≤◌, ℕ, zero, suc, Bool, true, false, nat_le, nat_lt, List, [], ◌∷◌, ◌++◌, codes, length, take, drop, min, max, Some, Err}
+use Rattle.std.specs.Prelude.{◌≡◌, ◌+◌, ◌-◌, ◌*◌, ◌/◌, ◌<◌, ◌≤◌, ℕ, zero, suc, Bool, true, false, nat_le, nat_lt, List, [], ◌∷◌, ◌++◌, codes, length, take, drop, max, Some, Err}
 use Rattle.std.specs.Fmt.{decimal}
-use Rattle.stair_model.specs.Geometry.{Geometry, block_count, data_cells}
+use Rattle.stair_model.specs.Geometry.{Geometry, block_count}
 use Rattle.stair_model.specs.Stripe.{SECTOR}
 use Rattle.stair_member.specs.Membership.{Membership}
 use Rattle.stair_array.specs.Arrays.{blocks_of}
@@ -17,6 +17,7 @@ use Rattle.stair_story.specs.Action.{Survey}
 use Rattle.stair_story.specs.Comes.{ComesTo}
 use Rattle.stair_story.specs.Fault.{status_of_fault}
 use Rattle.stair_story.specs.Devices.{DeviceView, devices, some_left}
+use Rattle.stair_story.specs.Pieces.{piece_blocks}
 use Rattle.stair_story.specs.Plan.{Plan, Over, Put, Allocate, Do, Take, if_so, take_exactly, take_step, watch_step}
 use Rattle.stair_story.specs.Steps.{Takes}
 
@@ -96,10 +97,6 @@ whole_of bytes = take (length bytes / SECTOR * SECTOR) bytes
 
 abbrev pub part_of : List ℕ → List ℕ
 part_of bytes = drop (length bytes / SECTOR * SECTOR) bytes
-
--- how many blocks a piece has at most, from this block on, of which so many are left: none is past its stripe
-abbrev pub piece_blocks : Geometry → (block left : ℕ) → ℕ
-piece_blocks g block left = min left (data_cells g - block % data_cells g)
 
 -- the line for so many blocks that were written
 abbrev pub wrote_line : ℕ → List ℕ

@@ -14,6 +14,7 @@ use Rattle.stair_conf.specs.declared.job.Job.{Job}
 use Rattle.stair_conf.specs.declared.job.Job.TheVariants as job
 use Rattle.stair_conf.specs.declared.job.StripeCommand.{StripeCommand}
 use Rattle.stair_conf.specs.declared.job.StripeCommand.TheVariants.{Check, Encode, Restore}
+use Rattle.stair_nbd.specs.Civil.{IsCivil}
 use Rattle.stair_rack.specs.declared.watcher.Event.{Event}
 use Rattle.stair_script.specs.Events.{SpellsEvent}
 use Rattle.stair_script.specs.Line.{SpellsLine}
@@ -123,6 +124,8 @@ CanBeDone returning Serves rack (job.Guard events fences) told first last =
     TellsInput told (λ input. (s : State) × Serves s
     × ((lines : List Line) × IsScriptOf s lines input × All PutsNoneIn lines))
 CanBeDone returning Serves rack job.Report told first last = TellsInput told IsEventText
+CanBeDone returning Serves rack job.Serve told first last =
+    TellsInput told (λ input. (s : State) × Serves s × IsCivil input)
 CanBeDone returning Serves rack job told first last = (s : State) × Serves s
 
 -- It is finished where it can be done and neither source nor sink failed. No medium comes back.

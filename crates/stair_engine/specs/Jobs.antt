@@ -2,13 +2,14 @@
 use Rattle.std.specs.Prelude.{ℕ, List, ⊤}
 use Rattle.stair_conf.specs.Words.{Spells}
 use Rattle.stair_conf.specs.declared.job.Job.{Job}
-use Rattle.stair_conf.specs.declared.job.Job.TheVariants.{Create, Exercise, Freeze, Guard, Label, OneStripe, Read, Rebuild, Replace, Report, Run, Scrub, Show, Thaw, Write}
+use Rattle.stair_conf.specs.declared.job.Job.TheVariants.{Create, Exercise, Freeze, Guard, Label, OneStripe, Read, Rebuild, Replace, Report, Run, Scrub, Serve, Show, Thaw, Write}
 
--- blocks of an array, or the replies to lines, are put out before all is done
+-- blocks of an array, or the replies to lines or to a client, are put out before all is done
 abbrev pub PutsOnTheWay : Job → Type 0
 PutsOnTheWay (Read block count) = ⊤
 PutsOnTheWay Run = ⊤
 PutsOnTheWay (Guard events fences) = ⊤
+PutsOnTheWay Serve = ⊤
 PutsOnTheWay _ = ⊥
 
 -- an array that is there is opened
@@ -24,6 +25,7 @@ OpensArray (Label text) = ⊤
 OpensArray Run = ⊤
 OpensArray (Guard events fences) = ⊤
 OpensArray (Exercise number count) = ⊤
+OpensArray Serve = ⊤
 OpensArray _ = ⊥
 
 -- the lines of a script are done
@@ -47,6 +49,7 @@ TakesInput (Write block count) = ⊤
 TakesInput Run = ⊤
 TakesInput (Guard events fences) = ⊤
 TakesInput Report = ⊤
+TakesInput Serve = ⊤
 TakesInput _ = ⊥
 
 -- devices may be written: an array is made, or opened

@@ -7,7 +7,7 @@ use Rattle.stair_rack.specs.Count.{Rose}
 use Rattle.stair_member.specs.Asked.{LeavesSectors}
 use Rattle.stair_conf.specs.Words.{IsSpelled, Spells}
 use Rattle.stair_conf.specs.declared.job.Job.{Job}
-use Rattle.stair_conf.specs.declared.job.Job.TheVariants.{OneStripe, Create, Guard, Replace, Scrub, Show, Write}
+use Rattle.stair_conf.specs.declared.job.Job.TheVariants.{OneStripe, Create, Guard, Replace, Scrub, Serve, Show, Write}
 use Rattle.stair_conf.specs.declared.job.StripeCommand.{StripeCommand}
 use Rattle.stair_script.specs.declared.line.Line.{Line}
 use Rattle.stair_story.specs.declared.status.Status.{Status}
@@ -15,6 +15,7 @@ use Rattle.stair_story.specs.declared.status.Status.TheVariants.{Done, Usage, In
 use Rattle.stair_story.specs.Answer.{map_bytes}
 use Rattle.stair_engine.specs.Cause.{Answers, IfRefusedAtOnce}
 use Rattle.stair_watch.specs.WatcherList.{AllStay}
+use Rattle.stair_engine.specs.Answered.{AnswersClient}
 use Rattle.stair_engine.specs.Complete.{IsComplete, IsCompleteWherever, IsFinished, IsScriptOf}
 use Rattle.stair_engine.specs.Counted.{TellsCount}
 use Rattle.stair_engine.specs.Halts.{IsGuarded}
@@ -81,8 +82,8 @@ BytesAreAnswered {S} {K} view =
     IfSome (view.source.left old.source) (λ bytes. Answers command (one_stripe n m r e) bytes
     (view.sink.held old.sink) (view.sink.held new.sink) status)
 
--- A fault comes only where its count rose, and no count falls, whatever the words are. No command but `read`, `run` and `guard`
--- puts anything out that isn't done.
+-- A fault comes only where its count rose, and no count falls, whatever the words are. No command but `read`, `run`, `guard`
+-- and `serve` puts anything out that isn't done.
 abbrev pub AllIsKept : (S K : Type 0) → Type 0
 AllIsKept S K = (view : Views S K) (words : List (List ℕ)) (status : Status)
     (old new : Outside S K) → Means view (plan_of words) (Over status) old new
@@ -233,3 +234,10 @@ GuardsHalt R W S K = (view : DeviceView R W) (streams : Views S K) (words : List
     (watchers left : List W) → Spells words (Guard events fences)
     → AllStay view.watcher watchers
     → IsGuarded view streams words status old new first last watchers left
+
+-- `serve` answers no READ with an error of the devices, and no WRITE unless the array is frozen
+abbrev pub ClientsAreAnswered : (R W S K : Type 0) → Type 0
+ClientsAreAnswered R W S K = (returning : Returning) (view : DeviceView R W) (streams : Views S K)
+    (words : List (List ℕ)) (status : Status) (old new : Outside S K) (first last : R)
+    (watchers left : List W) → Spells words Serve
+    → AnswersClient returning view streams words status old new first last watchers left

@@ -8,11 +8,13 @@ pub mod Scripts
 pub mod Exercise
 pub mod Piece
 pub mod Came
+pub mod Serving
 pub mod Plans
 pub mod Create
 pub mod Show
 pub mod Stands
 pub mod Complete
+pub mod Answered
 pub mod Mended
 pub mod Counted
 pub mod ShowSteps

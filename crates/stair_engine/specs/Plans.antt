@@ -19,6 +19,7 @@ use Rattle.stair_engine.specs.Exercise.{exercise_plan}
 use Rattle.stair_engine.specs.Mending.{freeze_plan, label_plan, rebuild_plan, replace_plan, scrub_plan, thaw_plan}
 use Rattle.stair_monitor.specs.Reports.{report_plan}
 use Rattle.stair_engine.specs.Scripts.{guard_plan, run_plan}
+use Rattle.stair_engine.specs.Serving.{serve_plan}
 use Rattle.stair_engine.specs.Show.{show_text}
 use Rattle.stair_engine.specs.Task.{one_stripe}
 
@@ -81,6 +82,7 @@ job_plan job.Run = run_plan
 job_plan (job.Exercise number count) = exercise_plan number count
 job_plan (job.Guard events fences) = guard_plan
 job_plan job.Report = report_plan
+job_plan job.Serve = serve_plan
 
 abbrev pub if_spelled : Option Job → Plan
 if_spelled None = Over Usage

@@ -12,6 +12,7 @@ ghost use Rattle.stair_engine.specs.Laws.{
   ArrayIsMended,
   ArraysAreSpared,
   BytesAreAnswered,
+  ClientsAreAnswered,
   DifferAtErased,
   GuardsHalt,
   MemoryComesFirst,
@@ -70,6 +71,8 @@ pub fn plan_laws<R, W, S: Source, K: Sink>()
     ensures scripted { ScriptIsDone R W S K }
     // `guard` is halted exactly where a watcher left
     ensures halted { GuardsHalt R W S K }
+    // `serve` answers a client by steps that are done
+    ensures answered { ClientsAreAnswered R W S K }
     // what a scrub, a replacement and a rebuild leave good
     ensures mended { ArrayIsMended R W S K }
     // and to the session, whatever the rack was before

@@ -19,6 +19,7 @@ mod replace;
 mod restore;
 mod script;
 mod scrub;
+mod serve;
 mod show;
 mod stamp;
 mod task;
@@ -27,8 +28,9 @@ mod write;
 ghost use Rattle.std.specs.Prelude.{◌≡◌, ℕ, IsTrue, map, string_bytes};
 ghost use Rattle.stair_conf.specs.Words.{IsCommandLine, Spells};
 ghost use Rattle.stair_conf.specs.declared.job.Job.{Job as Jobs};
-ghost use Rattle.stair_conf.specs.declared.job.Job.TheVariants.{Create, Guard, Scrub};
-ghost use Rattle.stair_session.specs.Returning.{AnyReturns};
+ghost use Rattle.stair_conf.specs.declared.job.Job.TheVariants.{Create, Guard, Scrub, Serve};
+ghost use Rattle.stair_session.specs.Returning.{AnyReturns, Returning};
+ghost use Rattle.stair_engine.specs.Answered.{AnswersClient};
 ghost use Rattle.stair_engine.specs.Complete.{IsComplete, IsCompleteWherever};
 ghost use Rattle.stair_engine.specs.Counted.{TellsCount};
 ghost use Rattle.stair_engine.specs.Create.{IsOnceMade, MakesArray, SparesArrays};
@@ -58,6 +60,7 @@ use replace::replace;
 use restore::restore;
 use script::run_script;
 use scrub::scrub;
+use serve::serve;
 use show::show;
 use stair_base::Geometry;
 use stair_conf::{Job, StripeCommand, WordsFault, read_words};
@@ -88,11 +91,13 @@ use write::write;
 /// it takes nothing, and puts out a line once all is done. `guard` is `run` that is halted behind the first line at which a watcher
 /// left, or before its first line where one left as the array was opened: whoever calls it chooses the watchers, whatever its numbers
 /// are. `report` counts the events that the lines of its input tell ([`stair_monitor::report`]), and makes no call on the rack.
+/// `serve` takes memory for all that a client sends at once, opens the array, and has one client of the protocol NBD over input and
+/// output ([`stair_nbd::session`]), whose block device it is.
 ///
 /// The words are tested first, then the limits of the geometry of a stripe, then the input: what is refused before the input
 /// is taken leaves input, output and counter as they were, and nothing is put out before the answer is known. `InputFault`
 /// leaves the output as it was, and after `OutputFault` a part of the output stands; after that of `create` there is an array.
-/// What `read`, `run` and `guard` put out before a refusal stands, and so does each block that `write` wrote before one, or before an input
+/// What `read`, `run`, `guard` and `serve` put out before they end stands, and so does each block that `write` wrote before one, or before an input
 /// that ends or fails, and each step of the others that came before one. Where a step is refused with `TooFew` or `EpochsSpent` its blocks are old, new, or in doubt.
 ///
 /// The counter rises by exactly the steps of the encoder that METHOD of `stripe` chooses. No other command counts.
@@ -166,6 +171,16 @@ pub fn stair<R: Rack, S: Source, K: Sink, L: Ledger>(
         (device_view (rack_view R.is_honest R.history R.bads R.gones)
         (watcher_view told count (λ w. (Watcher-box w).left w.value) patience))
         (views S.left S.ended S.faults K.held K.faults) (map string_bytes words.now) job result
+        (outside input.old output.old steps.old) (outside input.new output.new steps.new)
+        rack.old rack.new watchers.old.items watchers.new.items }
+
+    // `serve` answers no READ with an error of the devices, and no WRITE unless the array is frozen, along each story that bears out the
+    // call, where the array serves along it, whether media come back or not.
+    ensures answered { Spells (map string_bytes words.now) Serve → (returning : Returning)
+        → AnswersClient returning
+        (device_view (rack_view R.is_honest R.history R.bads R.gones)
+        (watcher_view told count (λ w. (Watcher-box w).left w.value) patience))
+        (views S.left S.ended S.faults K.held K.faults) (map string_bytes words.now) result
         (outside input.old output.old steps.old) (outside input.new output.new steps.new)
         rack.old rack.new watchers.old.items watchers.new.items }
 
@@ -255,6 +270,10 @@ fn work<R: Rack, S: Source, K: Sink, L: Ledger>(
             done.unwrap_or_else(Status::from)
         }
         Job::Report => reported(report(input, output)),
+        Job::Serve => {
+            let done = serve(alloc, rack, input, output, watchers);
+            done.unwrap_or_else(Status::from)
+        }
     }
 }
 

@@ -1,7 +1,7 @@
 ghost use Rattle.std.specs.Prelude.{◌≡◌, ◌+◌, ◌*◌, ◌^◌, ◌<◌, ◌≤◌, ℕ, []};
 ghost use Rattle.stair_rack.specs.Watching.{watcher_view};
 ghost use Rattle.stair_array.specs.Promise.{Opened as IsOpen};
-ghost use Rattle.stair_engine.specs.Blocks.{IsInRange, piece_blocks as blocks_of_piece, wrote_line as line_of_wrote, write_plan, writes};
+ghost use Rattle.stair_engine.specs.Blocks.{IsInRange, wrote_line as line_of_wrote, write_plan, writes};
 ghost use Rattle.stair_model.specs.Geometry.{data_cells};
 ghost use Rattle.stair_model.specs.Stripe.{SECTOR as BYTES};
 ghost use Rattle.stair_story.specs.Devices.{MeansWhole, MeansWith, device_view, devices};
@@ -13,10 +13,10 @@ ghost use Rattle.stair_watch.specs.WatcherList.{AllStay};
 
 use crate::open::{in_range, open};
 use crate::piece::Piece;
-use stair_base::{Geometry, SECTOR, StripeCode};
+use stair_base::{SECTOR, StripeCode};
 use stair_member::survey;
 use stair_rack::{Rack, Sink, Source, Watcher};
-use stair_story::{Fault, Intake, Opened, Status, put_all};
+use stair_story::{Fault, Intake, Opened, Status, piece_blocks, put_all};
 use stair_watch::Line;
 use std::alloc::Global;
 
@@ -99,15 +99,6 @@ fn write_input<C: StripeCode, R: Rack, S: Source, K: Sink>(
     intake.end(input)?;
     put_all(output, wrote_line(blocks).bytes())?;
     Ok(Status::Done)
-}
-
-// How many blocks a piece has at most, from this block on, of which so many are left: none is past its stripe.
-fn piece_blocks(geometry: &Geometry, block: u64, left: u64) -> u16
-    ensures value { result ≡ blocks_of_piece geometry.now block left }
-    ensures within { result ≤ data_cells geometry.now }
-{
-    let per_stripe = u64::from(geometry.u());
-    left.min(per_stripe - block % per_stripe) as u16
 }
 
 // The line for so many blocks that were written.

@@ -36,6 +36,7 @@ pub const WHOLE: Ends = Ends {
 /// The first three events that a watcher kept; None where there is no watcher any more.
 pub type Told = Option<[Option<Event>; 3]>;
 
+/// A watcher that is left and was told of no event.
 pub const NOTHING_TOLD: Told = Some([None; 3]);
 
 /// These events, one behind the other.
@@ -47,6 +48,7 @@ pub fn told(events: &[Event]) -> Told {
     Some(kept)
 }
 
+/// What is told where this slot was left out of the array, and nothing else.
 pub fn fenced(slot: u8) -> Told {
     told(&[Event::Fenced { slot }])
 }
@@ -166,6 +168,7 @@ fn call_on<R: Rack, K: Sink, L: Ledger>(
     Ok((status, source.left().len()))
 }
 
+/// The words of a line, with one blank between two of them.
 pub fn words_of(alloc: Global, line: &str) -> Result<Vec<String>, AllocError> {
     let mut words = Vec::new(alloc);
     for word in line.split(' ') {
@@ -303,6 +306,7 @@ pub const EIGHT: Shape = Shape {
     sectors: 291,
 };
 
+/// This happens before the call of the rack with this number.
 pub fn act(at: u32, what: What) -> Act {
     Act { at, what }
 }

@@ -3,6 +3,8 @@
 
 pub mod calls;
 #[cfg(test)]
+mod clients;
+#[cfg(test)]
 mod crashes;
 #[cfg(test)]
 mod guards;

@@ -61,7 +61,7 @@ const REBUILDING: Status = Status::SlotBusy {
 };
 
 // Each row is a status, the exit status of the program, and the line on standard error.
-const LINES: [(Status, u8, &str); 26] = [
+const LINES: [(Status, u8, &str); 27] = [
     (Status::Done, 0, ""),
     (IN_ROW, 1, "not a codeword: row 0 parity 0 byte 0"),
     (IN_GLOBAL, 1, "not a codeword: global 0 0 byte 0"),
@@ -69,7 +69,7 @@ const LINES: [(Status, u8, &str); 26] = [
     (
         Status::Usage,
         2,
-        "usage: stair FOLDER check|stripe|restore|create|show|read|write|scrub|replace|rebuild|run|exercise|freeze|thaw|label|guard|report",
+        "usage: stair FOLDER check|stripe|restore|create|show|read|write|scrub|replace|rebuild|run|exercise|freeze|thaw|label|guard|report|serve",
     ),
     (Status::Limit(3), 3, "geometry: limit 3"),
     (Status::Key(Key::Stripes), 3, "geometry: key stripes"),
@@ -100,6 +100,7 @@ const LINES: [(Status, u8, &str); 26] = [
     ),
     (Status::Frozen, 20, "frozen"),
     (Status::Halted(7), 21, "halted after line 7"),
+    (Status::BadMessage(4), 22, "bad message 4"),
 ];
 
 #[test]

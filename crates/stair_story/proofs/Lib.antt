@@ -21,6 +21,8 @@ pub mod SureSlotLaws
 pub mod SureStepLaws
 pub mod SureKeptLaws
 pub mod ComesLaws
+pub mod PieceLaws
+pub mod TalkLaws
 pub mod PerformedLaws
 pub mod PlannedLaws
 pub mod AllEnds
@@ -35,6 +37,7 @@ pub mod BoundedStepLaws
 pub mod BoundedStoryLaws
 pub mod BoundedCallLaws
 pub mod PlannedSureLaws
+pub mod ServedLaws
 pub mod SureDeviceLaws
 pub mod LiveLaws
 pub mod RebuiltLaws

@@ -145,6 +145,15 @@ module _ {R W : Type 0} (returning : Returning) (view : DeviceView R W) (s : Sta
 -- ---- whole calls
 
 module _ {R W S K : Type 0} (view : DeviceView R W) (streams : Views S K) where
+  -- of a plan that draws few numbers draws are left at each step
+  pub planned_draws : (returning : Returning) (plan rest : Plan) (s : State) (a b : Outside S K) (x y : R) (watchers left : List W)
+      (whole : MeansWhole view streams plan rest a b x y watchers left) → AllowsAtMost most_allowed plan
+      → ServesAlong returning view s whole.with.means.story (devices x Begun watchers) (devices y whole.session left) whole.with.works
+      → EachHasDraws view s.geometry whole.with.means.story (devices x Begun watchers) (devices y whole.session left) whole.with.works
+  planned_draws returning plan rest s a b x y watchers left whole allowed serves =
+      begun_draws returning view s (devices y whole.session left) whole.with.means.story (devices x Begun watchers) whole.with.works (refl, serves)
+      (allowed_along most_allowed whole.with.means.story plan rest allowed whole.with.means.follows)
+
   -- so it is done
   pub planned_sure : (returning : Returning) (plan : Plan) (status : Status) (s : State) (a b : Outside S K) (x y : R) (watchers left : List W)
       (whole : MeansWhole view streams plan (Over status) a b x y watchers left) → AllowsAtMost most_allowed plan
@@ -158,5 +167,4 @@ module _ {R W S K : Type 0} (view : DeviceView R W) (streams : Views S K) where
       let story = whole.with.means.story in
       sure_done view streams returning plan status s a b first last whole.with serves.honest refl serves.history serves.stands serves.calm unfailed
       (all_lead returning view (all_performed returning) story first last whole.with.works)
-      (begun_draws returning view s last story first whole.with.works (refl, serves)
-      (allowed_along most_allowed story plan (Over status) allowed whole.with.means.follows)) can sure
+      (planned_draws returning plan (Over status) s a b x y watchers left whole allowed serves) can sure

@@ -19,7 +19,7 @@ use Rattle.stair_story.specs.declared.status.Status.{Status}
 use Rattle.stair_story.specs.declared.status.Status.TheVariants.{Done, OutOfMemory}
 use Rattle.stair_story.specs.Action.{Action, Create, OkOf, Outcome, Survey}
 use Rattle.stair_story.specs.Means.{Gives, Holds}
-use Rattle.stair_story.specs.Outside.{Outside, Views}
+use Rattle.stair_story.specs.Outside.{Outside, SinkView, SourceView, Views}
 use Rattle.stair_story.specs.Plan.{Plan, Over, Ask, Take, Put, Allocate, Do, Try, RebuildAll, after_rebuild}
 use Rattle.stair_story.specs.Rack.{MeansOver, RackView, Works, told_of}
 use Rattle.stair_story.specs.Story.{Deed, Found, Took, TookLast, TakeFailed, HasPut, PutFailed, Grew, RanOut, Did, Stepped, Leads, Moves, after}
@@ -63,6 +63,28 @@ pub record CarriesOn {X : Type 0} (One : Deed → X → X → Type 0) (IsReady :
       → ((seats : Seats) → s.seats ≡ Some seats → IsFreeFor step seats → PassesTests step s seats)
       → IsReady counted s (Stepped step answer events left ∷ story) x y works
       → IsSteppedOn One IsReady counted s step answer events left story x y works
+
+-- where no fault of a source came over a story, none came at its first deed, and none behind it
+pub source_unfailed : {S : Type 0} (view : SourceView S) (deed : Deed) (story : List Deed) (a b : S) (gives : Leads (Gives view) (deed ∷ story) a b)
+    → ¬ Rose (view.faults a) (view.faults b) → (¬ Rose (view.faults a) (view.faults gives.0)) × (¬ Rose (view.faults gives.0) (view.faults b))
+source_unfailed view deed story a b gives sound = (λ rose. sound (Rose-kept _ _ _ rose later), λ rose. sound (kept-Rose _ _ _ first later rose))
+  where
+    first : view.faults a ≤ view.faults gives.0
+    first = source_on view (deed ∷ []) a gives.0 (gives.0, gives.1, refl)
+
+    later : view.faults gives.0 ≤ view.faults b
+    later = source_on view story gives.0 b gives.2
+
+-- and so it is of a sink
+pub sink_unfailed : {K : Type 0} (view : SinkView K) (deed : Deed) (story : List Deed) (k l : K) (holds : Leads (Holds view) (deed ∷ story) k l)
+    → ¬ Rose (view.faults k) (view.faults l) → (¬ Rose (view.faults k) (view.faults holds.0)) × (¬ Rose (view.faults holds.0) (view.faults l))
+sink_unfailed view deed story k l holds whole = (λ rose. whole (Rose-kept _ _ _ rose later), λ rose. whole (kept-Rose _ _ _ first later rose))
+  where
+    first : view.faults k ≤ view.faults holds.0
+    first = sink_on view (deed ∷ []) k holds.0 (holds.0, holds.1, refl)
+
+    later : view.faults holds.0 ≤ view.faults l
+    later = sink_on view story holds.0 l holds.2
 
 module _ {X S K : Type 0} (One : Deed → X → X → Type 0)
     (IsReady : List ℕ → State → (story : List Deed) → (x y : X) → Leads One story x y → Type 0) (carries : CarriesOn One IsReady) (streams : Views S K) where
@@ -162,25 +184,13 @@ module _ {X S K : Type 0} (One : Deed → X → X → Type 0)
       let over : IsSure counted (Over status) s (streams.source.left a) = subst (λ (p : Plan). IsSure counted p s (streams.source.left a)) (sym follows) sure in
       inl over
   ends_done counted (deed ∷ story) plan status s x y works a b k l follows gives holds sound whole ready sure =
-      elim (one_sure counted s deed plan follows.0 story x y works a gives.0 k holds.0 follows.1 gives.1 holds.1
-      (λ rose. sound (Rose-kept _ _ _ rose source_later)) (λ rose. whole (Rose-kept _ _ _ rose sink_later)) ready sure) as (λ _. IsDone status) [
+      let given = source_unfailed streams.source deed story a b gives sound in
+      let held = sink_unfailed streams.sink deed story k l holds whole in
+      elim (one_sure counted s deed plan follows.0 story x y works a gives.0 k holds.0 follows.1 gives.1 holds.1 given.0 held.0 ready sure) as (λ _. IsDone status) [
         | StaysSure behind later on still ↦
-            ends_done behind story follows.0 status later works.0 y works.2 gives.0 b holds.0 l follows.2 gives.2 holds.2
-            (λ rose. sound (kept-Rose _ _ _ source_first source_later rose)) (λ rose. whole (kept-Rose _ _ _ sink_first sink_later rose)) on still
+            ends_done behind story follows.0 status later works.0 y works.2 gives.0 b holds.0 l follows.2 gives.2 holds.2 given.1 held.1 on still
         | Short out ↦ inr (ends_so story OutOfMemory status (subst (λ (p : Plan). Leads Moves story p (Over status)) out follows.2))
       ]
-    where
-      source_first : streams.source.faults a ≤ streams.source.faults gives.0
-      source_first = source_on streams.source (deed ∷ []) a gives.0 (gives.0, gives.1, refl)
-
-      source_later : streams.source.faults gives.0 ≤ streams.source.faults b
-      source_later = source_on streams.source story gives.0 b gives.2
-
-      sink_first : streams.sink.faults k ≤ streams.sink.faults holds.0
-      sink_first = sink_on streams.sink (deed ∷ []) k holds.0 (holds.0, holds.1, refl)
-
-      sink_later : streams.sink.faults holds.0 ≤ streams.sink.faults l
-      sink_later = sink_on streams.sink story holds.0 l holds.2
 
 -- ---- over a rack alone
 

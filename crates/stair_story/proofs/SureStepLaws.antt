@@ -2,7 +2,7 @@
 -- behind it is sure again.
 use Rattle.std.proofs.Common.{◌≡◌, ◌≢◌, ◌∙◌, ℕ, ◌<◌, List, [], ◌∷◌, Option, None, Some, Result, Ok, Err, inl, inr, refl, sym, ap, subst, arith}
 use Rattle.std.proofs.lemmas.Bool.{false≢true}
-use Rattle.std.specs.Prelude.{Bool, IsOk, IsSome, IsTrue, false}
+use Rattle.std.specs.Prelude.{Bool, IsErr, IsOk, IsSome, IsTrue, false}
 use Rattle.stair_model.specs.Geometry.{Geometry}
 use Rattle.stair_rack.specs.Answers.{IsHistory, Ran, any_call}
 use Rattle.stair_rack.specs.History.{Happening}
@@ -23,8 +23,8 @@ use Rattle.stair_session.specs.Returning.{IsCalm, Returning, StandsFor}
 use Rattle.stair_session.specs.Courses.{point}
 use Rattle.stair_session.specs.Session.{ArrayState, seats_in}
 use Rattle.stair_array.specs.Draws.{HasDraws}
-use Rattle.stair_array.specs.Machine.{Answer, GivenBy, PassesTests, Recover, ReplaceSlot, Row, Step}
-use Rattle.stair_array.specs.Promise.{AnswersStopped, Begun, BeginsWith, EndsIn, Ends, Found, GoesOn, IsFitFor, IsOpenFor, MayReplace, Opened, Performs, Seen, ServesState, Session, StartsFrom, is_open}
+use Rattle.stair_array.specs.Machine.{Answer, EpochsSpent, GivenBy, PassesTests, Recover, Refusal, ReplaceSlot, Row, Step, TooFew}
+use Rattle.stair_array.specs.Promise.{AnswersStopped, Begun, BeginsWith, EndsIn, Ends, Found, GoesOn, IsFitFor, IsLed, IsOpenFor, Keeps, MayReplace, Opened, Performs, Seen, ServesState, Session, StartsFrom, Stops, is_open}
 use Rattle.stair_array.proofs.OpenStepLemmas.{IsOpened, opening_or_open}
 use Rattle.stair_story.specs.declared.status.Status.{Status}
 use Rattle.stair_story.specs.Action.{Outcome, Survey}
@@ -42,7 +42,7 @@ use Rattle.stair_story.proofs.SureLaws.{CarriesOn, IsFoundOn, IsSteppedOn, ends_
 
 -- ---- answers
 
-given_by : {T E : Type 0} (answer : Result T E) → IsOk answer → (given : T) × (answer ≡ Ok given)
+pub given_by : {T E : Type 0} (answer : Result T E) → IsOk answer → (given : T) × (answer ≡ Ok given)
 given_by (Ok given) ok = (given, refl)
 given_by (Err refusal) ok = absurd (false≢true ok)
 
@@ -59,6 +59,23 @@ starts_drawn _ was _ starts draws = absurd starts
 pub ends_open : (step : Step) (given : GivenBy step) (is : ArrayState) (session : Session) → EndsIn step (Ok given) is session → IsOpened is session
 ends_open step given is session (Ends opens err same) = absurd (false≢true err)
 ends_open step given is session (GoesOn opens keeps same) = record { is_open = same; unstopped = keeps }
+
+-- an answer that isn't for good is kept by no array
+never_kept : {T : Type 0} (answer : Result T Refusal) (kept : Option FenceFault) → ¬ Stops answer → Keeps answer kept → kept ≡ None
+never_kept (Err (TooFew whys)) kept going keeps = absurd (going tt)
+never_kept (Err EpochsSpent) kept going keeps = absurd (going tt)
+never_kept _ kept going keeps = keeps
+
+-- so it is behind any step but a refused opening, where the answer doesn't stop the array
+pub goes_open : (step : Step) (answer : Answer step) (is : ArrayState) (session : Session) → (step ≡ Recover → IsOk answer) → ¬ Stops answer
+    → EndsIn step answer is session → IsOpened is session
+goes_open step answer is session done going (Ends opens err same) = absurd (refused answer (done opens) err)
+  where
+    refused : {T E : Type 0} (answer : Result T E) → IsOk answer → IsErr answer → ⊥
+    refused (Ok given) ok err = false≢true err
+    refused (Err refusal) ok err = false≢true ok
+goes_open step answer is session done going (GoesOn opens keeps same) =
+    record { is_open = same; unstopped = never_kept answer is.stopped going keeps }
 
 opened_kept : (is : ArrayState) (session : Session) → IsOpened is session → IsStoppedBy session None
 opened_kept is session opened =
@@ -99,7 +116,7 @@ begins_as : (returning : Returning) (step : Step) (m : Membership) (before h : L
 begins_as returning Recover m before h s begun begins = tt
 begins_as returning _ m before h s begun begins = begins
 
-seats_once : {a b : Seats} → Some a ≡ Some b → a ≡ b
+pub seats_once : {a b : Seats} → Some a ≡ Some b → a ≡ b
 seats_once same = cc
 
 -- seats that are known twice are the same
@@ -220,7 +237,7 @@ module _ {R W : Type 0} (returning : Returning) (view : DeviceView R W) (honest 
       → IsCalm returning s.geometry (is_open x.session) before h
   calm_deed counted s deed story x y works ready h at = ready.calm.0 h at (upto_end at (works_ran view honest story works.0 y works.2))
 
-  with_still : (counted : List ℕ) (s : State) (deed : Deed) (story : List Deed) (x y : Devices R W) (works : Leads (WorksAll view) (deed ∷ story) x y) → IsOffDevices deed
+  pub with_still : (counted : List ℕ) (s : State) (deed : Deed) (story : List Deed) (x y : Devices R W) (works : Leads (WorksAll view) (deed ∷ story) x y) → IsOffDevices deed
       → IsReadyWith counted s (deed ∷ story) x y works → IsReadyWith counted s story works.0 y works.2
   with_still counted s deed story x y works off ready =
       behind counted counted s s deed story x y works refl (subst (IsAt view returning before s None) (sym (left deed works.0 off works.1)) ready.is_at)
@@ -231,7 +248,7 @@ module _ {R W : Type 0} (returning : Returning) (view : DeviceView R W) (honest 
       left (Stepped step answer events gone) z off works = absurd off
       left deed z off works = works
 
-  with_found : (counted : List ℕ) (s : State) (came : Outcome Survey) (story : List Deed) (x y : Devices R W) (works : Leads (WorksAll view) (Did Survey came ∷ story) x y)
+  pub with_found : (counted : List ℕ) (s : State) (came : Outcome Survey) (story : List Deed) (x y : Devices R W) (works : Leads (WorksAll view) (Did Survey came ∷ story) x y)
       → IsReadyWith counted s (Did Survey came ∷ story) x y works → IsFoundOn (WorksAll view) IsReadyWith counted s came story x y works
   with_found counted s came story x y works ready =
       let surveys = works.1.0 in
@@ -296,59 +313,99 @@ module _ {R W : Type 0} (returning : Returning) (view : DeviceView R W) (honest 
       stays_on g (h_of x) (h_of y) last j (does.later.ran honest) (stay j has)
   stay_behind counted g _ given answer events x y last does is fit stay j has = stays_on g (h_of x) (h_of y) last j (does.later.ran honest) (stay j has)
 
-  -- a step that can be done is done
-  performed : (counted : List ℕ) (s : State) (step : Step) (answer : Answer step) (events : List Event) (left : Bool) (story : List Deed)
+  -- a step that an array which is ready performs
+  module _ (counted : List ℕ) (s : State) (step : Step) (answer : Answer step) (events : List Event) (left : Bool) (story : List Deed)
       (x y : Devices R W) (works : Leads (WorksAll view) (Stepped step answer events left ∷ story) x y)
-      → ((seats : Seats) → s.seats ≡ Some seats → IsFreeFor step seats → PassesTests step s seats)
-      → IsReadyWith counted s (Stepped step answer events left ∷ story) x y works → Performs step answer events (seen_of view x) (seen_of view works.0)
-      → IsSteppedOn (WorksAll view) IsReadyWith counted s step answer events left story x y works
-  performed counted s step answer events left story x y works passes ready does =
-      let ran = does.later.ran honest in
-      let later = works_ran view honest story works.0 y works.2 in
-      let calm = calm_deed counted s (Stepped step answer events left) story x y works ready (h_of works.0) (moment_last ran.more ran.is) in
-      let steps = ready.lead.0 does in
-      let leads = steps.leads honest before s ready.history ready.is_at.is_in calm in
-      let can = can_at step answer ready.can.0 in
-      let given =
-      given_by answer
-      (steps.complete honest before s ready.history ready.is_at.is_in calm
-      (record {
-        passes = λ seats known. passes seats known
-            (free_for returning step before s does.was x.session (seen_of view x).told seats does.starts ready.is_at.is_in.serves known
-            (λ j is began. (can j is).0 does.was began.is_open));
-        draws = starts_drawn step does.was x.session does.starts ready.draws.0.0;
-        fit = fit_for step s.geometry (h_of x) (h_of works.0) (h_of y) ran later (λ j is. (can j is).1) ready.draws.0.1;
-      })) in
-      let opened = ends_open step given.0 does.is works.0.session (subst (λ (a : Answer step). EndsIn step a does.is works.0.session) given.1 does.ends) in
-      let row : Row step (Ok given.0) leads.is_step.begun s leads.state = subst (λ (a : Answer step). Row step a leads.is_step.begun s leads.state) given.1 leads.is_step.row in
-      record {
-        given = given.0;
-        is = given.1;
-        later = leads.state;
-        done = record {
-          begun = leads.is_step.begun;
-          begins = begins_as returning step does.was.member before (h_of works.0) s leads.is_step.begun leads.is_step.begins;
-          row = row;
-          keeps = keeps_by returning counted step answer events given.0 before (h_of works.0) s leads.state leads.is_step.begun row (seen_of view x)
-              (seen_of view works.0) does leads.is_step.begins opened ready.is_at.is_in.serves leads.is_in.serves
-              (λ began.
-              counted_up counted s step answer events x works.0 (h_of y) does
-              (λ opening. never_opening step does.was x.session opening does.starts began.is_open) began ready.is_at.is_in.serves later ready.stay);
-        };
-        ready = behind counted (counted_behind step counted) s leads.state (Stepped step answer events left) story x y works row.geometry
-            (record { is_in = leads.is_in; kept = opened_kept does.is works.0.session opened })
-            (stay_behind counted s.geometry step given.0 answer events x works.0 (h_of y) does given.1
-            (λ j is. (replaced_below step s leads.is_step.begun (row.passes tt) j is, (can j is).1)) ready.stay) ready;
-      }
-    where
-      can_at : (step : Step) (answer : Answer step) → CanReplaceAt view s.geometry (h_of y) (Stepped step answer events left) x works.0 → (j : ℕ)
-          → step ≡ ReplaceSlot j
-          → ((was : ArrayState) → x.session ≡ Opened was → mark_in was.member.array j ≡ Down) × IsFitFrom s.geometry (h_of x) (h_of y) j
-      can_at (ReplaceSlot slot) answer can j is =
-          let same : slot ≡ j = cc in
-          subst (λ (i : ℕ). ((was : ArrayState) → x.session ≡ Opened was → mark_in was.member.array i ≡ Down) × IsFitFrom s.geometry (h_of x) (h_of y) i)
-          same can
-      can_at _ answer can j is = absurd cc
+      (ready : IsReadyWith counted s (Stepped step answer events left ∷ story) x y works)
+      (does : Performs step answer events (seen_of view x) (seen_of view works.0)) where
+    -- the rack goes on over it, and behind it
+    step_ran : Ran any_call (h_of x) (h_of works.0)
+    step_ran = does.later.ran honest
+
+    rest_ran : Ran any_call (h_of works.0) (h_of y)
+    rest_ran = works_ran view honest story works.0 y works.2
+
+    -- it is calm
+    step_calm : IsCalm returning s.geometry (is_open x.session) before (h_of works.0)
+    step_calm = calm_deed counted s (Stepped step answer events left) story x y works ready (h_of works.0) (moment_last step_ran.more step_ran.is)
+
+    -- it is one of the machine
+    pub step_led : IsLed returning does.was.member before s step answer (seen_of view works.0)
+    step_led = (ready.lead.0 does).leads honest before s ready.history ready.is_at.is_in step_calm
+
+    -- the seats with which it begins
+    pub step_begins : BeginsAs step s step_led.is_step.begun
+    step_begins = begins_as returning step does.was.member before (h_of works.0) s step_led.is_step.begun step_led.is_step.begins
+
+    -- a slot that it is to replace can be
+    can_at : (step : Step) (answer : Answer step) → CanReplaceAt view s.geometry (h_of y) (Stepped step answer events left) x works.0 → (j : ℕ)
+        → step ≡ ReplaceSlot j
+        → ((was : ArrayState) → x.session ≡ Opened was → mark_in was.member.array j ≡ Down) × IsFitFrom s.geometry (h_of x) (h_of y) j
+    can_at (ReplaceSlot slot) answer can j is =
+        let same : slot ≡ j = cc in
+        subst (λ (i : ℕ). ((was : ArrayState) → x.session ≡ Opened was → mark_in was.member.array i ≡ Down) × IsFitFrom s.geometry (h_of x) (h_of y) i)
+        same can
+    can_at _ answer can j is = absurd cc
+
+    can_replace : (j : ℕ) → step ≡ ReplaceSlot j
+        → ((was : ArrayState) → x.session ≡ Opened was → mark_in was.member.array j ≡ Down) × IsFitFrom s.geometry (h_of x) (h_of y) j
+    can_replace = can_at step answer ready.can.0
+
+    -- it is done where it passes its tests
+    pub step_done : ((seats : Seats) → s.seats ≡ Some seats → IsFreeFor step seats → PassesTests step s seats) → IsOk answer
+    step_done passes =
+        (ready.lead.0 does).complete honest before s ready.history ready.is_at.is_in step_calm
+        (record {
+          passes = λ seats known. passes seats known
+              (free_for returning step before s does.was x.session (seen_of view x).told seats does.starts ready.is_at.is_in.serves known
+              (λ j is began. (can_replace j is).0 does.was began.is_open));
+          draws = starts_drawn step does.was x.session does.starts ready.draws.0.0;
+          fit = fit_for step s.geometry (h_of x) (h_of works.0) (h_of y) step_ran rest_ran (λ j is. (can_replace j is).1) ready.draws.0.1;
+        })
+
+    -- where the array is open behind it, it is ready again
+    pub step_behind : (after : List ℕ) → IsOpened does.is works.0.session → StayUp after s.geometry (h_of works.0) (h_of y)
+        → IsReadyWith after step_led.state story works.0 y works.2
+    step_behind after opened stay =
+        behind counted after s step_led.state (Stepped step answer events left) story x y works step_led.is_step.row.geometry
+        (record { is_in = step_led.is_in; kept = opened_kept does.is works.0.session opened }) stay ready
+
+    -- a step that can be done is done
+    performed : ((seats : Seats) → s.seats ≡ Some seats → IsFreeFor step seats → PassesTests step s seats)
+        → IsSteppedOn (WorksAll view) IsReadyWith counted s step answer events left story x y works
+    performed passes =
+        let given = given_by answer (step_done passes) in
+        let opened = ends_open step given.0 does.is works.0.session (subst (λ (a : Answer step). EndsIn step a does.is works.0.session) given.1 does.ends) in
+        let row : Row step (Ok given.0) step_led.is_step.begun s step_led.state =
+        subst (λ (a : Answer step). Row step a step_led.is_step.begun s step_led.state) given.1 step_led.is_step.row in
+        record {
+          given = given.0;
+          is = given.1;
+          later = step_led.state;
+          done = record {
+            begun = step_led.is_step.begun;
+            begins = step_begins;
+            row = row;
+            keeps = keeps_by returning counted step answer events given.0 before (h_of works.0) s step_led.state step_led.is_step.begun row (seen_of view x)
+                (seen_of view works.0) does step_led.is_step.begins opened ready.is_at.is_in.serves step_led.is_in.serves
+                (λ began.
+                counted_up counted s step answer events x works.0 (h_of y) does
+                (λ opening. never_opening step does.was x.session opening does.starts began.is_open) began ready.is_at.is_in.serves rest_ran ready.stay);
+          };
+          ready = step_behind (counted_behind step counted) opened
+              (stay_behind counted s.geometry step given.0 answer events x works.0 (h_of y) does given.1
+              (λ j is. (replaced_below step s step_led.is_step.begun (row.passes tt) j is, (can_replace j is).1)) ready.stay);
+        }
+
+  -- an array that is ready wasn't stopped
+  pub not_stopped : (counted : List ℕ) (s : State) (step : Step) (answer : Answer step) (events : List Event) (left : Bool) (story : List Deed)
+      (x y : Devices R W) (works : Leads (WorksAll view) (Stepped step answer events left ∷ story) x y)
+      → IsReadyWith counted s (Stepped step answer events left ∷ story) x y works
+      → AnswersStopped step answer events (seen_of view x) (seen_of view works.0) → ⊥
+  not_stopped counted s step answer events left story x y works ready stopped =
+      let kept : None ≡ refusal_kept stopped.array.stopped = subst (λ (session : Session). IsStoppedBy session None) stopped.is_open ready.is_at.kept in
+      let same : None ≡ refusal_kept (Some stopped.fault) = kept ∙ ap refusal_kept stopped.stopped in
+      cc
 
   with_stepped : (counted : List ℕ) (s : State) (step : Step) (answer : Answer step) (events : List Event) (left : Bool) (story : List Deed) (x y : Devices R W)
       (works : Leads (WorksAll view) (Stepped step answer events left ∷ story) x y)
@@ -357,15 +414,9 @@ module _ {R W : Type 0} (returning : Returning) (view : DeviceView R W) (honest 
       → IsSteppedOn (WorksAll view) IsReadyWith counted s step answer events left story x y works
   with_stepped counted s step answer events left story x y works passes ready =
       elim works.1.0 [
-        | inl does ↦ performed counted s step answer events left story x y works passes ready does
-        | inr stopped ↦ absurd (not_stopped stopped)
+        | inl does ↦ performed counted s step answer events left story x y works ready does passes
+        | inr stopped ↦ absurd (not_stopped counted s step answer events left story x y works ready stopped)
       ]
-    where
-      not_stopped : AnswersStopped step answer events (seen_of view x) (seen_of view works.0) → ⊥
-      not_stopped stopped =
-          let kept : None ≡ refusal_kept stopped.array.stopped = subst (λ (session : Session). IsStoppedBy session None) stopped.is_open ready.is_at.kept in
-          let same : None ≡ refusal_kept (Some stopped.fault) = kept ∙ ap refusal_kept stopped.stopped in
-          cc
 
   with_carries : CarriesOn (WorksAll view) IsReadyWith
   with_carries = record { still = with_still; found = with_found; stepped = with_stepped }
@@ -384,6 +435,22 @@ begins_at returning view s x begun stands = record {
   kept = subst (λ (session : Session). IsStoppedBy session None) (sym begun) refl;
 }
 
+-- and it is ready for the whole story
+pub ready_first : {R W : Type 0} (returning : Returning) (view : DeviceView R W) (honest : IsTrue view.rack.honest) (s : State) (story : List Deed)
+    (x y : Devices R W) (works : Leads (WorksAll view) story x y) → x.session ≡ Begun → IsHistory (view.rack.history x.rack)
+    → StandsFor returning s (view.rack.history x.rack) → IsCalmAlong view returning s.geometry story x y works
+    → StoryLeads returning view story x y works → EachHasDraws view s.geometry story x y works → EachCanReplace view s.geometry story x y works
+    → IsReadyWith returning view honest (view.rack.history x.rack) [] (without_seats s) story x y works
+ready_first returning view honest s story x y works begun history stands calm lead draws can = record {
+  history = history;
+  is_at = begins_at returning view s x begun stands;
+  calm = calm;
+  lead = lead;
+  draws = draws;
+  can = can;
+  stay = λ j none. absurd none;
+}
+
 module _ {R W S K : Type 0} (view : DeviceView R W) (streams : Views S K) where
   -- a command whose plan is sure is done
   pub sure_done : (returning : Returning) (plan : Plan) (status : Status) (s : State) (a b : Outside S K) (x y : Devices R W)
@@ -397,12 +464,4 @@ module _ {R W S K : Type 0} (view : DeviceView R W) (streams : Views S K) where
       ends_done (WorksAll view) (IsReadyWith returning view honest (view.rack.history x.rack))
       (with_carries returning view honest (view.rack.history x.rack)) streams [] with.means.story plan status (without_seats s) x y with.works a.source b.source
       a.sink b.sink with.means.follows with.means.bears.gives with.means.bears.holds none.source none.sink
-      (record {
-        history = history;
-        is_at = begins_at returning view s x begun stands;
-        calm = calm;
-        lead = lead;
-        draws = draws;
-        can = can;
-        stay = λ j none. absurd none;
-      }) sure
+      (ready_first returning view honest s with.means.story x y with.works begun history stands calm lead draws can) sure

@@ -21,6 +21,8 @@ pub mod Headline
 pub mod Streams
 pub mod Taking
 pub mod Texts
+pub mod Pieces
+pub mod Talks
 pub mod Laws
 pub mod Lives
 pub mod Sessions
@@ -29,6 +31,7 @@ pub mod Kept
 pub mod Drawn
 pub mod Bounded
 pub mod Sure
+pub mod Served
 pub mod Living
 pub mod Rebuilt
 pub mod Sound

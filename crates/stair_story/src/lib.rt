@@ -6,6 +6,7 @@ mod fault;
 mod intake;
 pub mod laws;
 pub mod lives;
+mod pieces;
 pub mod runs;
 pub mod session;
 pub mod sound;
@@ -17,6 +18,7 @@ mod text;
 
 pub use fault::Fault;
 pub use intake::Intake;
+pub use pieces::piece_blocks;
 pub use status::Status;
 pub use steps::Opened;
 pub use streams::{Filled, put_all, take_at_least};

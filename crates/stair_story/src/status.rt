@@ -88,6 +88,8 @@ pub enum Status {
     /// A watcher left at this line of a guarded script, counted from 1, or as the array was opened, which is 0; no more lines
     /// were done.
     Halted(u64),
+    /// This message of a client, counted from 1, isn't one of the protocol, or came too late.
+    BadMessage(u64),
 }
 
 impl From<Fault> for Status {
@@ -254,6 +256,7 @@ impl Status {
             Status::JournalLost { .. } => 19,
             Status::Frozen => 20,
             Status::Halted(_) => 21,
+            Status::BadMessage(_) => 22,
         }
     }
 }
@@ -277,7 +280,7 @@ impl fmt::Display for Status {
             Status::NoCodeword => write!(f, "no codeword holds these cells"),
             Status::Usage => write!(
                 f,
-                "usage: stair FOLDER check|stripe|restore|create|show|read|write|scrub|replace|rebuild|run|exercise|freeze|thaw|label|guard|report"
+                "usage: stair FOLDER check|stripe|restore|create|show|read|write|scrub|replace|rebuild|run|exercise|freeze|thaw|label|guard|report|serve"
             ),
             Status::Limit(limit) => write!(f, "geometry: limit {limit}"),
             Status::Key(key) => write!(f, "geometry: key {}", key.name()),
@@ -317,6 +320,7 @@ impl fmt::Display for Status {
             Status::JournalLost { sector } => write!(f, "journal lost: sector {sector}"),
             Status::Frozen => write!(f, "frozen"),
             Status::Halted(number) => write!(f, "halted after line {number}"),
+            Status::BadMessage(number) => write!(f, "bad message {number}"),
         }
     }
 }

@@ -1,5 +1,6 @@
 //! The laws of completeness: a command whose plan is sure is done.
 
+ghost use Rattle.stair_story.specs.Served.{PlannedAreServed};
 ghost use Rattle.stair_story.specs.Sure.{
   DevicesCanReplace,
   NoneIsReplaced,
@@ -27,6 +28,8 @@ pub fn sure_laws<R, W, S, K>()
     ensures unreplaced { NoneIsReplaced R W S K }
     // and one can be where its slot takes no part in the array, and has a device throughout the call that is large enough and of no other one
     ensures replaceable { DevicesCanReplace R W S K }
+    // on an array that serves along its story a survey finds it, and each step that passes its tests is done, of any plan that draws few numbers
+    ensures served { PlannedAreServed R W S K }
     // over a rack alone nothing is asked of steps
     ensures stepless { SteplessSureIsDone R S K }
 {}

@@ -2,9 +2,9 @@ use crate::{Job, Method, StripeCommand, WordsFault, read_words};
 use std::alloc::{AllocError, Global};
 use std::test::Fail;
 
-// Each row is a command line, a blank behind each word but the last, and the numbers N M R E.., BLOCK COUNT, SLOT, NUMBER
-// COUNT or EVENTS FENCES that it has, None where it is faulty.
-const LINES: [(&str, Option<&[u64]>); 85] = [
+// Each row of these two is a command line, a blank behind each word but the last, and the numbers N M R E.., BLOCK COUNT, SLOT,
+// NUMBER COUNT or EVENTS FENCES that it has, None where it is faulty.
+const OF_A_STRIPE: [(&str, Option<&[u64]>); 24] = [
     ("check 4 1 2 1", Some(&[4, 1, 2, 1])),
     ("restore 8 2 4 1 1 2", Some(&[8, 2, 4, 1, 1, 2])),
     (
@@ -35,6 +35,9 @@ const LINES: [(&str, Option<&[u64]>); 85] = [
     ("-h", None),
     ("help", None),
     ("", None),
+];
+
+const OF_AN_ARRAY: [(&str, Option<&[u64]>); 64] = [
     ("create", Some(&[])),
     ("create 4", None),
     ("create ", None),
@@ -99,6 +102,9 @@ const LINES: [(&str, Option<&[u64]>); 85] = [
     ("report", Some(&[])),
     ("report x", None),
     ("reports", None),
+    ("serve", Some(&[])),
+    ("serve 1", None),
+    ("served", None),
 ];
 
 // Each row is the word TEXT, and whether it is one.
@@ -156,6 +162,7 @@ fn front_of(job: &Job) -> &'static str {
         Job::Exercise { .. } => "exercise ",
         Job::Guard { .. } => "guard ",
         Job::Report => "report",
+        Job::Serve => "serve",
     }
 }
 
@@ -174,7 +181,8 @@ fn numbers_of(alloc: Global, job: &Job) -> Result<Vec<u64>, AllocError> {
         | Job::Thaw
         | Job::Label { .. }
         | Job::Run
-        | Job::Report => Ok(Vec::new(alloc)),
+        | Job::Report
+        | Job::Serve => Ok(Vec::new(alloc)),
         Job::Read { block, count } | Job::Write { block, count } => [*block, *count].to_vec(alloc),
         Job::Exercise { number, count } => [*number, *count].to_vec(alloc),
         Job::Guard { events, fences } => [*events, *fences].to_vec(alloc),
@@ -189,20 +197,29 @@ fn text_of(job: &Job) -> Option<&[u8]> {
     }
 }
 
-#[test]
-fn reads_exactly_the_words_of_a_command(rt: HostRuntime) -> Result<(), Fail> {
-    for (line, said) in LINES {
-        match read_words(rt.alloc(), &words_of(rt.alloc(), line)?) {
-            Ok(job) => {
-                assert!(rt; line.starts_with(front_of(&job)), "{line}");
-                assert_eq!(rt;
-                    Some(numbers_of(rt.alloc(), &job)?.as_slice()),
-                    said,
-                    "{line}"
-                );
-            }
-            Err(fault) => assert_eq!(rt; (fault, said), (WordsFault::Usage, None), "{line}"),
+// Whether the words of the line are read as this.
+fn is_read_as(alloc: Global, line: &str, said: Option<&[u64]>) -> Result<bool, AllocError> {
+    match read_words(alloc, &words_of(alloc, line)?) {
+        Ok(job) => {
+            let numbers = numbers_of(alloc, &job)?;
+            Ok(line.starts_with(front_of(&job)) && Some(numbers.as_slice()) == said)
         }
+        Err(fault) => Ok(fault == WordsFault::Usage && said.is_none()),
+    }
+}
+
+#[test]
+fn reads_exactly_the_words_of_a_stripe(rt: HostRuntime) -> Result<(), Fail> {
+    for (line, said) in OF_A_STRIPE {
+        assert!(rt; is_read_as(rt.alloc(), line, said)?, "{line}");
+    }
+    Ok(())
+}
+
+#[test]
+fn reads_exactly_the_words_of_an_array(rt: HostRuntime) -> Result<(), Fail> {
+    for (line, said) in OF_AN_ARRAY {
+        assert!(rt; is_read_as(rt.alloc(), line, said)?, "{line}");
     }
     Ok(())
 }

@@ -1,7 +1,7 @@
 -- The job that was read is the one that the words spell.
 use Rattle.std.proofs.Common.{◌≡◌, inl, inr, Err, None, Some, map, string_bytes, subst}
 use Rattle.stair_conf.proofs.WordsLemmas.{job_line}
-use Rattle.stair_conf.specs.declared.job.Job.TheVariants.{Guard}
+use Rattle.stair_conf.specs.declared.job.Job.TheVariants.{Guard, Serve}
 use Rattle.stair_conf.specs.declared.fault.WordsFault.{WordsFault}
 use Rattle.stair_conf.specs.declared.fault.WordsFault.TheVariants.{Usage}
 use Rattle.stair_array.specs.Promise.{Begun}
@@ -16,6 +16,7 @@ use Rattle.stair_engine.proofs.CompleteLaws.{all_is_complete, all_is_complete_wh
 use Rattle.stair_engine.proofs.CountedLaws.{scrubs_are_counted}
 use Rattle.stair_engine.proofs.HaltLaws.{guards_halt}
 use Rattle.stair_engine.proofs.MendedLaws.{array_is_mended}
+use Rattle.stair_engine.proofs.ServeLaws.{clients_are_answered}
 use Rattle.stair_engine.proofs.SpelledLaws.{call_borne, job_done, short_borne, spelled}
 use Rattle.stair_engine.proofs.StandLaws.{still_stands}
 use Rattle.stair_engine.proofs.stair.Goals as goal
@@ -44,6 +45,7 @@ returns-in-Ok g c =
       complete = λ job spells. all_is_complete _ _ _ _ devices view words job c.work.result old _ c.args.rack.now _ _ _ spells whole;
       complete_wherever = λ job spells. all_is_complete_wherever _ _ _ _ AnyReturns devices view words job c.work.result old _ c.args.rack.now _ _ _ spells;
       halted = λ events fences spells. guards_halt _ _ _ _ devices view words events fences c.work.result old _ c.args.rack.now _ _ _ spells c.requires;
+      answered = λ spells returning. clients_are_answered _ _ _ _ returning devices view words c.work.result old _ c.args.rack.now _ _ _ spells;
       mended = λ job spells honest. array_is_mended _ _ _ _ devices view words job c.work.result old _ c.args.rack.now _ _ _ spells whole honest;
       counted = λ honest spells. scrubs_are_counted _ _ _ _ devices view words c.work.result old _ c.args.rack.now _ _ _ spells whole honest;
     }
@@ -112,3 +114,22 @@ returns-in-Err-Usage-clause-halted g c events fences spells =
     subst (λ (fault : WordsFault). c.read_words.result ≡ Err fault) c.in-Err-Usage.field-0-is c.in-Err-Usage.is
     in
     absurd (c.read_words.ensures.usage usage (Guard events fences) spells)
+
+pub returns-in-Err-Memory-clause-answered : goal.returns-in-Err-Memory-clause-answered
+returns-in-Err-Memory-clause-answered g c spells returning =
+    let view = views g.S.Source.left g.S.Source.ended g.S.Source.faults g.K.Sink.held g.K.Sink.faults in
+    let told = watcher_view
+    (λ b. (goal.Watcher-dyn g (b.vtable, b.value)).told b.value)
+    (λ b. (goal.Watcher-dyn g (b.vtable, b.value)).count b.value)
+    (λ b. (goal.Watcher-dyn g (b.vtable, b.value)).left b.value)
+    (λ b. (goal.Watcher-dyn g (b.vtable, b.value)).patience b.value)
+    in
+    let devices = device_view (rack_view g.R.Rack.is_honest g.R.Rack.history g.R.Rack.bads g.R.Rack.gones) told in
+    clients_are_answered _ _ _ _ returning devices view (map string_bytes c.args.words.now) status.OutOfMemory _ _ _ _ _ _ spells
+
+pub returns-in-Err-Usage-clause-answered : goal.returns-in-Err-Usage-clause-answered
+returns-in-Err-Usage-clause-answered g c spells returning =
+    let usage : c.read_words.result ≡ Err Usage =
+    subst (λ (fault : WordsFault). c.read_words.result ≡ Err fault) c.in-Err-Usage.field-0-is c.in-Err-Usage.is
+    in
+    absurd (c.read_words.ensures.usage usage Serve spells)

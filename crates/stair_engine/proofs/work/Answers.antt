@@ -16,6 +16,7 @@ use Rattle.stair_engine.proofs.JobLaws.{job_once, job_untaken}
 use Rattle.stair_story.specs.Plan.{Over}
 use Rattle.stair_engine.proofs.ReportLaws.{report_calls_none}
 use Rattle.stair_engine.specs.Scripts.{guard_plan, run_plan}
+use Rattle.stair_engine.specs.Serving.{serve_plan}
 use Rattle.stair_monitor.specs.Reports.{report_plan}
 use Rattle.stair_engine.specs.Plans.{create_plan, job_plan, show_plan, stripe_plan, tested_plan, within_limits}
 use Rattle.stair_story.specs.Question.{Limits}
@@ -209,8 +210,8 @@ returns-in-Guard-clause-means g c =
     (subst (λ (s : Status). MeansWhole devices view guard_plan (Over s) old new c.args.rack.now c.run_script-done-in-Guard.new.rack
     c.args.watchers.now.items c.run_script-done-in-Guard.new.watchers.items) (sym is) (c.run_script-done-in-Guard.ensures.means c.args.steps.now))
 
-pub returns-clause-means : goal.returns-clause-means
-returns-clause-means g c =
+pub returns-in-Report-clause-means : goal.returns-in-Report-clause-means
+returns-in-Report-clause-means g c =
     let view = views g.S.Source.left g.S.Source.ended g.S.Source.faults g.K.Sink.held g.K.Sink.faults in
     let rack = rack_view g.R.Rack.is_honest g.R.Rack.history g.R.Rack.bads g.R.Rack.gones in
     let told = watcher_view
@@ -328,3 +329,23 @@ returns-in-Exercise-clause-means g c =
     (status_is _ c.exercise-done.result c.unwrap_or_else-in-Exercise.ensures) _ c.in-Exercise.is c.args.input.now c.args.output.now
     c.exercise-done.new.output c.args.steps.now c.args.rack.now c.exercise-done.new.rack c.args.watchers.now.items c.exercise-done.new.watchers.items
     c.exercise-done.ensures.means
+
+pub returns-clause-means : goal.returns-clause-means
+returns-clause-means g c =
+    let view = views g.S.Source.left g.S.Source.ended g.S.Source.faults g.K.Sink.held g.K.Sink.faults in
+    let rack = rack_view g.R.Rack.is_honest g.R.Rack.history g.R.Rack.bads g.R.Rack.gones in
+    let told = watcher_view
+    (λ b. (goal.Watcher-dyn g (b.vtable, b.value)).told b.value)
+    (λ b. (goal.Watcher-dyn g (b.vtable, b.value)).count b.value)
+    (λ b. (goal.Watcher-dyn g (b.vtable, b.value)).left b.value)
+    (λ b. (goal.Watcher-dyn g (b.vtable, b.value)).patience b.value)
+    in
+    let devices = device_view rack told in
+    let status = c.unwrap_or_else-in-Serve.result in
+    let is : status ≡ status_of c.serve-done.result = status_is _ c.serve-done.result c.unwrap_or_else-in-Serve.ensures in
+    let old = outside c.args.input.now c.args.output.now c.args.steps.now in
+    let new = outside c.serve-done.new.input c.serve-done.new.output c.args.steps.now in
+    subst (λ (of : Job). MeansWhole devices view (job_plan of) (Over status) old new c.args.rack.now c.serve-done.new.rack c.args.watchers.now.items c.serve-done.new.watchers.items)
+    (sym c.in-Serve.is)
+    (subst (λ (s : Status). MeansWhole devices view serve_plan (Over s) old new c.args.rack.now c.serve-done.new.rack
+    c.args.watchers.now.items c.serve-done.new.watchers.items) (sym is) (c.serve-done.ensures.means c.args.steps.now))

@@ -7,6 +7,7 @@ use Rattle.stair_engine.proofs.CompleteLaws.{all_is_complete, all_is_complete_wh
 use Rattle.stair_engine.proofs.CountedLaws.{scrubs_are_counted}
 use Rattle.stair_engine.proofs.HaltLaws.{guards_halt}
 use Rattle.stair_engine.proofs.MendedLaws.{array_is_mended, session_is_mended}
+use Rattle.stair_engine.proofs.ServeLaws.{clients_are_answered}
 use Rattle.stair_engine.proofs.laws.plan_laws.Goals as goal
 
 pub returns : goal.returns
@@ -32,5 +33,6 @@ returns g c =
       replaced = replacement_is_done _ _ _ _;
       scripted = script_is_done _ _ _ _;
       halted = guards_halt _ _ _ _;
+      answered = clients_are_answered _ _ _ _;
       counted = scrubs_are_counted _ _ _ _;
     }

@@ -8,7 +8,7 @@ use Rattle.stair_story.specs.Rack.{rack_view}
 use Rattle.stair_story.specs.declared.fault.Fault.TheVariants.{Output}
 use Rattle.stair_story.specs.declared.intake.Intake.{Intake}
 use Rattle.stair_story.proofs.DeviceLaws.{with_hands_on}
-use Rattle.stair_engine.specs.Blocks.{piece_blocks}
+use Rattle.stair_story.specs.Pieces.{piece_blocks}
 use Rattle.stair_engine.proofs.ReadLaws.{not_refused}
 use Rattle.stair_engine.proofs.TurnLaws.{piece_left, piece_some}
 use Rattle.stair_engine.proofs.WriteLaws.{line_cut, line_put, no_end, none_written, one_written, piece_cut, write_refused}

@@ -4,6 +4,7 @@ use Rattle.stair_story.specs.Run.{history_of}
 use Rattle.stair_story.proofs.AlongLaws.{along_any}
 use Rattle.stair_story.proofs.HeadlineLaws.{calm_story}
 use Rattle.stair_story.proofs.PlannedSureLaws.{none_replaced, planned_sure}
+use Rattle.stair_story.proofs.ServedLaws.{planned_served}
 use Rattle.stair_story.proofs.SureDeviceLaws.{devices_replace}
 use Rattle.stair_story.proofs.SureKeptLaws.{staying_kept}
 use Rattle.stair_story.proofs.SureLaws.{stepless_done}
@@ -26,6 +27,8 @@ returns g c = record {
       none_replaced view streams plan rest g old new first last with none;
   replaceable = λ returning view streams plan rest s slot old new first last watchers left whole once serves device.
       devices_replace returning view streams plan rest s slot old new first last watchers left whole once serves device;
+  served = λ returning view streams plan status s old new first last watchers left whole allowed serves can.
+      planned_served view streams returning plan status s old new first last watchers left whole allowed serves can;
   stepless = λ returning rack streams plan status s before old new first last over honest since stands calm none sure.
       stepless_done returning rack honest before streams plan status s old new first last over since stands calm none sure;
 }

@@ -1,0 +1,142 @@
+-- No request came, or none that can be answered; the client goes; or it was answered.
+use Rattle.std.proofs.Common.{false, ◌≡◌, ◌∙◌, ◌+◌, ◌<◌, ◌≤◌, Some, arith, refl, rules, sym}
+use Rattle.stair_array.specs.Promise.{Opened}
+use Rattle.stair_rack.specs.Watching.{watcher_view}
+use Rattle.stair_story.specs.Devices.{device_view, devices}
+use Rattle.stair_story.specs.Outside.{views}
+use Rattle.stair_story.specs.Rack.{rack_view}
+use Rattle.stair_story.specs.declared.status.Status.TheVariants.{Done}
+use Rattle.stair_nbd.specs.Client.{SESSION_LIMIT, is_disconnect, status_of, status_of_nbd}
+use Rattle.stair_nbd.specs.Wire.{REQUEST_LENGTH, read_request}
+use Rattle.stair_nbd.proofs.OptionLaws.{header_came, header_passed, none_read}
+use Rattle.stair_nbd.proofs.RequestLaws.{answered_none, client_goes, did_fail, ends_late, no_bytes, no_data, no_header, no_reply, no_request, one_answered}
+use Rattle.stair_nbd.proofs.serving.answer_requests.Goals as goal
+
+pub loop-header-init : goal.loop-header-init
+loop-header-init g c =
+    let view =
+    device_view (rack_view g.R.Rack.is_honest g.R.Rack.history g.R.Rack.bads g.R.Rack.gones)
+    (watcher_view
+    (λ b. (goal.Watcher-dyn g (b.vtable, b.value)).told b.value)
+    (λ b. (goal.Watcher-dyn g (b.vtable, b.value)).count b.value)
+    (λ b. (goal.Watcher-dyn g (b.vtable, b.value)).left b.value)
+    (λ b. (goal.Watcher-dyn g (b.vtable, b.value)).patience b.value)) in
+    let streams = views g.S.Source.left g.S.Source.ended g.S.Source.faults g.K.Sink.held g.K.Sink.faults in
+    answered_none view streams c.args.place c.args.rack.now c.args.array.now c.args.watchers.now.items c.args.input.now c.args.output.now
+    c.requires.place c.requires.stay
+
+pub returns-in_err-take_header-clause-means : goal.returns-in_err-take_header-clause-means
+returns-in_err-take_header-clause-means g c =
+    let view =
+    device_view (rack_view g.R.Rack.is_honest g.R.Rack.history g.R.Rack.bads g.R.Rack.gones)
+    (watcher_view
+    (λ b. (goal.Watcher-dyn g (b.vtable, b.value)).told b.value)
+    (λ b. (goal.Watcher-dyn g (b.vtable, b.value)).count b.value)
+    (λ b. (goal.Watcher-dyn g (b.vtable, b.value)).left b.value)
+    (λ b. (goal.Watcher-dyn g (b.vtable, b.value)).patience b.value)) in
+    let streams = views g.S.Source.left g.S.Source.ended g.S.Source.faults g.K.Sink.held g.K.Sink.faults in
+    let early : c.loop-header.place.taken < SESSION_LIMIT = c.is_too_late.ensures.early (search rules) in
+    did_fail view streams _ _ _ _ c.take_header.new.input c.loop-header.output (devices c.loop-header.rack (Opened c.loop-header.array) c.loop-header.watchers.items) c.from_residual.result c.in_err-take_header.field-0.0 c.from_residual.ensures.1
+    (no_header c.loop-header.invariant early c.take_header.new.input (status_of_nbd c.in_err-take_header.field-0.0) c.in_err-take_header.ensures)
+
+pub returns-then-not-branch-clause-means : goal.returns-then-not-branch-clause-means
+returns-then-not-branch-clause-means g c =
+    let streams = views g.S.Source.left g.S.Source.ended g.S.Source.faults g.K.Sink.held g.K.Sink.faults in
+    let early : c.loop-header.place.taken < SESSION_LIMIT = c.is_too_late.ensures.early (search rules) in
+    no_header c.loop-header.invariant early c.take_header.new.input Done
+    (header_passed streams.source REQUEST_LENGTH c.take_header.new.header c.in_ok-take_header.field-0 c.loop-header.input c.take_header.new.input (search rules)
+    c.in_ok-take_header.ensures)
+
+pub returns-in_default-clause-means : goal.returns-in_default-clause-means
+returns-in_default-clause-means g c =
+    let streams = views g.S.Source.left g.S.Source.ended g.S.Source.faults g.K.Sink.held g.K.Sink.faults in
+    let early : c.loop-header.place.taken < SESSION_LIMIT = c.is_too_late.ensures.early (search rules) in
+    let came = header_came streams.source REQUEST_LENGTH c.take_header.new.header c.in_ok-take_header.field-0 c.loop-header.input c.take_header.new.input
+    (search rules) c.in_ok-take_header.ensures in
+    no_request c.loop-header.invariant early c.take_header.new.input c.take_header.new.header came (sym c.read.ensures ∙ none_read c.read.result c.in_default.not-Some)
+
+pub returns-then-is_disconnect-clause-means : goal.returns-then-is_disconnect-clause-means
+returns-then-is_disconnect-clause-means g c =
+    let streams = views g.S.Source.left g.S.Source.ended g.S.Source.faults g.K.Sink.held g.K.Sink.faults in
+    let early : c.loop-header.place.taken < SESSION_LIMIT = c.is_too_late.ensures.early (search rules) in
+    let came = header_came streams.source REQUEST_LENGTH c.take_header.new.header c.in_ok-take_header.field-0 c.loop-header.input c.take_header.new.input
+    (search rules) c.in_ok-take_header.ensures in
+    let asks : read_request c.take_header.new.header ≡ Some c.in-Some.request = sym c.read.ensures ∙ c.in-Some.is in
+    client_goes c.loop-header.invariant early c.take_header.new.input c.take_header.new.header came c.in-Some.request asks (search rules)
+
+pub returns-in_err-take_request_data-clause-means : goal.returns-in_err-take_request_data-clause-means
+returns-in_err-take_request_data-clause-means g c =
+    let view =
+    device_view (rack_view g.R.Rack.is_honest g.R.Rack.history g.R.Rack.bads g.R.Rack.gones)
+    (watcher_view
+    (λ b. (goal.Watcher-dyn g (b.vtable, b.value)).told b.value)
+    (λ b. (goal.Watcher-dyn g (b.vtable, b.value)).count b.value)
+    (λ b. (goal.Watcher-dyn g (b.vtable, b.value)).left b.value)
+    (λ b. (goal.Watcher-dyn g (b.vtable, b.value)).patience b.value)) in
+    let streams = views g.S.Source.left g.S.Source.ended g.S.Source.faults g.K.Sink.held g.K.Sink.faults in
+    let early : c.loop-header.place.taken < SESSION_LIMIT = c.is_too_late.ensures.early (search rules) in
+    let came = header_came streams.source REQUEST_LENGTH c.take_header.new.header c.in_ok-take_header.field-0 c.loop-header.input c.take_header.new.input
+    (search rules) c.in_ok-take_header.ensures in
+    let asks : read_request c.take_header.new.header ≡ Some c.in-Some.request = sym c.read.ensures ∙ c.in-Some.is in
+    let stays : is_disconnect c.in-Some.request.command ≡ false = search rules in
+    did_fail view streams _ _ _ _ c.take_request_data.new.input c.loop-header.output (devices c.loop-header.rack (Opened c.loop-header.array) c.loop-header.watchers.items) c.from_residual-in_err-take_request_data.result c.in_err-take_request_data.field-0.0 c.from_residual-in_err-take_request_data.ensures.1
+    (no_data c.loop-header.invariant early c.take_header.new.input c.take_header.new.header came c.in-Some.request asks stays c.take_request_data.new.input c.array_size-size.result c.in_err-take_request_data.field-0.0 c.take_request_data.new.buffer c.in_err-take_request_data.ensures)
+
+pub returns-in_err-put-clause-means : goal.returns-in_err-put-clause-means
+returns-in_err-put-clause-means g c =
+    let view =
+    device_view (rack_view g.R.Rack.is_honest g.R.Rack.history g.R.Rack.bads g.R.Rack.gones)
+    (watcher_view
+    (λ b. (goal.Watcher-dyn g (b.vtable, b.value)).told b.value)
+    (λ b. (goal.Watcher-dyn g (b.vtable, b.value)).count b.value)
+    (λ b. (goal.Watcher-dyn g (b.vtable, b.value)).left b.value)
+    (λ b. (goal.Watcher-dyn g (b.vtable, b.value)).patience b.value)) in
+    let streams = views g.S.Source.left g.S.Source.ended g.S.Source.faults g.K.Sink.held g.K.Sink.faults in
+    let early : c.loop-header.place.taken < SESSION_LIMIT = c.is_too_late.ensures.early (search rules) in
+    let came = header_came streams.source REQUEST_LENGTH c.take_header.new.header c.in_ok-take_header.field-0 c.loop-header.input c.take_header.new.input
+    (search rules) c.in_ok-take_header.ensures in
+    let asks : read_request c.take_header.new.header ≡ Some c.in-Some.request = sym c.read.ensures ∙ c.in-Some.is in
+    let stays : is_disconnect c.in-Some.request.command ≡ false = search rules in
+    did_fail view streams _ _ _ _ c.take_request_data.new.input c.put.new.output (devices c.respond-reply.new.rack (Opened c.respond-reply.new.array) c.respond-reply.new.watchers.items) c.from_residual-in_err-put.result c.in_err-put.field-0.0 c.from_residual-in_err-put.ensures.1
+    (no_reply c.loop-header.invariant early c.take_header.new.input c.take_header.new.header came c.in-Some.request asks stays c.take_request_data.new.input c.array_size-size.result c.array_size-size.ensures c.take_request_data.new.buffer c.in_ok-take_request_data.ensures
+    (devices c.respond-reply.new.rack (Opened c.respond-reply.new.array) c.respond-reply.new.watchers.items) c.respond-reply.result c.respond-reply.new.buffer c.respond-reply.ensures.comes
+    c.put.new.output (status_of_nbd c.in_err-put.field-0.0) c.bytes.result.now (c.bytes.ensures ∙ c.simple_reply.ensures) c.in_err-put.ensures)
+
+pub returns-in_err-put-2-clause-means : goal.returns-in_err-put-2-clause-means
+returns-in_err-put-2-clause-means g c =
+    let view =
+    device_view (rack_view g.R.Rack.is_honest g.R.Rack.history g.R.Rack.bads g.R.Rack.gones)
+    (watcher_view
+    (λ b. (goal.Watcher-dyn g (b.vtable, b.value)).told b.value)
+    (λ b. (goal.Watcher-dyn g (b.vtable, b.value)).count b.value)
+    (λ b. (goal.Watcher-dyn g (b.vtable, b.value)).left b.value)
+    (λ b. (goal.Watcher-dyn g (b.vtable, b.value)).patience b.value)) in
+    let streams = views g.S.Source.left g.S.Source.ended g.S.Source.faults g.K.Sink.held g.K.Sink.faults in
+    let early : c.loop-header.place.taken < SESSION_LIMIT = c.is_too_late.ensures.early (search rules) in
+    let came = header_came streams.source REQUEST_LENGTH c.take_header.new.header c.in_ok-take_header.field-0 c.loop-header.input c.take_header.new.input
+    (search rules) c.in_ok-take_header.ensures in
+    let asks : read_request c.take_header.new.header ≡ Some c.in-Some.request = sym c.read.ensures ∙ c.in-Some.is in
+    let stays : is_disconnect c.in-Some.request.command ≡ false = search rules in
+    did_fail view streams _ _ _ _ c.take_request_data.new.input c.put-in-loop-header.new.output (devices c.respond-reply.new.rack (Opened c.respond-reply.new.array) c.respond-reply.new.watchers.items) c.from_residual-in_err-put-2.result c.in_err-put-2.field-0.0 c.from_residual-in_err-put-2.ensures.1
+    (no_bytes c.loop-header.invariant early c.take_header.new.input c.take_header.new.header came c.in-Some.request asks stays c.take_request_data.new.input c.array_size-size.result c.array_size-size.ensures c.take_request_data.new.buffer c.in_ok-take_request_data.ensures
+    (devices c.respond-reply.new.rack (Opened c.respond-reply.new.array) c.respond-reply.new.watchers.items) c.respond-reply.result c.respond-reply.new.buffer c.respond-reply.ensures.comes
+    c.put.new.output c.bytes.result.now (c.bytes.ensures ∙ c.simple_reply.ensures) c.in_ok-put.ensures c.put-in-loop-header.new.output (status_of_nbd c.in_err-put-2.field-0.0) c.data.result.now c.data.ensures c.in_err-put-2.ensures)
+
+pub loop-header-preserved : goal.loop-header-preserved
+loop-header-preserved g c =
+    let streams = views g.S.Source.left g.S.Source.ended g.S.Source.faults g.K.Sink.held g.K.Sink.faults in
+    let early : c.loop-header.place.taken < SESSION_LIMIT = c.is_too_late.ensures.early (search rules) in
+    let came = header_came streams.source REQUEST_LENGTH c.take_header.new.header c.in_ok-take_header.field-0 c.loop-header.input c.take_header.new.input
+    (search rules) c.in_ok-take_header.ensures in
+    let asks : read_request c.take_header.new.header ≡ Some c.in-Some.request = sym c.read.ensures ∙ c.in-Some.is in
+    let stays : is_disconnect c.in-Some.request.command ≡ false = search rules in
+    one_answered c.loop-header.invariant early c.take_header.new.input c.take_header.new.header came c.in-Some.request asks stays c.take_request_data.new.input c.array_size-size.result c.array_size-size.ensures c.take_request_data.new.buffer c.in_ok-take_request_data.ensures
+    (devices c.respond-reply.new.rack (Opened c.respond-reply.new.array) c.respond-reply.new.watchers.items) c.respond-reply.result c.respond-reply.new.buffer c.respond-reply.ensures.comes
+    c.put.new.output c.bytes.result.now (c.bytes.ensures ∙ c.simple_reply.ensures) c.in_ok-put.ensures c.put-in-loop-header.new.output c.data.result.now c.data.ensures c.in_ok-put-2.ensures
+    c.behind-place.result c.respond-reply.new.rack c.respond-reply.new.array c.respond-reply.new.watchers.items refl c.behind-place.ensures.number
+    (omega (arith, c.behind-place.ensures.taken, c.from.ensures, c.data_length.ensures)) c.behind-place.ensures.is c.respond-reply.ensures.geometry
+    c.respond-reply.ensures.stay
+
+pub returns-clause-means : goal.returns-clause-means
+returns-clause-means g c =
+    ends_late c.loop-header.invariant (c.is_too_late.ensures.late (search rules)) c.take_end.new.input (status_of c.take_end.result) c.take_end.ensures

@@ -1,0 +1,228 @@
+-- What is done for a client: its messages are taken and answered, one after the other.
+use Rattle.std.specs.Prelude.{◌==◌, ◌||◌, ◌&&◌, ◌+◌, ◌-◌, ◌*◌, ◌/◌, ◌%◌, ℕ, zero, suc, Bool, true, false, nat_le, nat_lt, List, [], ◌∷◌, ◌++◌, length, take, drop, Option, None, Some, Result, Ok, Err}
+use Rattle.stair_model.specs.Geometry.{Geometry, block_count}
+use Rattle.stair_model.specs.Stripe.{SECTOR}
+use Rattle.stair_array.specs.Arrays.{blocks_of}
+use Rattle.stair_array.specs.Machine.{GivenBy, ReadBlock, Refusal, Step, WriteBlocks}
+use Rattle.stair_story.specs.Pieces.{piece_blocks}
+use Rattle.stair_story.specs.Plan.{Plan, Over, Put, Try, if_so, take_exactly}
+use Rattle.stair_story.specs.declared.status.Status.{Status}
+use Rattle.stair_story.specs.declared.status.Status.TheVariants.{BadMessage, Done, Input, InputFault, OutputFault}
+use Rattle.stair_nbd.specs.declared.fault.NbdFault.{NbdFault}
+use Rattle.stair_nbd.specs.declared.fault.NbdFault.TheVariants as fault
+use Rattle.stair_nbd.specs.declared.wire.Command.{Command}
+use Rattle.stair_nbd.specs.declared.wire.Command.TheVariants as command
+use Rattle.stair_nbd.specs.declared.wire.OptionRequest.{OptionRequest}
+use Rattle.stair_nbd.specs.declared.wire.ReplyError.{ReplyError}
+use Rattle.stair_nbd.specs.declared.wire.ReplyError.TheVariants as error
+use Rattle.stair_nbd.specs.declared.wire.Request.{Request}
+use Rattle.stair_nbd.specs.Wire.{ABORT, ACK, ERR_UNSUP, EXPORT_NAME, FLAGS_LENGTH, OPTION_LENGTH, REQUEST_LENGTH, are_flags, data_length, export_answer, greeting, is_brief, option_reply, read_option, read_request, simple_reply}
+
+-- the array, in bytes
+abbrev pub size_of : Geometry → ℕ
+size_of g = SECTOR * block_count g
+
+-- TAKING
+
+-- Where the input ends within a header: before its first byte there is no message, and all is done.
+abbrev pub ends_in_header : (needed : ℕ) → List ℕ → Plan
+ends_in_header needed [] = Over Done
+ends_in_header needed (byte ∷ bytes) = Over (Input needed (length (byte ∷ bytes)))
+
+-- a header of so many bytes, which is taken whole
+abbrev pub takes_header : (needed : ℕ) → (List ℕ → Plan) → Plan
+takes_header needed k = take_exactly needed k (ends_in_header needed)
+
+-- the bytes of a message behind its header of so many, of which there may be none
+abbrev pub takes_data : (header length : ℕ) → (List ℕ → Plan) → Plan
+takes_data header zero k = k []
+takes_data header (suc n) k = take_exactly (suc n) k
+    (λ bytes. Over (Input (header + suc n) (header + length bytes)))
+
+-- a message begins before so many bytes were taken
+abbrev pub SESSION_LIMIT : ℕ
+SESSION_LIMIT = 1099511627776
+
+-- no message may begin any more, but the end may come
+abbrev pub too_late : (number : ℕ) → Plan
+too_late number = take_exactly 1 (λ byte. Over (BadMessage number)) (λ none. Over Done)
+
+-- STEPS FOR A REQUEST
+
+-- how it goes on by what a step answered: a refusal, whatever it is, comes to one thing
+abbrev pub if_answered : {X : Type 0} → (refused : Plan) → (X → Plan) → Result X Refusal → Plan
+if_answered refused k (Ok x) = k x
+if_answered refused k (Err refusal) = refused
+
+abbrev pub tries : (step : Step) → (refused : Plan) → (GivenBy step → Plan) → Plan
+tries step refused k = Try step (λ answer left. if_answered refused k answer)
+
+-- so many blocks are read, from this one on, behind bytes that were read
+abbrev pub reads_on : (block count : ℕ) → List ℕ → (refused : Plan) → (List ℕ → Plan) → Plan
+reads_on block zero so_far refused k = k so_far
+reads_on block (suc count) so_far refused k = tries (ReadBlock block) refused
+    (λ bytes. reads_on (block + 1) count (so_far ++ bytes) refused k)
+
+-- So many blocks of these bytes are written, from this one on: by each step up to the end of a stripe. There are no more turns than
+-- blocks.
+abbrev pub writes_on : Geometry → (turns block left : ℕ) → List ℕ → (refused done : Plan) → Plan
+writes_on g zero block left bytes refused done = done
+writes_on g (suc turns) block left bytes refused done = if_so (left == 0) done
+    (let count = piece_blocks g block left in
+    tries (WriteBlocks block (blocks_of (take (SECTOR * count) bytes))) refused
+    (λ ok. writes_on g turns (block + count) (left - count) (drop (SECTOR * count) bytes)
+    refused done))
+
+-- WHERE THE BYTES OF A REQUEST LIE
+
+-- the first block, how many bytes of it come before them, and how many blocks they touch
+abbrev pub first_block : Request → ℕ
+first_block q = q.offset / SECTOR
+
+abbrev pub skipped : Request → ℕ
+skipped q = q.offset % SECTOR
+
+abbrev pub touched : (skipped length : ℕ) → ℕ
+touched skipped zero = 0
+touched skipped (suc n) = (skipped + n) / SECTOR + 1
+
+-- the block in which they end, and how many bytes of it they end behind; none where they end with the block before
+abbrev pub end_block : Request → ℕ
+end_block q = (q.offset + q.length) / SECTOR
+
+abbrev pub end_within : Request → ℕ
+end_within q = (q.offset + q.length) % SECTOR
+
+-- A request has at most so many bytes of data,
+abbrev pub DATA_LIMIT : ℕ
+DATA_LIMIT = 33554432
+
+abbrev pub is_too_long : Request → Bool
+is_too_long q = nat_lt DATA_LIMIT q.length
+
+-- and ends within an array of so many bytes.
+abbrev pub is_past : (size : ℕ) → Request → Bool
+is_past size q = nat_lt size (q.offset + q.length)
+
+-- READING
+
+-- what comes of a request: an error, or none, and the bytes behind the reply's header
+abbrev pub Comes : Type 0
+Comes = ReplyError → List ℕ → Plan
+
+abbrev pub reads_for : Geometry → Request → Comes → Plan
+reads_for g q k = if_so (is_too_long q || is_past (size_of g) q) (k error.Invalid [])
+    (reads_on (first_block q) (touched (skipped q) q.length) [] (k error.Io [])
+    (λ bytes. k error.None (take q.length (drop (skipped q) bytes))))
+
+-- WRITING
+
+-- The first block is read where it is touched in part from some byte on,
+abbrev pub reads_front : Request → (refused : Plan) → (List ℕ → Plan) → Plan
+reads_front q refused k =
+    if_so (skipped q == 0) (k []) (tries (ReadBlock (first_block q)) refused k)
+
+-- and the last one where it is up to some byte, unless it is the first and was read.
+abbrev pub was_read : Request → Bool
+was_read q = nat_lt 0 (skipped q) && (end_block q == first_block q)
+
+abbrev pub reads_back : Request → (front : List ℕ) → (refused : Plan) → (List ℕ → Plan) → Plan
+reads_back q front refused k = if_so (end_within q == 0) (k [])
+    (if_so (was_read q) (k front) (tries (ReadBlock (end_block q)) refused k))
+
+-- what these blocks held stays around the bytes
+abbrev pub around : Request → (front bytes back : List ℕ) → List ℕ
+around q front bytes back =
+    take (skipped q) front ++ (bytes ++ drop (end_within q) back)
+
+abbrev pub writes_blocks : Geometry → Request → List ℕ → (refused done : Plan) → Plan
+writes_blocks g q bytes refused done = reads_front q refused
+    (λ front. reads_back q front refused
+    (λ back. writes_on g (touched (skipped q) q.length) (first_block q)
+    (touched (skipped q) q.length) (around q front bytes back) refused done))
+
+abbrev pub writes_for : Geometry → Request → List ℕ → Comes → Plan
+writes_for g q bytes k = if_so (is_too_long q) (k error.Invalid [])
+    (if_so (is_past (size_of g) q) (k error.NoSpace [])
+    (if_so (q.length == 0) (k error.None [])
+    (writes_blocks g q bytes (k error.Io []) (k error.None []))))
+
+-- REQUESTS
+
+-- What is done for a request, behind which these bytes came. What was written stands already, so there is nothing to flush.
+abbrev pub responds : Geometry → Request → List ℕ → Comes → Command → Plan
+responds g q bytes k command.Read = reads_for g q k
+responds g q bytes k command.Write = writes_for g q bytes k
+responds g q bytes k command.Disconnect = k error.None []
+responds g q bytes k command.Flush = k error.None []
+responds g q bytes k command.Other = k error.Invalid []
+
+-- its reply
+abbrev pub replies : Request → (rest : Plan) → Comes
+replies q rest why bytes = Put (simple_reply why q.cookie) (Put bytes rest)
+
+abbrev pub answers : Geometry → Request → (rest : Plan) → Plan
+answers g q rest = takes_data REQUEST_LENGTH (data_length q)
+    (λ bytes. responds g q bytes (replies q rest) q.command)
+
+abbrev pub is_disconnect : Command → Bool
+is_disconnect command.Disconnect = true
+is_disconnect _ = false
+
+-- how a session goes on with a message of this number; the rest takes what it asks for
+abbrev pub if_message : {M : Type 0} → (number : ℕ) → (M → Plan) → Option M → Plan
+if_message number k None = Over (BadMessage number)
+if_message number k (Some message) = k message
+
+-- What is left of a session behind so many bytes, of which the next message has this number. Each has some bytes, so turns as many
+-- as the limit are enough.
+abbrev pub requests : Geometry → (turns number taken : ℕ) → Plan
+requests g zero number taken = too_late number
+requests g (suc turns) number taken = if_so (nat_le SESSION_LIMIT taken) (too_late number)
+    (takes_header REQUEST_LENGTH (λ header. if_message number
+    (λ q. if_so (is_disconnect q.command) (Over Done)
+    (answers g q (requests g turns (number + 1) (taken + REQUEST_LENGTH + data_length q))))
+    (read_request header)))
+
+-- OPTIONS
+
+-- an option that was taken whole; where it names the export, the rest is requests
+abbrev pub answers_option : OptionRequest → (export : List ℕ) → (requests more : Plan) → Plan
+answers_option o export requests more = if_so (o.option == EXPORT_NAME) (Put export requests)
+    (if_so (o.option == ABORT) (Put (option_reply ABORT ACK) (Over Done))
+    (Put (option_reply o.option ERR_UNSUP) more))
+
+abbrev pub options : (export : List ℕ) → (requests : (number taken : ℕ) → Plan)
+    → (turns number taken : ℕ) → Plan
+options export requests zero number taken = too_late number
+options export requests (suc turns) number taken =
+    if_so (nat_le SESSION_LIMIT taken) (too_late number)
+    (takes_header OPTION_LENGTH (λ header. if_message number
+    (λ o. takes_data OPTION_LENGTH o.length
+    (λ bytes. answers_option o export
+    (requests (number + 1) (taken + OPTION_LENGTH + o.length))
+    (options export requests turns (number + 1) (taken + OPTION_LENGTH + o.length))))
+    (read_option header)))
+
+-- THE SESSION
+
+-- the client's flags are its first message
+abbrev pub shakes_hands : (size : ℕ) → (requests : (number taken : ℕ) → Plan) → Plan
+shakes_hands size requests = Put greeting (takes_header FLAGS_LENGTH (λ flags.
+    if_so (are_flags flags)
+    (options (export_answer size (is_brief flags)) requests SESSION_LIMIT 2 FLAGS_LENGTH)
+    (Over (BadMessage 1))))
+
+abbrev pub client_plan : Geometry → Plan
+client_plan g = shakes_hands (size_of g) (requests g SESSION_LIMIT)
+
+-- the status of a session that was brought to an end, or came to it
+abbrev pub status_of_nbd : NbdFault → Status
+status_of_nbd (fault.Input needed took) = Input needed took
+status_of_nbd fault.InputFault = InputFault
+status_of_nbd fault.OutputFault = OutputFault
+status_of_nbd (fault.BadMessage number) = BadMessage number
+
+abbrev pub status_of : Result (Unit {0}) NbdFault → Status
+status_of (Ok done) = Done
+status_of (Err why) = status_of_nbd why

@@ -1,0 +1,30 @@
+use stair_story::Status;
+
+/// Why a session was brought to an end by something other than its client's word or the end of its input before a message.
+#[derive(Clone, Copy, Debug, PartialEq, Eq)]
+pub enum NbdFault {
+    /// The input ended within a message, or within its header: that has `needed` bytes, of which `took` came.
+    Input { needed: u64, took: u64 },
+    /// The source failed.
+    InputFault,
+    /// The sink failed, and a part of a reply may have been put out.
+    OutputFault,
+    /// This message, counted from 1, isn't one of the protocol, or came too late.
+    BadMessage(u64),
+}
+
+impl From<NbdFault> for Status {
+    ghost use Rattle.std.specs.Prelude.{◌≡◌};
+    ghost use Rattle.stair_nbd.specs.Client.{status_of_nbd};
+
+    ghost from_gives = { λ fault status. status ≡ status_of_nbd fault };
+
+    fn from(fault: NbdFault) -> Status {
+        match fault {
+            NbdFault::Input { needed, took } => Status::Input { needed, took },
+            NbdFault::InputFault => Status::InputFault,
+            NbdFault::OutputFault => Status::OutputFault,
+            NbdFault::BadMessage(number) => Status::BadMessage(number),
+        }
+    }
+}

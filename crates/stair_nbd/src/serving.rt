@@ -1,0 +1,175 @@
+// A session: a client's flags, options, and requests.
+ghost use Rattle.std.specs.Prelude.{◌≡◌, ℕ, IfOk, IfSome, length};
+ghost use Rattle.stair_array.specs.Promise.{Opened as IsOpen};
+ghost use Rattle.stair_rack.specs.Watching.{watcher_view};
+ghost use Rattle.stair_story.specs.Devices.{MeansWith, device_view, devices};
+ghost use Rattle.stair_story.specs.Outside.{outside, views};
+ghost use Rattle.stair_story.specs.Plan.{Over, Plan};
+ghost use Rattle.stair_story.specs.Rack.{rack_view};
+ghost use Rattle.stair_story.specs.Talks.{TalksTo};
+ghost use Rattle.stair_watch.specs.WatcherList.{AllStay};
+ghost use Rattle.stair_nbd.specs.Client.{SESSION_LIMIT as LIMIT, client_plan, options, requests, shakes_hands, size_of, status_of};
+ghost use Rattle.stair_nbd.specs.Sessions.{BUFFER as ROOM, IsPlace, after_options};
+
+use crate::blocks::{array_size, respond};
+use crate::fault::NbdFault;
+use crate::place::Place;
+use crate::taking::{put, take_data, take_end, take_header, take_request_data};
+use crate::wire::{
+    ABORT, ACK, ERR_UNSUP, EXPORT_NAME, FLAGS_LENGTH, OPTION_LENGTH, OptionRequest, REQUEST_LENGTH,
+    Request, export_answer, greeting, option_reply, read_flags, simple_reply,
+};
+use stair_base::{SECTOR, StripeCode};
+use stair_rack::{Rack, Sink, Source, Watcher};
+use stair_story::Opened;
+
+/// How many bytes the buffer of a session has: the blocks that the most bytes of a request touch, which are one more than they fill.
+pub const BUFFER: usize = 65_537 * SECTOR;
+
+/// Serves one client of an open array, from the greeting on up to the end of its input or its word that it goes.
+///
+/// Each reply is put out before more is taken. READ reads all blocks that it touches before its reply is begun. WRITE writes the
+/// blocks of a stripe as one step; what its first and its last block hold beside its bytes is read before. A reply's error is EIO
+/// where a step was refused, for whatever reason, or the array was stopped by one before: the blocks that were written by then stand.
+/// A reply comes when all of a WRITE stands, so FLUSH has nothing to do.
+///
+/// The buffer has [`BUFFER`] bytes; no memory is taken beside it.
+pub fn session<C: StripeCode, R: Rack, S: Source, K: Sink>(
+    array: &mut Opened<C>,
+    rack: &mut R,
+    buffer: &mut [u8],
+    input: &mut S,
+    output: &mut K,
+    watchers: &mut Vec<Box<dyn Watcher>>,
+) -> Result<(), NbdFault>
+    requires room { length buffer.old ≡ ROOM }
+    requires stay { AllStay (watcher_view told count (λ w. (Watcher-box w).left w.value) patience) watchers.old.items }
+    ensures means { (counter : ℕ) → MeansWith
+        (device_view (rack_view R.is_honest R.history R.bads R.gones) (watcher_view told count (λ w. (Watcher-box w).left w.value) patience))
+        (views S.left S.ended S.faults K.held K.faults)
+        (client_plan array.old.member.array.geometry) (Over (status_of result))
+        (outside input.old output.old counter) (outside input.new output.new counter)
+        (devices rack.old (IsOpen array.old) watchers.old.items)
+        (devices rack.new (IsOpen array.new) watchers.new.items) }
+    ensures stay { AllStay (watcher_view told count (λ w. (Watcher-box w).left w.value) patience) watchers.new.items }
+{
+    let size = array_size(array);
+    match shake_hands(size, buffer, input, output)? {
+        Some(place) => answer_requests(place, array, rack, buffer, input, output, watchers),
+        None => Ok(()),
+    }
+}
+
+// The handshake, up to the option that names the export, behind which comes the first request; none comes where the client or the
+// input ended before.
+fn shake_hands<S: Source, K: Sink>(
+    size: u64,
+    buffer: &mut [u8],
+    input: &mut S,
+    output: &mut K,
+) -> Result<Option<Place>, NbdFault>
+    requires room { length buffer.old ≡ ROOM }
+    ensures talks { (rest : (number taken : ℕ) → Plan) → TalksTo
+        (views S.left S.ended S.faults K.held K.faults)
+        (shakes_hands size rest) (after_options result rest)
+        input.old input.new output.old output.new }
+    ensures place { IfOk result (λ place. IfSome place IsPlace) }
+{
+    put(output, greeting().bytes())?;
+    let mut flags = [0; FLAGS_LENGTH];
+    if !take_header(input, &mut flags)? {
+        return Ok(None);
+    }
+    let Some(brief) = read_flags(&flags) else {
+        return Err(NbdFault::BadMessage(1));
+    };
+    let export = export_answer(size, brief);
+    answer_options(export.bytes(), buffer, input, output)
+}
+
+// Answers options up to the one that names the export.
+fn answer_options<S: Source, K: Sink>(
+    export: &[u8],
+    buffer: &mut [u8],
+    input: &mut S,
+    output: &mut K,
+) -> Result<Option<Place>, NbdFault>
+    requires room { length buffer.old ≡ ROOM }
+    ensures talks { (rest : (number taken : ℕ) → Plan) → TalksTo
+        (views S.left S.ended S.faults K.held K.faults)
+        (options export.now rest LIMIT 2 4) (after_options result rest)
+        input.old input.new output.old output.new }
+    ensures place { IfOk result (λ place. IfSome place IsPlace) }
+{
+    let mut place = Place {
+        number: 2,
+        taken: FLAGS_LENGTH as u64,
+    };
+    while !place.is_too_late() {
+        let mut header = [0; OPTION_LENGTH];
+        if !take_header(input, &mut header)? {
+            return Ok(None);
+        }
+        let Some(OptionRequest { option, length }) = OptionRequest::read(&header) else {
+            return Err(NbdFault::BadMessage(place.number));
+        };
+        let length = length as usize;
+        take_data(input, OPTION_LENGTH, &mut buffer[..length])?;
+        let next = place.behind((OPTION_LENGTH + length) as u64);
+        if option == EXPORT_NAME {
+            put(output, export)?;
+            return Ok(Some(next));
+        }
+        if option == ABORT {
+            put(output, option_reply(ABORT, ACK).bytes())?;
+            return Ok(None);
+        }
+        put(output, option_reply(option, ERR_UNSUP).bytes())?;
+        place = next;
+    }
+    take_end(input, place)?;
+    Ok(None)
+}
+
+// Answers requests up to the client's word that it goes, or the end of the input before one.
+fn answer_requests<C: StripeCode, R: Rack, S: Source, K: Sink>(
+    mut place: Place,
+    array: &mut Opened<C>,
+    rack: &mut R,
+    buffer: &mut [u8],
+    input: &mut S,
+    output: &mut K,
+    watchers: &mut Vec<Box<dyn Watcher>>,
+) -> Result<(), NbdFault>
+    requires place { IsPlace place }
+    requires room { length buffer.old ≡ ROOM }
+    requires stay { AllStay (watcher_view told count (λ w. (Watcher-box w).left w.value) patience) watchers.old.items }
+    ensures means { (counter : ℕ) → MeansWith
+        (device_view (rack_view R.is_honest R.history R.bads R.gones) (watcher_view told count (λ w. (Watcher-box w).left w.value) patience))
+        (views S.left S.ended S.faults K.held K.faults)
+        (requests array.old.member.array.geometry LIMIT place.number place.taken) (Over (status_of result))
+        (outside input.old output.old counter) (outside input.new output.new counter)
+        (devices rack.old (IsOpen array.old) watchers.old.items)
+        (devices rack.new (IsOpen array.new) watchers.new.items) }
+    ensures stay { AllStay (watcher_view told count (λ w. (Watcher-box w).left w.value) patience) watchers.new.items }
+{
+    let size = array_size(array);
+    while !place.is_too_late() {
+        let mut header = [0; REQUEST_LENGTH];
+        if !take_header(input, &mut header)? {
+            return Ok(());
+        }
+        let Some(request) = Request::read(&header) else {
+            return Err(NbdFault::BadMessage(place.number));
+        };
+        if request.is_disconnect() {
+            return Ok(());
+        }
+        take_request_data(input, &request, size, buffer)?;
+        let reply = respond(&request, array, rack, buffer, watchers);
+        put(output, simple_reply(reply.error, request.cookie).bytes())?;
+        put(output, reply.data(buffer))?;
+        place = place.behind(REQUEST_LENGTH as u64 + u64::from(request.data_length()));
+    }
+    take_end(input, place)
+}

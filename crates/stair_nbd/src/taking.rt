@@ -1,0 +1,140 @@
+// What is taken of a client's messages, and what is put out to it.
+ghost use Rattle.std.specs.Prelude.{◌≡◌, ◌+◌, ◌*◌, ◌≤◌, ◌<◌, ℕ, List, IfErr, IfOk, length};
+ghost use Rattle.stair_story.specs.Outside.{sink_view, source_view};
+ghost use Rattle.stair_story.specs.Plan.{Over, Plan, Put};
+ghost use Rattle.stair_story.specs.Talks.{PutsTo, TakesTo};
+ghost use Rattle.stair_nbd.specs.Client.{status_of, takes_data, takes_header, too_late as comes_too_late};
+ghost use Rattle.stair_nbd.specs.Sessions.{BUFFER, TakesData, after_data, after_done, after_header};
+
+use crate::fault::NbdFault;
+use crate::place::Place;
+use crate::wire::{REQUEST_LENGTH, Request};
+use stair_rack::{Sink, Source};
+use stair_story::{Filled, put_all, take_at_least};
+
+/// A request has so many bytes of data at most.
+pub(crate) const DATA_LIMIT: u32 = 1 << 25;
+
+/// Takes a header whole. It tells whether there was one: the input may end before it.
+pub(crate) fn take_header<S: Source>(input: &mut S, header: &mut [u8]) -> Result<bool, NbdFault>
+    requires { 0 < length header.old }
+    ensures { (k : List ℕ → Plan) → TakesTo (source_view S.left S.ended S.faults)
+        (takes_header (length header.old) k) (after_header result header.new k)
+        input.old input.new }
+{
+    let needed = header.len();
+    match take_at_least(input, needed, header) {
+        Filled::Enough(_) => Ok(true),
+        Filled::Short(0) => Ok(false),
+        Filled::Short(count) => Err(NbdFault::Input {
+            needed: needed as u64,
+            took: count as u64,
+        }),
+        Filled::Failed => Err(NbdFault::InputFault),
+    }
+}
+
+/// Takes the bytes behind a header of so many.
+pub(crate) fn take_data<S: Source>(
+    input: &mut S,
+    header: usize,
+    into: &mut [u8],
+) -> Result<(), NbdFault>
+    requires short { header ≤ 28 }
+    requires fits { length into.old < 4294967296 }
+    ensures { (k : List ℕ → Plan) → TakesTo (source_view S.left S.ended S.faults)
+        (takes_data header (length into.old) k) (after_data result into.new k)
+        input.old input.new }
+{
+    if into.is_empty() {
+        return Ok(());
+    }
+    let needed = into.len();
+    match take_at_least(input, needed, into) {
+        Filled::Enough(_) => Ok(()),
+        Filled::Short(count) => Err(NbdFault::Input {
+            needed: (header + needed) as u64,
+            took: (header + count) as u64,
+        }),
+        Filled::Failed => Err(NbdFault::InputFault),
+    }
+}
+
+/// Takes the bytes behind a header of so many, and drops them.
+pub(crate) fn drop_data<S: Source>(
+    input: &mut S,
+    header: usize,
+    count: u32,
+    buffer: &mut [u8],
+) -> Result<(), NbdFault>
+    requires short { header ≤ 28 }
+    requires room { length buffer.old ≡ BUFFER }
+    ensures { (bytes : List ℕ) × ((k : List ℕ → Plan) →
+        TakesTo (source_view S.left S.ended S.faults)
+        (takes_data header count k) (after_data result bytes k)
+        input.old input.new) }
+{
+    let needed = count as usize;
+    let mut dropped = 0;
+    while dropped < needed {
+        let most = buffer.len().min(needed - dropped);
+        match take_at_least(input, most, &mut buffer[..most]) {
+            Filled::Enough(more) => dropped += more,
+            Filled::Short(more) => {
+                return Err(NbdFault::Input {
+                    needed: (header + needed) as u64,
+                    took: (header + dropped + more) as u64,
+                });
+            }
+            Filled::Failed => return Err(NbdFault::InputFault),
+        }
+    }
+    Ok(())
+}
+
+/// Takes the bytes behind the header of a request. Those that are to be written are then in the buffer, behind as many as the first
+/// of their blocks has before them.
+pub(crate) fn take_request_data<S: Source>(
+    input: &mut S,
+    request: &Request,
+    size: u64,
+    buffer: &mut [u8],
+) -> Result<(), NbdFault>
+    requires { length buffer.old ≡ BUFFER }
+    ensures { TakesData (source_view S.left S.ended S.faults) size request.now result buffer.new
+        input.old input.new }
+{
+    let length = request.data_length();
+    if request.is_too_long() || request.is_past(size) {
+        return drop_data(input, REQUEST_LENGTH, length, buffer);
+    }
+    let start = request.skipped();
+    take_data(
+        input,
+        REQUEST_LENGTH,
+        &mut buffer[start..start + length as usize],
+    )
+}
+
+/// Looks for the end of the input where no message may begin any more.
+pub(crate) fn take_end<S: Source>(input: &mut S, place: Place) -> Result<(), NbdFault>
+    ensures { TakesTo (source_view S.left S.ended S.faults)
+        (comes_too_late place.number) (Over (status_of result)) input.old input.new }
+{
+    match take_at_least(input, 1, &mut [0]) {
+        Filled::Enough(_) => Err(NbdFault::BadMessage(place.number)),
+        Filled::Short(_) => Ok(()),
+        Filled::Failed => Err(NbdFault::InputFault),
+    }
+}
+
+/// Puts the bytes out.
+pub(crate) fn put<K: Sink>(output: &mut K, bytes: &[u8]) -> Result<(), NbdFault>
+    ensures { (rest : Plan) → PutsTo (sink_view K.held K.faults)
+        (Put bytes.now rest) (after_done result rest) output.old output.new }
+{
+    match put_all(output, bytes) {
+        Ok(()) => Ok(()),
+        Err(_) => Err(NbdFault::OutputFault),
+    }
+}
