@@ -3,13 +3,15 @@
 # word is completed.
 _stair() {
   local word=${COMP_WORDS[COMP_CWORD]} before=${COMP_WORDS[COMP_CWORD - 1]} offered
+  local commands='check stripe restore create show read write scrub replace rebuild freeze thaw label run exercise guard report serve'
+  commands+=' vinit vmake vdrop vlist vread vwrite plan'
   COMPREPLY=()
   if [[ $before == *[\<\>] ]]; then
     offered=(-f)
   elif [ "$COMP_CWORD" = 1 ]; then
     offered=(-d)
   elif [ "$COMP_CWORD" = 2 ]; then
-    offered=(-W 'check stripe restore create show read write scrub replace rebuild freeze thaw label run exercise guard report serve')
+    offered=(-W "$commands")
   elif [ "$COMP_CWORD:$before" = 3:stripe ]; then
     offered=(-W 'standard up down fewest')
   else

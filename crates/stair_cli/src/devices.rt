@@ -22,8 +22,9 @@ pub(crate) fn access_of(job: &Job) -> Access {
         | Job::Run
         | Job::Exercise { .. }
         | Job::Guard { .. }
-        | Job::Serve => Access::Writing,
-        Job::Show | Job::OneStripe { .. } | Job::Report => Access::Reading,
+        | Job::Serve
+        | Job::Volume(_) => Access::Writing,
+        Job::Show | Job::OneStripe { .. } | Job::Report | Job::Plan { .. } => Access::Reading,
     }
 }
 
@@ -52,7 +53,9 @@ pub(crate) fn measure_of(job: &Job) -> Measure {
         | Job::Exercise { .. }
         | Job::Guard { .. }
         | Job::Report
-        | Job::Serve => Measure::Sectors,
+        | Job::Serve
+        | Job::Volume(_)
+        | Job::Plan { .. } => Measure::Sectors,
     }
 }
 

@@ -23,7 +23,7 @@ pub enum Encoder {
 }
 
 /// The encoder with the fewest of these steps, and of several with them the first of upstairs, downstairs and standard.
-pub(crate) fn fewest(standard: u64, upstairs: u64, downstairs: u64) -> Encoder
+pub fn fewest(standard: u64, upstairs: u64, downstairs: u64) -> Encoder
     ensures { IsLeast standard upstairs downstairs result }
 {
     if upstairs <= downstairs && upstairs <= standard {

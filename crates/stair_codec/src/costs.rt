@@ -4,7 +4,7 @@ ghost use Rattle.stair_model.specs.Costs.{downstairs_cost, upstairs_cost};
 use stair_base::Geometry;
 
 /// The steps of upstairs encoding: (n-m)(m·r+s) for the parities, and r(n-m)·e_max for virtual symbols.
-pub(crate) fn upstairs_steps(geometry: &Geometry) -> u64
+pub fn upstairs_steps(geometry: &Geometry) -> u64
     ensures { result ≡ upstairs_cost geometry.now }
 {
     let data_chunks = u64::from(geometry.n() - geometry.m());
@@ -14,7 +14,7 @@ pub(crate) fn upstairs_steps(geometry: &Geometry) -> u64
 }
 
 /// The steps of downstairs encoding: (n-m)(m+m')·r for the rows, and r·s for the intermediate chunks.
-pub(crate) fn downstairs_steps(geometry: &Geometry) -> u64
+pub fn downstairs_steps(geometry: &Geometry) -> u64
     ensures { result ≡ downstairs_cost geometry.now }
 {
     let data_chunks = u64::from(geometry.n() - geometry.m());

@@ -3,8 +3,9 @@
 //! [`Codec::new`] alone takes memory.
 #![tactic(auto)]
 
-pub use choice::{By, Encoder};
+pub use choice::{By, Encoder, fewest};
 pub use codec::Codec;
+pub use costs::{downstairs_steps, upstairs_steps};
 
 mod choice;
 mod codec;

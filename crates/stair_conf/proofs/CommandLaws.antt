@@ -28,24 +28,24 @@ use Rattle.stair_conf.proofs.WalkLaws.{IsPlainWalk, all_placed, all_placed-last,
 -- ---- a command of positionals alone
 
 -- the walk before the first word
-abbrev start : Walk
+abbrev pub start : Walk
 start = walk_from nothing_held
 
-start_plain : IsPlainWalk start
+pub start_plain : IsPlainWalk start
 start_plain = record { going_on = refl; not_trailing = refl; no_option = tt }
 
-rows_after-placed : (c : List Rule) → has_no_tail c ≡ true → (words : List Text) → HasNoOption words
+pub rows_after-placed : (c : List Rule) → has_no_tail c ≡ true → (words : List Text) → HasNoOption words
     → rows_after c [] words ≡ finished c (all_placed c start words).held
 rows_after-placed c no_tail words none = ap (λ (w : Walk). finished c w.held) (walk-placed c no_tail words none start start_plain)
 
 -- whether clap takes the words with which the walk ends so
-abbrev level_takes : Shape → Walk → Bool → Bool
+abbrev pub level_takes : Shape → Walk → Bool → Bool
 level_takes s end passes =
     let a : App = record { top = s; subs = [] } in
     entered_passes a end.stopped && (passes && (settle_passes s.rules s.args_override_self end.held
     && (list_all default_passes s.rules && is_valid s (finished s.rules end.held) (is_some (entered a end.stopped)))))
 
-built_takes-placed : (s : Shape) → has_no_tail s.rules ≡ true → (words : List Text) → HasNoOption words
+pub built_takes-placed : (s : Shape) → has_no_tail s.rules ≡ true → (words : List Text) → HasNoOption words
     → built_takes (record { top = s; subs = [] }) nothing_held words ≡ level_takes s (all_placed s.rules start words) (places_pass s start words)
 built_takes-placed s no_tail words none =
     ap₂ (level_takes s) (walk-placed s.rules no_tail words none start start_plain)
@@ -255,7 +255,7 @@ counted_taken (a ∷ b ∷ []) none number count spells = built_takes-placed (bu
 counted_taken words none number count spells = absurd (omega (arith, two_words words number count spells))
 
 -- an id without a row has no first word
-no_first : (id : Text) (rows placed : List Row) (word : Text) → rows ≡ placed → first_of id placed ≡ None → first_of id rows ≡ Some word → ⊥
+pub no_first : (id : Text) (rows placed : List Row) (word : Text) → rows ≡ placed → first_of id placed ≡ None → first_of id rows ≡ Some word → ⊥
 no_first id rows placed word same none first = let rows_none = ap (first_of id) same in cc
 
 -- clap refuses more than one word

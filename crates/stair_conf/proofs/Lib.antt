@@ -1,8 +1,10 @@
 pub mod NumberLemmas
+pub mod VolumeLemmas
 pub mod WordsLemmas
 pub mod RowLemmas
 pub mod WalkLaws
 pub mod CommandLaws
+pub mod VolumeCommands
 pub mod MapLemmas
 pub mod ConfigLemmas
 pub mod TableLemmas

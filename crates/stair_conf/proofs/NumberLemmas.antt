@@ -8,6 +8,7 @@ use Rattle.std.proofs.lemmas.Fmt.{decimal_digit, decimal_injective, decimal_none
 use Rattle.std.proofs.lemmas.Str.Parse.{IsNumeralModel, numerals_by_value, tells_digits, digit_at, parse_plain}
 use Rattle.std.proofs.lemmas.List.{length-map}
 use Rattle.std.proofs.lemmas.List.Elements.{All-get_or, All-head, All-tail}
+use Rattle.stair_conf.specs.Commands.{IsPlainWord}
 use Rattle.stair_conf.specs.Words.{AreNumbers, BeginsNumber, IsNumber}
 use Rattle.stair_conf.proofs.MapLemmas.{mapped_at}
 
@@ -27,6 +28,10 @@ begins-decimal n fits = record {
   digit = digit_at (decimal n) 0 (digits_decimal numerals n fits) (decimal_nonempty n fits);
   zero_alone = zero_alone-decimal n fits;
 }
+
+-- the text of a number doesn't begin with a hyphen
+pub decimal_plain : (n : ℕ) → n < 2 ^ 64 → IsPlainWord (decimal n)
+decimal_plain n fits = λ hyphen. let digit = (begins-decimal n fits).digit in absurd (omega arith)
 
 -- a word that is a number begins as one does
 pub begins : (word : List ℕ) (n : ℕ) → IsNumber word n → BeginsNumber word

@@ -8,8 +8,9 @@ use Rattle.clap.specs.Words.{Text, Row, all_of, first_of, first_value, matched_o
 use Rattle.clap.specs.declared.parser.matches.Found.{Found}
 use Rattle.clap.proofs.WalkLemmas.{first_value-rows, raw_values-rows}
 use Rattle.stair_conf.specs.declared.job.Method.{Method}
-use Rattle.stair_conf.specs.Rows.{HasCounted, HasGeometry, HasMethodWord, HasNumberWord, HasTextWord}
-use Rattle.stair_conf.specs.Words.{IsNumber, IsText, SpellsCounted, SpellsGeometry, method_word}
+use Rattle.stair_conf.specs.Rows.{HasCounted, HasGeometry, HasMethodWord, HasNameWord, HasNewVolume, HasNumberWord, HasTextWord, HasVolumeBlocks}
+use Rattle.stair_conf.specs.Name.{IsName}
+use Rattle.stair_conf.specs.Words.{IsNumber, IsText, SpellsCounted, SpellsGeometry, SpellsNewVolume, SpellsVolumeBlocks, method_word}
 
 -- ---- what the getters tell
 
@@ -51,7 +52,19 @@ text_at f id word read at exact text =
           (exact text).1 (same, has.is_text)),
     )
 
--- an id with no word has no number, no method and no text
+-- the same for a name
+pub name_at : (f : Found) (id word : Text) (read : Option Text) → Some word ≡ first_value f id
+    → ((name : Text) → (read ≡ Some name) ↔ ((name ≡ word) × IsName name))
+    → (name : Text) → (read ≡ Some name) ↔ HasNameWord (rows_of f) id name
+name_at f id word read at exact name =
+    let first = first_at f id word at in (
+      (λ is. let said = (exact name).0 is in record { first = first ∙ ap Some (sym said.0); is_name = said.1 }),
+      (λ has.
+          let same : name ≡ word = let h = has.first in cc in
+          (exact name).1 (same, has.is_name)),
+    )
+
+-- an id with no word has no number, no method, no text and no name
 pub none_at : {X : Type 0} (f : Found) (id : Text) (text : X → Text) (x : X) → None ≡ first_value f id → first_of id (rows_of f) ≡ Some (text x) → ⊥
 none_at f id text x none first = let rows = first_value-rows f id in cc
 
@@ -134,5 +147,58 @@ counted_held rows a b number count holds spells =
     let count_is : b ≡ decimal count = cc in
     record {
       number_word = record { first = holds.number_row ∙ ap Some number_is; fits = spells.number_fits };
+      count_word = record { first = holds.count_row ∙ ap Some count_is; fits = spells.count_fits };
+    }
+
+-- ---- the words of a volume
+
+-- these words stand in the rows of a new volume
+pub record HoldsNewVolume (rows : List Row) (a b : Text) : Type 0 where
+  pub name_row : first_of (codes "NAME") rows ≡ Some a
+  pub blocks_row : first_of (codes "BLOCKS") rows ≡ Some b
+
+pub new_volume_spelled : (rows : List Row) (a b name : Text) (blocks : ℕ) → HoldsNewVolume rows a b → HasNewVolume rows name blocks
+    → SpellsNewVolume [] (a ∷ b ∷ []) name blocks
+new_volume_spelled rows a b name blocks holds has =
+    let name_is : Some a ≡ Some name = sym holds.name_row ∙ has.name_word.first in
+    let blocks_is : Some b ≡ Some (decimal blocks) = sym holds.blocks_row ∙ has.blocks_word.first in
+    record { spelled = cc; is_name = has.name_word.is_name; some = has.some; fits = has.blocks_word.fits }
+
+pub new_volume_held : (rows : List Row) (a b name : Text) (blocks : ℕ) → HoldsNewVolume rows a b → SpellsNewVolume [] (a ∷ b ∷ []) name blocks
+    → HasNewVolume rows name blocks
+new_volume_held rows a b name blocks holds spells =
+    let words = spells.spelled in
+    let name_is : a ≡ name = cc in
+    let blocks_is : b ≡ decimal blocks = cc in
+    record {
+      name_word = record { first = holds.name_row ∙ ap Some name_is; is_name = spells.is_name };
+      blocks_word = record { first = holds.blocks_row ∙ ap Some blocks_is; fits = spells.fits };
+      some = spells.some;
+    }
+
+-- these words stand in the rows of blocks of a volume
+pub record HoldsVolumeBlocks (rows : List Row) (a b c : Text) : Type 0 where
+  pub name_row : first_of (codes "NAME") rows ≡ Some a
+  pub block_row : first_of (codes "BLOCK") rows ≡ Some b
+  pub count_row : first_of (codes "COUNT") rows ≡ Some c
+
+pub volume_blocks_spelled : (rows : List Row) (a b c name : Text) (block count : ℕ) → HoldsVolumeBlocks rows a b c
+    → HasVolumeBlocks rows name block count → SpellsVolumeBlocks [] (a ∷ b ∷ c ∷ []) name block count
+volume_blocks_spelled rows a b c name block count holds has =
+    let name_is : Some a ≡ Some name = sym holds.name_row ∙ has.name_word.first in
+    let block_is : Some b ≡ Some (decimal block) = sym holds.block_row ∙ has.block_word.first in
+    let count_is : Some c ≡ Some (decimal count) = sym holds.count_row ∙ has.count_word.first in
+    record { spelled = cc; is_name = has.name_word.is_name; block_fits = has.block_word.fits; count_fits = has.count_word.fits }
+
+pub volume_blocks_held : (rows : List Row) (a b c name : Text) (block count : ℕ) → HoldsVolumeBlocks rows a b c
+    → SpellsVolumeBlocks [] (a ∷ b ∷ c ∷ []) name block count → HasVolumeBlocks rows name block count
+volume_blocks_held rows a b c name block count holds spells =
+    let words = spells.spelled in
+    let name_is : a ≡ name = cc in
+    let block_is : b ≡ decimal block = cc in
+    let count_is : c ≡ decimal count = cc in
+    record {
+      name_word = record { first = holds.name_row ∙ ap Some name_is; is_name = spells.is_name };
+      block_word = record { first = holds.block_row ∙ ap Some block_is; fits = spells.block_fits };
       count_word = record { first = holds.count_row ∙ ap Some count_is; fits = spells.count_fits };
     }

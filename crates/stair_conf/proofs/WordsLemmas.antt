@@ -1,5 +1,5 @@
 -- What the words of a job are.
-use Rattle.std.proofs.Common.{◌≡◌, ◌∙◌, ◌<◌, ◌^◌, ℕ, List, [], ◌∷◌, false, map, drop, get_or, refl, sym, ap, inl, inr, arith}
+use Rattle.std.proofs.Common.{◌≡◌, ◌≢◌, ◌∙◌, ◌<◌, ◌^◌, ℕ, List, [], ◌∷◌, false, map, drop, get_or, refl, sym, ap, inl, inr, arith}
 use Rattle.std.specs.Prelude.{codes}
 use Rattle.std.specs.Str.{bytes_eq}
 use Rattle.std.specs.Fmt.{decimal}
@@ -11,12 +11,14 @@ use Rattle.std.proofs.lemmas.Slice.Eq.{bytes_eq-Decides}
 use Rattle.stair_conf.specs.declared.job.Method.{Method}
 use Rattle.stair_conf.specs.declared.job.Method.TheVariants.{Standard, Up, Down, Fewest}
 use Rattle.stair_conf.specs.declared.job.Job.{Job}
-use Rattle.stair_conf.specs.declared.job.Job.TheVariants.{OneStripe, Create, Show, Read, Write, Scrub, Replace, Rebuild, Freeze, Thaw, Label, Run, Exercise, Guard, Report, Serve}
+use Rattle.stair_conf.specs.declared.job.Job.TheVariants.{OneStripe, Create, Show, Read, Write, Scrub, Replace, Rebuild, Freeze, Thaw, Label, Run, Exercise, Guard, Report, Serve, Volume, Plan}
 use Rattle.stair_conf.specs.declared.job.StripeCommand.{StripeCommand}
 use Rattle.stair_conf.specs.declared.job.StripeCommand.TheVariants.{Check, Encode, Restore}
+use Rattle.stair_conf.specs.declared.job.VolumeJob.{VolumeJob}
 use Rattle.stair_conf.specs.Commands.{HasNoOption, IsPlainWord}
-use Rattle.stair_conf.specs.Words.{IsCommandLine, IsCommandWord, Spells, SpellsCounted, SpellsGeometry, SpellsSlot, SpellsText, command_words, method_word}
-use Rattle.stair_conf.proofs.NumberLemmas.{begins-decimal, map_decimal_injective}
+use Rattle.stair_conf.specs.Words.{IsCommandLine, IsCommandWord, Spells, SpellsCounted, SpellsGeometry, SpellsSlot, SpellsText, SpellsVolume, command_words, method_word}
+use Rattle.stair_conf.proofs.NumberLemmas.{decimal_plain, map_decimal_injective}
+use Rattle.stair_conf.proofs.VolumeLemmas.{volume_begins, volume_first, volume_once, volume_plain, volume_word, volume_word_of}
 
 -- ---- the first words
 
@@ -64,6 +66,8 @@ word_of (Exercise number count) = codes "exercise"
 word_of (Guard events fences) = codes "guard"
 word_of Report = codes "report"
 word_of Serve = codes "serve"
+word_of (Volume job) = volume_word_of job
+word_of (Plan n m r e) = codes "plan"
 
 -- the words of a job begin with the command's
 pub first_word : (words : List (List ℕ)) (job : Job) → Spells words job → get_or words 0 [] ≡ word_of job
@@ -85,11 +89,10 @@ first_word words (Exercise number count) spells = ap (λ ws. get_or ws 0 []) spe
 first_word words (Guard events fences) spells = ap (λ ws. get_or ws 0 []) spells.counted.spelled
 first_word words Report spells = ap (λ ws. get_or ws 0 []) spells
 first_word words Serve spells = ap (λ ws. get_or ws 0 []) spells
+first_word words (Volume job) spells = volume_first words job spells
+first_word words (Plan n m r e) spells = ap (λ ws. get_or ws 0 []) spells.spelled
 
 -- ---- no word of a job begins with a hyphen
-
-decimal_plain : (n : ℕ) → n < 2 ^ 64 → IsPlainWord (decimal n)
-decimal_plain n fits = λ hyphen. let digit = (begins-decimal n fits).digit in absurd (omega arith)
 
 geometry_plain : (before words : List (List ℕ)) (n m r : ℕ) (e : List ℕ) → HasNoOption before → SpellsGeometry before words n m r e → HasNoOption words
 geometry_plain before words n m r e plain spells =
@@ -146,6 +149,8 @@ job_plain words (Exercise number count) spells = counted_plain _ words number co
 job_plain words (Guard events fences) spells = counted_plain _ words events fences (one_plain (codes "guard") (omega arith)) spells.counted
 job_plain words Report spells = rw spells (one_plain (codes "report") (omega arith))
 job_plain words Serve spells = rw spells (one_plain (codes "serve") (omega arith))
+job_plain words (Volume job) spells = volume_plain words job spells
+job_plain words (Plan n m r e) spells = geometry_plain _ words n m r e (one_plain (codes "plan") (omega arith)) spells
 
 command_word : (words : List (List ℕ)) (job : Job) → Spells words job → IsCommandWord (get_or words 0 [])
 command_word words (OneStripe Check n m r e) spells = inl (ap (λ ws. get_or ws 0 []) spells.spelled)
@@ -165,7 +170,9 @@ command_word words Run spells = inr (inr (inr (inr (inr (inr (inr (inr (inr (inr
 command_word words (Exercise number count) spells = inr (inr (inr (inr (inr (inr (inr (inr (inr (inr (inr (inr (inr (inr (inl (ap (λ ws. get_or ws 0 []) spells.spelled)))))))))))))))
 command_word words (Guard events fences) spells = inr (inr (inr (inr (inr (inr (inr (inr (inr (inr (inr (inr (inr (inr (inr (inl (ap (λ ws. get_or ws 0 []) spells.counted.spelled))))))))))))))))
 command_word words Report spells = inr (inr (inr (inr (inr (inr (inr (inr (inr (inr (inr (inr (inr (inr (inr (inr (inl (ap (λ ws. get_or ws 0 []) spells)))))))))))))))))
-command_word words Serve spells = inr (inr (inr (inr (inr (inr (inr (inr (inr (inr (inr (inr (inr (inr (inr (inr (inr (ap (λ ws. get_or ws 0 []) spells)))))))))))))))))
+command_word words Serve spells = inr (inr (inr (inr (inr (inr (inr (inr (inr (inr (inr (inr (inr (inr (inr (inr (inr (inl (ap (λ ws. get_or ws 0 []) spells))))))))))))))))))
+command_word words (Volume job) spells = inr (inr (inr (inr (inr (inr (inr (inr (inr (inr (inr (inr (inr (inr (inr (inr (inr (inr (inr (rw (volume_first words job spells) (volume_word job))))))))))))))))))))
+command_word words (Plan n m r e) spells = inr (inr (inr (inr (inr (inr (inr (inr (inr (inr (inr (inr (inr (inr (inr (inr (inr (inr (inl (ap (λ ws. get_or ws 0 []) spells.spelled)))))))))))))))))))
 
 -- the words of a job are a command line
 pub job_line : (words : List (List ℕ)) (job : Job) → Spells words job → IsCommandLine words
@@ -248,6 +255,8 @@ limits_some words number count (Guard events fences) first counted spells =
 limits_some words number count (OneStripe Check n m r e) first counted spells = absurd (not_guard words (OneStripe Check n m r e) first spells refl)
 limits_some words number count (OneStripe (Encode method) n m r e) first counted spells = absurd (not_guard words (OneStripe (Encode method) n m r e) first spells refl)
 limits_some words number count (OneStripe Restore n m r e) first counted spells = absurd (not_guard words (OneStripe Restore n m r e) first spells refl)
+limits_some words number count (Volume job) first counted spells =
+    absurd (omega (arith, volume_begins words job spells, ap (λ word. get_or word 0 0) first))
 limits_some words number count job first counted spells = absurd (not_guard words job first spells refl)
 
 -- words with the same words before spell one slot
@@ -268,6 +277,23 @@ no_other_job : (words : List (List ℕ)) (a b : Job) → Spells words a → Spel
 no_other_job words a b one two apart =
     not_from_Decides (bytes_eq (word_of a) (word_of b)) (bytes_eq-Decides (word_of a) (word_of b)) apart
     (sym (first_word words a one) ∙ first_word words b two)
+
+-- a job that isn't on volumes
+abbrev IsNotOnVolumes : Job → Type 0
+IsNotOnVolumes (Volume job) = ⊥
+IsNotOnVolumes job = Unit {0}
+
+other_letter : (job : Job) → IsNotOnVolumes job → get_or (word_of job) 0 0 ≢ 118
+other_letter (OneStripe Check n m r e) other = omega arith
+other_letter (OneStripe (Encode method) n m r e) other = omega arith
+other_letter (OneStripe Restore n m r e) other = omega arith
+other_letter (Volume job) other = absurd other
+other_letter job other = omega arith
+
+-- words that spell a job on volumes spell no other
+volume_only : (words : List (List ℕ)) (job : VolumeJob) (other : Job) → IsNotOnVolumes other → SpellsVolume words job → Spells words other → ⊥
+volume_only words job other apart one two =
+    other_letter other apart (ap (λ word. get_or word 0 0) (sym (first_word words other two)) ∙ volume_begins words job one)
 
 pub spells_once : (words : List (List ℕ)) (a b : Job) → Spells words a → Spells words b → a ≡ b
 spells_once words (OneStripe a n m r e) (OneStripe b n' m' r' e') one two = one_stripe_once words a b n m r e n' m' r' e' one two
@@ -294,6 +320,12 @@ spells_once words (Guard events fences) (Guard events' fences') one two =
     λ i. Guard (same.0 i) (same.1 i)
 spells_once words Report Report one two = refl
 spells_once words Serve Serve one two = refl
+spells_once words (Volume a) (Volume b) one two = ap Volume (volume_once words a b one two)
+spells_once words (Plan n m r e) (Plan n' m' r' e') one two =
+    let same = geometry_once (codes "plan" ∷ []) words n m r e n' m' r' e' one two in
+    λ i. Plan (same.0 i) (same.1 i) (same.2 i) (same.3 i)
+spells_once words (Volume a) b one two = absurd (volume_only words a b tt one two)
+spells_once words a (Volume b) one two = absurd (volume_only words b a tt two one)
 spells_once words (OneStripe Check n m r e) b one two = absurd (no_other_job words (OneStripe Check n m r e) b one two refl)
 spells_once words (OneStripe (Encode method) n m r e) b one two = absurd (no_other_job words (OneStripe (Encode method) n m r e) b one two refl)
 spells_once words (OneStripe Restore n m r e) b one two = absurd (no_other_job words (OneStripe Restore n m r e) b one two refl)

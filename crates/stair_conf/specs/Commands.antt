@@ -60,3 +60,15 @@ slot_app = with_rule (bare_app (codes "stair")) (one_word (codes "SLOT"))
 -- `TEXT`
 abbrev pub text_app : App
 text_app = with_rule (bare_app (codes "stair")) (one_word (codes "TEXT"))
+
+-- `NAME`
+abbrev pub name_app : App
+name_app = with_rule (bare_app (codes "stair")) (one_word (codes "NAME"))
+
+-- `NAME BLOCKS`
+abbrev pub new_volume_app : App
+new_volume_app = with_rule name_app (one_word (codes "BLOCKS"))
+
+-- `NAME BLOCK COUNT`
+abbrev pub volume_blocks_app : App
+volume_blocks_app = with_rule (with_rule name_app (one_word (codes "BLOCK"))) (one_word (codes "COUNT"))

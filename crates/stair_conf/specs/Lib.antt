@@ -3,3 +3,5 @@ pub mod Words
 pub mod Rows
 pub mod Commands
 pub mod Config
+pub mod Name
+pub mod StoredName

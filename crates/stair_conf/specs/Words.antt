@@ -6,9 +6,12 @@ use Rattle.stair_conf.specs.Commands.{HasNoOption, IsPlainWord}
 use Rattle.stair_conf.specs.declared.job.Method.{Method}
 use Rattle.stair_conf.specs.declared.job.Method.TheVariants.{Standard, Up, Down, Fewest}
 use Rattle.stair_conf.specs.declared.job.Job.{Job}
-use Rattle.stair_conf.specs.declared.job.Job.TheVariants.{OneStripe, Create, Show, Read, Write, Scrub, Replace, Rebuild, Freeze, Thaw, Label, Run, Exercise, Guard, Report, Serve}
+use Rattle.stair_conf.specs.declared.job.Job.TheVariants.{OneStripe, Create, Show, Read, Write, Scrub, Replace, Rebuild, Freeze, Thaw, Label, Run, Exercise, Guard, Report, Serve, Volume, Plan}
 use Rattle.stair_conf.specs.declared.job.StripeCommand.{StripeCommand}
 use Rattle.stair_conf.specs.declared.job.StripeCommand.TheVariants.{Check, Encode, Restore}
+use Rattle.stair_conf.specs.declared.job.VolumeJob.{VolumeJob}
+use Rattle.stair_conf.specs.declared.job.VolumeJob.TheVariants as volume
+use Rattle.stair_conf.specs.Name.{IsName}
 use Rattle.stair_super.specs.Label.{IsLabel}
 
 -- the word is this number's decimal text
@@ -70,11 +73,41 @@ pub record SpellsLimits (words : List (List ℕ)) (events fences : ℕ) : Type 0
   pub some_events : 0 < events
   pub some_fences : 0 < fences
 
+-- the words are those before, and then the name of a volume
+pub record SpellsName (before words : List (List ℕ)) (name : List ℕ) : Type 0 where
+  pub spelled : words ≡ before ++ name ∷ []
+  pub is_name : IsName name
+
+-- the words are those before, and then the name of a volume, and the decimal text of its number of blocks, at least 1
+pub record SpellsNewVolume (before words : List (List ℕ)) (name : List ℕ) (blocks : ℕ) : Type 0 where
+  pub spelled : words ≡ before ++ name ∷ decimal blocks ∷ []
+  pub is_name : IsName name
+  pub some : 0 < blocks
+  pub fits : blocks < 2 ^ 64
+
+-- the words are those before, and then the name of a volume, and the decimal texts of a block and of a count
+pub record SpellsVolumeBlocks (before words : List (List ℕ)) (name : List ℕ) (block count : ℕ) : Type 0 where
+  pub spelled : words ≡ before ++ name ∷ decimal block ∷ decimal count ∷ []
+  pub is_name : IsName name
+  pub block_fits : block < 2 ^ 64
+  pub count_fits : count < 2 ^ 64
+
 -- the words before the numbers
 abbrev pub command_words : StripeCommand → List (List ℕ)
 command_words Check = codes "check" ∷ []
 command_words (Encode method) = codes "stripe" ∷ method_word method ∷ []
 command_words Restore = codes "restore" ∷ []
+
+-- the words are those of a job on volumes
+abbrev pub SpellsVolume : List (List ℕ) → VolumeJob → Type 0
+SpellsVolume words volume.Ready = words ≡ codes "vinit" ∷ []
+SpellsVolume words (volume.Make name blocks) = SpellsNewVolume (codes "vmake" ∷ []) words name blocks
+SpellsVolume words (volume.Remove name) = SpellsName (codes "vdrop" ∷ []) words name
+SpellsVolume words volume.List = words ≡ codes "vlist" ∷ []
+SpellsVolume words (volume.Read name block count) =
+    SpellsVolumeBlocks (codes "vread" ∷ []) words name block count
+SpellsVolume words (volume.Write name block count) =
+    SpellsVolumeBlocks (codes "vwrite" ∷ []) words name block count
 
 -- the words are those of the job
 abbrev pub Spells : List (List ℕ) → Job → Type 0
@@ -94,10 +127,18 @@ Spells words (Exercise number count) = SpellsCounted (codes "exercise" ∷ []) w
 Spells words (Guard events fences) = SpellsLimits words events fences
 Spells words Report = words ≡ codes "report" ∷ []
 Spells words Serve = words ≡ codes "serve" ∷ []
+Spells words (Volume job) = SpellsVolume words job
+Spells words (Plan n m r e) = SpellsGeometry (codes "plan" ∷ []) words n m r e
 
 -- the words spell a job
 abbrev pub IsSpelled : List (List ℕ) → Type 0
 IsSpelled words = (job : Job) × Spells words job
+
+-- the word of a command on volumes
+abbrev pub IsVolumeWord : List ℕ → Type 0
+IsVolumeWord word = (word ≡ codes "vinit") ⊎ (word ≡ codes "vmake")
+    ⊎ (word ≡ codes "vdrop") ⊎ (word ≡ codes "vlist") ⊎ (word ≡ codes "vread")
+    ⊎ (word ≡ codes "vwrite")
 
 -- the word of a command
 abbrev pub IsCommandWord : List ℕ → Type 0
@@ -107,7 +148,7 @@ IsCommandWord word = (word ≡ codes "check") ⊎ (word ≡ codes "stripe")
     ⊎ (word ≡ codes "replace") ⊎ (word ≡ codes "rebuild") ⊎ (word ≡ codes "freeze")
     ⊎ (word ≡ codes "thaw") ⊎ (word ≡ codes "label") ⊎ (word ≡ codes "run")
     ⊎ (word ≡ codes "exercise") ⊎ (word ≡ codes "guard") ⊎ (word ≡ codes "report")
-    ⊎ (word ≡ codes "serve")
+    ⊎ (word ≡ codes "serve") ⊎ (word ≡ codes "plan") ⊎ IsVolumeWord word
 
 -- a command's word comes first, and no word begins with a hyphen: memory is taken for such words alone
 pub record IsCommandLine (words : List (List ℕ)) : Type 0 where

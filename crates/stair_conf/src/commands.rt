@@ -4,14 +4,15 @@
 
 ghost use Rattle.std.specs.Prelude.{◌≡◌, ℕ, ◌∷◌, [], List, codes, drop, false, true, map, string_bytes, IfOk};
 ghost use Rattle.clap.specs.Words.{HasMatchesOf, app_of, fault_of, is_simple_and_free, rule_of, takes};
-ghost use Rattle.stair_conf.specs.Commands.{HasNoOption, bare_app, counted_app, geometry_app, one_word, slot_app, stripe_app, text_app, with_geometry};
-ghost use Rattle.stair_conf.specs.Words.{SpellsCounted, SpellsGeometry, SpellsSlot, SpellsText, method_word};
+ghost use Rattle.stair_conf.specs.Commands.{HasNoOption, bare_app, counted_app, geometry_app, name_app, new_volume_app, one_word, slot_app, stripe_app, text_app, volume_blocks_app, with_geometry};
+ghost use Rattle.stair_conf.specs.Words.{SpellsCounted, SpellsGeometry, SpellsName, SpellsNewVolume, SpellsSlot, SpellsText, SpellsVolumeBlocks, method_word};
 ghost use Rattle.stair_conf.specs.declared.job.Method.{Method};
 
 use crate::matches::{
-    Counted, GeometryNumbers, counted_of, geometry_of, method_of, number_of, text_of,
+    Counted, GeometryNumbers, NewVolume, VolumeBlocks, counted_of, geometry_of, method_of, name_of,
+    new_volume_of, number_of, text_of, volume_blocks_of,
 };
-use crate::{Method, WordsFault};
+use crate::{Method, Name, WordsFault};
 use clap::{Arg, ArgMatches, Command};
 use stair_super::Label;
 use std::alloc::{AllocError, Global};
@@ -80,6 +81,44 @@ pub(crate) fn read_label(alloc: Global, words: &[String]) -> Result<Label, Words
     text_of(&matches, "TEXT").ok_or(WordsFault::Usage)
 }
 
+// Reads `NAME` behind the first word.
+pub(crate) fn read_name(alloc: Global, words: &[String]) -> Result<Name, WordsFault>
+    requires { HasNoOption (map string_bytes words.now) }
+    ensures ok { IfOk result (SpellsName [] (drop 1 (map string_bytes words.now))) }
+    ensures usage { result ≡ Err WordsFault.Usage → (name : List ℕ)
+        → SpellsName [] (drop 1 (map string_bytes words.now)) name → ⊥ }
+{
+    let matches = parse(name_command(alloc)?, words)?;
+    name_of(&matches, "NAME").ok_or(WordsFault::Usage)
+}
+
+// Reads `NAME BLOCKS` behind the first word.
+pub(crate) fn read_new_volume(alloc: Global, words: &[String]) -> Result<NewVolume, WordsFault>
+    requires { HasNoOption (map string_bytes words.now) }
+    ensures ok { IfOk result (λ read. SpellsNewVolume []
+        (drop 1 (map string_bytes words.now)) read.name read.blocks) }
+    ensures usage { result ≡ Err WordsFault.Usage → (name : List ℕ) (blocks : ℕ)
+        → SpellsNewVolume [] (drop 1 (map string_bytes words.now)) name blocks → ⊥ }
+{
+    let matches = parse(new_volume_command(alloc)?, words)?;
+    new_volume_of(&matches)
+}
+
+// Reads `NAME BLOCK COUNT` behind the first word.
+pub(crate) fn read_volume_blocks(
+    alloc: Global,
+    words: &[String],
+) -> Result<VolumeBlocks, WordsFault>
+    requires { HasNoOption (map string_bytes words.now) }
+    ensures ok { IfOk result (λ read. SpellsVolumeBlocks []
+        (drop 1 (map string_bytes words.now)) read.name read.block read.count) }
+    ensures usage { result ≡ Err WordsFault.Usage → (name : List ℕ) (block count : ℕ)
+        → SpellsVolumeBlocks [] (drop 1 (map string_bytes words.now)) name block count → ⊥ }
+{
+    let matches = parse(volume_blocks_command(alloc)?, words)?;
+    volume_blocks_of(&matches)
+}
+
 // Matches the words to the values of the command.
 fn parse<'a>(command: Command<'a>, words: &'a [String]) -> Result<ArgMatches<'a>, WordsFault>
     ensures ok { IfOk result (HasMatchesOf (app_of command.entry)
@@ -127,6 +166,29 @@ fn text_command<'a>(alloc: Global) -> Result<Command<'a>, AllocError>
     ensures { IfOk result (λ command. app_of command ≡ text_app) }
 {
     bare(alloc).arg(one_word(alloc, "TEXT"))
+}
+
+// `NAME`
+fn name_command<'a>(alloc: Global) -> Result<Command<'a>, AllocError>
+    ensures { IfOk result (λ command. app_of command ≡ name_app) }
+{
+    bare(alloc).arg(one_word(alloc, "NAME"))
+}
+
+// `NAME BLOCKS`
+fn new_volume_command<'a>(alloc: Global) -> Result<Command<'a>, AllocError>
+    ensures { IfOk result (λ command. app_of command ≡ new_volume_app) }
+{
+    name_command(alloc)?.arg(one_word(alloc, "BLOCKS"))
+}
+
+// `NAME BLOCK COUNT`
+fn volume_blocks_command<'a>(alloc: Global) -> Result<Command<'a>, AllocError>
+    ensures { IfOk result (λ command. app_of command ≡ volume_blocks_app) }
+{
+    name_command(alloc)?
+        .arg(one_word(alloc, "BLOCK"))?
+        .arg(one_word(alloc, "COUNT"))
 }
 
 // The command with the words of a geometry behind those that it has.

@@ -1,4 +1,4 @@
-use crate::Numbers;
+use crate::{Name, Numbers};
 use stair_super::Label;
 
 /// How a stripe is encoded: the word METHOD of `stripe`.
@@ -23,6 +23,47 @@ pub enum StripeCommand {
     Encode(Method),
     /// `restore`: its erased cells, from those that are held.
     Restore,
+}
+
+/// What is to be done with the volumes of an array.
+///
+/// The names are as written: whether there are such volumes, and whether they have the blocks, is not tested here.
+#[derive(Clone, Copy, Debug, PartialEq, Eq)]
+pub enum VolumeJob {
+    /// `vinit`: block 0 becomes a table without volumes.
+    Ready,
+    /// `vmake NAME BLOCKS`: a volume of so many blocks of zeros is added.
+    Make {
+        /// The name of the volume.
+        name: Name,
+        /// How many blocks it gets, at least 1.
+        blocks: u64,
+    },
+    /// `vdrop NAME`: a volume is taken out.
+    Remove {
+        /// The name of the volume.
+        name: Name,
+    },
+    /// `vlist`: the volumes are listed.
+    List,
+    /// `vread NAME BLOCK COUNT`: blocks of a volume are put out.
+    Read {
+        /// The name of the volume.
+        name: Name,
+        /// The first block, counted from the volume's first.
+        block: u64,
+        /// How many blocks.
+        count: u64,
+    },
+    /// `vwrite NAME BLOCK COUNT`: blocks of a volume are written.
+    Write {
+        /// The name of the volume.
+        name: Name,
+        /// The first block, counted from the volume's first.
+        block: u64,
+        /// How many blocks.
+        count: u64,
+    },
 }
 
 /// What the words ask for.
@@ -101,4 +142,18 @@ pub enum Job {
     Report,
     /// `serve`: a client of the protocol NBD has the array as its block device.
     Serve,
+    /// `vinit`, `vmake NAME BLOCKS`, `vdrop NAME`, `vlist`, `vread NAME BLOCK COUNT` or `vwrite NAME BLOCK COUNT`: the volumes of
+    /// an array.
+    Volume(VolumeJob),
+    /// `plan N M R E..`: what the code of a geometry costs.
+    Plan {
+        /// The number N.
+        n: u64,
+        /// The number M.
+        m: u64,
+        /// The number R.
+        r: u64,
+        /// The numbers E in the order of the words, at least one.
+        e: Numbers,
+    },
 }

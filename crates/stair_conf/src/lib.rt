@@ -11,15 +11,18 @@ mod job;
 mod key;
 pub mod laws;
 mod matches;
+mod name;
 mod numbers;
 #[cfg(test)]
 mod tests;
+mod volumes;
 mod words;
 
 pub use config::read_config;
 pub use fault::{ConfigFault, WordsFault};
-pub use job::{Job, Method, StripeCommand};
+pub use job::{Job, Method, StripeCommand, VolumeJob};
 pub use key::Key;
 pub use matches::read_number;
+pub use name::{NAME_LIMIT, Name};
 pub use numbers::Numbers;
 pub use words::read_words;

@@ -2,11 +2,11 @@
 
 ghost use Rattle.std.specs.Prelude.{◌≡◌, ◌≢◌, ℕ, ◌↔◌, List, [], map, slice_index_or, IfOk, IsTrue, Some};
 ghost use Rattle.clap.specs.Words.{found_of, rows_of};
-ghost use Rattle.stair_conf.specs.Rows.{HasCounted, HasGeometry, HasThreeNumbers, HasMethodWord, HasNumberWord, HasNumberWords, HasTextWord};
+ghost use Rattle.stair_conf.specs.Rows.{HasCounted, HasGeometry, HasMethodWord, HasNameWord, HasNewVolume, HasNumberWord, HasNumberWords, HasTextWord, HasThreeNumbers, HasVolumeBlocks};
 ghost use Rattle.stair_conf.specs.Words.{AreNumbers, BeginsNumber, IsNumber, IsText, method_word};
 ghost use Rattle.stair_conf.specs.declared.job.Method.{Method};
 
-use crate::{Method, Numbers, WordsFault};
+use crate::{Method, Name, Numbers, WordsFault};
 use clap::ArgMatches;
 use stair_super::Label;
 use std::alloc::Global;
@@ -24,6 +24,21 @@ pub(crate) struct GeometryNumbers {
 #[derive(Clone, Copy)]
 pub(crate) struct Counted {
     pub(crate) number: u64,
+    pub(crate) count: u64,
+}
+
+// The name of a volume, and how many blocks it gets.
+#[derive(Clone, Copy)]
+pub(crate) struct NewVolume {
+    pub(crate) name: Name,
+    pub(crate) blocks: u64,
+}
+
+// Blocks of a volume.
+#[derive(Clone, Copy)]
+pub(crate) struct VolumeBlocks {
+    pub(crate) name: Name,
+    pub(crate) block: u64,
     pub(crate) count: u64,
 }
 
@@ -57,6 +72,45 @@ pub(crate) fn counted_of(matches: &ArgMatches<'_>) -> Result<Counted, WordsFault
         number: number_of(matches, "NUMBER").ok_or(WordsFault::Usage)?,
         count: number_of(matches, "COUNT").ok_or(WordsFault::Usage)?,
     })
+}
+
+// Reads the name NAME and the number BLOCKS, which is at least 1. It takes no memory.
+pub(crate) fn new_volume_of(matches: &ArgMatches<'_>) -> Result<NewVolume, WordsFault>
+    ensures ok { IfOk result (λ read. HasNewVolume (rows_of (found_of matches.now))
+        read.name read.blocks) }
+    ensures usage { result ≡ Err WordsFault.Usage → (name : List ℕ) (blocks : ℕ)
+        → HasNewVolume (rows_of (found_of matches.now)) name blocks → ⊥ }
+    ensures memory { result ≢ Err WordsFault.Memory }
+{
+    let name = name_of(matches, "NAME").ok_or(WordsFault::Usage)?;
+    let blocks = number_of(matches, "BLOCKS").ok_or(WordsFault::Usage)?;
+    if blocks == 0 {
+        return Err(WordsFault::Usage);
+    }
+    Ok(NewVolume { name, blocks })
+}
+
+// Reads the name NAME and the numbers BLOCK and COUNT. It takes no memory.
+pub(crate) fn volume_blocks_of(matches: &ArgMatches<'_>) -> Result<VolumeBlocks, WordsFault>
+    ensures ok { IfOk result (λ read. HasVolumeBlocks (rows_of (found_of matches.now))
+        read.name read.block read.count) }
+    ensures usage { result ≡ Err WordsFault.Usage → (name : List ℕ) (block count : ℕ)
+        → HasVolumeBlocks (rows_of (found_of matches.now)) name block count → ⊥ }
+    ensures memory { result ≢ Err WordsFault.Memory }
+{
+    Ok(VolumeBlocks {
+        name: name_of(matches, "NAME").ok_or(WordsFault::Usage)?,
+        block: number_of(matches, "BLOCK").ok_or(WordsFault::Usage)?,
+        count: number_of(matches, "COUNT").ok_or(WordsFault::Usage)?,
+    })
+}
+
+// Reads the name, exactly where the first word of this id is one.
+pub(crate) fn name_of(matches: &ArgMatches<'_>, id: &str) -> Option<Name>
+    ensures { (name : List ℕ) → (result ≡ Some name)
+        ↔ HasNameWord (rows_of (found_of matches.now)) id.now name }
+{
+    Name::new(matches.get_str(id)?.as_bytes())
 }
 
 // Reads the method, exactly where the first word of this id is its own.

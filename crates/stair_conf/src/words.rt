@@ -2,21 +2,23 @@ ghost use Rattle.std.specs.Prelude.{◌≡◌, ◌≢◌, ◌<◌, false, true, 
 ghost use Rattle.stair_conf.specs.Commands.{HasNoOption};
 ghost use Rattle.stair_conf.specs.Words.{Spells, IsCommandLine};
 ghost use Rattle.stair_conf.specs.declared.job.Job.{Job};
-ghost use Rattle.stair_conf.specs.declared.job.Job.TheVariants.{Guard, OneStripe};
+ghost use Rattle.stair_conf.specs.declared.job.Job.TheVariants.{Guard, OneStripe, Plan};
 
 use crate::commands::{read_counted, read_geometry, read_label, read_slot, read_stripe};
 use crate::matches::{Counted, GeometryNumbers};
+use crate::volumes::read_volume;
 use crate::{Job, StripeCommand, WordsFault};
 use std::alloc::Global;
 
-/// Reads the words of a command: `check N M R E..`, `stripe METHOD N M R E..` or `restore N M R E..`, with at least one E,
-/// `read BLOCK COUNT`, `write BLOCK COUNT`, `replace SLOT`, `label TEXT`, `exercise NUMBER COUNT` or `guard EVENTS FENCES`, or
-/// `create`, `show`, `scrub`, `rebuild`, `freeze`, `thaw`, `run`, `report` or `serve` alone.
+/// Reads the words of a command: `check N M R E..`, `stripe METHOD N M R E..`, `restore N M R E..` or `plan N M R E..`, with at
+/// least one E, `read BLOCK COUNT`, `write BLOCK COUNT`, `replace SLOT`, `label TEXT`, `exercise NUMBER COUNT`,
+/// `guard EVENTS FENCES`, `vmake NAME BLOCKS`, `vdrop NAME`, `vread NAME BLOCK COUNT` or `vwrite NAME BLOCK COUNT`, or `create`,
+/// `show`, `scrub`, `rebuild`, `freeze`, `thaw`, `run`, `report`, `serve`, `vinit` or `vlist` alone.
 ///
 /// METHOD is `standard`, `up`, `down` or `fewest`. A number is decimal digits with no sign and no leading zero, below 2^64.
-/// EVENTS and FENCES are at least 1. TEXT is 1 to 64 bytes of printable ASCII, the first of which isn't a hyphen. All other words
-/// are `Usage`, unless memory runs out before that is known. Memory is taken only where a command's word comes first and no word
-/// begins with a hyphen.
+/// EVENTS, FENCES and BLOCKS are at least 1. TEXT is 1 to 64 bytes of printable ASCII, the first of which isn't a hyphen, and NAME
+/// is the text of a [`crate::Name`]. All other words are `Usage`, unless memory runs out before that is known. Memory is taken only
+/// where a command's word comes first and no word begins with a hyphen.
 pub fn read_words(alloc: Global, words: &[String]) -> Result<Job, WordsFault>
     ensures ok { IfOk result (λ job. Spells (map string_bytes words.now) job) }
     ensures usage { result ≡ Err WordsFault.Usage
@@ -70,7 +72,8 @@ pub fn read_words(alloc: Global, words: &[String]) -> Result<Job, WordsFault>
         "guard" => limits(read_counted(alloc, words)?),
         "report" => alone(words, Job::Report),
         "serve" => alone(words, Job::Serve),
-        _ => Err(WordsFault::Usage),
+        "plan" => Ok(plan(read_geometry(alloc, words)?)),
+        _ => Ok(Job::Volume(read_volume(alloc, words)?)),
     }
 }
 
@@ -86,6 +89,14 @@ fn one_stripe(command: StripeCommand, numbers: GeometryNumbers) -> Job
         r,
         e,
     }
+}
+
+// The job of a geometry's costs.
+fn plan(numbers: GeometryNumbers) -> Job
+    ensures { result ≡ Plan numbers.n numbers.m numbers.r numbers.e }
+{
+    let GeometryNumbers { n, m, r, e } = numbers;
+    Job::Plan { n, m, r, e }
 }
 
 // The job of a watcher's limits, where each is at least 1.
@@ -107,7 +118,7 @@ fn limits(counted: Counted) -> Result<Job, WordsFault>
 }
 
 // The job of a command that has no values, where its word stands alone.
-fn alone(words: &[String], job: Job) -> Result<Job, WordsFault>
+pub(crate) fn alone<J: Drop>(words: &[String], job: J) -> Result<J, WordsFault>
     ensures ok { IfOk result (λ read. (read ≡ job) × (length words.now ≡ 1)) }
     ensures usage { result ≡ Err WordsFault.Usage → length words.now ≢ 1 }
     ensures memory { result ≢ Err WordsFault.Memory }

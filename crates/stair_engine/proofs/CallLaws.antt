@@ -1,5 +1,5 @@
 -- What follows from a call that means what its words say, whatever they are.
-use Rattle.std.proofs.Common.{◌≡◌, ◌≢◌, ◌↔◌, ℕ, List, inl, inr, Option, None, Some, IfSome, IsTrue, Result, Ok, Err, false, true, refl, subst}
+use Rattle.std.proofs.Common.{◌≡◌, ◌≢◌, ◌↔◌, ℕ, List, inl, inr, Option, None, Some, IfSome, IsTrue, Result, Ok, Err, false, true, refl, subst, ap}
 use Rattle.std.specs.Prelude.{IsErr}
 use Rattle.stair_model.specs.Geometry.{Geometry}
 use Rattle.stair_rack.specs.Answers.{Ran}
@@ -16,7 +16,7 @@ use Rattle.stair_conf.specs.Words.{IsSpelled, Spells}
 use Rattle.stair_conf.specs.declared.fault.ConfigFault.{ConfigFault}
 use Rattle.stair_conf.proofs.WordsLemmas.{spells_once}
 use Rattle.stair_conf.specs.declared.job.Job.{Job}
-use Rattle.stair_conf.specs.declared.job.Job.TheVariants.{OneStripe, Create, Report, Show}
+use Rattle.stair_conf.specs.declared.job.Job.TheVariants.{OneStripe, Create, Plan, Report, Show}
 use Rattle.stair_story.specs.Action.{status_of_create}
 use Rattle.stair_story.specs.Action as action
 use Rattle.stair_story.specs.Story.{Did}
@@ -25,7 +25,7 @@ use Rattle.stair_story.specs.Fault.{status_of_config}
 use Rattle.stair_engine.specs.Laws.{AllIsKept, ArrayIsLeft, ArrayIsMade, ArraysAreSpared, MemoryComesFirst, RackIsLeft, ShowOnlyLooks, SourceIsLeft, UsageIsExact}
 use Rattle.stair_engine.specs.Create.{IsOnceMade, MakesArray, SparesArrays}
 use Rattle.stair_story.specs.Outside.{Outside, Views, outside}
-use Rattle.stair_engine.specs.Plans.{create_plan, job_plan, making_plan, plan_of, show_plan}
+use Rattle.stair_engine.specs.Plans.{costs_plan, create_plan, job_plan, making_plan, plan_of, show_plan, within_limits}
 use Rattle.stair_story.specs.Plan.{Over}
 use Rattle.stair_story.specs.Rack.{MeansOver, RackView, Works, told_of}
 use Rattle.stair_engine.specs.Task.{one_stripe}
@@ -103,6 +103,15 @@ module _ {R S K : Type 0} (rack : RackView R) (view : Views S K) (a : Outside S 
       λ bytes s few gives. (refl, tt),
     );
   }) a
+  left_all (Plan n m r e) other = λ reply k is same. costs_left (one_stripe n m r e) reply k same
+    where
+      costs_left : (g : Geometry) (reply : Option ℕ) (k : ℕ) → k ≡ a.counter
+          → AllEnd (Works rack) view Left (within_limits (costs_plan g) reply) (outside a.source a.sink k) x
+      costs_left g None k same = (
+        λ costs n is again. (λ sink holds. (refl, tt), λ part sink is holds. (refl, tt)),
+        (refl, ap (λ (c : ℕ). outside a.source a.sink c) same),
+      )
+      costs_left g (Some limit) k same = (refl, ap (λ (c : ℕ). outside a.source a.sink c) same)
   left_all _ other = absurd (other tt)
 
   -- the source and the counter are left, and the source can't fail the call
@@ -223,12 +232,14 @@ none_opened words of spells not = only OpensArray words of spells not
 opens_calls : (job : Job) → OpensArray job → MakesCalls job
 opens_calls (OneStripe command n m r e) opens = absurd opens
 opens_calls Report opens = absurd opens
+opens_calls (Plan n m r e) opens = absurd opens
 opens_calls _ opens = tt
 
 opens_writes : (job : Job) → OpensArray job → MayWrite job
 opens_writes (OneStripe command n m r e) opens = absurd opens
 opens_writes Show opens = absurd opens
 opens_writes Report opens = absurd opens
+opens_writes (Plan n m r e) opens = absurd opens
 opens_writes _ opens = tt
 
 pub rack_is_left : (R W S K : Type 0) → RackIsLeft R W S K

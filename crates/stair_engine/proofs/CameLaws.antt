@@ -19,14 +19,15 @@ use Rattle.stair_story.specs.Action.{Outcome, Survey, status_of_survey}
 use Rattle.stair_story.specs.Plan.{Plan, Over, Ask, Put, Allocate, take_step, unless_refused, if_so}
 use Rattle.stair_story.specs.Question.{IsReply, Words}
 use Rattle.stair_story.specs.Refused.{status_of_refusal}
-use Rattle.stair_story.specs.Story.{Deed, Found, Took, TookLast, TakeFailed, HasPut, PutFailed, Grew, RanOut, Did, Stepped, Leads, Moves, after}
+use Rattle.stair_story.specs.Story.{Deed, Found, Took, TookLast, TakeFailed, HasPut, PutFailed, Grew, RanOut, Did, Stepped, Leads, Moves, after, taken_in}
 use Rattle.stair_story.specs.declared.status.Status.{Status}
 use Rattle.stair_story.specs.declared.status.Status.TheVariants.{Done, Input, InputFault, OutOfMemory, OutputFault}
 use Rattle.stair_story.proofs.EndLaws.{no_move}
 use Rattle.stair_story.proofs.EndingLaws.{ends_so}
-use Rattle.stair_engine.specs.Blocks.{if_in_range, is_in_range, part_of, whole_of, within_range, write_plan, writes, wrote, wrote_line}
+use Rattle.stair_engine.specs.Blocks.{if_in_range, is_in_range, part_of, whole_of, within_range, write_plan, writes}
+use Rattle.stair_story.specs.Transfers.{wrote, wrote_line}
 use Rattle.stair_story.specs.Pieces.{piece_blocks}
-use Rattle.stair_engine.specs.Came.{AreWritten, IsUnrefused, taken_in}
+use Rattle.stair_engine.specs.Came.{AreWritten, IsUnrefused}
 use Rattle.stair_engine.specs.Laws.{WholeBlocksStand}
 use Rattle.stair_engine.specs.Plans.{if_spelled, job_plan, plan_of}
 use Rattle.stair_engine.proofs.TurnLaws.{all_within, blocks_count, few_whole, part_long, part_short, some_whole, whole_long}

@@ -23,7 +23,7 @@ use Rattle.stair_array.specs.Machine.{PassesTests, SetFrozen, SetLabel, Step, Wr
 use Rattle.stair_conf.specs.Config.{TextReadsAs}
 use Rattle.stair_conf.specs.declared.fault.ConfigFault.{ConfigFault}
 use Rattle.stair_conf.specs.declared.job.Job.{Job}
-use Rattle.stair_conf.specs.declared.job.Job.TheVariants.{OneStripe, Create, Exercise, Freeze, Guard, Label, Read, Rebuild, Replace, Report, Run, Scrub, Serve, Show, Thaw, Write}
+use Rattle.stair_conf.specs.declared.job.Job.TheVariants.{OneStripe, Create, Exercise, Freeze, Guard, Label, Read, Rebuild, Plan, Replace, Report, Run, Scrub, Serve, Show, Thaw, Volume, Write}
 use Rattle.stair_conf.specs.declared.job.StripeCommand.{StripeCommand}
 use Rattle.stair_conf.specs.declared.job.StripeCommand.TheVariants.{Check, Encode, Restore}
 use Rattle.stair_conf.specs.Words.{Spells}
@@ -45,7 +45,8 @@ use Rattle.stair_engine.specs.Task.{one_stripe}
 use Rattle.stair_story.specs.declared.status.Status.{Status}
 use Rattle.stair_story.specs.declared.status.Status.TheVariants.{Done, NotCodeword, NoCodeword, Limit, Input, InputFault, OutputFault, Lost, OutOfMemory}
 use Rattle.stair_engine.proofs.MeaningLaws.{told_more, words_are_done}
-use Rattle.stair_engine.specs.Blocks.{IsInRange, if_in_range, part_of, read_plan, reads, whole_of, within_range, write_plan, writes, wrote}
+use Rattle.stair_engine.specs.Blocks.{IsInRange, if_in_range, part_of, read_plan, whole_of, within_range, write_plan, writes}
+use Rattle.stair_story.specs.Transfers.{reads, wrote}
 use Rattle.stair_story.specs.Pieces.{piece_blocks}
 use Rattle.stair_engine.specs.Jobs.{MayAdmit, IsScripted}
 use Rattle.stair_engine.specs.Mending.{if_live, if_slot, rebuild_plan, rebuilt_line, replace_plan, replaces, scrub_plan, scrubs, stamps}
@@ -55,7 +56,7 @@ use Rattle.stair_super.specs.declared.mark.Mark.{Mark}
 use Rattle.stair_super.specs.declared.mark.Mark.TheVariants.{Down, Live, Rebuilding}
 use Rattle.stair_story.specs.Devices.{DeviceView, MeansWhole, devices as at}
 use Rattle.stair_story.specs.Ending.{AdmitsNone, AdmitsOnce, AllowsAtMost, EachStep, MakesNoCall}
-use Rattle.stair_story.specs.Plan.{Plan, Over, Ask, Put, RebuildAll, Take, take_step, if_so}
+use Rattle.stair_story.specs.Plan.{Plan as Plans, Over, Ask, Put, RebuildAll, Take, take_step, if_so}
 use Rattle.stair_engine.proofs.CallLaws.{none_opened, stepless}
 use Rattle.stair_engine.proofs.JobLaws.{job_admits_none, job_allowed, words_tell}
 use Rattle.stair_engine.proofs.RangeLaws.{in_range_is}
@@ -66,7 +67,11 @@ use Rattle.stair_story.specs.Question.{IsReply, Words}
 use Rattle.stair_story.specs.Sure.{EachCanReplace, HasNoFault, IsDone, IsSure, IsRebuiltFrom, Last, More, ServesAlong, ServesThroughout, most_allowed}
 use Rattle.stair_story.specs.Run.{history_of}
 use Rattle.stair_story.proofs.PlannedLaws.{EachStepOf, steps_of}
+use Rattle.stair_story.specs.Served.{EndsServed}
 use Rattle.stair_story.proofs.PlannedSureLaws.{none_replaced, none_replaced_in, planned_sure}
+use Rattle.stair_story.proofs.ServedLaws.{ends_as_served, planned_served}
+use Rattle.stair_engine.proofs.VolumesLaws.{costs_call_none, costs_sure, spelled_command, volumes_end}
+use Rattle.stair_volume.specs.Ends.{MayEnd}
 use Rattle.stair_story.proofs.SureDeviceLaws.{devices_replace}
 use Rattle.stair_engine.proofs.MendLaws.{replaces_once}
 use Rattle.stair_engine.proofs.OpenLaws.{opening_once}
@@ -216,7 +221,7 @@ reads_sure g first (suc count) s left within = (
 )
 
 -- what is in range isn't refused for its range
-within_sure : (g : Geometry) (first count : ℕ) (plan : Plan) (s : State) (left : Option (List ℕ)) → IsInRange g first count
+within_sure : (g : Geometry) (first count : ℕ) (plan : Plans) (s : State) (left : Option (List ℕ)) → IsInRange g first count
     → IsSure [] plan s left → IsSure [] (within_range g first count plan) s left
 within_sure g first count plan s left within sure =
     subst (λ (is : Bool). IsSure [] (if_in_range g first is plan) s left) (sym (in_range_is g first count within)) sure
@@ -439,7 +444,7 @@ module _ {R W S K : Type 0} (returning : Returning) (devices : DeviceView R W) (
 -- ---- scripts
 
 -- the plan without a guard is sure, and allows as many draws
-unguarded_so : (IsSo : Plan → Type 0) (words : List (List ℕ)) (events fences : ℕ) → Spells words (Guard events fences) → IsSo run_plan
+unguarded_so : (IsSo : Plans → Type 0) (words : List (List ℕ)) (events fences : ℕ) → Spells words (Guard events fences) → IsSo run_plan
     → (reply : Option Job) → IsReply (Words words) reply → IsSo (unguarded reply)
 unguarded_so IsSo words events fences spells so None not = absurd (not (Guard events fences, spells))
 unguarded_so IsSo words events fences spells so (Some job) read =
@@ -487,6 +492,8 @@ module _ {R W S K : Type 0} (returning : Returning) (devices : DeviceView R W) (
   script_finished (Exercise number count) scripted spells status a b x y watchers left whole none s input script is serves can told = absurd scripted
   script_finished Report scripted spells status a b x y watchers left whole none s input script is serves can told = absurd scripted
   script_finished Serve scripted spells status a b x y watchers left whole none s input script is serves can told = absurd scripted
+  script_finished (Volume of) scripted spells status a b x y watchers left whole none s input script is serves can told = absurd scripted
+  script_finished (Plan n m r e) scripted spells status a b x y watchers left whole none s input script is serves can told = absurd scripted
 
 -- a state of some array, for what depends on none
 any_state : State
@@ -567,6 +574,22 @@ all_is_complete_wherever R W S K returning devices view words Report status a b 
 all_is_complete_wherever R W S K returning devices view words Serve status a b x y watchers left spells whole none can =
     let is = can.2 in
     serve_done returning devices view words spells status a b x y watchers left whole none is.0 is.1 can.0 can.1 is.2
+all_is_complete_wherever R W S K returning devices view words (Volume of) status a b x y watchers left spells whole none can =
+    let s = can.0 in
+    let served =
+    planned_served devices view returning (plan_of words) status s a b x y watchers left whole
+    (spelled_so (AllowsAtMost most_allowed) words (Volume of) spells (job_allowed (Volume of))) can.1
+    (none_replaced devices view (plan_of words) (Over status) s.geometry a b (at x Begun watchers) (at y whole.session left) whole.with
+    (spelled_so (EachStep AdmitsNone) words (Volume of) spells (job_admits_none (Volume of) (λ no. no)))) in
+    ends_as_served view (MayEnd of) devices (plan_of words) status s a b x y watchers left whole served none
+    (spelled_so (λ plan. EndsServed (MayEnd of) plan (without_seats s)) words (Volume of) spells
+    (volumes_end of (without_seats s) (spelled_command words of spells)
+    (served_limits returning devices view words (Volume of) spells status a b x y watchers left whole none s can.1)))
+all_is_complete_wherever R W S K returning devices view words (Plan n m r e) status a b x y watchers left spells whole none can =
+    callless_done view (plan_of words) status a b whole.with.means
+    (spelled_so MakesNoCall words (Plan n m r e) spells (costs_call_none (one_stripe n m r e))) none any_state
+    (spelled_so (λ plan. IsSure [] plan any_state (view.source.left a.source)) words (Plan n m r e) spells
+    (costs_sure (one_stripe n m r e) any_state (view.source.left a.source) can))
 
 -- what serves throughout serves along the story
 can_along : {R : Type 0} (returning : Returning) (Serves Also : State → Type 0) (rack : RackView R) (of : Job) (told : Option (List ℕ)) (x y : R)
@@ -588,6 +611,8 @@ can_along returning Serves Also rack Run told x y also can = (can.0, can.1, (can
 can_along returning Serves Also rack (Guard events fences) told x y also can = (can.0, can.1, (can.2.0, also can.2.0 can.2.1, can.2.2))
 can_along returning Serves Also rack Report told x y also can = can
 can_along returning Serves Also rack Serve told x y also can = (can.0, can.1, (can.2.0, also can.2.0 can.2.1, can.2.2))
+can_along returning Serves Also rack (Volume of) told x y also can = (can.0, also can.0 can.1)
+can_along returning Serves Also rack (Plan n m r e) told x y also can = can
 
 pub all_is_complete : (R W S K : Type 0) → AllIsComplete R W S K
 all_is_complete R W S K devices view words of status a b x y watchers left spells whole none can =

@@ -1,20 +1,17 @@
 -- The steps of `exercise` are sure: each is of a stripe or a block that there is.
 use Rattle.std.proofs.Common.{◌≡◌, ◌∙◌, ◌==◌, ◌+◌, ◌%◌, ◌<◌, ◌≤◌, ℕ, zero, suc, Bool, false, nat_lt, List, [], Option, ap, arith, refl, subst, sym}
 use Rattle.std.proofs.lemmas.Bool.{lt-ltb}
-use Rattle.std.proofs.lemmas.Nat.{mul-lt}
-use Rattle.stair_model.specs.Geometry.{Geometry, IsWithinLimits, block_count, data_cells}
+use Rattle.stair_model.specs.Geometry.{Geometry, IsWithinLimits, block_count}
 use Rattle.stair_state.specs.State.{Content, State}
 use Rattle.stair_story.specs.Plan.{Plan}
 use Rattle.stair_story.specs.Sure.{IsSure}
+use Rattle.stair_story.proofs.PieceLaws.{some_blocks}
 use Rattle.stair_engine.specs.declared.exercise.Exercised.{Exercised}
 use Rattle.stair_engine.specs.Complete.{IsThawed}
 use Rattle.stair_engine.specs.Exercise.{choice_of, exercise_plan, exercise_steps, exercises, if_few, kind_of, most_steps, next_number, none_exercised, step_one}
 use Rattle.stair_engine.proofs.OpenLaws.{left_so}
 use Rattle.stair_engine.proofs.ExercisedLaws.{tells_steps}
 use Rattle.stair_engine.proofs.SureLaws.{one_block, opens_sure, still_thawed}
-
-some_blocks : (g : Geometry) → IsWithinLimits g → 0 < block_count g
-some_blocks g limits = mul-lt 0 0 (data_cells g) g.stripes (omega (arith, limits.blocks)) (omega (arith, limits.size.0))
 
 module _ (g : Geometry) (limits : IsWithinLimits g) (left : Option (List ℕ)) where
   -- what is sure in each state of the array in which it isn't frozen

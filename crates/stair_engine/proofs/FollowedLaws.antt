@@ -15,7 +15,7 @@ use Rattle.stair_conf.specs.Words.{Spells}
 use Rattle.stair_conf.specs.declared.job.Job.{Job}
 use Rattle.stair_conf.proofs.WordsLemmas.{spells_once}
 use Rattle.stair_story.specs.Action.{Outcome, Survey, status_of_survey}
-use Rattle.stair_story.specs.Plan.{Plan, Over, Ask, Put, Allocate, RebuildAll, after_rebuild, take_step, unless_refused}
+use Rattle.stair_story.specs.Plan.{Plan, Over, Ask, Put, Allocate, RebuildAll, after_rebuild, take_step, unless_refused, opens_array}
 use Rattle.stair_story.specs.Question.{IsReply, Question, Words}
 use Rattle.stair_story.specs.Refused.{status_of_refusal}
 use Rattle.stair_story.specs.Sound.{HasDeed, IsScrubOf}
@@ -24,7 +24,6 @@ use Rattle.stair_story.specs.declared.status.Status.{Status}
 use Rattle.stair_story.specs.declared.status.Status.TheVariants.{Done, Gone, OutOfMemory, OutOfRange, OutputFault}
 use Rattle.stair_story.proofs.EndLaws.{no_move}
 use Rattle.stair_story.proofs.EndingLaws.{ends_so}
-use Rattle.stair_engine.specs.Blocks.{opens_array}
 use Rattle.stair_engine.specs.Mending.{if_live, if_slot, replaced_line, replaces, scrubbed_line, scrubs}
 use Rattle.stair_engine.specs.Plans.{if_spelled, job_plan, plan_of}
 use Rattle.stair_engine.proofs.DoneLaws.{AreDone, done_join}

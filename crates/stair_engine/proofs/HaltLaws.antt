@@ -19,7 +19,7 @@ use Rattle.stair_script.specs.declared.line.Line.TheVariants.{Blank, Read, Write
 use Rattle.stair_story.specs.Action.{Create, OkOf, Outcome, RefusalOf, Survey, refused, status_of_survey}
 use Rattle.stair_story.specs.Devices.{DeviceView, Devices, WorksAll, some_left}
 use Rattle.stair_story.specs.Plan.{Plan, Over, Ask, Take, Put, Allocate, Do, Try, RebuildAll, if_so, watch_step}
-use Rattle.stair_story.specs.Question.{IsReply, Judgement, Limits, EventLine, Question, Reply, ScriptLine, Text, Words}
+use Rattle.stair_story.specs.Question.{Costs, IsReply, Judgement, Limits, EventLine, Question, Reply, ScriptLine, Text, Words}
 use Rattle.stair_story.specs.Refused.{status_of_refusal}
 use Rattle.stair_story.specs.Story.{Deed, Did, Found, Grew, HasPut, Leads, Moves, PutFailed, RanOut, Stepped, TakeFailed, Took, TookLast, after, events_of_story}
 use Rattle.stair_story.specs.Texts.{SCRIPT_LIMIT, ends_line}
@@ -113,6 +113,7 @@ found_number (Limits g) number story = refl
 found_number (Text text) number story = refl
 found_number (Judgement command g input) number story = refl
 found_number (EventLine line) number story = refl
+found_number (Costs g) number story = refl
 
 no_halt_input : IsNoHalt InputFault
 no_halt_input number is = cc
@@ -409,6 +410,8 @@ module _ {R W : Type 0} (view : DeviceView R W) where
   as_many (Found (Judgement command g input) ∷ story) number x y works none =
       omega (arith, as_many story number works.0 y works.2 none, ap (λ (d : Devices R W). length d.watchers) works.1)
   as_many (Found (EventLine line) ∷ story) number x y works none =
+      omega (arith, as_many story number works.0 y works.2 none, ap (λ (d : Devices R W). length d.watchers) works.1)
+  as_many (Found (Costs g) ∷ story) number x y works none =
       omega (arith, as_many story number works.0 y works.2 none, ap (λ (d : Devices R W). length d.watchers) works.1)
   as_many (Did (Create g) outcome ∷ story) number x y works none =
       omega (arith, as_many story number works.0 y works.2 none, ap length works.1.3)

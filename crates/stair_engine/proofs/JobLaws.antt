@@ -22,7 +22,7 @@ use Rattle.stair_story.specs.Ending.{AdmitsNone, AllowsAtMost, AsksFirst, AsksFo
 use Rattle.stair_story.specs.Fault.{status_of_config}
 use Rattle.stair_story.specs.Means.{Means}
 use Rattle.stair_story.specs.Outside.{Outside, Views}
-use Rattle.stair_story.specs.Plan.{Plan, Over, answer}
+use Rattle.stair_story.specs.Plan.{Plan, Over, answer, opens_array, watches_array}
 use Rattle.stair_story.specs.Sure.{most_allowed}
 use Rattle.stair_story.proofs.DeviceLaws.{ActsOnce, calls_once, once_no_step}
 use Rattle.stair_story.proofs.EndingLaws.{nothing_put, tells_faults, weaker}
@@ -35,13 +35,14 @@ use Rattle.stair_engine.proofs.ClientLaws.{client_admits_none, client_allowed, c
 use Rattle.stair_engine.proofs.ReportLaws.{report_calls_none, report_first, report_last, report_own}
 use Rattle.stair_engine.proofs.MendLaws.{done_own, replaces_allowed, replaces_last, replaces_none, replaces_own, replaces_untaken, scrubs_admit_none, scrubs_allowed, scrubs_last, scrubs_none, scrubs_own, scrubs_untaken}
 use Rattle.stair_engine.proofs.OpenLaws.{IsOfJob, opening_admits_none, opening_allowed, read_admits_none, read_allowed, read_none, read_own, read_untaken, refusal_own, unless_so, write_admits_none, write_allowed, write_last, write_none, write_own}
-use Rattle.stair_engine.specs.Blocks.{opens_array, watches_array}
 use Rattle.stair_engine.specs.Exercise.{exercise_steps}
 use Rattle.stair_engine.specs.Mending.{scrubs, stamps}
 use Rattle.stair_engine.specs.Jobs.{MayAdmit, MayWrite, NotSpelled, OpensArray, PutsOnTheWay, TakesInput}
 use Rattle.stair_engine.proofs.StripeLaws.{stripe_calls_none}
-use Rattle.stair_engine.specs.Plans.{create_plan, job_plan, making_plan, plan_of, show_plan, stripe_plan, tested_plan, within_limits}
+use Rattle.stair_engine.specs.Plans.{create_plan, job_plan, making_plan, plan_of, planning_plan, show_plan, stripe_plan, tested_plan, within_limits}
 use Rattle.stair_engine.specs.Task.{one_stripe}
+use Rattle.stair_engine.proofs.VolumesLaws.{costs_call_none, costs_first, costs_last, costs_own, costs_untaken, volume_admits_none, volume_allowed, volume_last, volume_none, volume_own, volume_untaken}
+use Rattle.stair_volume.specs.Commands.{volume_plan}
 
 -- ---- no plan ends by itself with a fault, and none of a job with Usage
 
@@ -113,6 +114,8 @@ job_own (job.Exercise number count) = opens_own (exercise_steps number count) (e
 job_own (job.Guard events fences) = watches_own _ (script_own true)
 job_own job.Report = report_own
 job_own job.Serve = opens_own client_plan client_own
+job_own (job.Volume of) = opens_own (volume_plan of) (volume_own of)
+job_own (job.Plan n m r e) = costs_own (one_stripe n m r e)
 
 -- ---- what is put out is put out last
 
@@ -151,6 +154,8 @@ job_last (job.Exercise number count) other = opens_last (exercise_steps number c
 job_last (job.Guard events fences) other = absurd (other tt)
 job_last job.Report other = report_last
 job_last job.Serve other = absurd (other tt)
+job_last (job.Volume of) other = opens_last (volume_plan of) (λ g. volume_last of g other)
+job_last (job.Plan n m r e) other = costs_last (one_stripe n m r e)
 
 -- ---- memory is asked for before anything is done to an array, or before it is written
 
@@ -171,6 +176,7 @@ job_first (job.OneStripe command n m r e) other = λ reply is. stripe_first comm
 job_first job.Create other = (λ more. tt, λ text reply is. making_first reply)
 job_first job.Show other = (λ member is. cc, λ fault. (survey_own fault).1)
 job_first job.Report other = report_first
+job_first (job.Plan n m r e) other = costs_first (one_stripe n m r e)
 job_first _ other = absurd (other tt)
 
 pub words_first : (words : List (List ℕ)) → NotSpelled OpensArray words → AsksFirst (plan_of words)
@@ -200,6 +206,8 @@ job_unwritten job.Run = watches_none _ (script_none false)
 job_unwritten (job.Exercise number count) = opens_none (exercise_steps number count) (exercise_none number count)
 job_unwritten (job.Guard events fences) = watches_none _ (script_none true)
 job_unwritten job.Serve = opens_none client_plan client_none
+job_unwritten (job.Volume of) = opens_none (volume_plan of) (volume_none of)
+job_unwritten (job.Plan n m r e) = first_unwritten (job_plan (job.Plan n m r e)) (job_first (job.Plan n m r e) (λ no. no))
 job_unwritten job.Report = first_unwritten report_plan (job_first job.Report (λ no. no))
 job_unwritten (job.OneStripe command n m r e) = first_unwritten (job_plan (job.OneStripe command n m r e)) (job_first (job.OneStripe command n m r e) (λ no. no))
 job_unwritten job.Create = first_unwritten create_plan (job_first job.Create (λ no. no))
@@ -222,6 +230,9 @@ job_once (job.OneStripe command n m r e) other =
 job_once job.Create other = (λ more. tt, λ text reply is. making_once reply)
 job_once job.Show other = λ member. tt
 job_once job.Report other = calls_once report_plan report_calls_none
+job_once (job.Plan n m r e) other =
+    let of = one_stripe n m r e in
+    calls_once (planning_plan of) (costs_call_none of)
 job_once _ other = absurd (other tt)
 
 -- where no array is opened no step is taken
@@ -241,6 +252,9 @@ job_admits_none job.Create other = none_each AdmitsNone create_plan (job_no_step
 job_admits_none job.Show other = none_each AdmitsNone show_plan (job_no_step job.Show (λ no. no))
 job_admits_none job.Report other = none_each AdmitsNone report_plan (job_no_step job.Report (λ no. no))
 job_admits_none job.Serve other = λ member. opening_admits_none member.array.geometry.n client_plan client_admits_none
+job_admits_none (job.Volume of) other = λ member. opening_admits_none member.array.geometry.n (volume_plan of) (volume_admits_none of)
+job_admits_none (job.Plan n m r e) other =
+    none_each AdmitsNone (job_plan (job.Plan n m r e)) (job_no_step (job.Plan n m r e) (λ no. no))
 job_admits_none (job.Read first count) other = λ member. opening_admits_none member.array.geometry.n _ (read_admits_none first count)
 job_admits_none (job.Write first count) other = λ member. opening_admits_none member.array.geometry.n _ (write_admits_none first count)
 job_admits_none job.Scrub other = λ member. opening_admits_none member.array.geometry.n _ (λ g. scrubs_admit_none g 0 g.stripes 0)
@@ -268,6 +282,9 @@ job_allowed job.Create = none_allows most_allowed create_plan (job_no_step job.C
 job_allowed job.Show = none_allows most_allowed show_plan (job_no_step job.Show (λ no. no))
 job_allowed job.Report = none_allows most_allowed report_plan (job_no_step job.Report (λ no. no))
 job_allowed job.Serve = λ member. opening_allowed member.array.geometry.n client_plan (client_allowed 3)
+job_allowed (job.Volume of) = λ member. opening_allowed member.array.geometry.n (volume_plan of) (volume_allowed of 3)
+job_allowed (job.Plan n m r e) =
+    none_allows most_allowed (job_plan (job.Plan n m r e)) (job_no_step (job.Plan n m r e) (λ no. no))
 job_allowed (job.Read first count) = λ member. opening_allowed member.array.geometry.n _ (read_allowed 3 first count)
 job_allowed (job.Write first count) = λ member. opening_allowed member.array.geometry.n _ (write_allowed 3 first count)
 job_allowed job.Scrub = λ member. opening_allowed member.array.geometry.n _ (λ g. scrubs_allowed 3 g 0 g.stripes 0)
@@ -302,6 +319,8 @@ job_untaken job.Freeze other = stamps_untaken (SetFrozen true) _
 job_untaken job.Thaw other = stamps_untaken (SetFrozen false) _
 job_untaken (job.Label text) other = stamps_untaken (SetLabel text) _
 job_untaken (job.Exercise number count) other = opens_untaken (exercise_steps number count) (exercise_untaken number count)
+job_untaken (job.Volume of) other = opens_untaken (volume_plan of) (λ g. volume_untaken of g other)
+job_untaken (job.Plan n m r e) other = costs_untaken (one_stripe n m r e)
 job_untaken _ other = absurd (other tt)
 
 pub words_untaken : (words : List (List ℕ)) → NotSpelled TakesInput words → TakesNothing (plan_of words)
@@ -316,6 +335,9 @@ job_looks (job.OneStripe command n m r e) other =
     calls_look (tested_plan command of) (stripe_calls_none command of)
 job_looks job.Show other = λ member. tt
 job_looks job.Report other = calls_look report_plan report_calls_none
+job_looks (job.Plan n m r e) other =
+    let of = one_stripe n m r e in
+    calls_look (planning_plan of) (costs_call_none of)
 job_looks _ other = absurd (other tt)
 
 -- ---- so of every call

@@ -44,3 +44,7 @@ mod ReportLaws
 mod ClientLaws
 mod ServeLaws
 mod HaltLaws
+mod MadeLaws
+mod CostsLaws
+pub mod VolumesLaws
+pub mod ChangedLaws

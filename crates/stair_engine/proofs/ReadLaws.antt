@@ -18,7 +18,7 @@ use Rattle.stair_story.specs.declared.status.Status.TheVariants.{Done, OutputFau
 use Rattle.stair_story.proofs.DeviceLaws.{with_none, with_part, with_put, with_refusal, with_step, with_then}
 use Rattle.stair_story.proofs.TakenLaws.{taken_geometry}
 use Rattle.stair_watch.specs.WatcherList.{AllStay}
-use Rattle.stair_engine.specs.Blocks.{reads}
+use Rattle.stair_story.specs.Transfers.{reads}
 
 -- an answer that isn't refused
 pub not_refused : {E : Type 0} (result : Result (Unit {0}) E) → ((fault : E) → result ≡ Err fault → ⊥) → result ≡ Ok tt

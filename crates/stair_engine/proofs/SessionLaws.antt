@@ -16,7 +16,7 @@ use Rattle.stair_story.specs.Devices.{DeviceView, MeansWhole, MeansWith, devices
 use Rattle.stair_story.specs.Fault.{status_of, status_of_fault}
 use Rattle.stair_story.specs.Means.{Means}
 use Rattle.stair_story.specs.Outside.{Outside, Views, outside}
-use Rattle.stair_story.specs.Plan.{Plan, Over, Put, Allocate, watch_step}
+use Rattle.stair_story.specs.Plan.{Plan, Over, Put, Allocate, watch_step, opens_array, watches_array}
 use Rattle.stair_story.specs.Rack.{told_of}
 use Rattle.stair_story.specs.Refused.{status_of_refusal}
 use Rattle.stair_story.specs.Steps.{Takes}
@@ -28,7 +28,7 @@ use Rattle.stair_story.specs.declared.status.Status.TheVariants.{Done, OutOfMemo
 use Rattle.stair_story.proofs.ComesLaws.{comes_by, comes_refused, comes_watched, comes_then, with_comes}
 use Rattle.stair_story.proofs.DeviceLaws.{with_still, with_then}
 use Rattle.stair_story.proofs.TakenLaws.{taken_geometry}
-use Rattle.stair_engine.specs.Blocks.{BeginsSession, EndsSession, IsPast, IsUnopened, if_in_range, is_in_range, opens_array, watches_array, within_range}
+use Rattle.stair_engine.specs.Blocks.{BeginsSession, EndsSession, IsPast, IsUnopened, if_in_range, is_in_range, within_range}
 use Rattle.std.specs.Prelude.{Bool, IfErr, IfOk, Result, true}
 
 -- why an array that was found isn't open

@@ -13,14 +13,13 @@ use Rattle.stair_state.specs.Tolerance.{ToleratedSince}
 use Rattle.stair_session.specs.Returning.{AnyReturns, IsCalm, NoneReturns, Returning}
 use Rattle.stair_array.specs.Machine.{IsDecided}
 use Rattle.stair_array.specs.Promise.{Begun, Session, is_open}
-use Rattle.stair_story.specs.Plan.{Plan, Allocate, Over}
+use Rattle.stair_story.specs.Plan.{Plan, Allocate, Over, opens_array}
 use Rattle.stair_story.specs.declared.status.Status.{Status}
 use Rattle.stair_story.specs.Devices.{DeviceView, Devices, WorksAll}
 use Rattle.stair_story.specs.Run.{history_of}
 use Rattle.stair_story.specs.Story.{Deed, Leads, Moves}
 use Rattle.stair_story.specs.Sure.{IsSure, ServesAlong}
 use Rattle.stair_story.proofs.RunLaws.{one_ran, works_ran}
-use Rattle.stair_engine.specs.Blocks.{opens_array}
 use Rattle.stair_engine.specs.Complete.{IsThawed}
 
 -- a session whose command is sure is sure

@@ -27,7 +27,8 @@ use Rattle.stair_story.proofs.DeviceLaws.{with_none, with_one, with_part, with_p
 use Rattle.stair_story.proofs.IntakeLaws.{are_all}
 use Rattle.stair_story.proofs.TakenLaws.{taken_geometry}
 use Rattle.stair_watch.specs.WatcherList.{AllStay}
-use Rattle.stair_engine.specs.Blocks.{part_of, whole_of, writes, wrote, wrote_line}
+use Rattle.stair_engine.specs.Blocks.{part_of, whole_of, writes}
+use Rattle.stair_story.specs.Transfers.{wrote, wrote_line}
 use Rattle.stair_story.specs.Pieces.{piece_blocks}
 use Rattle.stair_engine.specs.Piece.{Held, TakesPiece}
 use Rattle.stair_engine.proofs.TurnLaws.{all_within, few_whole, part_long, part_short, some_whole, whole_long}

@@ -1,34 +1,24 @@
 -- What `read` and `write` do: an array is opened, and blocks of it are put out, or taken and written.
-use Rattle.std.specs.Prelude.{◌≡◌, ◌+◌, ◌-◌, ◌*◌, ◌/◌, ◌<◌, ◌≤◌, ℕ, zero, suc, Bool, true, false, nat_le, nat_lt, List, [], ◌∷◌, ◌++◌, codes, length, take, drop, max, Some, Err}
-use Rattle.std.specs.Fmt.{decimal}
+use Rattle.std.specs.Prelude.{◌≡◌, ◌+◌, ◌-◌, ◌*◌, ◌/◌, ◌<◌, ◌≤◌, ℕ, zero, suc, Bool, false, nat_lt, List, [], ◌++◌, length, take, drop, max, Some, Err}
 use Rattle.stair_model.specs.Geometry.{Geometry, block_count}
 use Rattle.stair_model.specs.Stripe.{SECTOR}
 use Rattle.stair_member.specs.Membership.{Membership}
 use Rattle.stair_array.specs.Arrays.{blocks_of}
 use Rattle.stair_array.specs.Faults.{opening_refusal}
-use Rattle.stair_array.specs.Machine.{ReadBlock, Recover, Refusal, WriteBlocks}
+use Rattle.stair_array.specs.Machine.{Recover, Refusal, WriteBlocks}
 use Rattle.stair_session.specs.Session.{ArrayState}
 use Rattle.stair_array.specs.Promise.{Begun, Closed, Found, Opened, Session}
 use Rattle.stair_array.specs.declared.fault.RecoverFault.TheVariants as recover
 use Rattle.stair_story.specs.declared.fault.Fault.{Fault}
 use Rattle.stair_story.specs.declared.fault.Fault.TheVariants as fault
-use Rattle.stair_story.specs.declared.status.Status.TheVariants.{Done, Input, OutOfRange}
-use Rattle.stair_story.specs.Action.{Survey}
+use Rattle.stair_story.specs.declared.status.Status.TheVariants.{Input}
 use Rattle.stair_story.specs.Comes.{ComesTo}
 use Rattle.stair_story.specs.Fault.{status_of_fault}
 use Rattle.stair_story.specs.Devices.{DeviceView, devices, some_left}
 use Rattle.stair_story.specs.Pieces.{piece_blocks}
-use Rattle.stair_story.specs.Plan.{Plan, Over, Put, Allocate, Do, Take, if_so, take_exactly, take_step, watch_step}
+use Rattle.stair_story.specs.Plan.{Plan, Over, Take, if_so, opens_array, take_step, watches_array}
 use Rattle.stair_story.specs.Steps.{Takes}
-
--- A session: an array is looked for, memory is taken, and it is opened; the rest takes whether a watcher left by then.
-abbrev pub watches_array : (Geometry → Bool → Plan) → Plan
-watches_array k =
-    Do Survey (λ member. Allocate (watch_step member.array.geometry.n Recover k))
-
--- and to most it is all the same
-abbrev pub opens_array : (Geometry → Plan) → Plan
-opens_array k = watches_array (λ g left. k g)
+use Rattle.stair_story.specs.Transfers.{if_within, is_within, reads, wrote}
 
 -- Why an array that was found isn't opened: memory was short before any call was made, or its opening was refused.
 abbrev pub IsUnopened : {R W : Type 0} → DeviceView R W → Membership → Fault → R → R → List W → List W
@@ -62,12 +52,10 @@ abbrev pub IsInRange : Geometry → ℕ → ℕ → Type 0
 IsInRange g first count = 0 < count → first + count ≤ block_count g
 
 abbrev pub is_in_range : Geometry → ℕ → ℕ → Bool
-is_in_range g first zero = true
-is_in_range g first (suc count) = nat_le (first + suc count) (block_count g)
+is_in_range g first count = is_within (block_count g) first count
 
 abbrev pub if_in_range : Geometry → ℕ → Bool → Plan → Plan
-if_in_range g first true plan = plan
-if_in_range g first false plan = Over (OutOfRange (max first (block_count g)) (block_count g))
+if_in_range g first within plan = if_within (block_count g) first within plan
 
 -- what is asked for is in range, or the call ends
 abbrev pub within_range : Geometry → (first count : ℕ) → Plan → Plan
@@ -80,12 +68,6 @@ IsPast g first count refused = (is_in_range g first count ≡ false)
 
 -- READING
 
--- so many blocks from this one on, each put out before the next is read
-abbrev pub reads : Geometry → (first count : ℕ) → Plan
-reads g first zero = Over Done
-reads g first (suc count) =
-    take_step g.n (ReadBlock first) (λ bytes. Put bytes (reads g (first + 1) count))
-
 abbrev pub read_plan : (first count : ℕ) → Plan
 read_plan first count = opens_array (λ g. within_range g first count (reads g first count))
 
@@ -97,15 +79,6 @@ whole_of bytes = take (length bytes / SECTOR * SECTOR) bytes
 
 abbrev pub part_of : List ℕ → List ℕ
 part_of bytes = drop (length bytes / SECTOR * SECTOR) bytes
-
--- the line for so many blocks that were written
-abbrev pub wrote_line : ℕ → List ℕ
-wrote_line count = codes "wrote " ++ (decimal count ++ (codes " blocks" ++ 10 ∷ []))
-
--- behind the last of so many blocks one more byte is looked for
-abbrev pub wrote : ℕ → Plan
-wrote all = take_exactly 1 (λ more. Over (Input (SECTOR * all) (SECTOR * all + 1)))
-    (λ none. Put (wrote_line all) (Over Done))
 
 -- What is left of a write of `all` blocks from `first` on, of which so many are done, behind bytes that were taken and are less
 -- than a block. A piece has one whole block at least, and is within a stripe; its whole blocks are written as one step. So there

@@ -1,17 +1,9 @@
 -- What came of the input of a `write`, and which blocks stand.
 use Rattle.std.specs.Prelude.{◌≡◌, ◌+◌, ℕ, List, [], ◌∷◌, ◌++◌, length, Ok, ⊤}
 use Rattle.stair_array.specs.Machine.{WriteBlocks}
-use Rattle.stair_story.specs.Story.{Deed, Stepped, Took, TookLast, TakeFailed}
+use Rattle.stair_story.specs.Story.{Deed, Stepped}
 use Rattle.stair_story.specs.declared.status.Status.{Status}
 use Rattle.stair_story.specs.declared.status.Status.TheVariants.{Done, Input, InputFault, OutputFault}
-
--- the bytes that were taken over a story
-abbrev pub taken_in : List Deed → List ℕ
-taken_in [] = []
-taken_in (Took bytes ∷ story) = bytes ++ taken_in story
-taken_in (TookLast bytes ∷ story) = bytes ++ taken_in story
-taken_in (TakeFailed bytes ∷ story) = bytes ++ taken_in story
-taken_in (_ ∷ story) = taken_in story
 
 -- The writes that were acknowledged over a story wrote these blocks, from this one on, and no others.
 abbrev pub AreWritten : ℕ → List (List ℕ) → List Deed → Type 0

@@ -36,7 +36,8 @@ use Rattle.stair_story.specs.Texts.{AreLines, SCRIPT_LIMIT}
 use Rattle.stair_engine.specs.Stands.{StandsThroughout}
 use Rattle.stair_engine.specs.Task.{one_stripe}
 use Rattle.stair_story.specs.declared.status.Status.{Status}
-use Rattle.stair_story.specs.declared.status.Status.TheVariants.{Halted}
+use Rattle.stair_story.specs.declared.status.Status.TheVariants.{Halted, OutOfMemory}
+use Rattle.stair_volume.specs.Ends.{MayEnd}
 
 -- what is judged Done: the cells of a codeword, any blocks, and cells of which the erased ones are covered and the others are
 -- those of some codeword
@@ -91,10 +92,11 @@ abbrev pub IsEventText : List ℕ → Type 0
 IsEventText input = (events : List Event) × AreLines SpellsEvent events input
     × (length input ≤ SCRIPT_LIMIT)
 
--- The job is done, if there was memory. A guarded script may be halted.
+-- The job is done, if there was memory. A guarded script may be halted, and a command on volumes ends as these and its input allow.
 abbrev pub IsFinished : Job → Status → Type 0
 IsFinished (job.Guard events fences) status =
     IsDone status ⊎ ((number : ℕ) × (status ≡ Halted number))
+IsFinished (job.Volume volume) status = MayEnd volume status ⊎ (status ≡ OutOfMemory)
 IsFinished job status = IsDone status
 
 -- What is told and the rack are such that the job can be done, where an array in some state serves the call. A replacement can be
@@ -126,6 +128,8 @@ CanBeDone returning Serves rack (job.Guard events fences) told first last =
 CanBeDone returning Serves rack job.Report told first last = TellsInput told IsEventText
 CanBeDone returning Serves rack job.Serve told first last =
     TellsInput told (λ input. (s : State) × Serves s × IsCivil input)
+CanBeDone returning Serves rack (job.Plan n m r e) told first last =
+    IsWithinLimits (one_stripe n m r e)
 CanBeDone returning Serves rack job told first last = (s : State) × Serves s
 
 -- It is finished where it can be done and neither source nor sink failed. No medium comes back.

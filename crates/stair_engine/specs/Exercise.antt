@@ -5,9 +5,8 @@ use Rattle.stair_model.specs.Geometry.{Geometry, block_count}
 use Rattle.stair_model.specs.Stripe.{SECTOR}
 use Rattle.stair_array.specs.Machine.{ReadBlock, ScrubStripe, WriteBlocks}
 use Rattle.stair_story.specs.declared.status.Status.TheVariants.{Done, OutOfRange}
-use Rattle.stair_story.specs.Plan.{Plan, Over, Put, take_step, if_so}
+use Rattle.stair_story.specs.Plan.{Plan, Over, Put, take_step, if_so, opens_array}
 use Rattle.stair_engine.specs.declared.exercise.Exercised.{Exercised}
-use Rattle.stair_engine.specs.Blocks.{opens_array}
 
 abbrev pub none_exercised : Exercised
 none_exercised = record { reads = 0; writes = 0; scrubs = 0; sum = 0 }

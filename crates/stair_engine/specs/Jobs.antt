@@ -2,14 +2,17 @@
 use Rattle.std.specs.Prelude.{ℕ, List, ⊤}
 use Rattle.stair_conf.specs.Words.{Spells}
 use Rattle.stair_conf.specs.declared.job.Job.{Job}
-use Rattle.stair_conf.specs.declared.job.Job.TheVariants.{Create, Exercise, Freeze, Guard, Label, OneStripe, Read, Rebuild, Replace, Report, Run, Scrub, Serve, Show, Thaw, Write}
+use Rattle.stair_conf.specs.declared.job.Job.TheVariants.{Create, Exercise, Freeze, Guard, Label, OneStripe, Read, Rebuild, Replace, Report, Run, Scrub, Serve, Show, Thaw, Volume, Write}
+use Rattle.stair_volume.specs.Commands.{PutsSome, TakesSome}
+use Rattle.stair_volume.specs.Parts.{MakesSome}
 
--- blocks of an array, or the replies to lines or to a client, are put out before all is done
+-- blocks of an array, lines of its volumes, or the replies to lines or to a client, are put out before all is done
 abbrev pub PutsOnTheWay : Job → Type 0
 PutsOnTheWay (Read block count) = ⊤
 PutsOnTheWay Run = ⊤
 PutsOnTheWay (Guard events fences) = ⊤
 PutsOnTheWay Serve = ⊤
+PutsOnTheWay (Volume job) = PutsSome job
 PutsOnTheWay _ = ⊥
 
 -- an array that is there is opened
@@ -26,6 +29,7 @@ OpensArray Run = ⊤
 OpensArray (Guard events fences) = ⊤
 OpensArray (Exercise number count) = ⊤
 OpensArray Serve = ⊤
+OpensArray (Volume job) = ⊤
 OpensArray _ = ⊥
 
 -- the lines of a script are done
@@ -50,6 +54,7 @@ TakesInput Run = ⊤
 TakesInput (Guard events fences) = ⊤
 TakesInput Report = ⊤
 TakesInput Serve = ⊤
+TakesInput (Volume job) = TakesSome job
 TakesInput _ = ⊥
 
 -- devices may be written: an array is made, or opened
@@ -65,3 +70,8 @@ MakesCalls job = MayWrite job
 -- the words spell no such job
 abbrev pub NotSpelled : (Job → Type 0) → List (List ℕ) → Type 0
 NotSpelled IsSo words = (job : Job) → Spells words job → ¬ IsSo job
+
+-- a volume that is made has blocks
+abbrev pub IsMade : Job → Type 0
+IsMade (Volume job) = MakesSome job
+IsMade _ = ⊤

@@ -7,7 +7,8 @@ use Rattle.stair_rack.specs.Count.{Rose}
 use Rattle.stair_member.specs.Asked.{LeavesSectors}
 use Rattle.stair_conf.specs.Words.{IsSpelled, Spells}
 use Rattle.stair_conf.specs.declared.job.Job.{Job}
-use Rattle.stair_conf.specs.declared.job.Job.TheVariants.{OneStripe, Create, Guard, Replace, Scrub, Serve, Show, Write}
+use Rattle.stair_conf.specs.declared.job.Job.TheVariants.{OneStripe, Create, Guard, Replace, Scrub, Serve, Show, Volume, Write}
+use Rattle.stair_conf.specs.declared.job.VolumeJob.{VolumeJob}
 use Rattle.stair_conf.specs.declared.job.StripeCommand.{StripeCommand}
 use Rattle.stair_script.specs.declared.line.Line.{Line}
 use Rattle.stair_story.specs.declared.status.Status.{Status}
@@ -16,6 +17,7 @@ use Rattle.stair_story.specs.Answer.{map_bytes}
 use Rattle.stair_engine.specs.Cause.{Answers, IfRefusedAtOnce}
 use Rattle.stair_watch.specs.WatcherList.{AllStay}
 use Rattle.stair_engine.specs.Answered.{AnswersClient}
+use Rattle.stair_engine.specs.Changed.{ChangesVolumes}
 use Rattle.stair_engine.specs.Complete.{IsComplete, IsCompleteWherever, IsFinished, IsScriptOf}
 use Rattle.stair_engine.specs.Counted.{TellsCount}
 use Rattle.stair_engine.specs.Halts.{IsGuarded}
@@ -26,13 +28,14 @@ use Rattle.stair_array.specs.Promise.{Begun}
 use Rattle.stair_state.specs.State.{State}
 use Rattle.stair_session.specs.Returning.{Returning}
 use Rattle.stair_engine.specs.Blocks.{whole_of}
-use Rattle.stair_engine.specs.Came.{AreWritten, IsUnrefused, taken_in}
+use Rattle.stair_engine.specs.Came.{AreWritten, IsUnrefused}
 use Rattle.stair_engine.specs.Jobs.{IsScripted, PutsOnTheWay, MakesCalls, MayWrite, NotSpelled, OpensArray, TakesInput}
 use Rattle.stair_story.specs.Devices.{DeviceView, MeansWhole, devices}
 use Rattle.stair_story.specs.Ending.{IfNothingIsPutOut, TellsFaults}
 use Rattle.stair_story.specs.Means.{Means}
 use Rattle.stair_story.specs.Outside.{Outside, Views}
 use Rattle.stair_story.specs.Plan.{Over}
+use Rattle.stair_story.specs.Story.{taken_in}
 use Rattle.stair_story.specs.Sure.{EachCanReplace, HasNoFault, IsDone, ServesAlong}
 use Rattle.stair_engine.specs.Plans.{plan_of}
 use Rattle.stair_engine.specs.Mended.{EndsMended, IsMended, Mends}
@@ -82,8 +85,8 @@ BytesAreAnswered {S} {K} view =
     IfSome (view.source.left old.source) (λ bytes. Answers command (one_stripe n m r e) bytes
     (view.sink.held old.sink) (view.sink.held new.sink) status)
 
--- A fault comes only where its count rose, and no count falls, whatever the words are. No command but `read`, `run`, `guard`
--- and `serve` puts anything out that isn't done.
+-- A fault comes only where its count rose, and no count falls, whatever the words are. No command but `read`, `run`, `guard`,
+-- `serve`, `vlist` and `vread` puts anything out that isn't done.
 abbrev pub AllIsKept : (S K : Type 0) → Type 0
 AllIsKept S K = (view : Views S K) (words : List (List ℕ)) (status : Status)
     (old new : Outside S K) → Means view (plan_of words) (Over status) old new
@@ -241,3 +244,10 @@ ClientsAreAnswered R W S K = (returning : Returning) (view : DeviceView R W) (st
     (words : List (List ℕ)) (status : Status) (old new : Outside S K) (first last : R)
     (watchers left : List W) → Spells words Serve
     → AnswersClient returning view streams words status old new first last watchers left
+
+-- The volumes are what the command makes of them, or what they were.
+abbrev pub VolumesAreChanged : (R W S K : Type 0) → Type 0
+VolumesAreChanged R W S K = (view : DeviceView R W) (streams : Views S K) (words : List (List ℕ))
+    (job : VolumeJob) (status : Status) (old new : Outside S K) (first last : R)
+    (watchers left : List W) → Spells words (Volume job)
+    → ChangesVolumes job view streams words status old new first last watchers left

@@ -9,6 +9,7 @@ pub mod Exercise
 pub mod Piece
 pub mod Came
 pub mod Serving
+pub mod Volumes
 pub mod Plans
 pub mod Create
 pub mod Show
@@ -22,3 +23,4 @@ pub mod Taking
 pub mod Cause
 pub mod Does
 pub mod Laws
+pub mod Changed

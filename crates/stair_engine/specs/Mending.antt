@@ -7,8 +7,7 @@ use Rattle.stair_super.specs.declared.mark.Mark.{Mark}
 use Rattle.stair_super.specs.declared.mark.Mark.TheVariants.{Live}
 use Rattle.stair_array.specs.Machine.{LookAtSeats, ReplaceSlot, ScrubStripe, SetFrozen, SetLabel, Step}
 use Rattle.stair_story.specs.declared.status.Status.TheVariants.{Done, Gone, OutOfRange}
-use Rattle.stair_story.specs.Plan.{Plan, Over, Put, RebuildAll, take_step}
-use Rattle.stair_engine.specs.Blocks.{opens_array}
+use Rattle.stair_story.specs.Plan.{Plan, Over, Put, RebuildAll, take_step, opens_array}
 
 -- SCRUBS
 

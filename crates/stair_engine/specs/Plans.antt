@@ -13,7 +13,7 @@ use Rattle.stair_story.specs.Action.{Create, Survey}
 use Rattle.stair_story.specs.Answer.{bytes_needed}
 use Rattle.stair_story.specs.Fault.{status_of_config}
 use Rattle.stair_story.specs.Plan.{Plan, Over, Ask, Put, Allocate, Do, answer, take_exactly, whole_input}
-use Rattle.stair_story.specs.Question.{Words, Limits, Text, Judgement}
+use Rattle.stair_story.specs.Question.{Costs, Words, Limits, Text, Judgement}
 use Rattle.stair_engine.specs.Blocks.{read_plan, write_plan}
 use Rattle.stair_engine.specs.Exercise.{exercise_plan}
 use Rattle.stair_engine.specs.Mending.{freeze_plan, label_plan, rebuild_plan, replace_plan, scrub_plan, thaw_plan}
@@ -22,6 +22,8 @@ use Rattle.stair_engine.specs.Scripts.{guard_plan, run_plan}
 use Rattle.stair_engine.specs.Serving.{serve_plan}
 use Rattle.stair_engine.specs.Show.{show_text}
 use Rattle.stair_engine.specs.Task.{one_stripe}
+use Rattle.stair_engine.specs.Volumes.{volumes_plan}
+use Rattle.stair_plan.specs.PlanText.{plan_text}
 
 -- what is judged of a whole input
 abbrev pub judged : StripeCommand → Geometry → List ℕ → Plan
@@ -39,6 +41,13 @@ within_limits plan (Some k) = Over (Limit k)
 
 abbrev pub tested_plan : StripeCommand → Geometry → Plan
 tested_plan command g = Ask (Limits g) (within_limits (stripe_plan command g))
+
+-- what the code of a geometry costs is put out
+abbrev pub costs_plan : Geometry → Plan
+costs_plan g = Allocate (Ask (Costs g) (λ costs. Put (plan_text costs) (Over Done)))
+
+abbrev pub planning_plan : Geometry → Plan
+planning_plan g = Ask (Limits g) (within_limits (costs_plan g))
 
 -- a geometry text is the whole input, and has at most so many bytes
 abbrev pub TEXT_LIMIT : ℕ
@@ -83,6 +92,8 @@ job_plan (job.Exercise number count) = exercise_plan number count
 job_plan (job.Guard events fences) = guard_plan
 job_plan job.Report = report_plan
 job_plan job.Serve = serve_plan
+job_plan (job.Volume volume) = volumes_plan volume
+job_plan (job.Plan n m r e) = planning_plan (one_stripe n m r e)
 
 abbrev pub if_spelled : Option Job → Plan
 if_spelled None = Over Usage

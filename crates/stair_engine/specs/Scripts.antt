@@ -11,11 +11,10 @@ use Rattle.stair_story.specs.declared.fault.Fault.TheVariants as fault
 use Rattle.stair_story.specs.declared.status.Status.TheVariants.{BadLine, Done, Halted, OutOfRange}
 use Rattle.stair_story.specs.Means.{Holds}
 use Rattle.stair_story.specs.Outside.{SinkView}
-use Rattle.stair_story.specs.Plan.{Plan, Over, Ask, Put, if_so, watch_step}
+use Rattle.stair_story.specs.Plan.{Plan, Over, Ask, Put, if_so, watch_step, watches_array}
 use Rattle.stair_story.specs.Question.{ScriptLine}
 use Rattle.stair_story.specs.Story.{HasPut, IsPart, PutFailed}
 use Rattle.stair_story.specs.Texts.{LineDoes, SCRIPT_LIMIT, by_lines, last_of}
-use Rattle.stair_engine.specs.Blocks.{watches_array}
 use Rattle.stair_engine.specs.Mending.{if_slot, rebuilt_line}
 
 -- REPLIES, each with its end

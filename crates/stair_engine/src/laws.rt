@@ -26,6 +26,7 @@ ghost use Rattle.stair_engine.specs.Laws.{
   UsageIsExact,
   WholeBlocksStand,
   WordsAreDone,
+  VolumesAreChanged,
 };
 ghost use Rattle.stair_story.specs.Outside.{views};
 ghost use Rattle.stair_story.specs.declared.status.Status.{Status};
@@ -73,6 +74,8 @@ pub fn plan_laws<R, W, S: Source, K: Sink>()
     ensures halted { GuardsHalt R W S K }
     // `serve` answers a client by steps that are done
     ensures answered { ClientsAreAnswered R W S K }
+    // a command on volumes makes of them what it is to make, and of no other
+    ensures changed { VolumesAreChanged R W S K }
     // what a scrub, a replacement and a rebuild leave good
     ensures mended { ArrayIsMended R W S K }
     // and to the session, whatever the rack was before

@@ -13,6 +13,7 @@ mod lines;
 mod map;
 mod open;
 mod piece;
+mod planning;
 mod read;
 mod rebuild;
 mod replace;
@@ -23,14 +24,17 @@ mod serve;
 mod show;
 mod stamp;
 mod task;
+mod volumes;
 mod write;
 
 ghost use Rattle.std.specs.Prelude.{◌≡◌, ℕ, IsTrue, map, string_bytes};
 ghost use Rattle.stair_conf.specs.Words.{IsCommandLine, Spells};
 ghost use Rattle.stair_conf.specs.declared.job.Job.{Job as Jobs};
-ghost use Rattle.stair_conf.specs.declared.job.Job.TheVariants.{Create, Guard, Scrub, Serve};
+ghost use Rattle.stair_conf.specs.declared.job.Job.TheVariants.{Create, Guard, Scrub, Serve, Volume};
+ghost use Rattle.stair_conf.specs.declared.job.VolumeJob.{VolumeJob as VolumeJobs};
 ghost use Rattle.stair_session.specs.Returning.{AnyReturns, Returning};
 ghost use Rattle.stair_engine.specs.Answered.{AnswersClient};
+ghost use Rattle.stair_engine.specs.Changed.{ChangesVolumes};
 ghost use Rattle.stair_engine.specs.Complete.{IsComplete, IsCompleteWherever};
 ghost use Rattle.stair_engine.specs.Counted.{TellsCount};
 ghost use Rattle.stair_engine.specs.Create.{IsOnceMade, MakesArray, SparesArrays};
@@ -38,7 +42,7 @@ ghost use Rattle.stair_monitor.specs.Reports.{status_of as status_of_report};
 ghost use Rattle.stair_story.specs.Fault.{status_of};
 ghost use Rattle.stair_rack.specs.Watching.{watcher_view};
 ghost use Rattle.stair_engine.specs.Halts.{IsGuarded};
-ghost use Rattle.stair_engine.specs.Jobs.{MayWrite, NotSpelled};
+ghost use Rattle.stair_engine.specs.Jobs.{IsMade, MayWrite, NotSpelled};
 ghost use Rattle.stair_engine.specs.Mended.{IsMended};
 ghost use Rattle.stair_story.specs.Devices.{MeansWhole, device_view};
 ghost use Rattle.stair_story.specs.Headline.{IsBorneOut};
@@ -54,6 +58,7 @@ use check::check;
 use create::create;
 use encode::encode;
 use exercise::exercise;
+use planning::tell_costs;
 use read::read;
 use rebuild::rebuild;
 use replace::replace;
@@ -73,6 +78,7 @@ use stamp::{freeze, label, thaw};
 use std::alloc::Global;
 use std::sync::ledger::Ledger;
 use task::one_stripe;
+use volumes::volumes;
 use write::write;
 
 /// Does what the words say, over this input and output and the devices of the rack, and tells what came of it.
@@ -92,13 +98,16 @@ use write::write;
 /// left, or before its first line where one left as the array was opened: whoever calls it chooses the watchers, whatever its numbers
 /// are. `report` counts the events that the lines of its input tell ([`stair_monitor::report`]), and makes no call on the rack.
 /// `serve` takes memory for all that a client sends at once, opens the array, and has one client of the protocol NBD over input and
-/// output ([`stair_nbd::session`]), whose block device it is.
+/// output ([`stair_nbd::session`]), whose block device it is. `vinit`, `vmake`, `vdrop`, `vlist`, `vread` and `vwrite` open the array
+/// and do a command on the named volumes of it ([`stair_volume::volume`]), of which block 0 is the table; `vwrite` alone takes its
+/// input. `plan` puts out what the code of a geometry costs ([`stair_plan::plan`]), and makes no call on the rack.
 ///
 /// The words are tested first, then the limits of the geometry of a stripe, then the input: what is refused before the input
 /// is taken leaves input, output and counter as they were, and nothing is put out before the answer is known. `InputFault`
 /// leaves the output as it was, and after `OutputFault` a part of the output stands; after that of `create` there is an array.
-/// What `read`, `run`, `guard` and `serve` put out before they end stands, and so does each block that `write` wrote before one, or before an input
-/// that ends or fails, and each step of the others that came before one. Where a step is refused with `TooFew` or `EpochsSpent` its blocks are old, new, or in doubt.
+/// What `read`, `run`, `guard`, `serve`, `vlist` and `vread` put out before they end stands, and so does each block that `write` or
+/// `vwrite` wrote before one, or before an input that ends or fails, and each step of the others that came before one. Where a
+/// step is refused with `TooFew` or `EpochsSpent` its blocks are old, new, or in doubt.
 ///
 /// The counter rises by exactly the steps of the encoder that METHOD of `stripe` chooses. No other command counts.
 ///
@@ -148,7 +157,8 @@ pub fn stair<R: Rack, S: Source, K: Sink, L: Ledger>(
     ensures stands { IsTrue R.is_honest → NotSpelled MayWrite (map string_bytes words.now) →
         ArrayStands (R.history rack.old) (R.history rack.new) }
 
-    // Where it can be done, and neither source nor sink fails, the answer is Done or want of memory, or of `guard` that it was halted.
+    // Where it can be done, and neither source nor sink fails, the answer is Done or want of memory, or of `guard` that it was halted,
+    // or of a command on volumes what they and its input make of it.
     ensures complete { (job : Jobs) → Spells (map string_bytes words.now) job →
         IsComplete (rack_view R.is_honest R.history R.bads R.gones)
         (views S.left S.ended S.faults K.held K.faults) job result
@@ -184,6 +194,17 @@ pub fn stair<R: Rack, S: Source, K: Sink, L: Ledger>(
         (outside input.old output.old steps.old) (outside input.new output.new steps.new)
         rack.old rack.new watchers.old.items watchers.new.items }
 
+    // A command on volumes makes of them what it is to make, and of no other: at the end of the call, and behind a crash at any moment
+    // of it, they are those from before or those after, of a write with some of its blocks from the first on. Once it is done they
+    // are those after, and `vread` put out what its volume holds.
+    ensures volumes { (job : VolumeJobs) → Spells (map string_bytes words.now) (Volume job) →
+        ChangesVolumes job
+        (device_view (rack_view R.is_honest R.history R.bads R.gones)
+        (watcher_view told count (λ w. (Watcher-box w).left w.value) patience))
+        (views S.left S.ended S.faults K.held K.faults) (map string_bytes words.now) result
+        (outside input.old output.old steps.old) (outside input.new output.new steps.new)
+        rack.old rack.new watchers.old.items watchers.new.items }
+
     // On an honest rack that is an array in a state, within tolerance to the end and to which no medium comes back: once `scrub` is
     // done each cell of a live slot was good at some moment of the call, and so was each sector of its slot once `replace` is; and once
     // one of these or `rebuild` is, each cell of a slot that is live and wasn't as the array was found.
@@ -213,6 +234,7 @@ fn work<R: Rack, S: Source, K: Sink, L: Ledger>(
     watchers: &mut Vec<Box<dyn Watcher>>,
     steps: &mut Steps<L>,
 ) -> Status
+    requires some { IsMade job }
     requires stay { AllStay (watcher_view told count (λ w. (Watcher-box w).left w.value) patience) watchers.old.items }
     ensures means { MeansWhole
         (device_view (rack_view R.is_honest R.history R.bads R.gones) (watcher_view told count (λ w. (Watcher-box w).left w.value) patience))
@@ -274,6 +296,17 @@ fn work<R: Rack, S: Source, K: Sink, L: Ledger>(
             let done = serve(alloc, rack, input, output, watchers);
             done.unwrap_or_else(Status::from)
         }
+        Job::Volume(volume) => {
+            let done = volumes(alloc, &volume, rack, input, output, watchers);
+            done.unwrap_or_else(Status::from)
+        }
+        Job::Plan { n, m, r, e } => match one_stripe(n, m, r, &e) {
+            Ok(geometry) => {
+                let done = tell_costs(alloc, &geometry, output);
+                done.unwrap_or_else(Status::from)
+            }
+            Err(fault) => Status::Limit(fault.limit),
+        },
     }
 }
 

@@ -1,7 +1,8 @@
 ghost use Rattle.std.specs.Prelude.{◌≡◌, ◌+◌, ◌^◌, ◌<◌, ℕ};
 ghost use Rattle.stair_rack.specs.Watching.{watcher_view};
 ghost use Rattle.stair_array.specs.Promise.{Opened as IsOpen};
-ghost use Rattle.stair_engine.specs.Blocks.{read_plan, reads};
+ghost use Rattle.stair_engine.specs.Blocks.{read_plan};
+ghost use Rattle.stair_story.specs.Transfers.{reads};
 ghost use Rattle.stair_story.specs.Devices.{MeansWhole, MeansWith, device_view, devices};
 ghost use Rattle.stair_story.specs.Fault.{status_of};
 ghost use Rattle.stair_story.specs.Outside.{outside, sink_alone};

@@ -1,7 +1,7 @@
 ghost use Rattle.std.specs.Prelude.{◌≡◌, ◌+◌, ◌*◌, ◌^◌, ◌<◌, ◌≤◌, ℕ, []};
 ghost use Rattle.stair_rack.specs.Watching.{watcher_view};
 ghost use Rattle.stair_array.specs.Promise.{Opened as IsOpen};
-ghost use Rattle.stair_engine.specs.Blocks.{IsInRange, wrote_line as line_of_wrote, write_plan, writes};
+ghost use Rattle.stair_engine.specs.Blocks.{IsInRange, write_plan, writes};
 ghost use Rattle.stair_model.specs.Geometry.{data_cells};
 ghost use Rattle.stair_model.specs.Stripe.{SECTOR as BYTES};
 ghost use Rattle.stair_story.specs.Devices.{MeansWhole, MeansWith, device_view, devices};
@@ -16,8 +16,7 @@ use crate::piece::Piece;
 use stair_base::{SECTOR, StripeCode};
 use stair_member::survey;
 use stair_rack::{Rack, Sink, Source, Watcher};
-use stair_story::{Fault, Intake, Opened, Status, piece_blocks, put_all};
-use stair_watch::Line;
+use stair_story::{Fault, Intake, Opened, Status, piece_blocks, put_all, wrote_line};
 use std::alloc::Global;
 
 /// Opens the array of the rack, and writes so many blocks from this one on, which are all of the input.
@@ -99,14 +98,4 @@ fn write_input<C: StripeCode, R: Rack, S: Source, K: Sink>(
     intake.end(input)?;
     put_all(output, wrote_line(blocks).bytes())?;
     Ok(Status::Done)
-}
-
-// The line for so many blocks that were written.
-fn wrote_line(count: u64) -> Line
-    ensures { result ≡ line_of_wrote count }
-{
-    let mut line = Line::new();
-    line.push_named(b"wrote ", count);
-    line.push(b" blocks\n");
-    line
 }

@@ -114,6 +114,19 @@ const SHOWN_WITHOUT: Bytes = (
     b"",
 );
 
+// The steps of standard encoding and the penalties are those of tests/factors.
+const PLANNED: Bytes = (
+    b"blocks 5 of 8\nsteps up 15 down 14 standard 13 fewest standard\npenalty least 2 greatest 3 sum 13\n",
+    b"",
+);
+
+const PLANNED_EIGHT: Bytes = (
+    b"blocks 20 of 32\nsteps up 120 down 136 standard 165 fewest up\npenalty least 5 greatest 10 sum 165\n",
+    b"",
+);
+
+const PLAN: &str = "plan 4 1 2 1";
+
 const CHECK: &str = "check 4 1 2 1";
 
 const STRIPE: &str = "stripe down 4 1 2 1";
@@ -170,7 +183,7 @@ type Streams = (Option<u64>, usize);
 const WHOLE: Streams = (None, 32 * SECTOR);
 
 // Each row is a command line, its input, the ends, the status, and what is put out where there is room.
-const CALLS: [(&str, Bytes, Streams, Status, Bytes); 34] = [
+const CALLS: [(&str, Bytes, Streams, Status, Bytes); 40] = [
     (CHECK, FOUR, WHOLE, Status::Done, LINE),
     (CHECK, ROW_BROKEN, WHOLE, IN_ROW, NOTHING),
     (CHECK, GLOBAL_BROKEN, WHOLE, IN_GLOBAL, NOTHING),
@@ -213,6 +226,37 @@ const CALLS: [(&str, Bytes, Streams, Status, Bytes); 34] = [
     ("create 4", TEXT, WHOLE, Status::Usage, NOTHING),
     (SHOW, TEXT, WHOLE, Status::NoArray, NOTHING),
     ("show 4", TEXT, WHOLE, Status::Usage, NOTHING),
+    // of which nothing is taken
+    (PLAN, FOUR, (Some(0), 120), Status::Done, PLANNED),
+    (PLAN, FOUR, (None, 30), Status::OutputFault, PLANNED),
+    (
+        "plan 8 2 4 1 1 2",
+        FOUR,
+        (Some(0), 120),
+        Status::Done,
+        PLANNED_EIGHT,
+    ),
+    (
+        "plan 4 2 2 1",
+        FOUR,
+        (Some(0), 9),
+        Status::Limit(3),
+        NOTHING,
+    ),
+    (
+        "plan 33 1 2 1",
+        FOUR,
+        (Some(0), 9),
+        Status::Limit(1),
+        NOTHING,
+    ),
+    (
+        "plan 3 1 1 1 1",
+        FOUR,
+        (Some(0), 9),
+        Status::Limit(7),
+        NOTHING,
+    ),
 ];
 
 fn bytes_of(alloc: Global, bytes: Bytes) -> Result<Vec<u8>, AllocError> {

@@ -61,7 +61,7 @@ const REBUILDING: Status = Status::SlotBusy {
 };
 
 // Each row is a status, the exit status of the program, and the line on standard error.
-const LINES: [(Status, u8, &str); 27] = [
+const LINES: [(Status, u8, &str); 33] = [
     (Status::Done, 0, ""),
     (IN_ROW, 1, "not a codeword: row 0 parity 0 byte 0"),
     (IN_GLOBAL, 1, "not a codeword: global 0 0 byte 0"),
@@ -69,7 +69,7 @@ const LINES: [(Status, u8, &str); 27] = [
     (
         Status::Usage,
         2,
-        "usage: stair FOLDER check|stripe|restore|create|show|read|write|scrub|replace|rebuild|run|exercise|freeze|thaw|label|guard|report|serve",
+        "usage: stair FOLDER check|stripe|restore|create|show|read|write|scrub|replace|rebuild|run|exercise|freeze|thaw|label|guard|report|serve|vinit|vmake|vdrop|vlist|vread|vwrite|plan",
     ),
     (Status::Limit(3), 3, "geometry: limit 3"),
     (Status::Key(Key::Stripes), 3, "geometry: key stripes"),
@@ -101,6 +101,12 @@ const LINES: [(Status, u8, &str); 27] = [
     (Status::Frozen, 20, "frozen"),
     (Status::Halted(7), 21, "halted after line 7"),
     (Status::BadMessage(4), 22, "bad message 4"),
+    (Status::NoTable, 23, "no volume table"),
+    (Status::TableThere, 24, "volume table already"),
+    (Status::NoVolume, 25, "no such volume"),
+    (Status::NameTaken, 26, "name taken"),
+    (Status::TableFull, 27, "table full"),
+    (Status::NoRoom(12), 28, "no room: 12 blocks"),
 ];
 
 #[test]

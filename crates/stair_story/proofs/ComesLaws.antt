@@ -8,7 +8,7 @@ use Rattle.stair_story.specs.Devices.{DeviceView, Devices, MeansWith, WorksAll, 
 use Rattle.stair_story.specs.Means.{Counts, Gives, Holds}
 use Rattle.stair_story.specs.Outside.{Outside, SinkView, SourceView, Views}
 use Rattle.stair_story.specs.Plan.{Plan, Over, take_step, watch_step}
-use Rattle.stair_story.specs.Question.{EventLine, Judgement, Limits, ScriptLine, Text, Words}
+use Rattle.stair_story.specs.Question.{Costs, EventLine, Judgement, Limits, ScriptLine, Text, Words}
 use Rattle.stair_story.specs.Refused.{status_of_refusal}
 use Rattle.stair_story.specs.Steps.{Takes}
 use Rattle.stair_story.specs.Story.{Deed, Did, Found, Grew, Leads, Moves, RanOut, Stepped}
@@ -49,6 +49,7 @@ counter_same (Found (Limits g)) n apart = refl
 counter_same (Found (Text text)) n apart = refl
 counter_same (Found (ScriptLine bytes)) n apart = refl
 counter_same (Found (EventLine bytes)) n apart = refl
+counter_same (Found (Costs g)) n apart = refl
 counter_same (Found (Judgement command g input)) n apart = absurd apart
 counter_same (Did action outcome) n apart = refl
 counter_same (Stepped step answer events left) n apart = refl

@@ -262,7 +262,7 @@ acknowledged_is_made step x life fates first = refl
 -- ONE BLOCK
 
 -- blocks that are none of those that are set stay
-blocks_stay : (contents : List (List ℕ)) (blocks : Blocks) (first b : ℕ) → ¬ ((first ≤ b) × (b < first + length contents))
+pub blocks_stay : (contents : List (List ℕ)) (blocks : Blocks) (first b : ℕ) → ¬ ((first ≤ b) × (b < first + length contents))
     → with_blocks blocks first contents b ≡ blocks b
 blocks_stay [] blocks first b off = refl
 blocks_stay (bytes ∷ more) blocks first b off =
@@ -270,7 +270,7 @@ blocks_stay (bytes ∷ more) blocks first b off =
     ∙ cond-false _ _ _ (ne_eqb b first (λ same. off (omega (arith, same), omega (arith, same))))
 
 -- and each that is set has what it was set to
-block_set : (contents : List (List ℕ)) (blocks : Blocks) (first k : ℕ) → k < length contents
+pub block_set : (contents : List (List ℕ)) (blocks : Blocks) (first k : ℕ) → k < length contents
     → with_blocks blocks first contents (first + k) ≡ get_or contents k []
 block_set [] blocks first k within = absurd (omega arith)
 block_set (bytes ∷ more) blocks first zero within =

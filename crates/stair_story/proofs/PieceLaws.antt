@@ -1,7 +1,8 @@
 -- A piece of a stripe, which is written as one step.
 use Rattle.std.proofs.Common.{◌≡◌, ◌+◌, ◌-◌, ◌*◌, ◌/◌, ◌%◌, ◌<◌, ◌≤◌, ℕ, zero, suc, List, drop, length, mod-lt, arith, refl}
 use Rattle.std.specs.Simd.{first_chunks}
-use Rattle.stair_model.specs.Geometry.{Geometry, block_count, data_cells}
+use Rattle.std.proofs.lemmas.Nat.{mul-lt}
+use Rattle.stair_model.specs.Geometry.{Geometry, IsWithinLimits, block_count, data_cells}
 use Rattle.stair_model.specs.Stripe.{SECTOR}
 use Rattle.stair_array.specs.Arrays.{blocks_of}
 use Rattle.stair_state.specs.Blocks.{AreOfOneStripe}
@@ -17,6 +18,10 @@ pub blocks_counted : (bytes : List ℕ) → length (blocks_of bytes) ≡ length 
 blocks_counted bytes = chunks_count (length bytes / SECTOR) bytes
 
 -- ---- the blocks
+
+-- an array has one at least
+pub some_blocks : (g : Geometry) → IsWithinLimits g → 0 < block_count g
+some_blocks g limits = mul-lt 0 0 (data_cells g) g.stripes (omega (arith, limits.blocks)) (omega (arith, limits.size.0))
 
 -- from this block on there is one at least
 module _ (g : Geometry) (block left : ℕ) (some : 0 < left) (within : block + left ≤ block_count g) where

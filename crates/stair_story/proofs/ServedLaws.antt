@@ -3,7 +3,7 @@
 use Rattle.std.proofs.Common.{◌≡◌, ◌∙◌, ◌<◌, ℕ, List, [], ◌∷◌, length, Option, Some, Ok, Err, inl, inr, refl, sym, ap, subst, arith}
 use Rattle.std.proofs.lemmas.Bool.{false≢true}
 use Rattle.std.proofs.lemmas.List.Elements.{All-cons, All-nil}
-use Rattle.std.specs.Prelude.{◌⊎◌, All, Bool, false, IsOk, IsTrue, Result, ⊤}
+use Rattle.std.specs.Prelude.{◌⊎◌, All, Bool, false, true, IsOk, IsTrue, Result, ⊤}
 use Rattle.stair_model.specs.Geometry.{Geometry, block_count}
 use Rattle.stair_rack.specs.Count.{Rose}
 use Rattle.stair_rack.specs.History.{Happening}
@@ -15,7 +15,7 @@ use Rattle.stair_state.specs.Blocks.{AreOfOneStripe}
 use Rattle.stair_session.specs.Courses.{Point, point}
 use Rattle.stair_session.specs.Returning.{Returning}
 use Rattle.stair_array.specs.Calls.{WritesBlocks}
-use Rattle.stair_array.specs.Machine.{Answer, Chunk, Dropped, HoldsAfter, Nothing, PassesTests, Progress, Promoted, Recover, Refusal, Row, Step, WriteBlocks}
+use Rattle.stair_array.specs.Machine.{Answer, Chunk, Dropped, Frozen, HoldsAfter, Nothing, PassesTests, Progress, Promoted, Recover, Refusal, Row, Step, WriteBlocks}
 use Rattle.stair_array.specs.Promise.{Begun, Performs, Seen, ServesState, Stops}
 use Rattle.stair_array.proofs.OpenStepLemmas.{opening_or_open}
 use Rattle.stair_story.specs.Action.{Action, Create, OkOf, Outcome, Survey}
@@ -24,7 +24,7 @@ use Rattle.stair_story.specs.Ending.{AllowsAtMost}
 use Rattle.stair_story.specs.Means.{Gives, Holds}
 use Rattle.stair_story.specs.Outside.{Outside, Views}
 use Rattle.stair_story.specs.Plan.{Plan, Over, Ask, Take, Put, Allocate, Do, Try, RebuildAll, after_rebuild}
-use Rattle.stair_story.specs.Served.{EachStepFor, EndsDone, IsDoneIfPassed, IsServed, PassesItsTests}
+use Rattle.stair_story.specs.Served.{EachStepFor, EndsDone, EndsServed, IsDoneIfPassed, IsRefusedFrozen, IsServed, PassesItsTests}
 use Rattle.stair_story.specs.Story.{Deed, Found, Took, TookLast, TakeFailed, HasPut, PutFailed, Grew, RanOut, Did, Stepped, Leads, Moves, after}
 use Rattle.stair_story.specs.Sure.{BeginsAs, EachCanReplace, HasNoFault, IsDone, ServesAlong, most_allowed}
 use Rattle.stair_story.specs.declared.status.Status.{Status}
@@ -78,6 +78,28 @@ all_tests returning before s (WriteBlocks first contents) answer events x y seat
     ]
 all_tests returning before s step answer events x y seats does serves passed = passed
 
+-- a write of blocks that are there is refused where the array is frozen
+write_frozen : (first : ℕ) (contents : List (List ℕ)) (answer : Answer (WriteBlocks first contents)) (x y : Point) → WritesBlocks first contents answer x y
+    → (g : Geometry) → x.member.array.geometry ≡ g → x.member.array.frozen ≡ true → first < block_count g → answer ≡ Err Frozen
+write_frozen first contents _ _ _ (WritesBlocks.OutOf x past) g same frozen below = absurd (omega (arith, past, below, ap block_count same))
+write_frozen first contents _ _ _ (WritesBlocks.IsFrozen x below is) g same frozen within = refl
+write_frozen first contents _ _ _ (WritesBlocks.Unready t cells loaded refusal x y place prepares) g same frozen within =
+    absurd (false≢true (sym place.thawed ∙ frozen))
+write_frozen first contents _ _ _ (WritesBlocks.Wrote redo loaded stripe refusal x y z place redoes prepares set redone) g same frozen within =
+    absurd (false≢true (sym place.thawed ∙ frozen))
+
+frozen_refused : (returning : Returning) (before : List Happening) (s : State) (step : Step) (answer : Answer step) (events : List Event) (x y : Seen)
+    → Performs step answer events x y → ServesState returning before s x.session x.told → IsRefusedFrozen step answer s
+frozen_refused returning before s (WriteBlocks first contents) answer events x y does serves = λ below frozen.
+    elim (opening_or_open (WriteBlocks first contents) does.was x.session does.starts) [
+      | inl opening ↦ let never : WriteBlocks first contents ≡ Recover = opening in absurd cc
+      | inr began ↦
+          let serving = open_for returning before s does.was x began.is_open began.unstopped serves in
+          write_frozen first contents answer (point does.was.member x.told) (point does.is.member y.told) does.does s.geometry serving.geometry
+          (serving.frozen ∙ frozen) below
+    ]
+frozen_refused returning before s step answer events x y does serves = tt
+
 -- an opening is tested for nothing
 opening_passes : (step : Step) (s : State) (seats : Seats) → step ≡ Recover → PassesTests step s seats
 opening_passes step s seats opening = subst (λ (begun : Step). PassesTests begun s seats) (sym opening) tt
@@ -117,6 +139,7 @@ module _ {R W : Type 0} (returning : Returning) (view : DeviceView R W) (honest 
           done = λ passed.
               done (all_tests returning before s step answer events (seen_of view x) (seen_of view works.0) led.is_step.begun does
               ready.is_at.is_in.serves passed);
+          frozen = frozen_refused returning before s step answer events (seen_of view x) (seen_of view works.0) does ready.is_at.is_in.serves;
         },
         step_behind returning view honest before [] s step answer events left story x y works ready does [] opened (λ j none. absurd none),
       )
@@ -346,3 +369,66 @@ ends_anyhow view streams plan status s a b x y watchers left whole served none e
     ends_served streams s.geometry whole.with.means.story plan status a.source b.source a.sink b.sink
     (record { state = without_seats s; geometry = refl; served = served }) whole.with.means.follows whole.with.means.bears.gives
     whole.with.means.bears.holds none.source none.sink ends
+
+-- ---- how a plan ends by the states of an array that serves
+
+module _ {S K : Type 0} (streams : Views S K) (IsEnd : Status → Type 0) where
+  -- behind a deed the story is served from a state in which the rest of the plan ends so; or memory was short
+  abbrev ServedOn : Plan → List Deed → Type 0
+  ServedOn rest story = ((s : State) × IsServed s story × EndsServed IsEnd rest s) ⊎ (rest ≡ Over OutOfMemory)
+
+  on_as : (rest next : Plan) (story : List Deed) (s : State) → rest ≡ next → IsServed s story → EndsServed IsEnd next s → ServedOn rest story
+  on_as rest next story s same served ends = inl (s, served, subst (λ (plan : Plan). EndsServed IsEnd plan s) (sym same) ends)
+
+  did_on : (action : Action) (k : OkOf action → Plan) (outcome : Outcome action) (rest : Plan) (story : List Deed) (s : State) → rest ≡ after action k outcome
+      → IsServed s (Did action outcome ∷ story) → EndsServed IsEnd (Do action k) s → ServedOn rest story
+  did_on (Create array) k outcome rest story s same served ends = absurd ends
+  did_on Survey k (Ok member) rest story s same served ends = on_as rest (k member) story s same served.1 (ends member served.0)
+  did_on Survey k (Err fault) rest story s same served ends = absurd served
+
+  -- one move of the plan
+  one_on : (deed : Deed) (plan rest : Plan) (story : List Deed) (s : State) (a b : S) (k l : K) → IsServed s (deed ∷ story) → Moves deed plan rest
+      → Gives streams.source deed a b → Holds streams.sink deed k l → ¬ Rose (streams.source.faults a) (streams.source.faults b)
+      → ¬ Rose (streams.sink.faults k) (streams.sink.faults l) → EndsServed IsEnd plan s → ServedOn rest story
+  one_on (Found asked) (Ask question next) rest story s a b k l served moves gives holds sound whole ends =
+      on_as rest (next moves.0) story s moves.3 served (ends moves.0 moves.2)
+  one_on (Took bytes) (Take least most next short) rest story s a b k l served moves gives holds sound whole ends =
+      on_as rest (next bytes) story s moves.1 served (ends.0 bytes moves.0)
+  one_on (TookLast bytes) (Take least most next short) rest story s a b k l served moves gives holds sound whole ends =
+      on_as rest (short bytes) story s moves.1 served (ends.1 bytes moves.0)
+  one_on (TakeFailed bytes) (Take least most next short) rest story s a b k l served moves gives holds sound whole ends = absurd (sound gives.4)
+  one_on (HasPut bytes) (Put all plan) rest story s a b k l served moves gives holds sound whole ends = on_as rest plan story s moves.1 served ends
+  one_on (PutFailed part) (Put all plan) rest story s a b k l served moves gives holds sound whole ends = absurd (whole holds.2)
+  one_on Grew (Allocate plan) rest story s a b k l served moves gives holds sound whole ends = on_as rest plan story s moves served ends
+  one_on RanOut (Allocate plan) rest story s a b k l served moves gives holds sound whole ends = inr moves
+  one_on (Did did came) (Do action next) rest story s a b k l served moves gives holds sound whole ends =
+      did_on action next moves.0 rest story s moves.2 (subst (λ (deed : Deed). IsServed s (deed ∷ story)) moves.1 served) ends
+  one_on (Stepped did came events gone) (Try step next) rest story s a b k l served moves gives holds sound whole ends =
+      let step_is = subst (λ (deed : Deed). IsServed s (deed ∷ story)) moves.1 served in
+      on_as rest (next moves.0 gone) story step_is.0 moves.2 step_is.2 (ends moves.0 gone step_is.0 step_is.1)
+  one_on (Stepped did came events gone) (RebuildAll slots done next) rest story s a b k l served moves gives holds sound whole ends = absurd ends
+  one_on _ _ rest story s a b k l served moves gives holds sound whole ends = absurd moves
+
+  -- along the story
+  ends_along : (story : List Deed) (plan : Plan) (status : Status) (s : State) (a b : S) (k l : K) → IsServed s story → Leads Moves story plan (Over status)
+      → Leads (Gives streams.source) story a b → Leads (Holds streams.sink) story k l → ¬ Rose (streams.source.faults a) (streams.source.faults b)
+      → ¬ Rose (streams.sink.faults k) (streams.sink.faults l) → EndsServed IsEnd plan s → IsEnd status ⊎ (status ≡ OutOfMemory)
+  ends_along [] plan status s a b k l served follows gives holds sound whole ends =
+      let over : EndsServed IsEnd (Over status) s = subst (λ (p : Plan). EndsServed IsEnd p s) (sym follows) ends in
+      inl over
+  ends_along (deed ∷ story) plan status s a b k l served follows gives holds sound whole ends =
+      let given = source_unfailed streams.source deed story a b gives sound in
+      let held = sink_unfailed streams.sink deed story k l holds whole in
+      elim (one_on deed plan follows.0 story s a gives.0 k holds.0 served follows.1 gives.1 holds.1 given.0 held.0 ends) as
+      (λ _. IsEnd status ⊎ (status ≡ OutOfMemory)) [
+        | inl on ↦ ends_along story follows.0 status on.0 gives.0 b holds.0 l on.1 follows.2 gives.2 holds.2 given.1 held.1 on.2
+        | inr short ↦ inr (ends_so story OutOfMemory status (subst (λ (p : Plan). Leads Moves story p (Over status)) short follows.2))
+      ]
+
+  -- so a call that is served ends so, or for want of memory
+  pub ends_as_served : {R W : Type 0} (view : DeviceView R W) (plan : Plan) (status : Status) (s : State) (a b : Outside S K) (x y : R) (watchers left : List W)
+      (whole : MeansWhole view streams plan (Over status) a b x y watchers left) → IsServed (without_seats s) whole.with.means.story
+      → HasNoFault streams a b → EndsServed IsEnd plan (without_seats s) → IsEnd status ⊎ (status ≡ OutOfMemory)
+  ends_as_served view plan status s a b x y watchers left whole served none ends =
+      ends_along whole.with.means.story plan status (without_seats s) a.source b.source a.sink b.sink served whole.with.means.follows
+      whole.with.means.bears.gives whole.with.means.bears.holds none.source none.sink ends

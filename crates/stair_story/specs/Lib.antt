@@ -21,6 +21,7 @@ pub mod Headline
 pub mod Streams
 pub mod Taking
 pub mod Texts
+pub mod Transfers
 pub mod Pieces
 pub mod Talks
 pub mod Laws

@@ -1,9 +1,10 @@
 -- What a command does, whatever comes of it.
 use Rattle.std.specs.Prelude.{ℕ, ◌+◌, Bool, true, false, List, length, Result, Ok, Err}
-use Rattle.stair_array.specs.Machine.{Answer, GivenBy, Nothing, Progress, Refusal, Step}
+use Rattle.stair_model.specs.Geometry.{Geometry}
+use Rattle.stair_array.specs.Machine.{Answer, GivenBy, Nothing, Progress, Recover, Refusal, Step}
 use Rattle.stair_story.specs.declared.status.Status.{Status}
 use Rattle.stair_story.specs.declared.status.Status.TheVariants.{Done, Input}
-use Rattle.stair_story.specs.Action.{Action, OkOf}
+use Rattle.stair_story.specs.Action.{Action, OkOf, Survey}
 use Rattle.stair_story.specs.Question.{Question, Reply}
 use Rattle.stair_story.specs.Refused.{status_of_refusal}
 
@@ -65,3 +66,12 @@ after_rebuild slots done k (Err refusal) = Over (status_of_refusal slots refusal
 abbrev pub answer : Status → List ℕ → Plan
 answer Done output = Put output (Over Done)
 answer status output = Over status
+
+-- A session: an array is looked for, memory is taken, and it is opened; the rest takes whether a watcher left by then.
+abbrev pub watches_array : (Geometry → Bool → Plan) → Plan
+watches_array k =
+    Do Survey (λ member. Allocate (watch_step member.array.geometry.n Recover k))
+
+-- and to most it is all the same
+abbrev pub opens_array : (Geometry → Plan) → Plan
+opens_array k = watches_array (λ g left. k g)

@@ -5,6 +5,8 @@ use Rattle.stair_conf.specs.Config.{TextReadsAs}
 use Rattle.stair_conf.specs.Words.{IsSpelled, Spells}
 use Rattle.stair_conf.specs.declared.fault.ConfigFault.{ConfigFault}
 use Rattle.stair_conf.specs.declared.job.Job.{Job}
+use Rattle.stair_plan.specs.Plan.{IsPlanOf}
+use Rattle.stair_plan.specs.declared.plans.Plan.{Plan as Costing}
 use Rattle.stair_rack.specs.declared.watcher.Event.{Event}
 use Rattle.stair_script.specs.Events.{SpellsEvent}
 use Rattle.stair_script.specs.Line.{SpellsLine}
@@ -26,6 +28,8 @@ pub data Question : Type 0 where
   ScriptLine : List ℕ → Question
   -- the event that a line tells, if it is the line of one
   EventLine : List ℕ → Question
+  -- what the code of a geometry costs
+  Costs : Geometry → Question
 
 abbrev pub Reply : Question → Type 0
 Reply (Words words) = Option Job
@@ -34,6 +38,7 @@ Reply (Text text) = Result Geometry ConfigFault
 Reply (Judgement command g input) = Status × List ℕ
 Reply (ScriptLine bytes) = Option Line
 Reply (EventLine bytes) = Option Event
+Reply (Costs g) = Costing
 
 -- the right reply
 abbrev pub IsReply : (question : Question) → Reply question → Type 0
@@ -47,3 +52,4 @@ IsReply (ScriptLine bytes) None = (said : Line) → ¬ SpellsLine bytes said
 IsReply (ScriptLine bytes) (Some said) = SpellsLine bytes said
 IsReply (EventLine bytes) None = (said : Event) → ¬ SpellsEvent bytes said
 IsReply (EventLine bytes) (Some said) = SpellsEvent bytes said
+IsReply (Costs g) costs = IsPlanOf g costs

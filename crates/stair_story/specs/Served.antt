@@ -1,11 +1,11 @@
 -- What an array that serves does with the steps of a call.
-use Rattle.std.specs.Prelude.{◌≡◌, Bool, false, IsOk, List, [], ◌∷◌, Option, Some, Ok, Err, length, ◌++◌, ◌<◌, ℕ, ⊤}
+use Rattle.std.specs.Prelude.{◌≡◌, Bool, false, true, IsOk, List, [], ◌∷◌, Option, Some, Ok, Err, length, ◌++◌, ◌<◌, ℕ, ⊤}
 use Rattle.stair_model.specs.Geometry.{Geometry, block_count}
 use Rattle.stair_member.specs.Membership.{Membership}
 use Rattle.stair_member.specs.Seats.{Seats}
 use Rattle.stair_state.specs.State.{State, without_seats}
 use Rattle.stair_session.specs.Returning.{Returning}
-use Rattle.stair_array.specs.Machine.{Answer, PassesTests, RebuildNext, Recover, Refusal, Row, Step, WriteBlocks}
+use Rattle.stair_array.specs.Machine.{Answer, Frozen, PassesTests, RebuildNext, Recover, Refusal, Row, Step, WriteBlocks}
 use Rattle.stair_array.specs.Promise.{Begun}
 use Rattle.stair_story.specs.declared.status.Status.{Status}
 use Rattle.stair_story.specs.declared.status.Status.TheVariants.{Done}
@@ -26,12 +26,19 @@ PassesItsTests (WriteBlocks first contents) s seats =
     (first < block_count s.geometry) × (s.content.frozen ≡ false)
 PassesItsTests step s seats = PassesTests step s seats
 
+-- where an array in this state is frozen a write of blocks that are there is refused for that
+abbrev pub IsRefusedFrozen : (step : Step) → Answer step → State → Type 0
+IsRefusedFrozen (WriteBlocks first contents) answer s =
+    first < block_count s.geometry → s.content.frozen ≡ true → answer ≡ Err Frozen
+IsRefusedFrozen step answer s = ⊤
+
 -- A step of an array in this state, by a row of the machine: it is done where it passes its tests.
 pub record IsDoneIfPassed (step : Step) (answer : Answer step) (s later : State) : Type 0 where
   pub begun : Seats
   pub begins : BeginsAs step s begun
   pub row : Row step answer begun s later
   pub done : PassesItsTests step s begun → IsOk answer
+  pub frozen : IsRefusedFrozen step answer s
 
 -- The story is that of an array in this state, up to where one is to be made: a survey finds it, and each step that passes its tests
 -- is done.
@@ -99,3 +106,21 @@ EndsDone g (Try Recover k) left = (gone : Bool) → EndsDone g (k (Ok g) gone) l
 EndsDone g (Try step k) left =
     (answer : Answer step) (gone : Bool) → EndsDone g (k answer gone) left
 EndsDone g (RebuildAll slots done k) left = ⊥
+
+-- The plan ends so, whatever else comes, where each of its steps is one of an array that serves, from this state on: it is found, and a
+-- step that passes its tests is done. No array is made, and no device rebuilt.
+abbrev pub EndsServed : (Status → Type 0) → Plan → State → Type 0
+EndsServed IsEnd (Over status) s = IsEnd status
+EndsServed IsEnd (Ask question k) s =
+    (reply : Reply question) → IsReply question reply → EndsServed IsEnd (k reply) s
+EndsServed IsEnd (Take least most k short) s =
+    ((bytes : List ℕ) → AreEnough least most bytes → EndsServed IsEnd (k bytes) s)
+    × ((bytes : List ℕ) → length bytes < least → EndsServed IsEnd (short bytes) s)
+EndsServed IsEnd (Put bytes plan) s = EndsServed IsEnd plan s
+EndsServed IsEnd (Allocate plan) s = EndsServed IsEnd plan s
+EndsServed IsEnd (Do (Create array) k) s = ⊥
+EndsServed IsEnd (Do Survey k) s = (member : Membership) → member.array.geometry ≡ s.geometry
+    → EndsServed IsEnd (k member) s
+EndsServed IsEnd (Try step k) s = (answer : Answer step) (left : Bool) (later : State)
+    → IsDoneIfPassed step answer s later → EndsServed IsEnd (k answer left) later
+EndsServed IsEnd (RebuildAll slots done k) s = ⊥

@@ -11,7 +11,7 @@ use Rattle.stair_conf.specs.Config.{name_of}
 use Rattle.stair_base.specs.declared.equations.Broken.{Broken}
 use Rattle.stair_base.specs.declared.equations.Broken.TheVariants.{Row, Global}
 use Rattle.stair_story.specs.declared.status.Status.{Status}
-use Rattle.stair_story.specs.declared.status.Status.TheVariants.{Done, NotCodeword, NoCodeword, Usage, Limit, Key, NotToml, Input, InputFault, OutputFault, NoArray, TwoArrays, TooFew, Lost, OutOfRange, AlreadyArray, SmallDevice, SlotBusy, Gone, EpochsSpent, OutOfMemory, BadLine, JournalLost, Frozen, Halted, BadMessage}
+use Rattle.stair_story.specs.declared.status.Status.TheVariants.{Done, NotCodeword, NoCodeword, Usage, Limit, Key, NotToml, Input, InputFault, OutputFault, NoArray, TwoArrays, TooFew, Lost, OutOfRange, AlreadyArray, SmallDevice, SlotBusy, Gone, EpochsSpent, OutOfMemory, BadLine, JournalLost, Frozen, Halted, BadMessage, NoTable, TableThere, NoVolume, NameTaken, TableFull, NoRoom}
 
 abbrev pub code_of : Status → ℕ
 code_of Done = 0
@@ -40,6 +40,12 @@ code_of (JournalLost sector) = 19
 code_of Frozen = 20
 code_of (Halted number) = 21
 code_of (BadMessage number) = 22
+code_of NoTable = 23
+code_of TableThere = 24
+code_of NoVolume = 25
+code_of NameTaken = 26
+code_of TableFull = 27
+code_of (NoRoom blocks) = 28
 
 abbrev pub equation_line : Broken → List ℕ
 equation_line (Row i k p) = codes "row " ++ decimal i ++ codes " parity " ++ decimal k
@@ -81,7 +87,7 @@ abbrev pub line_of : Status → List ℕ
 line_of Done = []
 line_of (NotCodeword broken) = codes "not a codeword: " ++ equation_line broken
 line_of NoCodeword = codes "no codeword holds these cells"
-line_of Usage = codes "usage: stair FOLDER check|stripe|restore|create|show|read|write|scrub|replace|rebuild|run|exercise|freeze|thaw|label|guard|report|serve"
+line_of Usage = codes "usage: stair FOLDER check|stripe|restore|create|show|read|write|scrub|replace|rebuild|run|exercise|freeze|thaw|label|guard|report|serve|vinit|vmake|vdrop|vlist|vread|vwrite|plan"
 line_of (Limit k) = codes "geometry: limit " ++ decimal k
 line_of (Key key) = codes "geometry: key " ++ name_of key
 line_of NotToml = codes "geometry: not TOML"
@@ -110,3 +116,9 @@ line_of (JournalLost sector) = codes "journal lost: sector " ++ decimal sector
 line_of Frozen = codes "frozen"
 line_of (Halted number) = codes "halted after line " ++ decimal number
 line_of (BadMessage number) = codes "bad message " ++ decimal number
+line_of NoTable = codes "no volume table"
+line_of TableThere = codes "volume table already"
+line_of NoVolume = codes "no such volume"
+line_of NameTaken = codes "name taken"
+line_of TableFull = codes "table full"
+line_of (NoRoom blocks) = codes "no room: " ++ decimal blocks ++ codes " blocks"

@@ -66,3 +66,17 @@ abbrev pub events_of_story : List Deed → List Event
 events_of_story [] = []
 events_of_story (Stepped step answer events left ∷ story) = events ++ events_of_story story
 events_of_story (deed ∷ story) = events_of_story story
+
+-- the bytes that were taken over it, and those that were put out
+abbrev pub taken_in : List Deed → List ℕ
+taken_in [] = []
+taken_in (Took bytes ∷ story) = bytes ++ taken_in story
+taken_in (TookLast bytes ∷ story) = bytes ++ taken_in story
+taken_in (TakeFailed bytes ∷ story) = bytes ++ taken_in story
+taken_in (_ ∷ story) = taken_in story
+
+abbrev pub put_in : List Deed → List ℕ
+put_in [] = []
+put_in (HasPut bytes ∷ story) = bytes ++ put_in story
+put_in (PutFailed part ∷ story) = part ++ put_in story
+put_in (_ ∷ story) = put_in story

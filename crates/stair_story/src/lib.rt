@@ -22,4 +22,4 @@ pub use pieces::piece_blocks;
 pub use status::Status;
 pub use steps::Opened;
 pub use streams::{Filled, put_all, take_at_least};
-pub use text::identity_digits;
+pub use text::{identity_digits, wrote_line};

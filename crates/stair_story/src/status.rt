@@ -90,6 +90,18 @@ pub enum Status {
     Halted(u64),
     /// This message of a client, counted from 1, isn't one of the protocol, or came too late.
     BadMessage(u64),
+    /// Block 0 isn't a table of volumes.
+    NoTable,
+    /// Block 0 is a table of volumes already.
+    TableThere,
+    /// No volume has the name.
+    NoVolume,
+    /// A volume has the name already.
+    NameTaken,
+    /// The table has as many volumes as it may.
+    TableFull,
+    /// No free range of so many blocks is there.
+    NoRoom(u64),
 }
 
 impl From<Fault> for Status {
@@ -257,6 +269,12 @@ impl Status {
             Status::Frozen => 20,
             Status::Halted(_) => 21,
             Status::BadMessage(_) => 22,
+            Status::NoTable => 23,
+            Status::TableThere => 24,
+            Status::NoVolume => 25,
+            Status::NameTaken => 26,
+            Status::TableFull => 27,
+            Status::NoRoom(_) => 28,
         }
     }
 }
@@ -280,7 +298,7 @@ impl fmt::Display for Status {
             Status::NoCodeword => write!(f, "no codeword holds these cells"),
             Status::Usage => write!(
                 f,
-                "usage: stair FOLDER check|stripe|restore|create|show|read|write|scrub|replace|rebuild|run|exercise|freeze|thaw|label|guard|report|serve"
+                "usage: stair FOLDER check|stripe|restore|create|show|read|write|scrub|replace|rebuild|run|exercise|freeze|thaw|label|guard|report|serve|vinit|vmake|vdrop|vlist|vread|vwrite|plan"
             ),
             Status::Limit(limit) => write!(f, "geometry: limit {limit}"),
             Status::Key(key) => write!(f, "geometry: key {}", key.name()),
@@ -321,6 +339,12 @@ impl fmt::Display for Status {
             Status::Frozen => write!(f, "frozen"),
             Status::Halted(number) => write!(f, "halted after line {number}"),
             Status::BadMessage(number) => write!(f, "bad message {number}"),
+            Status::NoTable => write!(f, "no volume table"),
+            Status::TableThere => write!(f, "volume table already"),
+            Status::NoVolume => write!(f, "no such volume"),
+            Status::NameTaken => write!(f, "name taken"),
+            Status::TableFull => write!(f, "table full"),
+            Status::NoRoom(blocks) => write!(f, "no room: {blocks} blocks"),
         }
     }
 }

@@ -1,4 +1,5 @@
 // What the blocks of the array of four devices hold.
+use crate::racks::table;
 use stair_engine::Status;
 use stair_engine_tests::calls::{NOTHING_TOLD, Told, WHOLE, call, restarted};
 use stair_memrack::MemRack;
@@ -7,19 +8,31 @@ use std::alloc::{AllocError, Global};
 /// What fills each of the 15 blocks.
 pub(crate) type Fillings = [u8; 15];
 
-/// What fills blocks that were put out; None where one isn't filled with a single byte, or there are others than 15.
+/// What stands for a table without volumes, and for one with a volume, in the place of what fills a block.
+pub(crate) const NO_VOLUME: u8 = 0xF0;
+
+pub(crate) const ONE_VOLUME: u8 = 0xF1;
+
+// What fills a block, or stands for it.
+fn filling_of(block: &[u8]) -> Option<u8> {
+    if block == table(false).as_slice() {
+        return Some(NO_VOLUME);
+    }
+    if block == table(true).as_slice() {
+        return Some(ONE_VOLUME);
+    }
+    let first = *block.first()?;
+    block.iter().all(|byte| *byte == first).then_some(first)
+}
+
+/// What fills blocks that were put out; None where one isn't filled with a single byte and is no table, or there are others than 15.
 pub(crate) fn fillings_of(put: &[u8]) -> Option<Fillings> {
     if put.len() != 15 * 512 {
         return None;
     }
     let mut fillings = [0; 15];
     for (block, filling) in fillings.iter_mut().enumerate() {
-        let bytes = put.get(block * 512..(block + 1) * 512)?;
-        let first = *bytes.first()?;
-        if bytes.iter().any(|byte| *byte != first) {
-            return None;
-        }
-        *filling = first;
+        *filling = filling_of(put.get(block * 512..(block + 1) * 512)?)?;
     }
     Some(fillings)
 }

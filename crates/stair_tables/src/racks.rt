@@ -29,6 +29,30 @@ pub(crate) fn with_open_gates(alloc: Global, acts: &[Act]) -> Result<MemRack, Al
     rack.after_crash(alloc, &[], acts, CALLS)
 }
 
+/// The bytes of a table without volumes, or with the volume `a` of ten blocks.
+pub(crate) fn table(has_volume: bool) -> [u8; 512] {
+    let mut bytes = [0; 512];
+    for (place, byte) in bytes.iter_mut().zip(b"STAIRVT1") {
+        *place = *byte;
+    }
+    if has_volume {
+        bytes[8] = 1;
+        // the length of its name, the name, its first block, and how many it has
+        bytes[32] = 1;
+        bytes[33] = b'a';
+        bytes[59] = 1;
+        bytes[63] = 10;
+    }
+    bytes
+}
+
+/// The array of four devices with a table without volumes, all of whose other blocks were written, to which this happens.
+pub(crate) fn with_table(alloc: Global, acts: &[Act]) -> Result<MemRack, AllocError> {
+    let mut rack = with_blocks(alloc, &[])?;
+    let _ = call(alloc, &mut rack, "write 0 1", &table(false), WHOLE)?;
+    restarted(alloc, rack, acts)
+}
+
 /// Writes this byte at a place of a sector, and syncs; false where the sector can't be read.
 pub(crate) fn change(rack: &mut MemRack, slot: u8, sector: u32, place: usize, byte: u8) -> bool {
     let slot = slot.min(31);

@@ -1,6 +1,6 @@
 // Calls that are stopped before each of their calls of the rack, and what each crash leaves then.
-use crate::contents::{Fillings, read_all, reads, with_block, with_first};
-use crate::racks::{WRITTEN, blank_device, with_open_gates};
+use crate::contents::{Fillings, NO_VOLUME, ONE_VOLUME, read_all, reads, with_block, with_first};
+use crate::racks::{WRITTEN, blank_device, with_open_gates, with_table};
 use crate::script::{contents_after, script};
 use crate::tally::{Part, Tally};
 use stair_engine::Status;
@@ -28,10 +28,12 @@ pub(crate) enum Work {
     Opening,
     /// Ten lines of a script that write and read.
     Script,
+    /// A volume of ten blocks that is made.
+    Volume,
 }
 
 impl Work {
-    pub(crate) const EACH: [Work; 7] = [
+    pub(crate) const EACH: [Work; 8] = [
         Work::Block,
         Work::AllBlocks,
         Work::Scrub,
@@ -39,6 +41,7 @@ impl Work {
         Work::Freeze,
         Work::Opening,
         Work::Script,
+        Work::Volume,
     ];
 
     fn name(self) -> &'static str {
@@ -50,6 +53,7 @@ impl Work {
             Work::Freeze => "stops in a freeze",
             Work::Opening => "stops in an opening with open gates",
             Work::Script => "stops in a script",
+            Work::Volume => "stops in a making of a volume",
         }
     }
 
@@ -62,6 +66,7 @@ impl Work {
             Work::Freeze => "freeze",
             Work::Opening => "read 0 0",
             Work::Script => "run",
+            Work::Volume => "vmake a 10",
         }
     }
 
@@ -94,6 +99,7 @@ impl Work {
                 with_blocks(alloc, &[pull, insert, stop])
             }
             Work::Opening => with_open_gates(alloc, &[stop]),
+            Work::Volume => with_table(alloc, &[stop]),
             _ => with_blocks(alloc, &[stop]),
         }
     }
@@ -122,6 +128,13 @@ impl Work {
             }
             Work::Opening => contents.push(with_block(&FILLINGS, 0, WRITTEN))?,
             Work::Script => contents_after(alloc, &came.put, &mut contents)?,
+            Work::Volume => {
+                // the zeros of a stripe are one step, and the table is the last one
+                for count in [1, 5, 10, 11] {
+                    contents.push(with_block(&with_first(&FILLINGS, count, 0), 0, NO_VOLUME))?;
+                }
+                contents.push(with_block(&with_first(&FILLINGS, 11, 0), 0, ONE_VOLUME))?;
+            }
             Work::Scrub | Work::Replacement | Work::Freeze => contents.push(FILLINGS)?,
         }
         Ok(contents)

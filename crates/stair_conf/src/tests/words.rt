@@ -1,12 +1,18 @@
-use crate::{Job, Method, StripeCommand, WordsFault, read_words};
+use crate::{Job, Method, StripeCommand, VolumeJob, WordsFault, read_words};
 use std::alloc::{AllocError, Global};
 use std::test::Fail;
 
-// Each row of these two is a command line, a blank behind each word but the last, and the numbers N M R E.., BLOCK COUNT, SLOT,
-// NUMBER COUNT or EVENTS FENCES that it has, None where it is faulty.
-const OF_A_STRIPE: [(&str, Option<&[u64]>); 24] = [
+// Each row of these three is a command line, a blank behind each word but the last, and the numbers N M R E.., BLOCK COUNT, SLOT,
+// NUMBER COUNT, EVENTS FENCES or BLOCKS that it has, None where it is faulty.
+const OF_A_STRIPE: [(&str, Option<&[u64]>); 30] = [
     ("check 4 1 2 1", Some(&[4, 1, 2, 1])),
     ("restore 8 2 4 1 1 2", Some(&[8, 2, 4, 1, 1, 2])),
+    ("plan 8 2 4 1 1 2", Some(&[8, 2, 4, 1, 1, 2])),
+    ("plan 8 2 4", None),
+    ("plan up 8 2 4 1", None),
+    ("plan 8 2 04 1", None),
+    ("plan", None),
+    ("Plan 8 2 4 1", None),
     (
         "stripe up 0 18446744073709551615 10 9",
         Some(&[0, u64::MAX, 10, 9]),
@@ -107,6 +113,66 @@ const OF_AN_ARRAY: [(&str, Option<&[u64]>); 64] = [
     ("served", None),
 ];
 
+const OF_VOLUMES: [(&str, Option<&[u64]>); 54] = [
+    ("vinit", Some(&[])),
+    ("vinit 1", None),
+    ("vinit ", None),
+    ("Vinit", None),
+    ("vmake home 7", Some(&[7])),
+    ("vmake a 1", Some(&[1])),
+    (
+        "vmake abcxyz_012789_az 18446744073709551615",
+        Some(&[u64::MAX]),
+    ),
+    ("vmake 0123456789abcdefg 1", None),
+    ("vmake home 0", None),
+    ("vmake home 07", None),
+    ("vmake home -7", None),
+    ("vmake home 18446744073709551616", None),
+    ("vmake home", None),
+    ("vmake home 7 1", None),
+    ("vmake 7 home", None),
+    ("vmake  7", None),
+    ("vmake", None),
+    ("vdrop home", Some(&[])),
+    ("vdrop 7", Some(&[])),
+    ("vdrop _", Some(&[])),
+    ("vdrop 0123456789abcdef", Some(&[])),
+    ("vdrop 0123456789abcdefg", None),
+    ("vdrop Home", None),
+    ("vdrop -a", None),
+    ("vdrop a-b", None),
+    ("vdrop a.b", None),
+    ("vdrop `", None),
+    ("vdrop {", None),
+    ("vdrop /", None),
+    ("vdrop :", None),
+    ("vdrop \u{E9}tage", None),
+    ("vdrop ", None),
+    ("vdrop", None),
+    ("vdrop home 7", None),
+    ("vlist", Some(&[])),
+    ("vlist home", None),
+    ("vlists", None),
+    ("vread home 0 1", Some(&[0, 1])),
+    ("vread 7 8 9", Some(&[8, 9])),
+    ("vread home 18446744073709551615 0", Some(&[u64::MAX, 0])),
+    ("vread home 0", None),
+    ("vread home 0 1 2", None),
+    ("vread 0 1", None),
+    ("vread Home 0 1", None),
+    ("vread home 00 1", None),
+    ("vread home 0 18446744073709551616", None),
+    ("vread", None),
+    ("vwrite home 3 4", Some(&[3, 4])),
+    ("vwrite home 0 18446744073709551615", Some(&[0, u64::MAX])),
+    ("vwrite home 3", None),
+    ("vwrite home 3 4 5", None),
+    ("vwrite a.b 3 4", None),
+    ("vwrite home -3 4", None),
+    ("vwrite home 3 4x", None),
+];
+
 // Each row is the word TEXT, and whether it is one.
 const TEXTS: [(&str, bool); 12] = [
     ("7", true),
@@ -163,12 +229,25 @@ fn front_of(job: &Job) -> &'static str {
         Job::Guard { .. } => "guard ",
         Job::Report => "report",
         Job::Serve => "serve",
+        Job::Volume(job) => front_of_volume(job),
+        Job::Plan { .. } => "plan ",
+    }
+}
+
+fn front_of_volume(job: &VolumeJob) -> &'static str {
+    match job {
+        VolumeJob::Ready => "vinit",
+        VolumeJob::Make { .. } => "vmake ",
+        VolumeJob::Remove { .. } => "vdrop ",
+        VolumeJob::List => "vlist",
+        VolumeJob::Read { .. } => "vread ",
+        VolumeJob::Write { .. } => "vwrite ",
     }
 }
 
 fn numbers_of(alloc: Global, job: &Job) -> Result<Vec<u64>, AllocError> {
     match job {
-        Job::OneStripe { n, m, r, e, .. } => {
+        Job::OneStripe { n, m, r, e, .. } | Job::Plan { n, m, r, e } => {
             let mut numbers = [*n, *m, *r].to_vec(alloc)?;
             numbers.extend_from_slice(e.as_slice())?;
             Ok(numbers)
@@ -187,6 +266,30 @@ fn numbers_of(alloc: Global, job: &Job) -> Result<Vec<u64>, AllocError> {
         Job::Exercise { number, count } => [*number, *count].to_vec(alloc),
         Job::Guard { events, fences } => [*events, *fences].to_vec(alloc),
         Job::Replace { slot } => [*slot].to_vec(alloc),
+        Job::Volume(job) => numbers_of_volume(alloc, job),
+    }
+}
+
+fn numbers_of_volume(alloc: Global, job: &VolumeJob) -> Result<Vec<u64>, AllocError> {
+    match job {
+        VolumeJob::Ready | VolumeJob::Remove { .. } | VolumeJob::List => Ok(Vec::new(alloc)),
+        VolumeJob::Make { blocks, .. } => [*blocks].to_vec(alloc),
+        VolumeJob::Read { block, count, .. } | VolumeJob::Write { block, count, .. } => {
+            [*block, *count].to_vec(alloc)
+        }
+    }
+}
+
+// The name of a volume that the job has.
+fn name_of(job: &Job) -> Option<&[u8]> {
+    match job {
+        Job::Volume(
+            VolumeJob::Make { name, .. }
+            | VolumeJob::Remove { name }
+            | VolumeJob::Read { name, .. }
+            | VolumeJob::Write { name, .. },
+        ) => Some(name.bytes()),
+        _ => None,
     }
 }
 
@@ -220,6 +323,28 @@ fn reads_exactly_the_words_of_a_stripe(rt: HostRuntime) -> Result<(), Fail> {
 fn reads_exactly_the_words_of_an_array(rt: HostRuntime) -> Result<(), Fail> {
     for (line, said) in OF_AN_ARRAY {
         assert!(rt; is_read_as(rt.alloc(), line, said)?, "{line}");
+    }
+    Ok(())
+}
+
+#[test]
+fn reads_exactly_the_words_of_volumes(rt: HostRuntime) -> Result<(), Fail> {
+    for (line, said) in OF_VOLUMES {
+        assert!(rt; is_read_as(rt.alloc(), line, said)?, "{line}");
+    }
+    Ok(())
+}
+
+#[test]
+fn reads_the_name_of_a_volume(rt: HostRuntime) -> Result<(), Fail> {
+    for line in [
+        "vmake home 7",
+        "vdrop home",
+        "vread home 0 1",
+        "vwrite home 3 4",
+    ] {
+        let job = read_words(rt.alloc(), &words_of(rt.alloc(), line)?)?;
+        assert_eq!(rt; name_of(&job), Some("home".as_bytes()), "{line}");
     }
     Ok(())
 }

@@ -1,7 +1,7 @@
 -- The job that was read is the one that the words spell.
 use Rattle.std.proofs.Common.{◌≡◌, inl, inr, Err, None, Some, map, string_bytes, subst}
 use Rattle.stair_conf.proofs.WordsLemmas.{job_line}
-use Rattle.stair_conf.specs.declared.job.Job.TheVariants.{Guard, Serve}
+use Rattle.stair_conf.specs.declared.job.Job.TheVariants.{Guard, Serve, Volume}
 use Rattle.stair_conf.specs.declared.fault.WordsFault.{WordsFault}
 use Rattle.stair_conf.specs.declared.fault.WordsFault.TheVariants.{Usage}
 use Rattle.stair_array.specs.Promise.{Begun}
@@ -15,7 +15,9 @@ use Rattle.stair_session.specs.Returning.{AnyReturns}
 use Rattle.stair_engine.proofs.CompleteLaws.{all_is_complete, all_is_complete_wherever}
 use Rattle.stair_engine.proofs.CountedLaws.{scrubs_are_counted}
 use Rattle.stair_engine.proofs.HaltLaws.{guards_halt}
+use Rattle.stair_engine.proofs.MadeLaws.{is_made}
 use Rattle.stair_engine.proofs.MendedLaws.{array_is_mended}
+use Rattle.stair_engine.proofs.ChangedLaws.{volumes_are_changed}
 use Rattle.stair_engine.proofs.ServeLaws.{clients_are_answered}
 use Rattle.stair_engine.proofs.SpelledLaws.{call_borne, job_done, short_borne, spelled}
 use Rattle.stair_engine.proofs.StandLaws.{still_stands}
@@ -46,6 +48,7 @@ returns-in-Ok g c =
       complete_wherever = λ job spells. all_is_complete_wherever _ _ _ _ AnyReturns devices view words job c.work.result old _ c.args.rack.now _ _ _ spells;
       halted = λ events fences spells. guards_halt _ _ _ _ devices view words events fences c.work.result old _ c.args.rack.now _ _ _ spells c.requires;
       answered = λ spells returning. clients_are_answered _ _ _ _ returning devices view words c.work.result old _ c.args.rack.now _ _ _ spells;
+      volumes = λ job spells. volumes_are_changed _ _ _ _ devices view words job c.work.result old _ c.args.rack.now _ _ _ spells;
       mended = λ job spells honest. array_is_mended _ _ _ _ devices view words job c.work.result old _ c.args.rack.now _ _ _ spells whole honest;
       counted = λ honest spells. scrubs_are_counted _ _ _ _ devices view words c.work.result old _ c.args.rack.now _ _ _ spells whole honest;
     }
@@ -115,6 +118,25 @@ returns-in-Err-Usage-clause-halted g c events fences spells =
     in
     absurd (c.read_words.ensures.usage usage (Guard events fences) spells)
 
+pub returns-in-Err-Memory-clause-volumes : goal.returns-in-Err-Memory-clause-volumes
+returns-in-Err-Memory-clause-volumes g c job spells =
+    let view = views g.S.Source.left g.S.Source.ended g.S.Source.faults g.K.Sink.held g.K.Sink.faults in
+    let told = watcher_view
+    (λ b. (goal.Watcher-dyn g (b.vtable, b.value)).told b.value)
+    (λ b. (goal.Watcher-dyn g (b.vtable, b.value)).count b.value)
+    (λ b. (goal.Watcher-dyn g (b.vtable, b.value)).left b.value)
+    (λ b. (goal.Watcher-dyn g (b.vtable, b.value)).patience b.value)
+    in
+    let devices = device_view (rack_view g.R.Rack.is_honest g.R.Rack.history g.R.Rack.bads g.R.Rack.gones) told in
+    volumes_are_changed _ _ _ _ devices view (map string_bytes c.args.words.now) job status.OutOfMemory _ _ _ _ _ _ spells
+
+pub returns-in-Err-Usage-clause-volumes : goal.returns-in-Err-Usage-clause-volumes
+returns-in-Err-Usage-clause-volumes g c job spells =
+    let usage : c.read_words.result ≡ Err Usage =
+    subst (λ (fault : WordsFault). c.read_words.result ≡ Err fault) c.in-Err-Usage.field-0-is c.in-Err-Usage.is
+    in
+    absurd (c.read_words.ensures.usage usage (Volume job) spells)
+
 pub returns-in-Err-Memory-clause-answered : goal.returns-in-Err-Memory-clause-answered
 returns-in-Err-Memory-clause-answered g c spells returning =
     let view = views g.S.Source.left g.S.Source.ended g.S.Source.faults g.K.Sink.held g.K.Sink.faults in
@@ -133,3 +155,6 @@ returns-in-Err-Usage-clause-answered g c spells returning =
     subst (λ (fault : WordsFault). c.read_words.result ≡ Err fault) c.in-Err-Usage.field-0-is c.in-Err-Usage.is
     in
     absurd (c.read_words.ensures.usage usage Serve spells)
+
+pub work-requires-clause-some : goal.work-requires-clause-some
+work-requires-clause-some g c = is_made (map string_bytes c.args.words.now) c.in-Ok.job c.in-Ok.ensures.ok

@@ -7,7 +7,7 @@ use Rattle.stair_story.specs.Fault.{status_of, status_of_fault}
 use Rattle.stair_story.specs.Means.{Means}
 use Rattle.stair_story.specs.Outside.{outside, sink_alone, views}
 use Rattle.stair_rack.specs.Watching.{watcher_view}
-use Rattle.stair_conf.specs.declared.job.Job.TheVariants.{Create, Exercise, Freeze, Label, Read, Rebuild, Replace, Report, Scrub, Show, Thaw}
+use Rattle.stair_conf.specs.declared.job.Job.TheVariants.{Create, Exercise, Freeze, Label, Plan, Read, Rebuild, Replace, Report, Scrub, Show, Thaw}
 use Rattle.stair_story.specs.Devices.{MeansWhole, device_view}
 use Rattle.stair_story.proofs.DeviceLaws.{any_source, calls_once, with_once}
 use Rattle.stair_engine.specs.Blocks.{read_plan, write_plan}
@@ -18,10 +18,11 @@ use Rattle.stair_engine.proofs.ReportLaws.{report_calls_none}
 use Rattle.stair_engine.specs.Scripts.{guard_plan, run_plan}
 use Rattle.stair_engine.specs.Serving.{serve_plan}
 use Rattle.stair_monitor.specs.Reports.{report_plan}
-use Rattle.stair_engine.specs.Plans.{create_plan, job_plan, show_plan, stripe_plan, tested_plan, within_limits}
+use Rattle.stair_engine.specs.Plans.{costs_plan, create_plan, job_plan, planning_plan, show_plan, stripe_plan, tested_plan, within_limits}
 use Rattle.stair_story.specs.Question.{Limits}
 use Rattle.stair_story.specs.Rack.{MeansOver, rack_view}
 use Rattle.stair_engine.specs.Task.{one_stripe}
+use Rattle.stair_engine.specs.Volumes.{volumes_plan}
 use Rattle.stair_story.specs.declared.fault.Fault.{Fault}
 use Rattle.stair_story.specs.declared.status.Status.{Status}
 use Rattle.stair_story.specs.declared.status.Status.TheVariants.{Limit}
@@ -30,6 +31,7 @@ use Rattle.stair_engine.proofs.work.Goals as goal
 use Rattle.stair_story.proofs.PlanLaws.{and_then, finds}
 use Rattle.stair_story.proofs.RackLaws.{over_still}
 use Rattle.stair_engine.proofs.StripeLaws.{stripe_calls_none}
+use Rattle.stair_engine.proofs.VolumesLaws.{costs_call_none}
 
 status_is : (status : Status) (done : Result Status Fault) → MatchResult done (λ answer. status ≡ answer) (λ fault. status ≡ status_of_fault fault)
     → status ≡ status_of done
@@ -330,8 +332,8 @@ returns-in-Exercise-clause-means g c =
     c.exercise-done.new.output c.args.steps.now c.args.rack.now c.exercise-done.new.rack c.args.watchers.now.items c.exercise-done.new.watchers.items
     c.exercise-done.ensures.means
 
-pub returns-clause-means : goal.returns-clause-means
-returns-clause-means g c =
+pub returns-in-Serve-clause-means : goal.returns-in-Serve-clause-means
+returns-in-Serve-clause-means g c =
     let view = views g.S.Source.left g.S.Source.ended g.S.Source.faults g.K.Sink.held g.K.Sink.faults in
     let rack = rack_view g.R.Rack.is_honest g.R.Rack.history g.R.Rack.bads g.R.Rack.gones in
     let told = watcher_view
@@ -349,3 +351,74 @@ returns-clause-means g c =
     (sym c.in-Serve.is)
     (subst (λ (s : Status). MeansWhole devices view serve_plan (Over s) old new c.args.rack.now c.serve-done.new.rack
     c.args.watchers.now.items c.serve-done.new.watchers.items) (sym is) (c.serve-done.ensures.means c.args.steps.now))
+
+pub returns-in-Volume-clause-means : goal.returns-in-Volume-clause-means
+returns-in-Volume-clause-means g c =
+    let view = views g.S.Source.left g.S.Source.ended g.S.Source.faults g.K.Sink.held g.K.Sink.faults in
+    let rack = rack_view g.R.Rack.is_honest g.R.Rack.history g.R.Rack.bads g.R.Rack.gones in
+    let told = watcher_view
+    (λ b. (goal.Watcher-dyn g (b.vtable, b.value)).told b.value)
+    (λ b. (goal.Watcher-dyn g (b.vtable, b.value)).count b.value)
+    (λ b. (goal.Watcher-dyn g (b.vtable, b.value)).left b.value)
+    (λ b. (goal.Watcher-dyn g (b.vtable, b.value)).patience b.value)
+    in
+    let devices = device_view rack told in
+    let of = c.in-Volume.volume in
+    let status = c.unwrap_or_else-in-Volume.result in
+    let is : status ≡ status_of c.volumes-done.result = status_is _ c.volumes-done.result c.unwrap_or_else-in-Volume.ensures in
+    let old = outside c.args.input.now c.args.output.now c.args.steps.now in
+    let new = outside c.volumes-done.new.input c.volumes-done.new.output c.args.steps.now in
+    subst (λ (job : Job). MeansWhole devices view (job_plan job) (Over status) old new c.args.rack.now c.volumes-done.new.rack c.args.watchers.now.items c.volumes-done.new.watchers.items)
+    (sym c.in-Volume.is)
+    (subst (λ (s : Status). MeansWhole devices view (volumes_plan of) (Over s) old new c.args.rack.now c.volumes-done.new.rack
+    c.args.watchers.now.items c.volumes-done.new.watchers.items) (sym is) (c.volumes-done.ensures.means c.args.steps.now))
+
+pub returns-in-Ok-one_stripe-clause-means : goal.returns-in-Ok-one_stripe-clause-means
+returns-in-Ok-one_stripe-clause-means g c =
+    let view = views g.S.Source.left g.S.Source.ended g.S.Source.faults g.K.Sink.held g.K.Sink.faults in
+    let rack = rack_view g.R.Rack.is_honest g.R.Rack.history g.R.Rack.bads g.R.Rack.gones in
+    let told = watcher_view
+    (λ b. (goal.Watcher-dyn g (b.vtable, b.value)).told b.value)
+    (λ b. (goal.Watcher-dyn g (b.vtable, b.value)).count b.value)
+    (λ b. (goal.Watcher-dyn g (b.vtable, b.value)).left b.value)
+    (λ b. (goal.Watcher-dyn g (b.vtable, b.value)).patience b.value)
+    in
+    let devices = device_view rack told in
+    let o = c.in-Plan in
+    let of = one_stripe o.n o.m o.r o.e in
+    let job = Plan o.n o.m o.r o.e in
+    let alone = sink_alone g.K.Sink.held g.K.Sink.faults in
+    let done = c.tell_costs-done.result in
+    let later = c.tell_costs-done.new.output in
+    arm devices view.source view.sink job (job_untaken job (λ no. no)) done c.unwrap_or_else-in-Ok-one_stripe.result
+    (status_is _ done c.unwrap_or_else-in-Ok-one_stripe.ensures) _ o.is c.args.input.now c.args.output.now later c.args.steps.now
+    c.args.rack.now c.args.rack.now c.args.watchers.now.items c.args.watchers.now.items
+    (λ counter.
+    let old = outside tt c.args.output.now counter in
+    let new = outside tt later counter in
+    with_once devices alone (planning_plan of) (Over (status_of done)) old new c.args.rack.now c.args.rack.now c.args.watchers.now.items
+    (job_once job (λ no. no))
+    (over_still rack alone (planning_plan of) (Over (status_of done)) old new c.args.rack.now (costs_call_none of)
+    (and_then alone (finds alone (Limits of) (within_limits (costs_plan of)) None _ _ _ _ c.in-Ok-one_stripe.ensures.within refl)
+    (subst (λ (k : Geometry). Means alone (costs_plan k) (Over (status_of done)) old new) c.in-Ok-one_stripe.ensures.ok (c.tell_costs-done.ensures counter)))))
+
+pub returns-clause-means : goal.returns-clause-means
+returns-clause-means g c =
+    let view = views g.S.Source.left g.S.Source.ended g.S.Source.faults g.K.Sink.held g.K.Sink.faults in
+    let rack = rack_view g.R.Rack.is_honest g.R.Rack.history g.R.Rack.bads g.R.Rack.gones in
+    let told = watcher_view
+    (λ b. (goal.Watcher-dyn g (b.vtable, b.value)).told b.value)
+    (λ b. (goal.Watcher-dyn g (b.vtable, b.value)).count b.value)
+    (λ b. (goal.Watcher-dyn g (b.vtable, b.value)).left b.value)
+    (λ b. (goal.Watcher-dyn g (b.vtable, b.value)).patience b.value)
+    in
+    let devices = device_view rack told in
+    let o = c.in-Plan in
+    let of = one_stripe o.n o.m o.r o.e in
+    let status = Limit c.in-Err-one_stripe.fault.limit in
+    let old = outside c.args.input.now c.args.output.now c.args.steps.now in
+    subst (λ (job : Job). MeansWhole devices view (job_plan job) (Over status) old old c.args.rack.now c.args.rack.now c.args.watchers.now.items c.args.watchers.now.items) (sym o.is)
+    (with_once devices view (planning_plan of) (Over status) old old c.args.rack.now c.args.rack.now c.args.watchers.now.items
+    (calls_once (planning_plan of) (costs_call_none of))
+    (over_still rack view (planning_plan of) (Over status) old old c.args.rack.now (costs_call_none of)
+    (finds view (Limits of) (within_limits (costs_plan of)) (Some _) _ _ _ _ c.in-Err-one_stripe.ensures.broken refl)))

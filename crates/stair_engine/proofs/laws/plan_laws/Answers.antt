@@ -3,6 +3,7 @@ use Rattle.stair_story.specs.Outside.{views}
 use Rattle.stair_engine.proofs.MeaningLaws.{bytes_are_answered, words_are_done}
 use Rattle.stair_engine.proofs.CallLaws.{all_is_kept, array_is_left, array_is_made, arrays_are_spared, memory_comes_first, rack_is_left, show_only_looks, source_is_left, usage_is_exact}
 use Rattle.stair_engine.proofs.CameLaws.{whole_blocks_stand}
+use Rattle.stair_engine.proofs.ChangedLaws.{volumes_are_changed}
 use Rattle.stair_engine.proofs.CompleteLaws.{all_is_complete, all_is_complete_wherever, replacement_is_done, script_is_done}
 use Rattle.stair_engine.proofs.CountedLaws.{scrubs_are_counted}
 use Rattle.stair_engine.proofs.HaltLaws.{guards_halt}
@@ -34,5 +35,6 @@ returns g c =
       scripted = script_is_done _ _ _ _;
       halted = guards_halt _ _ _ _;
       answered = clients_are_answered _ _ _ _;
+      changed = volumes_are_changed _ _ _ _;
       counted = scrubs_are_counted _ _ _ _;
     }

@@ -12,7 +12,8 @@ use Rattle.stair_story.specs.Rack.{rack_view}
 use Rattle.stair_story.specs.declared.fault.Fault.TheVariants.{Survey}
 use Rattle.stair_story.proofs.DeviceLaws.{whole_hands_on, with_then}
 use Rattle.stair_story.proofs.TakenLaws.{taken_geometry}
-use Rattle.stair_engine.specs.Blocks.{IsPast, is_in_range, reads, within_range}
+use Rattle.stair_engine.specs.Blocks.{IsPast, is_in_range, within_range}
+use Rattle.stair_story.specs.Transfers.{reads}
 use Rattle.stair_engine.proofs.SessionLaws.{inside, none_found, not_opened, opened, past}
 use Rattle.stair_engine.proofs.read.read.Goals as goal
 

@@ -5,7 +5,7 @@ use Rattle.stair_nbd.specs.Client.{client_plan}
 use Rattle.stair_rack.specs.Watching.{watcher_view}
 use Rattle.stair_story.specs.Devices.{MeansWith, device_view, devices}
 use Rattle.stair_story.specs.Outside.{outside, views}
-use Rattle.stair_story.specs.Plan.{Over}
+use Rattle.stair_story.specs.Plan.{Over, opens_array}
 use Rattle.stair_story.specs.Rack.{rack_view}
 use Rattle.stair_story.specs.Story.{Grew, RanOut}
 use Rattle.stair_story.specs.declared.fault.Fault.TheVariants.{Memory}
@@ -13,7 +13,6 @@ use Rattle.stair_story.specs.declared.status.Status.{Status}
 use Rattle.stair_story.specs.declared.status.Status.TheVariants.{OutOfMemory}
 use Rattle.stair_story.proofs.ComesLaws.{with_comes}
 use Rattle.stair_story.proofs.DeviceLaws.{whole_behind, whole_hands_on, with_one, with_then}
-use Rattle.stair_engine.specs.Blocks.{opens_array}
 use Rattle.stair_engine.specs.Serving.{serve_plan}
 use Rattle.stair_engine.proofs.SessionLaws.{ended}
 use Rattle.stair_engine.proofs.serve.serve.Goals as goal

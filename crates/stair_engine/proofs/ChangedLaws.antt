@@ -1,0 +1,94 @@
+-- What becomes of volumes over a call of words that spell a command on them.
+use Rattle.std.proofs.Common.{ℕ, List, [], ◌∷◌, Option, None, Some, inl, inr, sym, ap, subst}
+use Rattle.stair_model.specs.Geometry.{IsWithinLimits}
+use Rattle.stair_rack.specs.History.{Happening}
+use Rattle.stair_state.specs.State.{State}
+use Rattle.stair_session.specs.Returning.{Returning}
+use Rattle.stair_conf.specs.Words.{Spells}
+use Rattle.stair_conf.specs.declared.job.Job.{Job}
+use Rattle.stair_conf.specs.declared.job.Job.TheVariants.{Volume}
+use Rattle.stair_conf.specs.declared.job.VolumeJob.{VolumeJob}
+use Rattle.stair_conf.proofs.WordsLemmas.{spells_once}
+use Rattle.stair_story.specs.Devices.{devices as at}
+use Rattle.stair_story.specs.Plan.{Plan, Over, Ask}
+use Rattle.stair_story.specs.Question.{IsReply, Words}
+use Rattle.stair_story.specs.Run.{Now, Runs, history_of, now}
+use Rattle.stair_story.specs.Story.{Deed, Found, Grew, RanOut, Leads, Moves, put_in, taken_in}
+use Rattle.stair_story.specs.declared.status.Status.{Status}
+use Rattle.stair_story.specs.declared.status.Status.TheVariants.{OutOfMemory}
+use Rattle.stair_story.proofs.LifeLaws.{kept_whole}
+use Rattle.stair_volume.specs.Volumes.{IsCommand}
+use Rattle.stair_volume.proofs.OpenedLaws.{Reached, before_at, cut_goes, finished, goes_so, over_before, reached}
+use Rattle.stair_engine.specs.Laws.{VolumesAreChanged}
+use Rattle.stair_engine.specs.Plans.{if_spelled, job_plan, plan_of}
+use Rattle.stair_engine.proofs.VolumesLaws.{spelled_command}
+
+module _ (returning : Returning) (before : List Happening) (words : List (List ℕ)) (job : VolumeJob) (spells : Spells words (Volume job)) (is : IsCommand job)
+    (s : State) (limits : IsWithinLimits s.geometry) where
+  abbrev At : List ℕ → List ℕ → Plan → Now → Type 0
+  At taken put rest new = Reached returning before job is s limits taken put rest new
+
+  -- what the words spell is the job
+  reached_job : (reply : Option Job) → IsReply (Words words) reply → (story : List Deed) (rest : Plan) (h : List Happening) (new : Now)
+      → Leads Moves story (if_spelled reply) rest → Runs returning before story (now s h None) new → At (taken_in story) (put_in story) rest new
+  reached_job None not story rest h new follows runs = absurd (not (Volume job, spells))
+  reached_job (Some of) read story rest h new follows runs =
+      reached returning before job is s limits story rest h new
+      (subst (λ (j : Job). Leads Moves story (job_plan j) rest) (sym (spells_once words (Volume job) of spells read)) follows) runs
+
+  -- the words are read
+  reached_read : (story : List Deed) (rest : Plan) (h : List Happening) (new : Now) → Leads Moves story (Ask (Words words) if_spelled) rest
+      → Runs returning before story (now s h None) new → At (taken_in story) (put_in story) rest new
+  reached_read [] rest h new follows runs =
+      before_at returning before job is s limits [] [] (Ask (Words words) if_spelled) rest new follows (λ step next. absurd next) (λ done. cc)
+      (kept_whole (ap (λ (n : Now). n.state) runs))
+  reached_read (Found asked ∷ story) rest h new follows runs =
+      reached_job follows.1.0 follows.1.2 story rest h new (subst (λ (p : Plan). Leads Moves story p rest) follows.1.3 follows.2)
+      (subst (λ (n : Now). Runs returning before story n new) runs.1 runs.2)
+  reached_read (_ ∷ story) rest h new follows runs = absurd follows.1
+
+  -- the whole call
+  reached_words : (story : List Deed) (rest : Plan) (h : List Happening) (new : Now) → Leads Moves story (plan_of words) rest
+      → Runs returning before story (now s h None) new → At (taken_in story) (put_in story) rest new
+  reached_words [] rest h new follows runs =
+      before_at returning before job is s limits [] [] (plan_of words) rest new follows (λ step next. absurd next) (λ done. cc)
+      (kept_whole (ap (λ (n : Now). n.state) runs))
+  reached_words (Grew ∷ story) rest h new follows runs =
+      reached_read story rest h new (subst (λ (p : Plan). Leads Moves story p rest) follows.1 follows.2)
+      (subst (λ (n : Now). Runs returning before story n new) runs.1 runs.2)
+  reached_words (RanOut ∷ story) rest h new follows runs =
+      over_before returning before job is s limits story (taken_in story) (put_in story) OutOfMemory rest runs.0 new (λ done. cc)
+      (kept_whole (ap (λ (n : Now). n.state) runs.1)) (subst (λ (p : Plan). Leads Moves story p rest) follows.1 follows.2) runs.2
+  reached_words (_ ∷ story) rest h new follows runs = absurd follows.1
+
+-- so of every call
+pub volumes_are_changed : (R W S K : Type 0) → VolumesAreChanged R W S K
+volumes_are_changed R W S K devices view words job status a b x y watchers left spells whole returning s limits = (
+  λ run.
+      let story = whole.with.means.story in
+      let new : Now = now run.state (history_of devices (at y whole.session left)) run.stopped in
+      let came =
+      reached_words returning (devices.rack.history x) words job spells is_one s limits story (Over status) (devices.rack.history x) new
+      whole.with.means.follows run.runs in (
+        goes_so returning (devices.rack.history x) job is_one s limits story (Over status) new came,
+        λ done.
+            finished returning (devices.rack.history x) job is_one s limits story new
+            (subst (λ (end : Status). Reached returning (devices.rack.history x) job is_one s limits (taken_in story) (put_in story) (Over end) new) done came),
+      ),
+  λ c safe image left.
+      let came =
+      reached_words returning (devices.rack.history x) words job spells is_one s limits safe.done safe.rest (devices.rack.history x) _ safe.follows safe.runs in
+      elim (safe.images image left) [
+        | inl stands ↦
+            (safe.state, stands, goes_so returning (devices.rack.history x) job is_one s limits safe.done safe.rest _ came)
+        | inr next ↦ (
+          next.left.state,
+          next.left.stands,
+          cut_goes returning (devices.rack.history x) job is_one s limits safe.done safe.rest _ next.step next.left.cut.begun next.left.state came
+              next.next next.unstopped next.left.cut.within,
+        )
+      ],
+)
+  where
+    is_one : IsCommand job
+    is_one = spelled_command words job spells

@@ -1,0 +1,49 @@
+ghost use Rattle.std.specs.Prelude.{◌≡◌, ℕ};
+ghost use Rattle.stair_rack.specs.Watching.{watcher_view};
+ghost use Rattle.stair_engine.specs.Volumes.{volumes_plan};
+ghost use Rattle.stair_story.specs.Devices.{MeansWhole, device_view};
+ghost use Rattle.stair_story.specs.Fault.{status_of};
+ghost use Rattle.stair_story.specs.Outside.{outside, views};
+ghost use Rattle.stair_story.specs.Plan.{Over};
+ghost use Rattle.stair_story.specs.Rack.{rack_view};
+ghost use Rattle.stair_volume.specs.Parts.{MakesSome};
+ghost use Rattle.stair_watch.specs.WatcherList.{AllStay};
+
+use crate::open::open;
+use stair_base::SECTOR;
+use stair_conf::VolumeJob;
+use stair_member::survey;
+use stair_rack::{Rack, Sink, Source, Watcher};
+use stair_story::{Fault, Status};
+use stair_volume::volume;
+use std::alloc::Global;
+
+/// Opens the array of the rack, and does a command on its volumes.
+pub(crate) fn volumes<R: Rack, S: Source, K: Sink>(
+    alloc: Global,
+    job: &VolumeJob,
+    rack: &mut R,
+    input: &mut S,
+    output: &mut K,
+    watchers: &mut Vec<Box<dyn Watcher>>,
+) -> Result<Status, Fault>
+    requires some { MakesSome job.now }
+    requires stay { AllStay (watcher_view told count (λ w. (Watcher-box w).left w.value) patience) watchers.old.items }
+    ensures means { (counter : ℕ) → MeansWhole
+        (device_view (rack_view R.is_honest R.history R.bads R.gones) (watcher_view told count (λ w. (Watcher-box w).left w.value) patience))
+        (views S.left S.ended S.faults K.held K.faults)
+        (volumes_plan job.now) (Over (status_of result))
+        (outside input.old output.old counter) (outside input.new output.new counter)
+        rack.old rack.new watchers.old.items watchers.new.items }
+    ensures stay { AllStay (watcher_view told count (λ w. (Watcher-box w).left w.value) patience) watchers.new.items }
+{
+    let member = survey(rack)?;
+    let geometry = member.geometry();
+    let zeros = vec![in alloc; 0; usize::from(geometry.u()) * SECTOR]?;
+    let mut array = open(alloc, rack, member, watchers)?;
+    let done = volume(&mut array, rack, job, &zeros, input, output, watchers);
+    match done {
+        Ok(()) => Ok(Status::Done),
+        Err(fault) => Ok(fault.status(geometry.n())),
+    }
+}

@@ -1,0 +1,10 @@
+-- So many lines were put out.
+use Rattle.std.proofs.Common.{drop}
+use Rattle.stair_story.specs.Outside.{sink_view}
+use Rattle.stair_story.specs.Talks.{PutsTo}
+use Rattle.stair_volume.specs.Commands.{lists}
+use Rattle.stair_volume.proofs.commands.list.Given as goal
+
+abbrev pub invariant-loop-entry : goal.invariant-loop-entry
+invariant-loop-entry g l =
+    PutsTo (sink_view g.K.Sink.held g.K.Sink.faults) (lists l.table.entries) (lists (drop l.entry-index l.table.entries)) l.fn.output l.output

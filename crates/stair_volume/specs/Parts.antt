@@ -1,0 +1,60 @@
+-- What the parts of a command on volumes do, each up to where it hands on.
+use Rattle.std.specs.Prelude.{◌≡◌, ◌+◌, ◌<◌, ◌≤◌, ℕ, false, List, Result, Ok, Err, None, Some, max, ⊤}
+use Rattle.stair_array.specs.Faults.{refusal_for}
+use Rattle.stair_array.specs.declared.fault.ArrayFault.{ArrayFault}
+use Rattle.stair_array.specs.declared.fault.ArrayFault.TheVariants as array
+use Rattle.stair_conf.specs.declared.job.VolumeJob.{VolumeJob}
+use Rattle.stair_conf.specs.declared.job.VolumeJob.TheVariants as volume
+use Rattle.stair_story.specs.Plan.{Plan, Over, Put}
+use Rattle.stair_story.specs.Refused.{status_of_refusal}
+use Rattle.stair_story.specs.Transfers.{is_within}
+use Rattle.stair_story.specs.declared.status.Status.TheVariants.{Done}
+use Rattle.stair_volume.specs.declared.extent.Entry.{Entry}
+use Rattle.stair_volume.specs.declared.extent.Extent.{Extent}
+use Rattle.stair_volume.specs.declared.fault.VolumeFault.{VolumeFault}
+use Rattle.stair_volume.specs.declared.fault.VolumeFault.TheVariants as fault
+use Rattle.stair_volume.specs.declared.table_fault.TableFault.TheVariants.{NoVolume}
+use Rattle.stair_volume.specs.Commands.{status_of_volume}
+use Rattle.stair_volume.specs.Table.{find_in}
+
+-- behind steps of an array of so many slots, of which one may be refused
+abbrev pub after_steps : (slots : ℕ) → Result (Unit {0}) ArrayFault → (rest : Plan) → Plan
+after_steps slots (Ok done) rest = rest
+after_steps slots (Err why) rest = Over (status_of_refusal slots (refusal_for why))
+
+-- behind something that was done, or wasn't
+abbrev pub after_done : (slots : ℕ) → Result (Unit {0}) VolumeFault → (rest : Plan) → Plan
+after_done slots (Ok done) rest = rest
+after_done slots (Err why) rest = Over (status_of_volume slots why)
+
+-- behind bytes that were taken
+abbrev pub after_bytes : (slots : ℕ) → Result (Unit {0}) VolumeFault → List ℕ → (List ℕ → Plan) → Plan
+after_bytes slots (Ok done) bytes k = k bytes
+after_bytes slots (Err why) bytes k = Over (status_of_volume slots why)
+
+-- behind a change of the volumes, of which a line is put out
+abbrev pub after_line : (slots : ℕ) → Result (List ℕ) VolumeFault → Plan
+after_line slots (Ok line) = Put line (Over Done)
+after_line slots (Err why) = Over (status_of_volume slots why)
+
+-- a volume that is made has blocks
+abbrev pub MakesSome : VolumeJob → Type 0
+MakesSome (volume.Make name blocks) = 1 ≤ blocks
+MakesSome _ = ⊤
+
+-- The volume of this name has so many blocks from that one on, and the first of them is this one of the array. Of none nothing is
+-- said of it.
+pub record IsFirstBlock (entries : List Entry) (name : List ℕ) (block count : ℕ) (first : ℕ) : Type 0 where
+  pub extent : Extent
+  pub found : find_in entries name ≡ Some extent
+  pub within : 0 < count → block + count ≤ extent.blocks
+  pub is : 0 < count → first ≡ extent.first + block
+
+-- or it hasn't
+abbrev pub IsNoRange : List Entry → (name : List ℕ) → (block count : ℕ) → VolumeFault → Type 0
+IsNoRange entries name block count (fault.Table NoVolume) = find_in entries name ≡ None
+IsNoRange entries name block count (fault.Array (array.OutOfRange asked limit)) =
+    (extent : Extent) × (find_in entries name ≡ Some extent)
+    × (is_within extent.blocks block count ≡ false) × (asked ≡ max block extent.blocks)
+    × (limit ≡ extent.blocks)
+IsNoRange entries name block count _ = ⊥

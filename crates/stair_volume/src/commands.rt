@@ -1,0 +1,210 @@
+// The commands on volumes.
+ghost use Rattle.std.specs.Prelude.{◌≡◌, ◌+◌, ◌*◌, ◌^◌, ◌<◌, ℕ, IfErr, IfOk, Some, replicate};
+ghost use Rattle.stair_array.specs.Promise.{Opened as IsOpen};
+ghost use Rattle.stair_model.specs.Geometry.{block_count, data_cells};
+ghost use Rattle.stair_model.specs.Stripe.{SECTOR as BYTES};
+ghost use Rattle.stair_rack.specs.Watching.{watcher_view};
+ghost use Rattle.stair_story.specs.Devices.{MeansWith, device_view, devices};
+ghost use Rattle.stair_story.specs.Outside.{outside, sink_alone, sink_view, views};
+ghost use Rattle.stair_story.specs.Plan.{Over};
+ghost use Rattle.stair_story.specs.Rack.{rack_view};
+ghost use Rattle.stair_story.specs.Talks.{PutsTo};
+ghost use Rattle.stair_story.specs.Transfers.{reads};
+ghost use Rattle.stair_watch.specs.WatcherList.{AllStay};
+ghost use Rattle.stair_volume.specs.Commands.{lists, on_table, status_of, volume_plan, writes_each};
+ghost use Rattle.stair_volume.specs.Parts.{IsFirstBlock, IsNoRange, MakesSome};
+
+use crate::changing::{make, make_ready, push_volume, remove};
+use crate::extent::Extent;
+use crate::fault::VolumeFault;
+use crate::reading::read_table;
+use crate::streams::{put, take_block, take_end};
+use crate::table::Table;
+use crate::table_fault::TableFault;
+use stair_array::ArrayFault;
+use stair_base::{SECTOR, StripeCode};
+use stair_conf::{Name, VolumeJob};
+use stair_rack::{Rack, Sink, Source, Watcher};
+use stair_story::{Opened, wrote_line};
+use stair_watch::Line;
+
+/// Does a command on the volumes of an open array.
+///
+/// The table is read first. `Make` writes zeros to all blocks of the new volume, those of a stripe as one step, and then the table;
+/// its number of blocks is at least 1. `Read` puts out each block before it reads the next. `Write` takes each block before it writes
+/// it, and looks for the end behind the last; no other command takes anything. What was written or put out before a fault stands.
+///
+/// `zeros` are those of the blocks of a stripe; no memory is taken.
+pub fn volume<C: StripeCode, R: Rack, S: Source, K: Sink>(
+    array: &mut Opened<C>,
+    rack: &mut R,
+    job: &VolumeJob,
+    zeros: &[u8],
+    input: &mut S,
+    output: &mut K,
+    watchers: &mut Vec<Box<dyn Watcher>>,
+) -> Result<(), VolumeFault>
+    requires command { MakesSome job.now }
+    requires zeros { zeros.now ≡ replicate (BYTES * data_cells array.old.member.array.geometry) 0 }
+    requires stay { AllStay (watcher_view told count (λ w. (Watcher-box w).left w.value) patience) watchers.old.items }
+    ensures means { (counter : ℕ) → MeansWith
+        (device_view (rack_view R.is_honest R.history R.bads R.gones) (watcher_view told count (λ w. (Watcher-box w).left w.value) patience))
+        (views S.left S.ended S.faults K.held K.faults)
+        (volume_plan job.now array.old.member.array.geometry)
+        (Over (status_of array.old.member.array.geometry.n result))
+        (outside input.old output.old counter) (outside input.new output.new counter)
+        (devices rack.old (IsOpen array.old) watchers.old.items)
+        (devices rack.new (IsOpen array.new) watchers.new.items) }
+    ensures stay { AllStay (watcher_view told count (λ w. (Watcher-box w).left w.value) patience) watchers.new.items }
+{
+    let mut page = [0; SECTOR];
+    array.read(rack, 0, &mut page, watchers)?;
+    if let Some(table) = read_table(array.geometry().blocks(), &page) {
+        return with_table(&table, array, rack, job, zeros, input, output, watchers);
+    }
+    match job {
+        VolumeJob::Ready => {
+            let line = make_ready(array, rack, watchers)?;
+            put(output, line.bytes())
+        }
+        _ => Err(VolumeFault::NoTable),
+    }
+}
+
+// Does a command where block 0 is this table.
+fn with_table<C: StripeCode, R: Rack, S: Source, K: Sink>(
+    table: &Table,
+    array: &mut Opened<C>,
+    rack: &mut R,
+    job: &VolumeJob,
+    zeros: &[u8],
+    input: &mut S,
+    output: &mut K,
+    watchers: &mut Vec<Box<dyn Watcher>>,
+) -> Result<(), VolumeFault>
+    requires command { MakesSome job.now }
+    requires of { table.now.blocks ≡ block_count array.old.member.array.geometry }
+    requires zeros { zeros.now ≡ replicate (BYTES * data_cells array.old.member.array.geometry) 0 }
+    requires stay { AllStay (watcher_view told count (λ w. (Watcher-box w).left w.value) patience) watchers.old.items }
+    ensures means { (counter : ℕ) → MeansWith
+        (device_view (rack_view R.is_honest R.history R.bads R.gones) (watcher_view told count (λ w. (Watcher-box w).left w.value) patience))
+        (views S.left S.ended S.faults K.held K.faults)
+        (on_table array.old.member.array.geometry job.now (Some table.now))
+        (Over (status_of array.old.member.array.geometry.n result))
+        (outside input.old output.old counter) (outside input.new output.new counter)
+        (devices rack.old (IsOpen array.old) watchers.old.items)
+        (devices rack.new (IsOpen array.new) watchers.new.items) }
+    ensures stay { AllStay (watcher_view told count (λ w. (Watcher-box w).left w.value) patience) watchers.new.items }
+{
+    match *job {
+        VolumeJob::Ready => Err(VolumeFault::TableThere),
+        VolumeJob::Make { name, blocks } => {
+            let line = make(table, name, blocks, zeros, array, rack, watchers)?;
+            put(output, line.bytes())
+        }
+        VolumeJob::Remove { name } => {
+            let line = remove(table, name, array, rack, watchers)?;
+            put(output, line.bytes())
+        }
+        VolumeJob::List => list(table, output),
+        VolumeJob::Read { name, block, count } => {
+            let first = first_block(table, name, block, count)?;
+            put_blocks(first, count, array, rack, output, watchers)
+        }
+        VolumeJob::Write { name, block, count } => {
+            let first = first_block(table, name, block, count)?;
+            write_input(first, count, array, rack, input, output, watchers)
+        }
+    }
+}
+
+// Puts out a line for each volume.
+fn list<K: Sink>(table: &Table, output: &mut K) -> Result<(), VolumeFault>
+    ensures { (slots : ℕ) → PutsTo (sink_view K.held K.faults)
+        (lists table.now.entries) (Over (status_of slots result)) output.old output.new }
+{
+    for entry in table.entries() {
+        let mut line = Line::new();
+        push_volume(&mut line, &entry.name, entry.extent);
+        put(output, line.bytes())?;
+    }
+    Ok(())
+}
+
+// The block of the array that is this one of a volume, where the volume has so many from there on. Of none any is answered.
+fn first_block(table: &Table, name: Name, block: u64, count: u64) -> Result<u64, VolumeFault>
+    ensures ok { IfOk result (IsFirstBlock table.now.entries name block count) }
+    ensures refused { IfErr result (IsNoRange table.now.entries name block count) }
+    ensures fits { IfOk result (λ first. 0 < count → first + count < 2 ^ 33) }
+{
+    let extent = table.find(name).ok_or(TableFault::NoVolume)?;
+    let limit = u64::from(extent.blocks);
+    if count > 0 && (block > limit || count > limit - block) {
+        let asked = block.max(limit);
+        return Err(VolumeFault::from(ArrayFault::OutOfRange { asked, limit }));
+    }
+    Ok(u64::from(extent.first).saturating_add(block))
+}
+
+// Puts out so many blocks from this one on. Each is put out before the next is read.
+fn put_blocks<C: StripeCode, R: Rack, K: Sink>(
+    first: u64,
+    blocks: u64,
+    array: &mut Opened<C>,
+    rack: &mut R,
+    output: &mut K,
+    watchers: &mut Vec<Box<dyn Watcher>>,
+) -> Result<(), VolumeFault>
+    requires fits { 0 < blocks → first + blocks < 2 ^ 33 }
+    requires stay { AllStay (watcher_view told count (λ w. (Watcher-box w).left w.value) patience) watchers.old.items }
+    ensures means { (counter : ℕ) → MeansWith
+        (device_view (rack_view R.is_honest R.history R.bads R.gones) (watcher_view told count (λ w. (Watcher-box w).left w.value) patience))
+        (sink_alone K.held K.faults)
+        (reads array.old.member.array.geometry first blocks)
+        (Over (status_of array.old.member.array.geometry.n result))
+        (outside tt output.old counter) (outside tt output.new counter)
+        (devices rack.old (IsOpen array.old) watchers.old.items)
+        (devices rack.new (IsOpen array.new) watchers.new.items) }
+    ensures stay { AllStay (watcher_view told count (λ w. (Watcher-box w).left w.value) patience) watchers.new.items }
+{
+    let mut block = [0; SECTOR];
+    for done in 0..blocks {
+        array.read(rack, first + done, &mut block, watchers)?;
+        put(output, &block)?;
+    }
+    Ok(())
+}
+
+// Writes so many blocks from this one on, which are all of the input. Each is taken before it is written.
+fn write_input<C: StripeCode, R: Rack, S: Source, K: Sink>(
+    first: u64,
+    blocks: u64,
+    array: &mut Opened<C>,
+    rack: &mut R,
+    input: &mut S,
+    output: &mut K,
+    watchers: &mut Vec<Box<dyn Watcher>>,
+) -> Result<(), VolumeFault>
+    requires fits { 0 < blocks → first + blocks < 2 ^ 33 }
+    requires stay { AllStay (watcher_view told count (λ w. (Watcher-box w).left w.value) patience) watchers.old.items }
+    ensures means { (counter : ℕ) → MeansWith
+        (device_view (rack_view R.is_honest R.history R.bads R.gones) (watcher_view told count (λ w. (Watcher-box w).left w.value) patience))
+        (views S.left S.ended S.faults K.held K.faults)
+        (writes_each array.old.member.array.geometry first blocks 0 blocks)
+        (Over (status_of array.old.member.array.geometry.n result))
+        (outside input.old output.old counter) (outside input.new output.new counter)
+        (devices rack.old (IsOpen array.old) watchers.old.items)
+        (devices rack.new (IsOpen array.new) watchers.new.items) }
+    ensures stay { AllStay (watcher_view told count (λ w. (Watcher-box w).left w.value) patience) watchers.new.items }
+{
+    // by whose rules a block alone is of one stripe
+    let _ = array.geometry();
+    let needed = SECTOR as u64 * blocks;
+    let mut block = [0; SECTOR];
+    for done in 0..blocks {
+        take_block(input, needed, SECTOR as u64 * done, &mut block)?;
+        array.write_blocks(rack, first + done, &block, watchers)?;
+    }
+    take_end(input, needed)?;
+    put(output, wrote_line(blocks).bytes())
+}

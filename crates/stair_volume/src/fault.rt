@@ -1,0 +1,75 @@
+ghost use Rattle.std.specs.Prelude.{◌≡◌};
+ghost use Rattle.stair_array.specs.Faults.{refusal_for};
+ghost use Rattle.stair_story.specs.Refused.{status_of_refusal};
+ghost use Rattle.stair_volume.specs.Commands.{status_of_table, status_of_volume};
+ghost use Rattle.stair_volume.specs.declared.fault.VolumeFault.TheVariants as volume;
+
+use crate::table_fault::TableFault;
+use stair_array::ArrayFault;
+use stair_story::{Fault, Status};
+
+/// Why a command on volumes wasn't done.
+#[derive(Clone, Copy, Debug, PartialEq, Eq)]
+pub enum VolumeFault {
+    /// Block 0 isn't a table of volumes.
+    NoTable,
+    /// A table was to be made, and block 0 is one.
+    TableThere,
+    /// The table has no such volume, or can't have one more.
+    Table(TableFault),
+    /// A step of the array was refused, or blocks were asked for that a volume hasn't: `OutOfRange`, whose limit is the number of
+    /// its blocks.
+    Array(ArrayFault),
+    /// The input had another length, in bytes, than was needed: fewer came, or one more.
+    Input { needed: u64, took: u64 },
+    /// The source failed.
+    InputFault,
+    /// The sink failed, and a part of the output may have been put out.
+    OutputFault,
+}
+
+impl VolumeFault {
+    /// Its status, of an array of so many slots.
+    pub fn status(&self, slots: u8) -> Status
+        ensures { result ≡ status_of_volume slots self.now }
+    {
+        match *self {
+            VolumeFault::NoTable => Status::NoTable,
+            VolumeFault::TableThere => Status::TableThere,
+            VolumeFault::Table(fault) => Status::from(fault),
+            VolumeFault::Array(fault) => Status::from(Fault::Step { fault, slots }),
+            VolumeFault::Input { needed, took } => Status::Input { needed, took },
+            VolumeFault::InputFault => Status::InputFault,
+            VolumeFault::OutputFault => Status::OutputFault,
+        }
+    }
+}
+
+impl From<TableFault> for Status {
+    ghost from_gives = { λ fault status. status ≡ status_of_table fault };
+
+    fn from(fault: TableFault) -> Status {
+        match fault {
+            TableFault::NoVolume => Status::NoVolume,
+            TableFault::NameTaken => Status::NameTaken,
+            TableFault::TableFull => Status::TableFull,
+            TableFault::NoRoom(blocks) => Status::NoRoom(blocks),
+        }
+    }
+}
+
+impl From<TableFault> for VolumeFault {
+    ghost from_gives = { λ why fault. fault ≡ volume.Table why };
+
+    fn from(fault: TableFault) -> VolumeFault {
+        VolumeFault::Table(fault)
+    }
+}
+
+impl From<ArrayFault> for VolumeFault {
+    ghost from_gives = { λ why fault. fault ≡ volume.Array why };
+
+    fn from(fault: ArrayFault) -> VolumeFault {
+        VolumeFault::Array(fault)
+    }
+}

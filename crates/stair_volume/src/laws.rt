@@ -1,0 +1,45 @@
+//! Laws of the table of volumes.
+
+ghost use Rattle.std.specs.Prelude.{◌≡◌, ◌↔◌, ◌<◌, ◌≤◌, ℕ, List, All, Contains, None, Ok, Some, length};
+ghost use Rattle.stair_model.specs.Stripe.{SECTOR};
+ghost use Rattle.stair_conf.specs.Name.{IsName};
+ghost use Rattle.stair_volume.specs.Table.{IsTable, extent_of, find_in, Table};
+ghost use Rattle.stair_volume.specs.Page.{HasTable, table_bytes, table_of};
+ghost use Rattle.stair_volume.specs.Changes.{Adds, IsFree, IsLeastFree, Removes, room, volume_of, with_volume, without_volume};
+ghost use Rattle.stair_volume.specs.declared.extent.Extent.{Extent};
+
+/// A table reads back from the 512 bytes that it is written as, and from no others; room is the least there is; and a table
+/// that a volume is put into or taken out of is well formed, and has the others as they were. It does nothing.
+pub fn table_laws()
+    // what bytes say
+    ensures read { (blocks : ℕ) (bytes : List ℕ) (table : Table) →
+        (table_of blocks bytes ≡ Some table) ↔ HasTable blocks bytes table }
+    ensures once { (blocks : ℕ) (bytes : List ℕ) (a b : Table) → HasTable blocks bytes a →
+        HasTable blocks bytes b → a ≡ b }
+    ensures back { (table : Table) → IsTable table →
+        table_of table.blocks (table_bytes table.entries) ≡ Some table }
+    ensures sector { (table : Table) → IsTable table → length (table_bytes table.entries) ≡ SECTOR }
+    ensures bytes { (table : Table) → IsTable table →
+        All (λ byte. byte < 256) (table_bytes table.entries) }
+
+    // which blocks a name has
+    ensures found { (table : Table) (name : List ℕ) (extent : Extent) → IsTable table →
+        (find_in table.entries name ≡ Some extent)
+        ↔ Contains table.entries (volume_of name extent) }
+
+    // where there is room
+    ensures least { (table : Table) (count first : ℕ) →
+        (room table count ≡ Some first) ↔ IsLeastFree table count first }
+    ensures no_room { (table : Table) (count : ℕ) →
+        (room table count ≡ None) ↔ ((first : ℕ) → ¬ IsFree table (extent_of first count)) }
+
+    // a volume more, and one less
+    ensures adds { (old new : Table) (name : List ℕ) (count : ℕ) →
+        with_volume old name count ≡ Ok new → Adds old new name count }
+    ensures added { (old new : Table) (name : List ℕ) (count : ℕ) → IsTable old → IsName name →
+        1 ≤ count → with_volume old name count ≡ Ok new → IsTable new }
+    ensures removes { (old new : Table) (name : List ℕ) → IsTable old →
+        without_volume old name ≡ Ok new → Removes old new name }
+    ensures removed { (old new : Table) (name : List ℕ) → IsTable old →
+        without_volume old name ≡ Ok new → IsTable new }
+{}

@@ -1,0 +1,26 @@
+//! Named volumes of an array: the table of them, which is its block 0.
+//!
+//! No call takes memory.
+#![tactic(auto)]
+
+mod changing;
+mod commands;
+mod extent;
+mod fault;
+pub mod lasting;
+pub mod laws;
+mod reading;
+mod streams;
+mod table;
+mod table_fault;
+#[cfg(test)]
+mod tests;
+mod writing;
+
+pub use commands::volume;
+pub use extent::{Entry, Extent};
+pub use fault::VolumeFault;
+pub use reading::read_table;
+pub use table::{TABLE_LIMIT, Table};
+pub use table_fault::TableFault;
+pub use writing::write_table;

@@ -1,0 +1,12 @@
+/// Why a table isn't changed.
+#[derive(Clone, Copy, Debug, PartialEq, Eq)]
+pub enum TableFault {
+    /// No volume has this name.
+    NoVolume,
+    /// A volume has this name.
+    NameTaken,
+    /// There are 15 volumes.
+    TableFull,
+    /// Nowhere are so many blocks free, one behind the other.
+    NoRoom(u64),
+}

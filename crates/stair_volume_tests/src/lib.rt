@@ -1,0 +1,7 @@
+//! Tests of the commands on volumes, over racks in memory.
+#![tactic(auto)]
+
+#[cfg(test)]
+mod faults;
+#[cfg(test)]
+mod volumes;
