@@ -23,5 +23,3 @@ mod kind;
 mod place;
 mod sets;
 mod stripe;
-#[cfg(test)]
-mod tests;

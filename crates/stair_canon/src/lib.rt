@@ -11,5 +11,3 @@ mod codes;
 mod known;
 pub mod laws;
 mod parities;
-#[cfg(test)]
-mod tests;

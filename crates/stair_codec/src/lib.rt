@@ -11,5 +11,3 @@ mod choice;
 mod codec;
 mod costs;
 pub mod laws;
-#[cfg(test)]
-mod tests;

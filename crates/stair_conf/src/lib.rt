@@ -13,8 +13,6 @@ pub mod laws;
 mod matches;
 mod name;
 mod numbers;
-#[cfg(test)]
-mod tests;
 mod volumes;
 mod words;
 

@@ -19,6 +19,7 @@ pub mod MeaningLaws
 mod StandLaws
 mod CallLaws
 mod CompleteLaws
+mod ConstantLaws
 mod StepLaws
 mod ArmLaws
 mod MendLaws

@@ -1,5 +1,6 @@
 -- What the laws say of a call that means what its words say.
-use Rattle.std.specs.Prelude.{◌≡◌, ◌≢◌, ℕ, ◌+◌, ◌*◌, ◌<◌, ◌↔◌, List, Some, length, drop, take, slice_index, All, IfSome, IsTrue}
+use Rattle.std.specs.Prelude.{◌≡◌, ◌≢◌, ◌⊎◌, ℕ, ◌+◌, ◌*◌, ◌<◌, ◌↔◌, List, [], ◌∷◌, Some, codes, length, drop, take, slice_index, All, IfSome, IsTrue}
+use Rattle.std.specs.Fmt.{decimal}
 use Rattle.stair_model.specs.Geometry.{Geometry}
 use Rattle.stair_model.specs.Stripe.{SECTOR}
 use Rattle.stair_rack.specs.Answers.{Ran}
@@ -12,7 +13,7 @@ use Rattle.stair_conf.specs.declared.job.VolumeJob.{VolumeJob}
 use Rattle.stair_conf.specs.declared.job.StripeCommand.{StripeCommand}
 use Rattle.stair_script.specs.declared.line.Line.{Line}
 use Rattle.stair_story.specs.declared.status.Status.{Status}
-use Rattle.stair_story.specs.declared.status.Status.TheVariants.{Done, Usage, InputFault, OutOfMemory}
+use Rattle.stair_story.specs.declared.status.Status.TheVariants.{Done, Usage, InputFault, OutputFault, OutOfMemory}
 use Rattle.stair_story.specs.Answer.{map_bytes}
 use Rattle.stair_engine.specs.Cause.{Answers, IfRefusedAtOnce}
 use Rattle.stair_watch.specs.WatcherList.{AllStay}
@@ -72,6 +73,23 @@ UsageIsExact S K = (view : Views S K) (words : List (List ℕ)) (status : Status
     (old new : Outside S K) → Means view (plan_of words) (Over status) old new
     → status ≢ OutOfMemory
     → ((status ≡ Usage) ↔ (IsSpelled words → ⊥)) × (status ≢ Usage → IsSpelled words)
+
+-- the words `plan 4 1 2 1`
+abbrev pub plan_words : List (List ℕ)
+plan_words = codes "plan" ∷ decimal 4 ∷ decimal 1 ∷ decimal 2 ∷ decimal 1 ∷ []
+
+-- A call with these words is done, is out of memory, or fails at its output, and then the sink's count of faults rose. The premise is
+-- part of clause `borne_out` of `stair` (`over.means`). So this holds of each body that meets the clause, over any rack, source and
+-- sink, and no such body gives one answer to all words that spell a job:
+-- - Done falls by WordsAreDone at `check 2 1 2 1`, which breaks limit 1, and by UsageIsExact at no words.
+-- - OutOfMemory falls by tests alone: any call of such words may be out of memory.
+-- - OutputFault falls here, at each call whose sink counts no fault.
+-- - Each other status falls here, at each call.
+abbrev pub PlanIsDone : (S K : Type 0) → Type 0
+PlanIsDone S K = (view : Views S K) (status : Status) (old new : Outside S K)
+    → Means view (plan_of plan_words) (Over status) old new
+    → IsDone status
+    ⊎ ((status ≡ OutputFault) × Rose (view.sink.faults old.sink) (view.sink.faults new.sink))
 
 -- of a source that tells its bytes, without faults and want of memory, status and output are those
 -- for these bytes

@@ -16,6 +16,7 @@ ghost use Rattle.stair_engine.specs.Laws.{
   DifferAtErased,
   GuardsHalt,
   MemoryComesFirst,
+  PlanIsDone,
   RackIsLeft,
   ReplacementIsDone,
   ScriptIsDone,
@@ -38,6 +39,8 @@ use stair_rack::{Sink, Source};
 pub fn plan_laws<R, W, S: Source, K: Sink>()
     // the words spell no job exactly where the answer is Usage, if there was memory
     ensures usage { UsageIsExact S K }
+    // `plan 4 1 2 1` is done, if there was memory and the sink counts no fault: so no other status answers every call
+    ensures constant { PlanIsDone S K }
     // of a command on one stripe: limits, cause, what is taken, that the end is looked for, what is put out, and the
     // steps, by the status
     ensures done { WordsAreDone (views S.left S.ended S.faults K.held K.faults) }

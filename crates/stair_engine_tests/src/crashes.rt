@@ -1,5 +1,5 @@
 // Writes in whose midst a stop comes, or a device is pulled.
-use crate::calls::{
+use stair_calls::{
     EIGHT, FOUR, NOTHING_TOLD, Shape, WHOLE, act, call, calls_of, crashed, fenced, gives,
     restarted, with_array, writes,
 };

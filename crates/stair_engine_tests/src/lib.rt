@@ -1,15 +1,8 @@
-//! Tests of whole calls of `stair`, over racks in memory.
+//! Tests of whole calls of `stair`, over racks in memory: reads and writes, what is refused, and worked rows.
 #![tactic(auto)]
 
-pub mod calls;
-#[cfg(test)]
-mod clients;
 #[cfg(test)]
 mod crashes;
-#[cfg(test)]
-mod guards;
-#[cfg(test)]
-mod mending;
 #[cfg(test)]
 mod range;
 #[cfg(test)]
@@ -17,15 +10,9 @@ mod reading;
 #[cfg(test)]
 mod refusals;
 #[cfg(test)]
-mod reports;
-#[cfg(test)]
 mod returns;
 #[cfg(test)]
 mod rows;
-#[cfg(test)]
-mod scripts;
-#[cfg(test)]
-mod told;
 #[cfg(test)]
 mod versions;
 #[cfg(test)]

@@ -1,5 +1,5 @@
 // Words, and blocks past the last one.
-use crate::calls::{NOTHING_TOLD, gives, is_refused, sectors_of, with_blocks, writes};
+use stair_calls::{NOTHING_TOLD, gives, is_refused, sectors_of, with_blocks, writes};
 use stair_engine::Status;
 use std::alloc::{AllocError, Global};
 use std::test::Fail;

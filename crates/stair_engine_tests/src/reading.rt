@@ -1,5 +1,5 @@
 // Blocks that are read.
-use crate::calls::{
+use stair_calls::{
     EIGHT, Ends, FILLINGS, FOUR, NOTHING_TOLD, Told, WHOLE, act, blocks_of, call, created, gives,
     is_refused, restarted, with_array, with_blocks, writes,
 };

@@ -1,5 +1,5 @@
 // Arrays that aren't found, opened or written.
-use crate::calls::{
+use stair_calls::{
     EIGHT, FIVE, FOUR, NOTHING_TOLD, WHOLE, act, call, created, gives, is_refused, restarted,
     sector, sectors_of, with_array, with_blocks, writes,
 };

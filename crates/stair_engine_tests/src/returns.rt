@@ -1,5 +1,5 @@
 // Media that are pulled and put back. Each that is pulled settles as reads find it, and as at its last sync.
-use crate::calls::{
+use stair_calls::{
     CALLS, EIGHT, FOUR, NOTHING_TOLD, Shape, WHOLE, act, call, calls_of, created, fenced, gives,
     is_refused, is_shown, restarted, says, sector, told, too_few, with_array, with_digits, writes,
 };

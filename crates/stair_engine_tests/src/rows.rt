@@ -1,8 +1,8 @@
 // Worked rows of the commands. The cells and the answers were worked out elsewhere.
 ghost use Rattle.std.specs.Prelude.{None};
 
-use crate::calls::{self, Came, Ends, call, call_into, too_few, words_of};
 use stair_base::{Broken, SECTOR};
+use stair_calls::{Came, Ends, call, call_into, too_few, words_of};
 use stair_conf::Key;
 use stair_engine::Status;
 use stair_engine::laws::plan_laws;
@@ -114,7 +114,7 @@ const SHOWN_WITHOUT: Bytes = (
     b"",
 );
 
-// The steps of standard encoding and the penalties are those of tests/factors.
+// The steps of standard encoding and the penalties are those of tests/tools/factors.
 const PLANNED: Bytes = (
     b"blocks 5 of 8\nsteps up 15 down 14 standard 13 fewest standard\npenalty least 2 greatest 3 sum 13\n",
     b"",
@@ -383,7 +383,7 @@ fn a_line_is_one_put(rt: HostRuntime) -> Result<(), Fail> {
         &mut rack,
         &words,
         &[],
-        calls::WHOLE,
+        stair_calls::WHOLE,
         &mut output,
     )?;
     assert_eq!(rt; ended.status, Status::Done);

@@ -1,5 +1,5 @@
 // Arrays whose superblocks are of the first version of the format.
-use crate::calls::{
+use stair_calls::{
     FILLINGS, FOUR, NOTHING_TOLD, WHOLE, act, call, call_words, crashed, created, gives,
     is_refused, is_shown, make_older, restarted, sector, with_blocks, writes,
 };

@@ -1,5 +1,5 @@
 // Blocks that are written: what they leave, and sources of all kinds.
-use crate::calls::{
+use stair_calls::{
     Came, Ends, FILLINGS, FOUR, NOTHING_TOLD, WHOLE, blocks_of, call, created, gives, restarted,
     sector, sectors_of, with_array, with_blocks, writes,
 };

@@ -7,8 +7,6 @@ mod lock;
 mod rack;
 mod reason;
 mod slot;
-#[cfg(test)]
-mod tests;
 
 pub use access::Access;
 pub use lock::{Lock, Locking};

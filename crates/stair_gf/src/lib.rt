@@ -16,6 +16,3 @@ pub use multiples::{SYMBOL, mul_add, mul_add_sum, sum, two_sums};
 pub use plain::{mul_add_plain, mul_plain};
 pub use steps::Steps;
 pub use tables::{inv, mul};
-
-#[cfg(test)]
-mod tests;

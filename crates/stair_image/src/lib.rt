@@ -8,8 +8,6 @@
 mod last;
 pub mod laws;
 mod seals;
-#[cfg(test)]
-mod tests;
 
 ghost use Rattle.std.specs.Prelude.{◌≡◌};
 ghost use Rattle.std.specs.Option.{SomeIff};

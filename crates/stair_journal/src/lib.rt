@@ -10,8 +10,6 @@ mod gates;
 pub mod laws;
 mod phases;
 mod redo;
-#[cfg(test)]
-mod tests;
 
 pub use body::{Body, read_body};
 pub use gate::closed_gate;

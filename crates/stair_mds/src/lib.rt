@@ -13,6 +13,3 @@ pub use mds::Mds;
 pub use places::{MAX_PLACES, numbers_from};
 pub use stair_gf::SYMBOL;
 pub use symbols::Symbols;
-
-#[cfg(test)]
-mod tests;

@@ -15,8 +15,6 @@ mod member;
 mod round;
 mod seeing;
 mod surveying;
-#[cfg(test)]
-mod tests;
 mod why;
 
 pub use aim::Aim;

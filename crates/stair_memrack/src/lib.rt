@@ -11,8 +11,6 @@ mod place;
 mod rack;
 mod record;
 mod script;
-#[cfg(test)]
-mod tests;
 mod wild;
 
 pub use act::{Act, What};

@@ -9,8 +9,6 @@ mod printing;
 mod quota;
 mod reading;
 mod reporting;
-#[cfg(test)]
-mod tests;
 
 pub use printing::{TEXT_LIMIT, print_event};
 pub use quota::Quota;

@@ -7,5 +7,3 @@ pub use plans::Plan;
 pub mod laws;
 mod planning;
 mod plans;
-#[cfg(test)]
-mod tests;

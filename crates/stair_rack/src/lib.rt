@@ -15,8 +15,6 @@ mod retry;
 mod sink;
 mod source;
 mod sync;
-#[cfg(test)]
-mod tests;
 mod through;
 mod watcher;
 mod write;

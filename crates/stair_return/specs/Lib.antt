@@ -10,4 +10,3 @@ pub mod Beginning
 pub mod Misled
 pub mod Opened
 pub mod Drawn
-pub mod Refused

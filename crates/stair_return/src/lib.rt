@@ -3,7 +3,6 @@
 #![tactic(auto)]
 
 pub mod epochs;
-pub mod examples;
 pub mod following;
 pub mod holders;
 pub mod openings;

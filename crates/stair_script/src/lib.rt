@@ -7,8 +7,6 @@ pub mod laws;
 mod line;
 mod printing;
 mod reading;
-#[cfg(test)]
-mod tests;
 
 pub use line::{LINE_LIMIT, Line, SCRIPT_LIMIT};
 pub use printing::print_line;

@@ -5,8 +5,6 @@
 
 mod gathering;
 mod placing;
-#[cfg(test)]
-mod tests;
 
 pub use gathering::{Gathered, gather, gather_cells};
 pub use placing::{place, write_chunk};

@@ -20,7 +20,5 @@ mod mark;
 mod newer;
 mod page;
 mod reading;
-#[cfg(test)]
-mod tests;
 mod version;
 mod writing;

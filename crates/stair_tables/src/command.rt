@@ -1,7 +1,7 @@
 // The commands, with an input of each.
 use crate::racks::{WRITTEN, blank_device};
 use crate::script::script;
-use stair_engine_tests::calls::{CALLS, FOUR, blocks_of, with_blocks};
+use stair_calls::{CALLS, FOUR, blocks_of, with_blocks};
 use stair_memrack::MemRack;
 use std::alloc::{AllocError, Global};
 

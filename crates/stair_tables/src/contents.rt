@@ -1,7 +1,7 @@
 // What the blocks of the array of four devices hold.
 use crate::racks::table;
+use stair_calls::{NOTHING_TOLD, Told, WHOLE, call, restarted};
 use stair_engine::Status;
-use stair_engine_tests::calls::{NOTHING_TOLD, Told, WHOLE, call, restarted};
 use stair_memrack::MemRack;
 use std::alloc::{AllocError, Global};
 

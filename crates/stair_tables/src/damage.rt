@@ -2,10 +2,8 @@
 use crate::contents::{read_all, reads, with_block};
 use crate::racks::WRITTEN;
 use crate::tally::{Part, Tally};
+use stair_calls::{FILLINGS, NOTHING_TOLD, Told, WHOLE, act, call, fenced, restarted, with_blocks};
 use stair_engine::Status;
-use stair_engine_tests::calls::{
-    FILLINGS, NOTHING_TOLD, Told, WHOLE, act, call, fenced, restarted, with_blocks,
-};
 use stair_memrack::What;
 use std::alloc::{AllocError, Global};
 

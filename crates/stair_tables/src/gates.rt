@@ -2,8 +2,8 @@
 use crate::contents::{holds, with_block};
 use crate::racks::{WRITTEN, change, torn, with_open_gates};
 use crate::tally::{Extent, Part, Tally};
+use stair_calls::{FILLINGS, WHOLE, act, call, restarted, sectors_of};
 use stair_engine::Status;
-use stair_engine_tests::calls::{FILLINGS, WHOLE, act, call, restarted, sectors_of};
 use stair_memrack::{Act, MemRack, What};
 use std::alloc::{AllocError, Global};
 

@@ -1,5 +1,5 @@
 // Racks that tables begin with.
-use stair_engine_tests::calls::{CALLS, WHOLE, act, call, restarted, with_blocks};
+use stair_calls::{CALLS, WHOLE, act, call, restarted, with_blocks};
 use stair_memrack::{Act, MemRack, What};
 use stair_rack::{Got, Rack};
 use std::alloc::{AllocError, Global};

@@ -2,10 +2,8 @@
 use crate::contents::{reads, with_block};
 use crate::racks::{OPENING, UP_TO_PLACING, WRITTEN};
 use crate::tally::{Extent, Part, Tally};
+use stair_calls::{FILLINGS, NOTHING_TOLD, WHOLE, act, call, fenced, restarted, with_blocks};
 use stair_engine::Status;
-use stair_engine_tests::calls::{
-    FILLINGS, NOTHING_TOLD, WHOLE, act, call, fenced, restarted, with_blocks,
-};
 use stair_memrack::{MemRack, What};
 use std::alloc::{AllocError, Global};
 

@@ -1,6 +1,6 @@
 // A script of ten lines, and what the blocks hold after some of them.
 use crate::contents::{Fillings, with_block};
-use stair_engine_tests::calls::{FILLINGS, with_digits};
+use stair_calls::{FILLINGS, with_digits};
 use std::alloc::{AllocError, Global};
 
 #[derive(Clone, Copy)]

@@ -3,11 +3,11 @@ use crate::contents::{Fillings, NO_VOLUME, ONE_VOLUME, read_all, reads, with_blo
 use crate::racks::{WRITTEN, blank_device, with_open_gates, with_table};
 use crate::script::{contents_after, script};
 use crate::tally::{Part, Tally};
-use stair_engine::Status;
-use stair_engine_tests::calls::{
+use stair_calls::{
     CALLS, Came, FILLINGS, NOTHING_TOLD, WHOLE, act, blocks_of, call, fenced, restarted,
     sectors_of, with_blocks,
 };
+use stair_engine::Status;
 use stair_memrack::{MemRack, What};
 use std::alloc::{AllocError, Global};
 

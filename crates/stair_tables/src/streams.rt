@@ -4,9 +4,9 @@ use crate::contents::{Fillings, reads, with_block, with_first};
 use crate::racks::WRITTEN;
 use crate::script::{FIRST_WRITTEN, all_contents, all_replies, last_reply};
 use crate::tally::{Part, Tally};
+use stair_calls::{Ends, FILLINGS, NOTHING_TOLD, WHOLE, blocks_of, call};
 use stair_conf::Key;
 use stair_engine::Status;
-use stair_engine_tests::calls::{Ends, FILLINGS, NOTHING_TOLD, WHOLE, blocks_of, call};
 use stair_memrack::MemRack;
 use std::alloc::{AllocError, Global};
 

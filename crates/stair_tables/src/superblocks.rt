@@ -2,11 +2,11 @@
 use crate::contents::{holds, reads};
 use crate::racks::{change, torn};
 use crate::tally::{Extent, Part, Tally};
-use stair_engine::Status;
-use stair_engine_tests::calls::{
+use stair_calls::{
     FILLINGS, FOUR, NOTHING_TOLD, WHOLE, act, call, created, fenced, make_older, restarted,
     with_blocks,
 };
+use stair_engine::Status;
 use stair_member::Why;
 use stair_memrack::{MemRack, What};
 use std::alloc::{AllocError, Global};

@@ -1,8 +1,8 @@
 // Every command over a rack that isn't honest.
 use crate::command::Command;
 use crate::tally::{Part, Tally};
+use stair_calls::{WHOLE, call};
 use stair_engine::Status;
-use stair_engine_tests::calls::{WHOLE, call};
 use stair_memrack::WildRack;
 use std::alloc::{AllocError, Global};
 

@@ -13,8 +13,6 @@ mod reading;
 mod streams;
 mod table;
 mod table_fault;
-#[cfg(test)]
-mod tests;
 mod writing;
 
 pub use commands::volume;

@@ -1,10 +1,10 @@
 // The commands on volumes where a stream fails, a device is lost, or all stops.
 use crate::volumes::Comes::{Gives, Says, Takes};
 use crate::volumes::{A, first_other, with_volume};
-use stair_engine::Status;
-use stair_engine_tests::calls::{
+use stair_calls::{
     Ends, NOTHING_TOLD, WHOLE, act, blocks_of, call, fenced, gives, restarted, says,
 };
+use stair_engine::Status;
 use stair_memrack::{Act, What};
 use std::alloc::{AllocError, Global};
 use std::test::Fail;

@@ -1,10 +1,10 @@
 // The commands on volumes: where they lie, what is refused in which order, and the table.
 use crate::volumes::Comes::{Gives, Past, Refused, Says, Takes};
-use stair_engine::Status;
-use stair_engine_tests::calls::{
+use stair_calls::{
     FOUR, NOTHING_TOLD, Shape, WHOLE, blocks_of, call, created, gives, is_refused, restarted, says,
     with_array, writes,
 };
+use stair_engine::Status;
 use stair_memrack::{Act, MemRack};
 use std::alloc::{AllocError, Global};
 use std::test::Fail;

@@ -7,8 +7,6 @@ mod line;
 mod printer;
 mod put;
 mod tally;
-#[cfg(test)]
-mod tests;
 mod told;
 
 pub use kept::Kept;

@@ -100,33 +100,3 @@ fn line_of(event: Event) -> Line
     line.push(b"\n");
     line
 }
-
-#[cfg(test)]
-mod tests {
-    use super::*;
-    use crate::tests::EVENTS;
-    use stair_rack::MemSink;
-    use std::alloc::AllocError;
-
-    // What is printed for one of the events to a sink of so many bytes.
-    #[test]
-    fn a_line_up_to_a_fault(rt: HostRuntime) -> Result<(), AllocError> {
-        let [fenced, repaired, admitted, promoted] = EVENTS;
-        let line: &[u8] = b"repaired stripe 4294967295 cells 65535\n";
-        let rows: [(Event, usize, &[u8]); 6] = [
-            (fenced, 64, b"fenced 31\n"),
-            (repaired, 64, line),
-            (admitted, 64, b"admitted 0\n"),
-            (promoted, 64, b"promoted 7\n"),
-            (repaired, 38, &line[..38]),
-            (fenced, 0, b""),
-        ];
-        for (event, room, line) in rows {
-            let mut printer = Printer::new(MemSink::new(rt.alloc(), room)?);
-            assert_eq!(rt; printer.notice(event), Next::Stay);
-            assert_eq!(rt; printer.sink.bytes(), line);
-            assert_eq!(rt; printer.kept(0), None);
-        }
-        Ok(())
-    }
-}

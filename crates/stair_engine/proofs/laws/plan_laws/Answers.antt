@@ -5,6 +5,7 @@ use Rattle.stair_engine.proofs.CallLaws.{all_is_kept, array_is_left, array_is_ma
 use Rattle.stair_engine.proofs.CameLaws.{whole_blocks_stand}
 use Rattle.stair_engine.proofs.ChangedLaws.{volumes_are_changed}
 use Rattle.stair_engine.proofs.CompleteLaws.{all_is_complete, all_is_complete_wherever, replacement_is_done, script_is_done}
+use Rattle.stair_engine.proofs.ConstantLaws.{plan_is_done}
 use Rattle.stair_engine.proofs.CountedLaws.{scrubs_are_counted}
 use Rattle.stair_engine.proofs.HaltLaws.{guards_halt}
 use Rattle.stair_engine.proofs.MendedLaws.{array_is_mended, session_is_mended}
@@ -16,6 +17,7 @@ returns g c =
     let view = views g.S.Source.left g.S.Source.ended g.S.Source.faults g.K.Sink.held g.K.Sink.faults in
     record {
       usage = usage_is_exact _ _;
+      constant = plan_is_done _ _;
       done = words_are_done view;
       answers = bytes_are_answered view;
       kept = all_is_kept _ _;

@@ -1,0 +1,415 @@
+//! Whole calls of `stair` over racks in memory, what each answered, and what a rack holds then. For tests alone.
+#![tactic(auto)]
+
+ghost use Rattle.std.specs.Prelude.{◌≡◌, ◌<◌};
+ghost use Rattle.stair_rack.specs.Watching.{watcher_view};
+ghost use Rattle.stair_watch.specs.WatcherList.{AllStay};
+
+use stair_engine::{Status, stair};
+use stair_gf::Steps;
+use stair_member::Why;
+use stair_memrack::{Act, MemRack, What};
+use stair_rack::{Event, Got, MemSink, MemSource, Rack, Sink, Watcher};
+use stair_watch::{Kept, add};
+use std::alloc::{AllocError, Global};
+use std::marker::Brand;
+use std::sync::ledger::{Blank, Ledger};
+
+// CALLS
+
+/// How a source gives its bytes, and how many a sink takes.
+#[derive(Clone, Copy)]
+pub struct Ends {
+    /// so many bytes at most in one answer
+    pub piece: usize,
+    /// the byte at which the source fails
+    pub fails_at: Option<u64>,
+    /// the room of the sink
+    pub room: usize,
+}
+
+/// No fault, and all at once.
+pub const WHOLE: Ends = Ends {
+    piece: 10_000,
+    fails_at: None,
+    room: 10_000,
+};
+
+/// The first three events that a watcher kept; None where there is no watcher any more.
+pub type Told = Option<[Option<Event>; 3]>;
+
+/// A watcher that is left and was told of no event.
+pub const NOTHING_TOLD: Told = Some([None; 3]);
+
+/// These events, one behind the other.
+pub fn told(events: &[Event]) -> Told {
+    let mut kept = [None; 3];
+    for (slot, event) in kept.iter_mut().zip(events.iter()) {
+        *slot = Some(*event);
+    }
+    Some(kept)
+}
+
+/// What is told where this slot was left out of the array, and nothing else.
+pub fn fenced(slot: u8) -> Told {
+    told(&[Event::Fenced { slot }])
+}
+
+/// What came of a call.
+#[derive(Drop)]
+pub struct Came {
+    pub status: Status,
+    pub put: Vec<u8>,
+    pub told: Told,
+    /// how many bytes of the input weren't taken
+    pub left: usize,
+}
+
+/// Calls with the words of a line.
+pub fn call<R: Rack>(
+    alloc: Global,
+    rack: &mut R,
+    line: &str,
+    input: &[u8],
+    ends: Ends,
+) -> Result<Came, AllocError> {
+    let words = words_of(alloc, line)?;
+    call_words(alloc, rack, &words, input, ends)
+}
+
+/// Calls with these words.
+pub fn call_words<R: Rack>(
+    alloc: Global,
+    rack: &mut R,
+    words: &[String],
+    input: &[u8],
+    ends: Ends,
+) -> Result<Came, AllocError> {
+    let mut sink = MemSink::new(alloc, ends.room)?;
+    let ended = call_into(alloc, rack, words, input, ends, &mut sink)?;
+    Ok(Came {
+        status: ended.status,
+        put: sink.bytes().to_vec(alloc)?,
+        told: ended.told,
+        left: ended.left,
+    })
+}
+
+/// How a call ended, but for what was put out.
+#[derive(Clone, Copy)]
+pub struct Ended {
+    pub status: Status,
+    told: Told,
+    left: usize,
+}
+
+/// Calls with these words and this sink.
+pub fn call_into<R: Rack, K: Sink>(
+    alloc: Global,
+    rack: &mut R,
+    words: &[String],
+    input: &[u8],
+    ends: Ends,
+    sink: &mut K,
+) -> Result<Ended, AllocError> {
+    let mut watchers = Vec::new(alloc);
+    add(&mut watchers, Box::new(alloc, Kept::new(alloc, 100)?)?)?;
+    let (status, left) = call_watched(alloc, rack, words, input, ends, sink, &mut watchers)?;
+    let told = match watchers.pop() {
+        Some(kept) => Some([kept.kept(0), kept.kept(1), kept.kept(2)]),
+        None => None,
+    };
+    Ok(Ended { status, told, left })
+}
+
+/// Calls with these words, this sink and these watchers: the status, and how many bytes of the input weren't taken.
+pub fn call_watched<R: Rack, K: Sink>(
+    alloc: Global,
+    rack: &mut R,
+    words: &[String],
+    input: &[u8],
+    ends: Ends,
+    sink: &mut K,
+    watchers: &mut Vec<Box<dyn Watcher>>,
+) -> Result<(Status, usize), AllocError>
+    requires { AllStay (watcher_view told count left patience) watchers.old.items }
+    ensures { AllStay (watcher_view told count left patience) watchers.new.items }
+{
+    call_on::<R, K, Brand>(
+        Blank::new(1),
+        alloc,
+        rack,
+        words,
+        input,
+        ends,
+        sink,
+        watchers,
+    )
+}
+
+// The same, with the counter on a ledger of its own.
+fn call_on<R: Rack, K: Sink, L: Ledger>(
+    blank: Blank,
+    alloc: Global,
+    rack: &mut R,
+    words: &[String],
+    input: &[u8],
+    ends: Ends,
+    sink: &mut K,
+    watchers: &mut Vec<Box<dyn Watcher>>,
+) -> Result<(Status, usize), AllocError>
+    requires name { blank.name ≡ L.name }
+    requires parts { blank.parts ≡ L.parts }
+    requires some { 0 < L.parts }
+    requires stay { AllStay (watcher_view told count left patience) watchers.old.items }
+    ensures stay { AllStay (watcher_view told count left patience) watchers.new.items }
+{
+    let mut source = MemSource::new(alloc, input, ends.piece.max(1), ends.fails_at)?;
+    let mut steps = Steps::<L>::new(blank);
+    let status = stair(alloc, words, rack, &mut source, sink, watchers, &mut steps);
+    Ok((status, source.left().len()))
+}
+
+/// The words of a line, with one blank between two of them.
+pub fn words_of(alloc: Global, line: &str) -> Result<Vec<String>, AllocError> {
+    let mut words = Vec::new(alloc);
+    for word in line.split(' ') {
+        words.push(String::from_str(alloc, word)?)?;
+    }
+    Ok(words)
+}
+
+/// The status of too few slots, of which the first ones have these reasons and the others are here.
+pub fn too_few(first: &[Why]) -> Status {
+    let mut whys = [Why::Here; 32];
+    for (slot, why) in whys.iter_mut().zip(first.iter()) {
+        *slot = *why;
+    }
+    Status::TooFew(whys)
+}
+
+/// Blocks one behind the other, each filled with one of these bytes.
+pub fn blocks_of(alloc: Global, fillings: &[u8]) -> Result<Vec<u8>, AllocError> {
+    let mut bytes = Vec::new(alloc);
+    for filling in fillings {
+        bytes.extend_from_slice(&[*filling; 512])?;
+    }
+    Ok(bytes)
+}
+
+/// A text in which each `@` stands for the 1,024 digits of a sector of this byte.
+pub fn with_digits(alloc: Global, text: &str, digits: [u8; 2]) -> Result<Vec<u8>, AllocError> {
+    let mut bytes = Vec::new(alloc);
+    for byte in text.as_bytes() {
+        if *byte == b'@' {
+            for _ in 0..512 {
+                bytes.extend_from_slice(&digits)?;
+            }
+        } else {
+            bytes.push(*byte)?;
+        }
+    }
+    Ok(bytes)
+}
+
+/// Whether a call is done that takes no input, puts these blocks out, and tells this.
+pub fn gives(
+    alloc: Global,
+    rack: &mut MemRack,
+    line: &str,
+    fillings: &[u8],
+    told: Told,
+) -> Result<bool, AllocError> {
+    let came = call(alloc, rack, line, b"left", WHOLE)?;
+    let blocks = blocks_of(alloc, fillings)?;
+    Ok(came.status == Status::Done && came.put == blocks && came.told == told && came.left == 4)
+}
+
+/// Whether a call is done that takes these blocks, says this, and tells this.
+pub fn writes(
+    alloc: Global,
+    rack: &mut MemRack,
+    line: &str,
+    fillings: &[u8],
+    said: &str,
+    told: Told,
+) -> Result<bool, AllocError> {
+    let blocks = blocks_of(alloc, fillings)?;
+    let came = call(alloc, rack, line, &blocks, WHOLE)?;
+    let is_said = came.put.as_slice() == said.as_bytes();
+    Ok(came.status == Status::Done && is_said && came.told == told && came.left == 0)
+}
+
+/// Whether a call is done that takes no input, says this, and tells this.
+pub fn says(
+    alloc: Global,
+    rack: &mut MemRack,
+    line: &str,
+    said: &str,
+    told: Told,
+) -> Result<bool, AllocError> {
+    let came = call(alloc, rack, line, b"left", WHOLE)?;
+    let is_said = came.put.as_slice() == said.as_bytes();
+    Ok(came.status == Status::Done && is_said && came.told == told && came.left == 4)
+}
+
+/// Whether a call ends with this status, takes all of this input or nothing of it, puts nothing out, and tells nothing.
+pub fn is_refused(
+    alloc: Global,
+    rack: &mut MemRack,
+    line: &str,
+    input: &[u8],
+    is_taken: bool,
+    status: Status,
+) -> Result<bool, AllocError> {
+    let came = call(alloc, rack, line, input, WHOLE)?;
+    let left = if is_taken { 0 } else { input.len() };
+    let is_quiet = came.put.is_empty() && came.told == NOTHING_TOLD;
+    Ok(came.status == status && is_quiet && came.left == left)
+}
+
+/// Whether `show` puts out this text.
+pub fn is_shown(alloc: Global, rack: &mut MemRack, text: &str) -> Result<bool, AllocError> {
+    let came = call(alloc, rack, "show", &[], WHOLE)?;
+    Ok(came.status == Status::Done && came.put.as_slice() == text.as_bytes())
+}
+
+// RACKS
+
+/// How many calls a rack keeps.
+pub const CALLS: u32 = 8000;
+
+/// An array: the text that it is made of, how many devices it has, and how many sectors each.
+#[derive(Clone, Copy)]
+pub struct Shape {
+    pub text: &'static str,
+    pub devices: u8,
+    pub sectors: u32,
+}
+
+/// 15 blocks, five in each of three stripes. A device has the body in sectors 3 to 10, and the stripes behind it.
+pub const FOUR: Shape = Shape {
+    text: "n = 4\nm = 1\nr = 2\ne = [1]\nstripes = 3\nid = '00000000000000000000000000000004'\n",
+    devices: 4,
+    sectors: 17,
+};
+
+/// The array of four devices and its one class of coverage, with one device more and another coverage.
+pub const FIVE: Shape = Shape {
+    text: "n = 5\nm = 1\nr = 2\ne = [2]\nstripes = 2\nid = '00000000000000000000000000000005'\n",
+    devices: 5,
+    sectors: 17,
+};
+
+/// 1,280 blocks, 20 in each of 64 stripes. A device has the body in sectors 3 to 34, and the stripes behind it.
+pub const EIGHT: Shape = Shape {
+    text: "n = 8\nm = 2\nr = 4\ne = [1, 1, 2]\nstripes = 64\nid = '00000000000000000000000000000008'\n",
+    devices: 8,
+    sectors: 291,
+};
+
+/// This happens before the call of the rack with this number.
+pub fn act(at: u32, what: What) -> Act {
+    Act { at, what }
+}
+
+/// A rack over media of which `create` made this array.
+pub fn created(alloc: Global, shape: &Shape) -> Result<MemRack, AllocError> {
+    let mut rack = MemRack::new(alloc, shape.devices.min(32), shape.sectors, &[], CALLS)?;
+    let _ = call(alloc, &mut rack, "create", shape.text.as_bytes(), WHOLE)?;
+    Ok(rack)
+}
+
+/// What a crash leaves of a rack in which each pending sector is torn, and then this happens.
+pub fn restarted(alloc: Global, rack: MemRack, acts: &[Act]) -> Result<MemRack, AllocError> {
+    rack.after_crash(alloc, &[9; 100], acts, CALLS)
+}
+
+/// What a crash leaves of a rack by these picks.
+pub fn crashed(alloc: Global, rack: MemRack, picks: &[u32]) -> Result<MemRack, AllocError> {
+    rack.after_crash(alloc, picks, &[], CALLS)
+}
+
+/// A rack with a new array, on which no call was made yet, and to which this happens.
+pub fn with_array(alloc: Global, shape: &Shape, acts: &[Act]) -> Result<MemRack, AllocError> {
+    restarted(alloc, created(alloc, shape)?, acts)
+}
+
+/// What fills the blocks of the array of four devices.
+pub const FILLINGS: [u8; 15] = [1, 2, 3, 4, 5, 6, 7, 8, 9, 10, 11, 12, 13, 14, 15];
+
+/// A rack with the array of four devices, all of whose blocks were written, to which this happens.
+pub fn with_blocks(alloc: Global, acts: &[Act]) -> Result<MemRack, AllocError> {
+    let mut rack = created(alloc, &FOUR)?;
+    let blocks = blocks_of(alloc, &FILLINGS)?;
+    let _ = call(alloc, &mut rack, "write 0 15", &blocks, WHOLE)?;
+    restarted(alloc, rack, acts)
+}
+
+/// The same, with two bad cells of stripe 0.
+pub fn with_bad_cells(alloc: Global) -> Result<MemRack, AllocError> {
+    let first = What::Damage {
+        slot: 0,
+        sector: 11,
+    };
+    let second = What::Damage {
+        slot: 1,
+        sector: 12,
+    };
+    with_blocks(alloc, &[act(0, first), act(0, second)])
+}
+
+/// What a sector reads as, where it does.
+pub fn sector(rack: &mut MemRack, slot: u8, number: u32) -> Option<[u8; 512]> {
+    let slot = slot.min(31);
+    let mut into = [0; 512];
+    match rack.read(slot, number, &mut into) {
+        Got::Good => Some(into),
+        Got::Bad | Got::Gone => None,
+    }
+}
+
+/// The sectors of four devices from this one on, as they read.
+pub fn sectors_of(
+    alloc: Global,
+    rack: &mut MemRack,
+    first: u32,
+) -> Result<Vec<Option<[u8; 512]>>, AllocError> {
+    let mut sectors = Vec::new(alloc);
+    for slot in 0..4 {
+        rack.attach(slot);
+        for number in first..17 {
+            sectors.push(sector(rack, slot, number))?;
+        }
+    }
+    Ok(sectors)
+}
+
+/// Makes the superblocks in both places of four devices those of the first version, in the first epoch.
+pub fn make_older(rack: &mut MemRack) {
+    for slot in 0..4 {
+        rack.attach(slot);
+        if let Some(block) = first_of(rack, slot) {
+            rack.write(slot, 0, &block);
+            rack.write(slot, 1, &block);
+            rack.sync(slot);
+        }
+    }
+}
+
+// The superblock that `create` wrote to a slot, in the first version.
+fn first_of(rack: &mut MemRack, slot: u8) -> Option<[u8; 512]> {
+    let mut block = sector(rack, slot, 0)?;
+    block[7] = b'1';
+    Some(block)
+}
+
+/// How many calls of the rack an opening of a new array takes, and how many with this line, which writes a block, in its place.
+pub fn calls_of(alloc: Global, shape: &Shape, line: &str) -> Result<(u32, u32), AllocError> {
+    let mut rack = with_array(alloc, shape, &[])?;
+    let _ = call(alloc, &mut rack, "read 0 0", &[], WHOLE)?;
+    let opened = rack.made();
+    let mut rack = with_array(alloc, shape, &[])?;
+    let _ = call(alloc, &mut rack, line, &[1; 512], WHOLE)?;
+    Ok((opened, rack.made()))
+}

@@ -1,5 +1,0 @@
--- The ledger is the blank's.
-use Rattle.stair_codec.proofs.tests.each_encoder_gives_the_known_stripe.Given as goal
-
-abbrev pub ghosts-compare : goal.ghosts-compare
-ghosts-compare g a = record { name = a.blank.name; parts = a.blank.parts }

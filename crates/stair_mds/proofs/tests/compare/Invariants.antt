@@ -1,5 +1,0 @@
--- The ledger is the blank's.
-use Rattle.stair_mds.proofs.tests.compare.Given as goal
-
-abbrev pub ghosts-solve : goal.ghosts-solve
-ghosts-solve g a = record { name = a.blank.name; parts = a.blank.parts }

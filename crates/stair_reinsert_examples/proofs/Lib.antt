@@ -1,0 +1,23 @@
+-- Lemmas of this crate.
+pub mod FiveDevices
+pub mod FiveConsistent
+pub mod FiveMoments
+pub mod FiveSurvey
+pub mod FiveSteps
+pub mod FiveSupers
+pub mod FiveCounted
+pub mod CutPromotion
+pub mod PromotionSurvey
+pub mod CutFence
+pub mod FenceSurvey
+pub mod CutFences
+pub mod FencesSurvey
+pub mod RefusedLemmas
+pub mod RefusedEpochs
+pub mod RefusedWrite
+pub mod FiveStood
+pub mod AllowedEpochs
+pub mod AllowedWrite
+pub mod RefusedSteps
+pub mod FiveWithin
+pub mod RefusedWithin
