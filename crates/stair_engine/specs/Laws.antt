@@ -80,11 +80,11 @@ plan_words = codes "plan" ∷ decimal 4 ∷ decimal 1 ∷ decimal 2 ∷ decimal 
 
 -- A call with these words is done, is out of memory, or fails at its output, and then the sink's count of faults rose. The premise is
 -- part of clause `borne_out` of `stair` (`over.means`). So this holds of each body that meets the clause, over any rack, source and
--- sink, and no such body gives one answer to all words that spell a job:
+-- sink, and no such body gives all words that spell a job one answer other than OutOfMemory:
 -- - Done falls by WordsAreDone at `check 2 1 2 1`, which breaks limit 1, and by UsageIsExact at no words.
--- - OutOfMemory falls by tests alone: any call of such words may be out of memory.
 -- - OutputFault falls here, at each call whose sink counts no fault.
 -- - Each other status falls here, at each call.
+-- That calls aren't always out of memory only tests show.
 abbrev pub PlanIsDone : (S K : Type 0) → Type 0
 PlanIsDone S K = (view : Views S K) (status : Status) (old new : Outside S K)
     → Means view (plan_of plan_words) (Over status) old new
