@@ -74,19 +74,8 @@ pub fn call<R: Rack>(
     ends: Ends,
 ) -> Result<Came, AllocError> {
     let words = words_of(alloc, line)?;
-    call_words(alloc, rack, &words, input, ends)
-}
-
-/// Calls with these words.
-pub fn call_words<R: Rack>(
-    alloc: Global,
-    rack: &mut R,
-    words: &[String],
-    input: &[u8],
-    ends: Ends,
-) -> Result<Came, AllocError> {
     let mut sink = MemSink::new(alloc, ends.room)?;
-    let ended = call_into(alloc, rack, words, input, ends, &mut sink)?;
+    let ended = call_into(alloc, rack, &words, input, ends, &mut sink)?;
     Ok(Came {
         status: ended.status,
         put: sink.bytes().to_vec(alloc)?,
@@ -212,68 +201,6 @@ pub fn with_digits(alloc: Global, text: &str, digits: [u8; 2]) -> Result<Vec<u8>
     Ok(bytes)
 }
 
-/// Whether a call is done that takes no input, puts these blocks out, and tells this.
-pub fn gives(
-    alloc: Global,
-    rack: &mut MemRack,
-    line: &str,
-    fillings: &[u8],
-    told: Told,
-) -> Result<bool, AllocError> {
-    let came = call(alloc, rack, line, b"left", WHOLE)?;
-    let blocks = blocks_of(alloc, fillings)?;
-    Ok(came.status == Status::Done && came.put == blocks && came.told == told && came.left == 4)
-}
-
-/// Whether a call is done that takes these blocks, says this, and tells this.
-pub fn writes(
-    alloc: Global,
-    rack: &mut MemRack,
-    line: &str,
-    fillings: &[u8],
-    said: &str,
-    told: Told,
-) -> Result<bool, AllocError> {
-    let blocks = blocks_of(alloc, fillings)?;
-    let came = call(alloc, rack, line, &blocks, WHOLE)?;
-    let is_said = came.put.as_slice() == said.as_bytes();
-    Ok(came.status == Status::Done && is_said && came.told == told && came.left == 0)
-}
-
-/// Whether a call is done that takes no input, says this, and tells this.
-pub fn says(
-    alloc: Global,
-    rack: &mut MemRack,
-    line: &str,
-    said: &str,
-    told: Told,
-) -> Result<bool, AllocError> {
-    let came = call(alloc, rack, line, b"left", WHOLE)?;
-    let is_said = came.put.as_slice() == said.as_bytes();
-    Ok(came.status == Status::Done && is_said && came.told == told && came.left == 4)
-}
-
-/// Whether a call ends with this status, takes all of this input or nothing of it, puts nothing out, and tells nothing.
-pub fn is_refused(
-    alloc: Global,
-    rack: &mut MemRack,
-    line: &str,
-    input: &[u8],
-    is_taken: bool,
-    status: Status,
-) -> Result<bool, AllocError> {
-    let came = call(alloc, rack, line, input, WHOLE)?;
-    let left = if is_taken { 0 } else { input.len() };
-    let is_quiet = came.put.is_empty() && came.told == NOTHING_TOLD;
-    Ok(came.status == status && is_quiet && came.left == left)
-}
-
-/// Whether `show` puts out this text.
-pub fn is_shown(alloc: Global, rack: &mut MemRack, text: &str) -> Result<bool, AllocError> {
-    let came = call(alloc, rack, "show", &[], WHOLE)?;
-    Ok(came.status == Status::Done && came.put.as_slice() == text.as_bytes())
-}
-
 // RACKS
 
 /// How many calls a rack keeps.
@@ -294,20 +221,6 @@ pub const FOUR: Shape = Shape {
     sectors: 17,
 };
 
-/// The array of four devices and its one class of coverage, with one device more and another coverage.
-pub const FIVE: Shape = Shape {
-    text: "n = 5\nm = 1\nr = 2\ne = [2]\nstripes = 2\nid = '00000000000000000000000000000005'\n",
-    devices: 5,
-    sectors: 17,
-};
-
-/// 1,280 blocks, 20 in each of 64 stripes. A device has the body in sectors 3 to 34, and the stripes behind it.
-pub const EIGHT: Shape = Shape {
-    text: "n = 8\nm = 2\nr = 4\ne = [1, 1, 2]\nstripes = 64\nid = '00000000000000000000000000000008'\n",
-    devices: 8,
-    sectors: 291,
-};
-
 /// This happens before the call of the rack with this number.
 pub fn act(at: u32, what: What) -> Act {
     Act { at, what }
@@ -325,11 +238,6 @@ pub fn restarted(alloc: Global, rack: MemRack, acts: &[Act]) -> Result<MemRack, 
     rack.after_crash(alloc, &[9; 100], acts, CALLS)
 }
 
-/// What a crash leaves of a rack by these picks.
-pub fn crashed(alloc: Global, rack: MemRack, picks: &[u32]) -> Result<MemRack, AllocError> {
-    rack.after_crash(alloc, picks, &[], CALLS)
-}
-
 /// A rack with a new array, on which no call was made yet, and to which this happens.
 pub fn with_array(alloc: Global, shape: &Shape, acts: &[Act]) -> Result<MemRack, AllocError> {
     restarted(alloc, created(alloc, shape)?, acts)
@@ -344,19 +252,6 @@ pub fn with_blocks(alloc: Global, acts: &[Act]) -> Result<MemRack, AllocError> {
     let blocks = blocks_of(alloc, &FILLINGS)?;
     let _ = call(alloc, &mut rack, "write 0 15", &blocks, WHOLE)?;
     restarted(alloc, rack, acts)
-}
-
-/// The same, with two bad cells of stripe 0.
-pub fn with_bad_cells(alloc: Global) -> Result<MemRack, AllocError> {
-    let first = What::Damage {
-        slot: 0,
-        sector: 11,
-    };
-    let second = What::Damage {
-        slot: 1,
-        sector: 12,
-    };
-    with_blocks(alloc, &[act(0, first), act(0, second)])
 }
 
 /// What a sector reads as, where it does.
@@ -402,14 +297,4 @@ fn first_of(rack: &mut MemRack, slot: u8) -> Option<[u8; 512]> {
     let mut block = sector(rack, slot, 0)?;
     block[7] = b'1';
     Some(block)
-}
-
-/// How many calls of the rack an opening of a new array takes, and how many with this line, which writes a block, in its place.
-pub fn calls_of(alloc: Global, shape: &Shape, line: &str) -> Result<(u32, u32), AllocError> {
-    let mut rack = with_array(alloc, shape, &[])?;
-    let _ = call(alloc, &mut rack, "read 0 0", &[], WHOLE)?;
-    let opened = rack.made();
-    let mut rack = with_array(alloc, shape, &[])?;
-    let _ = call(alloc, &mut rack, line, &[1; 512], WHOLE)?;
-    Ok((opened, rack.made()))
 }

@@ -1,14 +1,10 @@
-//! Tests of racks, image files, superblocks, members, the journal and stripes.
+//! Tests of racks, image files, superblocks and stripes.
 #![tactic(auto)]
 
 #[cfg(test)]
 mod files;
 #[cfg(test)]
 mod gathering;
-#[cfg(test)]
-mod journal;
-#[cfg(test)]
-mod membership;
 #[cfg(test)]
 mod memory;
 #[cfg(test)]

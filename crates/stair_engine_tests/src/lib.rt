@@ -1,19 +1,7 @@
-//! Tests of whole calls of `stair`, over racks in memory: reads and writes, what is refused, and worked rows.
+//! Tests of whole calls of `stair` that no scene of `stair_scenes` can say.
 #![tactic(auto)]
 
 #[cfg(test)]
-mod crashes;
+mod puts;
 #[cfg(test)]
-mod range;
-#[cfg(test)]
-mod reading;
-#[cfg(test)]
-mod refusals;
-#[cfg(test)]
-mod returns;
-#[cfg(test)]
-mod rows;
-#[cfg(test)]
-mod versions;
-#[cfg(test)]
-mod writing;
+mod watchers;

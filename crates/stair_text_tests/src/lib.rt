@@ -1,12 +1,8 @@
-//! Tests of command lines, geometry texts, scripts and lines of events, and of the watchers of events.
+//! Unit tests of lines that are printed, and of watchers.
 #![tactic(auto)]
 
 #[cfg(test)]
-mod command_lines;
-#[cfg(test)]
 mod events;
-#[cfg(test)]
-mod geometry_texts;
 #[cfg(test)]
 mod scripts;
 #[cfg(test)]

@@ -1,9 +1,0 @@
--- The stripe stays one of this geometry.
-use Rattle.stair_model.specs.Stripe.{IsStripeOf}
-use Rattle.stair_array_tests.proofs.racks.stripe_of.Given as goal
-
-abbrev pub invariant-loop-row : goal.invariant-loop-row
-invariant-loop-row l = IsStripeOf l.geometry l.stripe
-
-abbrev pub invariant-loop-slot : goal.invariant-loop-slot
-invariant-loop-slot l = IsStripeOf l.geometry l.stripe

@@ -1,2 +1,0 @@
--- What the helpers of the tests need.
-pub mod Geometry
