@@ -22,23 +22,28 @@ from streams import *
 # The tools that suites can use, and their Debian packages.
 PACKAGES = {
     "bash": "bash",
+    "ddrescue": "gddrescue",
     "debugfs": "e2fsprogs",
     "e2fsck": "e2fsprogs",
     "flock": "util-linux",
     "fusermount3": "fuse3",
     "gdb": "gdb",
+    "git": "git",
     "groff": "groff",
     "losetup": "mount",
     "man": "man-db",
+    "mandoc": "mandoc",
     "mke2fs": "e2fsprogs",
     "nbdcopy": "libnbd-bin",
     "nbdfuse": "libnbd-bin",
     "nbdinfo": "libnbd-bin",
+    "nbdkit": "nbdkit",
     "nbdsh": "python3-libnbd",
     "qemu-img": "qemu-utils",
     "setpriv": "util-linux",
     "socat": "socat",
     "strace": "strace",
+    "systemd-socket-activate": "systemd",
     "unshare": "util-linux",
 }
 # A tool that is installed may still lack a privilege: such a call shows it.

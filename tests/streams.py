@@ -1,8 +1,10 @@
-"""Streams of a program under test: files, slow pipes, pipes whose reader closes, closed streams; and limits of resources."""
+"""Streams of a program under test: files, slow pipes, pipes whose reader closes, closed streams, terminals; and limits of resources."""
 import contextlib
 import fcntl
 import os
 import pathlib
+import pty
+import re
 import struct
 import tempfile
 import termios
@@ -74,6 +76,46 @@ class Reader:
         """Returns the end to write to, and the thread that reads, which the caller starts."""
         ours, theirs = os.pipe()
         return theirs, threading.Thread(target=self.take, args=(ours,), daemon=True)
+
+
+class Terminal:
+    """A terminal that says that it has so many columns, 0 where it doesn't know. `written` has the bytes that were written to it."""
+
+    def __init__(self, columns=0):
+        self.ours, self.theirs = pty.openpty()
+        fcntl.ioctl(self.theirs, termios.TIOCSWINSZ, struct.pack("HHHH", 0, columns, 0, 0))
+        self.written = b""
+        self.reader = threading.Thread(target=self.read, daemon=True)
+        self.reader.start()
+
+    def read(self):
+        try:
+            while True:
+                self.written += os.read(self.ours, 4096)
+        except OSError:
+            pass  # its other end was closed
+
+    def close(self):
+        os.close(self.theirs)
+        self.reader.join()
+        os.close(self.ours)
+
+
+def screen(written):
+    """Returns what bytes leave on a terminal, and each line that was shown and then cleared."""
+    left, over, line, column = "", [], "", 0
+    for piece in re.findall(r"\x1b\[K|[\r\n]|[^\x1b\r\n]+", written.decode()):
+        if piece == "\r":
+            column = 0
+        elif piece == "\n":
+            left, line = f"{left}{line}\n", ""
+        elif piece == "\x1b[K":
+            line = line[:column]
+            over += [line] if line else []
+        else:
+            line = line[:column] + piece + line[column + len(piece) :]
+            column += len(piece)
+    return left + line, over
 
 
 def regular(data):

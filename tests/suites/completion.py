@@ -3,8 +3,9 @@ from fixture import *
 
 COMMANDS = USAGE.partition("FOLDER ")[2].split("|")
 METHODS = "standard", "up", "down", "fewest"
+OPTIONS = "--build", "--help", "--version"
 # Prints what is offered for the last of some words, a line each.
-OFFERS = """. "$0/scripts/stair.bash"
+OFFERS = """. "$0"
 COMP_WORDS=("$@") COMP_CWORD=$(($# - 1))
 _stair
 [ "${#COMPREPLY[@]}" = 0 ] || printf "%s\\n" "${COMPREPLY[@]}"
@@ -19,10 +20,10 @@ class Completion(Case):
             (self.names / name).mkdir()
         (self.names / "file").touch()
 
-    def offers(self, case, wanted, *words):
+    def offers(self, case, wanted, *words, script=TOP / "scripts" / "stair.bash"):
         """For the last of these words, the ones of a command line, bash offers these words, in whatever order, and nothing else."""
         with self.subTest(case):
-            ended = self.run_command(["bash", "-uc", OFFERS, str(TOP), *words], folder=self.names)
+            ended = self.run_command(["bash", "-uc", OFFERS, str(script), *words], folder=self.names)
             self.assertEqual((0, b""), (ended.status, ended.err))
             self.assertEqual(sorted(wanted), sorted(ended.out.decode().splitlines()))
 
@@ -30,6 +31,24 @@ class Completion(Case):
         self.offers("a folder", ["a folder", "rack"], "stair", "")
         self.offers("the beginning of a folder", ["rack"], "./stair", "ra")
         self.offers("no file as a folder", [], "stair", "fi")
+
+    def test_options(self):
+        self.offers("each option", OPTIONS, "stair", "-")
+        self.offers("the beginning of an option", ["--help"], "./stair", "--h")
+        self.offers("no other option", [], "stair", "-x")
+        for option in OPTIONS:
+            self.offers(f"no word after {option}", [], "stair", option, "")
+        self.offers("a command after a folder of such a name", ["scrub"], "stair", "./--help", "sc")
+        self.offers("no option as a command", [], "stair", "rack", "--")
+
+    def test_the_table(self):
+        """The commands are those of the table that lies beside the script, wherever it is called, also by a link."""
+        scripts = self.folder("other scripts", TOP / "scripts")
+        with open(scripts / "commands", "a") as table:
+            table.write("verify BLOCK   verifies a block\n")
+        self.offers("each command", [*COMMANDS, "verify"], "stair", "rack", "", script="../other scripts/stair.bash")
+        (self.names / "link").symlink_to(scripts / "stair.bash")
+        self.offers("the beginning of a command", ["verify"], "stair", "rack", "ve", script="./link")
 
     def test_commands(self):
         self.offers("each command", COMMANDS, "stair", "rack", "")

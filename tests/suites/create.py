@@ -6,7 +6,7 @@ from fixture import *
 
 class Create(Case):
     def test_new_arrays(self):
-        # The expected image files are those of tests/tools/fresh, which follows the tables of docs/formats.md.
+        # The expected image files are those of tests/tools/fresh, which follows the tables of docs/on-disk.md.
         for case, array in (("four", FOUR), ("eight", EIGHT), ("32", MANY)):
             self.expect_in(array.blank, array.fresh, "create", puts=array.created, input=array.text, case=f"an array of {case}")
 

@@ -1,30 +1,43 @@
-"""The man page docs/stair.1, and that it and docs/formats.md have the same commands and exit statuses."""
+"""The man page docs/stair.1 is made from docs/reference.md, and both have the commands and exit statuses of the program."""
 import re
 
 from fixture import *
 
+NEEDS_PROGRAM = False
 PAGE = TOP / "docs" / "stair.1"
-FORMATS = TOP / "docs" / "formats.md"
+REFERENCE = TOP / "docs" / "reference.md"
+STATUSES = TOP / "crates" / "stair_status" / "specs" / "Status.antt"
 COMMANDS = USAGE.partition("FOLDER ")[2].split("|")
+# Statuses and lines that are not those of a call: of the script, of the loader, and of the folder's lock.
+OTHER_CODES, OTHER_LINES = {126, 127}, {"stair: ..", "FOLDER: in use"}
 
 
-def table(head):
-    """Returns the rows of the table of docs/formats.md that begins so: the first two columns, with `|` for its escaped form."""
-    lines = iter(FORMATS.read_text().splitlines())
-    next(line for line in lines if line.startswith(f"| {head} |"))
-    rows = []
-    for line in lines:
-        if not line:
-            break
-        if not line.startswith("|-"):
-            columns = [it.strip().replace(r"\|", "|") for it in re.split(r"(?<!\\)\|", line)]
-            rows.append((columns[1], columns[2]))
-    return rows
+def part(title, text=None):
+    """Returns the part of the reference, or of a part of it, with this heading, such as "## Commands"."""
+    level = title.partition(" ")[0]
+    return re.search(rf"^{re.escape(title)}\n(.*?)(?=^#{{1,{len(level)}}} |\Z)", text or REFERENCE.read_text(), re.M | re.S)[1]
 
 
-def quoted(text):
-    """Returns what is in back quotes."""
-    return re.findall("`([^`]*)`", text)
+def headings(level, text):
+    return re.findall(rf"^{level} (.*)$", text, re.M)
+
+
+def rows():
+    """Returns the code and the line of each row of the table of exit statuses, with `|` for its escaped form."""
+    cells = [re.split(r"(?<!\\)\|", line) for line in part("## Exit statuses").splitlines() if line.startswith("|")]
+    return [(int(code), line.strip().strip("`").replace(r"\|", "|")) for _, code, line, *_ in cells[2:]]
+
+
+def specified():
+    """Returns the code of each status of the specification, and a pattern of its line."""
+    text = STATUSES.read_text()
+    codes = {name: int(code) for name, code in re.findall(r"^code_of \(?(\w+)[^=]*= (\d+)$", text, re.M)}
+    found = {}
+    for name, line in re.findall(r"^line_of \(?(\w+)[^=]*= (.*(?:\n .*)*)", text, re.M):
+        parts = [re.fullmatch(r'codes "(.*)"', it) for it in re.split(r"\s*\+\+\s*", line.replace("[]", 'codes ""'))]
+        found[name] = codes.pop(name), "".join(re.escape(it[1]) if it else ".+" for it in parts)
+    assert found and not codes, codes
+    return found
 
 
 class Manual(Case):
@@ -57,21 +70,25 @@ class Manual(Case):
             before = line
         return found
 
-    def first_words(self, name):
-        return [lines[0].split()[0] for lines in self.paragraphs(name)]
-
 
 class Shown(Manual):
     def shows(self, *command):
-        # A warning is on standard error.
+        # A warning is on standard error, or on standard output if that is all that is printed.
         ended = self.run_command([*command, str(PAGE)])
         self.assertEqual((0, b""), (ended.status, ended.err))
+        return ended.out
 
     def test_by_man(self):
-        self.shows("man", "-l")
+        self.assertIn(b"NAME\n", self.shows("man", "-l"))
 
     def test_by_groff(self):
-        self.shows("groff", "-man", "-Tutf8", "-ww", "-z")
+        for device in "ascii", "utf8":
+            with self.subTest(device):
+                self.assertEqual(b"", self.shows("groff", "-man", f"-T{device}", "-ww", "-z"))
+
+    def test_by_mandoc(self):
+        self.needs("mandoc")
+        self.assertEqual(b"", self.shows("mandoc", "-T", "lint"))
 
     def test_lines(self):
         lines = self.page()
@@ -79,27 +96,58 @@ class Shown(Manual):
         self.assertEqual([], [line for line in lines if len(line) > 80])
 
 
+class Made(Case):
+    def test_from_the_reference(self):
+        ended = self.run_command([str(TOP / "scripts" / "manpage")])
+        self.check_ended(ended, 0, "", PAGE.read_bytes())
+
+
 class Commands(Manual):
-    def test_those_of_the_formats(self):
-        self.assertEqual(sorted(COMMANDS), sorted(words.split()[0] for cell, _ in table("words | input") for words in quoted(cell)))
+    def test_those_of_the_reference(self):
+        self.assertEqual(sorted(COMMANDS), sorted(headings("###", part("## Commands"))))
+
+    def test_the_words_of_each(self):
+        commands = part("## Commands")
+        for name in COMMANDS:
+            with self.subTest(name):
+                words = re.match(r"\n`stair FOLDER (\w+)((?: [A-Z]+)*(?:\.\.)?)`\n", part(f"### {name}", commands))
+                self.assertEqual(name, words and words[1])
+                for operand in words[2].replace("..", "").split():
+                    self.assertRegex(part("## Command line"), rf"(?m)^\|[^|]*\b{operand}\b", "an operand that is not described")
 
     def test_those_of_the_page(self):
-        words = self.first_words("COMMANDS")
-        self.assertEqual(sorted(COMMANDS), sorted(word for word in words if re.match("[a-z]", word)))
+        names = [line.strip() for line in self.section("COMMANDS") if re.match("   [^ ]", line)]
+        self.assertEqual(sorted(COMMANDS), sorted(names))
+
+    def test_those_of_the_synopsis(self):
+        self.assertEqual(sorted(COMMANDS), sorted(line.split()[2] for line in self.section("SYNOPSIS") if line))
 
 
 class Statuses(Manual):
-    def test_those_of_the_page(self):
-        # 126 and 127 are the script's and the loader's.
-        wanted = {int(status) for status, _ in table("status | line")} | {126, 127}
-        found = {int(word) for word in self.first_words("EXIT STATUS") if re.match("[0-9]", word)}
-        self.assertEqual(wanted, found)
+    def test_the_codes_of_the_specification(self):
+        self.assertEqual({code for code, _ in specified().values()} | OTHER_CODES, {code for code, _ in rows()})
 
-    def test_the_line_of_each(self):
+    def test_the_line_of_each_row(self):
+        self.assertIn((2, USAGE), rows())
+        for code, line in rows():
+            if code not in OTHER_CODES and line not in OTHER_LINES:
+                with self.subTest(line):
+                    self.assertTrue([it for it in specified().values() if it[0] == code and re.fullmatch(it[1], line)], "no status has it")
+
+    def test_a_row_of_each_line(self):
+        for name, (code, pattern) in specified().items():
+            with self.subTest(name):
+                self.assertTrue([it for it in rows() if it[0] == code and re.fullmatch(pattern, it[1])], f"no row has {pattern}")
+
+    def test_those_of_the_errors(self):
+        commands = part("## Commands")
+        found = {int(code) for it in re.findall(r"\(([1-9]\d*(?:, [1-9]\d*)*)\)", commands) for code in it.split(", ")}
+        self.assertEqual({code for code, _ in rows()} - {0, *OTHER_CODES}, found)
+
+    def test_those_of_the_page(self):
         # Texts are compared without blanks, since a line may be broken at each of them.
-        paragraphs = ["".join(lines).replace(" ", "") for lines in self.paragraphs("EXIT STATUS")]
-        for status, says in table("status | line"):
-            row = " ".join([status, *quoted(says)])
-            with self.subTest(row):
-                wanted = row.replace(" ", "")
-                self.assertTrue([it for it in paragraphs if it.startswith(wanted)], f"no paragraph begins with {wanted}")
+        found = ["".join(lines).replace(" ", "") for lines in self.paragraphs("EXIT STATUS")[1:]]
+        self.assertEqual(len(rows()), len(found))
+        for (code, line), paragraph in zip(rows(), found):
+            with self.subTest(f"{code} {line}"):
+                self.assertTrue(paragraph.startswith(f"{code}{line}".replace(" ", "")), paragraph)

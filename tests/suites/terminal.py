@@ -1,10 +1,8 @@
 """What a command shows on a terminal of how far it is, and the longest READ, over an array of 100,000 blocks."""
 import os
-import pty
 import re
 import signal
 import subprocess
-import threading
 import time
 
 from messages import *
@@ -12,45 +10,6 @@ from messages import *
 LARGE = Array(8, 8, 2, 4, [1, 1, 2], 5000)
 STRIPES = r"[0-9]{1,4} of 5000 stripes"
 SECTORS = r"read [0-9]+ written [0-9]+ sectors"
-
-
-def screen(written):
-    """Returns what bytes leave on a terminal, and each line that was shown and then cleared."""
-    left, over, line, column = "", [], "", 0
-    for piece in re.findall(r"\x1b\[K|[\r\n]|[^\x1b\r\n]+", written.decode()):
-        if piece == "\r":
-            column = 0
-        elif piece == "\n":
-            left, line = f"{left}{line}\n", ""
-        elif piece == "\x1b[K":
-            line = line[:column]
-            over += [line] if line else []
-        else:
-            line = line[:column] + piece + line[column + len(piece) :]
-            column += len(piece)
-    return left + line, over
-
-
-class Terminal:
-    """A terminal. `written` has the bytes that were written to it."""
-
-    def __init__(self):
-        self.ours, self.theirs = pty.openpty()
-        self.written = b""
-        self.reader = threading.Thread(target=self.read, daemon=True)
-        self.reader.start()
-
-    def read(self):
-        try:
-            while True:
-                self.written += os.read(self.ours, 4096)
-        except OSError:
-            pass  # its other end was closed
-
-    def close(self):
-        os.close(self.theirs)
-        self.reader.join()
-        os.close(self.ours)
 
 
 def has_devices(process):

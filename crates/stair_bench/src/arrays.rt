@@ -1,8 +1,9 @@
 use crate::check::check_of_blocks;
 use crate::fault::Fault;
+use crate::sectors::rack_here;
 use stair_array::create;
 use stair_base::{GATE_SECTOR, Geometry, SECTOR};
-use stair_filerack::{Access, FileRack, Lock};
+use stair_filerack::Lock;
 use stair_rack::{Got, Rack};
 use std::alloc::Global;
 use std::fs::Files;
@@ -20,17 +21,32 @@ pub(crate) fn check_of_creating<F: Files + Drop>(
 where
     F::File: Lock,
 {
-    let mut rack = FileRack::at(rt, alloc, ".", Access::Writing)?;
+    let mut rack = rack_here(rt, alloc)?;
+    check_of_new_array(&mut rack, rounds)
+}
+
+/// The same on this rack.
+fn check_of_new_array<R: Rack>(rack: &mut R, rounds: u32) -> Result<u64, Fault> {
     if rounds == 0 {
         return Ok(0);
     }
-    let stripes = STRIPES * u64::from(rounds);
-    let Ok(geometry) = Geometry::new(8, 2, 4, &[1, 1, 2], stripes, [0; 16]) else {
-        return Err(Fault::Usage);
-    };
-    if create(&mut rack, &geometry).is_err() {
-        return Err(Fault::Image);
-    }
+    let geometry = geometry_of(STRIPES * u64::from(rounds))?;
+    create_on(rack, &geometry)?;
+    check_of_last(rack, &geometry)
+}
+
+/// The geometry of an array of so many stripes.
+fn geometry_of(stripes: u64) -> Result<Geometry, Fault> {
+    Geometry::new(8, 2, 4, &[1, 1, 2], stripes, [0; 16]).map_err(|_| Fault::Usage)
+}
+
+/// Creates an array of this geometry on the rack.
+pub(crate) fn create_on<R: Rack>(rack: &mut R, geometry: &Geometry) -> Result<(), Fault> {
+    create(rack, geometry).map_err(|_| Fault::Image)
+}
+
+/// A check of the gate and the last sector of slot 7.
+fn check_of_last<R: Rack>(rack: &mut R, geometry: &Geometry) -> Result<u64, Fault> {
     let mut sectors = [[0xA5; SECTOR]; 2];
     for (sector, number) in sectors.iter_mut().zip([GATE_SECTOR, geometry.need() - 1]) {
         if rack.read(7, number, sector) != Got::Good {

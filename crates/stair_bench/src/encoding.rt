@@ -27,12 +27,30 @@ pub(crate) fn check_of_encoding<L: Ledger>(
     requires some { 0 < L.parts }
 {
     let mut stripe = varied_stripe(alloc, geometry)?;
-    let mut codec = Codec::new(alloc, geometry, by)?;
+    let mut code = Codec::new(alloc, geometry, by)?;
+    encode_rounds::<L, Codec>(geometry, &mut code, &mut stripe, rounds, blank);
+    Ok(check_of_stripe(geometry, &stripe))
+}
+
+/// Encodes this stripe so many times.
+fn encode_rounds<L: Ledger, C: StripeCode>(
+    geometry: &Geometry,
+    code: &mut C,
+    stripe: &mut Stripe,
+    rounds: u32,
+    blank: Blank,
+)
+    requires name { blank.name ≡ L.name }
+    requires parts { blank.parts ≡ L.parts }
+    requires some { 0 < L.parts }
+    requires shape { C.shape code.old ≡ geometry.now }
+    requires of { IsStripeOf geometry.now stripe.old }
+    ensures { IsStripeOf geometry.now stripe.new }
+{
     let mut steps = Steps::<L>::new(blank);
     for _round in 0..rounds {
-        codec.encode(&mut stripe, &mut steps);
+        code.encode(stripe, &mut steps);
     }
-    Ok(check_of_stripe(geometry, &stripe))
 }
 
 /// Encodes a stripe once, sets its middle block to the same other bytes so many times, and gives a check of all its cells.
@@ -47,15 +65,33 @@ pub(crate) fn check_of_updating<L: Ledger>(
     requires some { 0 < L.parts }
 {
     let mut stripe = varied_stripe(alloc, geometry)?;
-    let mut codec = Codec::new(alloc, geometry, By::Fewest)?;
+    let mut code = Codec::new(alloc, geometry, By::Fewest)?;
+    update_rounds::<L, Codec>(geometry, &mut code, &mut stripe, rounds, blank);
+    Ok(check_of_stripe(geometry, &stripe))
+}
+
+/// Encodes this stripe once, and sets its middle block to the same other bytes so many times.
+fn update_rounds<L: Ledger, C: StripeCode>(
+    geometry: &Geometry,
+    code: &mut C,
+    stripe: &mut Stripe,
+    rounds: u32,
+    blank: Blank,
+)
+    requires name { blank.name ≡ L.name }
+    requires parts { blank.parts ≡ L.parts }
+    requires some { 0 < L.parts }
+    requires shape { C.shape code.old ≡ geometry.now }
+    requires of { IsStripeOf geometry.now stripe.old }
+    ensures { IsStripeOf geometry.now stripe.new }
+{
     let mut steps = Steps::<L>::new(blank);
-    codec.encode(&mut stripe, &mut steps);
+    code.encode(stripe, &mut steps);
     let middle = middle_block(geometry);
     let bytes = varied(1023);
     for _round in 0..rounds {
-        codec.update(&mut stripe, middle.row, middle.slot, &bytes, &mut steps);
+        code.update(stripe, middle.row, middle.slot, &bytes, &mut steps);
     }
-    Ok(check_of_stripe(geometry, &stripe))
 }
 
 /// Where the middle block of the array lies.

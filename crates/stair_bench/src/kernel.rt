@@ -68,6 +68,64 @@ impl Devices {
     }
 }
 
+/// What is done with a stripe.
+#[derive(Clone, Copy)]
+pub(crate) enum StripeWork {
+    /// All its parities, from its data cells.
+    Encode(By),
+    /// The cells of the worst pattern that is covered, always of the same chunks.
+    Restore,
+    /// The same cells of other chunks in each round.
+    RestoreInTurn,
+    /// Its middle block, when it is encoded, set to other bytes.
+    Update,
+    /// A copy of the data cells that those are encoded from.
+    CopyCells,
+}
+
+impl StripeWork {
+    fn name(self) -> &'static str {
+        match self {
+            StripeWork::Encode(by) => name_of(by),
+            StripeWork::Restore => "restore",
+            StripeWork::RestoreInTurn => "restore-in-turn",
+            StripeWork::Update => "update",
+            StripeWork::CopyCells => "copy-cells",
+        }
+    }
+}
+
+/// What is done with image files.
+#[derive(Clone, Copy)]
+pub(crate) enum FileWork {
+    /// The sectors that are sealed in memory, written and then synced.
+    WriteSectors,
+    /// The same sectors, read.
+    ReadSectors,
+    /// A sector, written to each device of an array.
+    WriteAll(Devices),
+    /// A new array.
+    CreateArray,
+    /// The middle block of a stripe, set to other bytes by a redo.
+    Redo(Layout),
+    /// Blocks of a stripe of an array.
+    WriteBlocks(Part, Layout),
+}
+
+impl FileWork {
+    /// What it does, and the numbers that it does it for.
+    fn words(self) -> (&'static str, &'static str) {
+        match self {
+            FileWork::WriteSectors => ("write", "sectors"),
+            FileWork::ReadSectors => ("read", "sectors"),
+            FileWork::WriteAll(devices) => ("write-all", devices.name()),
+            FileWork::CreateArray => ("create", "array"),
+            FileWork::Redo(layout) => ("redo", layout.name()),
+            FileWork::WriteBlocks(part, layout) => (part.name(), layout.name()),
+        }
+    }
+}
+
 /// What is run and timed.
 #[derive(Clone, Copy)]
 pub(crate) enum Kernel {
@@ -77,109 +135,89 @@ pub(crate) enum Kernel {
     Solve(Row),
     /// A copy of the symbols that those are solved from.
     CopySymbols(Row),
-    /// All parities of a stripe, from its data cells.
-    Encode(By, Layout),
-    /// The cells of the worst pattern that is covered, always of the same chunks.
-    Restore(Layout),
-    /// The same cells of other chunks in each round.
-    RestoreInTurn(Layout),
-    /// The middle block of an encoded stripe, set to other bytes.
-    Update(Layout),
-    /// A copy of the data cells that those are encoded from.
-    CopyCells(Layout),
+    /// Work on a stripe.
+    Stripe(StripeWork, Layout),
     /// Sectors of an image file, sealed.
     SealSectors,
-    /// The same sectors, written and then synced.
-    WriteSectors,
-    /// The same sectors, read.
-    ReadSectors,
-    /// A sector, written to each device of an array.
-    WriteAll(Devices),
-    /// A new array on image files.
-    CreateArray,
-    /// The middle block of a stripe on image files, set to other bytes by a redo.
-    Redo(Layout),
-    /// Blocks of a stripe of an array on image files.
-    WriteBlocks(Part, Layout),
+    /// Work on image files.
+    Files(FileWork),
 }
 
+/// The kernels that need no file.
+pub(crate) static IN_MEMORY: [Kernel; 31] = [
+    Kernel::MultiplyAdd,
+    Kernel::Solve(Row::EightTwo),
+    Kernel::CopySymbols(Row::EightTwo),
+    Kernel::Solve(Row::ThirtyTwoThree),
+    Kernel::CopySymbols(Row::ThirtyTwoThree),
+    Kernel::Stripe(StripeWork::Encode(By::Downstairs), Layout::FourDevices),
+    Kernel::Stripe(StripeWork::Encode(By::Upstairs), Layout::FourDevices),
+    Kernel::Stripe(StripeWork::Encode(By::Standard), Layout::FourDevices),
+    Kernel::Stripe(StripeWork::Restore, Layout::FourDevices),
+    Kernel::Stripe(StripeWork::RestoreInTurn, Layout::FourDevices),
+    Kernel::Stripe(StripeWork::CopyCells, Layout::FourDevices),
+    Kernel::Stripe(StripeWork::Encode(By::Downstairs), Layout::EightDevices),
+    Kernel::Stripe(StripeWork::Encode(By::Upstairs), Layout::EightDevices),
+    Kernel::Stripe(StripeWork::Encode(By::Standard), Layout::EightDevices),
+    Kernel::Stripe(StripeWork::Restore, Layout::EightDevices),
+    Kernel::Stripe(StripeWork::RestoreInTurn, Layout::EightDevices),
+    Kernel::Stripe(StripeWork::Update, Layout::EightDevices),
+    Kernel::Stripe(StripeWork::CopyCells, Layout::EightDevices),
+    Kernel::Stripe(StripeWork::Encode(By::Downstairs), Layout::SixteenDevices),
+    Kernel::Stripe(StripeWork::Encode(By::Upstairs), Layout::SixteenDevices),
+    Kernel::Stripe(StripeWork::Encode(By::Standard), Layout::SixteenDevices),
+    Kernel::Stripe(StripeWork::Restore, Layout::SixteenDevices),
+    Kernel::Stripe(StripeWork::RestoreInTurn, Layout::SixteenDevices),
+    Kernel::Stripe(StripeWork::CopyCells, Layout::SixteenDevices),
+    Kernel::Stripe(StripeWork::Encode(By::Downstairs), Layout::ThirtyTwoDevices),
+    Kernel::Stripe(StripeWork::Encode(By::Upstairs), Layout::ThirtyTwoDevices),
+    Kernel::Stripe(StripeWork::Encode(By::Standard), Layout::ThirtyTwoDevices),
+    Kernel::Stripe(StripeWork::Restore, Layout::ThirtyTwoDevices),
+    Kernel::Stripe(StripeWork::RestoreInTurn, Layout::ThirtyTwoDevices),
+    Kernel::Stripe(StripeWork::CopyCells, Layout::ThirtyTwoDevices),
+    Kernel::SealSectors,
+];
+
+/// Those over image files.
+static OVER_FILES: [Kernel; 9] = [
+    Kernel::Files(FileWork::WriteSectors),
+    Kernel::Files(FileWork::ReadSectors),
+    Kernel::Files(FileWork::WriteAll(Devices::Eight)),
+    Kernel::Files(FileWork::WriteAll(Devices::ThirtyTwo)),
+    Kernel::Files(FileWork::CreateArray),
+    Kernel::Files(FileWork::Redo(Layout::EightDevices)),
+    Kernel::Files(FileWork::WriteBlocks(Part::Block, Layout::EightDevices)),
+    Kernel::Files(FileWork::WriteBlocks(Part::Stripe, Layout::EightDevices)),
+    Kernel::Files(FileWork::WriteBlocks(Part::EachBlock, Layout::EightDevices)),
+];
+
 impl Kernel {
-    /// Those that need no file.
-    pub(crate) const IN_MEMORY: [Kernel; 31] = [
-        Kernel::MultiplyAdd,
-        Kernel::Solve(Row::EightTwo),
-        Kernel::CopySymbols(Row::EightTwo),
-        Kernel::Solve(Row::ThirtyTwoThree),
-        Kernel::CopySymbols(Row::ThirtyTwoThree),
-        Kernel::Encode(By::Downstairs, Layout::FourDevices),
-        Kernel::Encode(By::Upstairs, Layout::FourDevices),
-        Kernel::Encode(By::Standard, Layout::FourDevices),
-        Kernel::Restore(Layout::FourDevices),
-        Kernel::RestoreInTurn(Layout::FourDevices),
-        Kernel::CopyCells(Layout::FourDevices),
-        Kernel::Encode(By::Downstairs, Layout::EightDevices),
-        Kernel::Encode(By::Upstairs, Layout::EightDevices),
-        Kernel::Encode(By::Standard, Layout::EightDevices),
-        Kernel::Restore(Layout::EightDevices),
-        Kernel::RestoreInTurn(Layout::EightDevices),
-        Kernel::Update(Layout::EightDevices),
-        Kernel::CopyCells(Layout::EightDevices),
-        Kernel::Encode(By::Downstairs, Layout::SixteenDevices),
-        Kernel::Encode(By::Upstairs, Layout::SixteenDevices),
-        Kernel::Encode(By::Standard, Layout::SixteenDevices),
-        Kernel::Restore(Layout::SixteenDevices),
-        Kernel::RestoreInTurn(Layout::SixteenDevices),
-        Kernel::CopyCells(Layout::SixteenDevices),
-        Kernel::Encode(By::Downstairs, Layout::ThirtyTwoDevices),
-        Kernel::Encode(By::Upstairs, Layout::ThirtyTwoDevices),
-        Kernel::Encode(By::Standard, Layout::ThirtyTwoDevices),
-        Kernel::Restore(Layout::ThirtyTwoDevices),
-        Kernel::RestoreInTurn(Layout::ThirtyTwoDevices),
-        Kernel::CopyCells(Layout::ThirtyTwoDevices),
-        Kernel::SealSectors,
-    ];
-
-    /// Those over image files.
-    const OVER_FILES: [Kernel; 9] = [
-        Kernel::WriteSectors,
-        Kernel::ReadSectors,
-        Kernel::WriteAll(Devices::Eight),
-        Kernel::WriteAll(Devices::ThirtyTwo),
-        Kernel::CreateArray,
-        Kernel::Redo(Layout::EightDevices),
-        Kernel::WriteBlocks(Part::Block, Layout::EightDevices),
-        Kernel::WriteBlocks(Part::Stripe, Layout::EightDevices),
-        Kernel::WriteBlocks(Part::EachBlock, Layout::EightDevices),
-    ];
-
     /// What it does, and the numbers that it does it for.
     fn words(self) -> (&'static str, &'static str) {
         match self {
             Kernel::MultiplyAdd => ("multiply", "add"),
             Kernel::Solve(row) => ("solve", row.name()),
             Kernel::CopySymbols(row) => ("copy", row.name()),
-            Kernel::Encode(by, layout) => (name_of(by), layout.name()),
-            Kernel::Restore(layout) => ("restore", layout.name()),
-            Kernel::RestoreInTurn(layout) => ("restore-in-turn", layout.name()),
-            Kernel::Update(layout) => ("update", layout.name()),
-            Kernel::CopyCells(layout) => ("copy-cells", layout.name()),
+            Kernel::Stripe(work, layout) => (work.name(), layout.name()),
             Kernel::SealSectors => ("seal", "sectors"),
-            Kernel::WriteSectors => ("write", "sectors"),
-            Kernel::ReadSectors => ("read", "sectors"),
-            Kernel::WriteAll(devices) => ("write-all", devices.name()),
-            Kernel::CreateArray => ("create", "array"),
-            Kernel::Redo(layout) => ("redo", layout.name()),
-            Kernel::WriteBlocks(part, layout) => (part.name(), layout.name()),
+            Kernel::Files(work) => work.words(),
         }
     }
 
     /// The kernel of this name.
     pub(crate) fn named(name: &str) -> Option<Kernel> {
-        Kernel::IN_MEMORY
-            .into_iter()
-            .chain(Kernel::OVER_FILES)
-            .find(|kernel| is_pair(name, kernel.words()))
+        named_of(&IN_MEMORY, name).or(named_of(&OVER_FILES, name))
     }
+}
+
+/// The first of these kernels that has this name.
+fn named_of(kernels: &[Kernel], name: &str) -> Option<Kernel> {
+    for kernel in kernels {
+        if is_pair(name, kernel.words()) {
+            return Some(*kernel);
+        }
+    }
+    None
 }
 
 /// How the encoder is called.

@@ -15,8 +15,9 @@ mod sectors;
 mod varied;
 mod writes;
 
+use counting::Calls;
 use fault::Fault;
-use kernel::Kernel;
+use kernel::{IN_MEMORY, Kernel};
 use rounds::{Made, make_rounds};
 use std::process::ExitCode;
 use std::{env, io};
@@ -30,38 +31,56 @@ enum Request {
 
 /// Reads the words after the program's name. Words that are no text are a faulty command line.
 fn read_request(rt: &HostRuntime) -> Result<Request, Fault> {
-    let mut words = match env::args(rt) {
-        Ok(words) => words,
-        Err(error) if error.kind() == io::ErrorKind::OutOfMemory => return Err(Fault::OutOfMemory),
-        Err(_) => return Err(Fault::Usage),
-    };
-    let _program = words.next();
-    let words: Vec<String> = words.collect(rt.alloc())?;
-    match words.as_slice() {
+    let words = words_given(rt)?;
+    request_of(&words)
+}
+
+fn words_given(rt: &HostRuntime) -> Result<Vec<String>, Fault> {
+    match env::args(rt) {
+        Ok(words) => Ok(words.skip(1).collect(rt.alloc())?),
+        Err(error) if error.kind() == io::ErrorKind::OutOfMemory => Err(Fault::OutOfMemory),
+        Err(_) => Err(Fault::Usage),
+    }
+}
+
+/// What these words ask for.
+fn request_of(words: &[String]) -> Result<Request, Fault> {
+    match words {
         [] => Ok(Request::OneRoundOfEach),
-        [name, count] => {
-            let kernel = Kernel::named(name.as_str()).ok_or(Fault::Usage)?;
-            let rounds = count.as_str().parse().map_err(|_| Fault::Usage)?;
-            Ok(Request::Rounds { kernel, rounds })
-        }
+        [name, count] => rounds_of(name.as_str(), count.as_str()),
         _ => Err(Fault::Usage),
     }
 }
 
+/// So many rounds of the kernel of this name.
+fn rounds_of(name: &str, count: &str) -> Result<Request, Fault> {
+    let kernel = Kernel::named(name).ok_or(Fault::Usage)?;
+    let rounds = count.parse().map_err(|_| Fault::Usage)?;
+    Ok(Request::Rounds { kernel, rounds })
+}
+
 /// Runs the rounds of a kernel, and prints its name, the check of what it made, and the calls of redos.
 fn print_made(rt: &HostRuntime, kernel: Kernel, rounds: u32) -> Result<(), Fault> {
-    match make_rounds(rt, rt.alloc(), kernel, rounds)? {
-        Made::Check(check) => println!(rt; "{kernel} {check:016x}"),
-        Made::Redone(check, calls) => println!(rt; "{kernel} {check:016x} {calls}"),
-    }
-    .map_err(|_| Fault::Output)
+    let printed = match make_rounds(rt, rt.alloc(), kernel, rounds)? {
+        Made::Check(check) => print_check(rt, kernel, check),
+        Made::Redone(check, calls) => print_calls(rt, kernel, check, calls),
+    };
+    printed.map_err(|_| Fault::Output)
+}
+
+fn print_check(rt: &HostRuntime, kernel: Kernel, check: u64) -> io::Result<()> {
+    println!(rt; "{kernel} {check:016x}")
+}
+
+fn print_calls(rt: &HostRuntime, kernel: Kernel, check: u64, calls: Calls) -> io::Result<()> {
+    println!(rt; "{kernel} {check:016x} {calls}")
 }
 
 fn run(rt: &HostRuntime) -> Result<(), Fault> {
     match read_request(rt)? {
         Request::OneRoundOfEach => {
-            for kernel in Kernel::IN_MEMORY {
-                print_made(rt, kernel, 1)?;
+            for kernel in &IN_MEMORY {
+                print_made(rt, *kernel, 1)?;
             }
             Ok(())
         }

@@ -26,20 +26,66 @@ pub(crate) fn check_of_restoring<L: Ledger>(
     requires some { 0 < L.parts }
 {
     let patterns = worst_patterns(alloc, geometry, patterns)?;
+    check_of_patterns::<L>(alloc, geometry, &patterns, rounds, blank)
+}
+
+/// The same from these patterns.
+fn check_of_patterns<L: Ledger>(
+    alloc: Global,
+    geometry: &Geometry,
+    patterns: &[CellSet],
+    rounds: u32,
+    blank: Blank,
+) -> Result<u64, AllocError>
+    requires name { blank.name ≡ L.name }
+    requires parts { blank.parts ≡ L.parts }
+    requires some { 0 < L.parts }
+    requires patterns { 0 < length patterns.now }
+    requires in_stripe { All (IsInStripe geometry.now) patterns.now }
+{
     let mut stripe = varied_stripe(alloc, geometry)?;
-    let mut codec = Codec::new(alloc, geometry, By::Upstairs)?;
-    codec.encode(&mut stripe, &mut Steps::<L>::new(blank));
-    erase(geometry, &patterns[0], &mut stripe);
-    let mut are_covered = true;
-    for round in 0..rounds {
-        let pattern = &patterns[round as usize % patterns.len()];
-        are_covered = codec.restore(&mut stripe, pattern).is_ok() && are_covered;
-    }
+    let mut code = Codec::new(alloc, geometry, By::Upstairs)?;
+    let are_covered = restore_rounds::<L, Codec>(
+        geometry,
+        &mut code,
+        &mut stripe,
+        patterns,
+        rounds,
+        blank,
+    );
     Ok(if are_covered {
         check_of_stripe(geometry, &stripe)
     } else {
         0
     })
+}
+
+/// Encodes this stripe, and restores it so many times, from one of these patterns after another. Whether all were covered.
+fn restore_rounds<L: Ledger, C: StripeCode>(
+    geometry: &Geometry,
+    code: &mut C,
+    stripe: &mut Stripe,
+    patterns: &[CellSet],
+    rounds: u32,
+    blank: Blank,
+) -> bool
+    requires name { blank.name ≡ L.name }
+    requires parts { blank.parts ≡ L.parts }
+    requires some { 0 < L.parts }
+    requires shape { C.shape code.old ≡ geometry.now }
+    requires of { IsStripeOf geometry.now stripe.old }
+    requires patterns { 0 < length patterns.now }
+    requires in_stripe { All (IsInStripe geometry.now) patterns.now }
+    ensures { IsStripeOf geometry.now stripe.new }
+{
+    code.encode(stripe, &mut Steps::<L>::new(blank));
+    erase(geometry, &patterns[0], stripe);
+    let mut are_covered = true;
+    for round in 0..rounds {
+        let pattern = &patterns[round as usize % patterns.len()];
+        are_covered = code.restore(stripe, pattern).is_ok() && are_covered;
+    }
+    are_covered
 }
 
 /// The worst patterns whose whole chunks begin with the first so many slots.

@@ -1,12 +1,15 @@
 ghost use Rattle.std.specs.Prelude.{◌≡◌, ◌-◌, ◌<◌, ◌≤◌, IfOk, length};
 ghost use Rattle.std.specs.List.{range_with_len};
+ghost use Rattle.stair_model.specs.CauchyCode.{AreKnownPlaces};
+ghost use Rattle.stair_mds.specs.Solving.{AreWantedPlaces};
 
 use crate::arrays::check_of_creating;
 use crate::check::{check_of, check_of_blocks};
 use crate::counting::Calls;
 use crate::encoding::{check_of_copying_cells, check_of_encoding, check_of_updating};
 use crate::fault::Fault;
-use crate::kernel::{Code, Kernel};
+use crate::kernel::{Code, FileWork, Kernel, StripeWork};
+use crate::layout::Layout;
 use crate::redo::check_of_redoing;
 use crate::restoring::check_of_restoring;
 use crate::sectors::{check_of_reading, check_of_sealing, check_of_writing, check_of_writing_all};
@@ -39,42 +42,91 @@ pub(crate) fn make_rounds<F: Files + Drop>(
 where
     F::File: Lock,
 {
+    match kernel {
+        Kernel::MultiplyAdd => Ok(Made::Check(check_of_adding(rounds))),
+        Kernel::Solve(row) => made_in_memory(check_of_solving::<Brand>(
+            alloc,
+            row.code(),
+            rounds,
+            Blank::new(1),
+        )),
+        Kernel::CopySymbols(row) => made_in_memory(check_of_copying(alloc, row.code(), rounds)),
+        Kernel::Stripe(work, layout) => {
+            made_in_memory(check_of_stripe_work(alloc, work, layout, rounds))
+        }
+        Kernel::SealSectors => made_in_memory(check_of_sealing(alloc, rounds)),
+        Kernel::Files(work) => make_on_files(rt, alloc, work, rounds),
+    }
+}
+
+/// A check of so many rounds of this work on a stripe.
+fn check_of_stripe_work(
+    alloc: Global,
+    work: StripeWork,
+    layout: Layout,
+    rounds: u32,
+) -> Result<u64, AllocError> {
+    let geometry = layout.geometry();
     let steps = Blank::new(1);
-    let check = match kernel {
-        Kernel::MultiplyAdd => check_of_adding(rounds),
-        Kernel::Solve(row) => check_of_solving::<Brand>(alloc, row.code(), rounds, steps)?,
-        Kernel::CopySymbols(row) => check_of_copying(alloc, row.code(), rounds)?,
-        Kernel::Encode(by, layout) => {
-            check_of_encoding::<Brand>(alloc, by, &layout.geometry(), rounds, steps)?
+    match work {
+        StripeWork::Encode(by) => check_of_encoding::<Brand>(alloc, by, &geometry, rounds, steps),
+        StripeWork::Restore => check_of_restoring::<Brand>(alloc, &geometry, 1, rounds, steps),
+        StripeWork::RestoreInTurn => {
+            check_of_restoring::<Brand>(alloc, &geometry, geometry.n(), rounds, steps)
         }
-        Kernel::Restore(layout) => {
-            check_of_restoring::<Brand>(alloc, &layout.geometry(), 1, rounds, steps)?
+        StripeWork::Update => check_of_updating::<Brand>(alloc, &geometry, rounds, steps),
+        StripeWork::CopyCells => check_of_copying_cells(alloc, &geometry, rounds),
+    }
+}
+
+/// Runs so many rounds of this work on image files.
+fn make_on_files<F: Files + Drop>(
+    rt: F,
+    alloc: Global,
+    work: FileWork,
+    rounds: u32,
+) -> Result<Made, Fault>
+where
+    F::File: Lock,
+{
+    match work {
+        FileWork::WriteSectors => made_on_files(check_of_writing(rt, alloc, rounds)),
+        FileWork::ReadSectors => made_on_files(check_of_reading(rt, alloc, rounds)),
+        FileWork::WriteAll(devices) => {
+            made_on_files(check_of_writing_all(rt, alloc, devices.count(), rounds))
         }
-        Kernel::RestoreInTurn(layout) => {
-            let geometry = layout.geometry();
-            check_of_restoring::<Brand>(alloc, &geometry, geometry.n(), rounds, steps)?
-        }
-        Kernel::Update(layout) => {
-            check_of_updating::<Brand>(alloc, &layout.geometry(), rounds, steps)?
-        }
-        Kernel::CopyCells(layout) => check_of_copying_cells(alloc, &layout.geometry(), rounds)?,
-        Kernel::SealSectors => check_of_sealing(alloc, rounds)?,
-        Kernel::WriteSectors => check_of_writing(rt, alloc, rounds)?,
-        Kernel::ReadSectors => check_of_reading(rt, alloc, rounds)?,
-        Kernel::WriteAll(devices) => check_of_writing_all(rt, alloc, devices.count(), rounds)?,
-        Kernel::CreateArray => check_of_creating(rt, alloc, rounds)?,
-        Kernel::Redo(layout) => {
-            let geometry = layout.geometry();
-            let (check, calls) = check_of_redoing::<F, Brand>(rt, alloc, &geometry, rounds, steps)?;
-            return Ok(Made::Redone(check, calls));
-        }
-        Kernel::WriteBlocks(part, layout) => {
-            let geometry = layout.geometry();
-            let (check, calls) = check_of_block_writes(rt, alloc, &geometry, part, rounds)?;
-            return Ok(Made::Redone(check, calls));
-        }
-    };
-    Ok(Made::Check(check))
+        FileWork::CreateArray => made_on_files(check_of_creating(rt, alloc, rounds)),
+        FileWork::Redo(layout) => made_by_calls(check_of_redoing::<F, Brand>(
+            rt,
+            alloc,
+            &layout.geometry(),
+            rounds,
+            Blank::new(1),
+        )),
+        FileWork::WriteBlocks(part, layout) => made_by_calls(check_of_block_writes(
+            rt,
+            alloc,
+            &layout.geometry(),
+            part,
+            rounds,
+        )),
+    }
+}
+
+/// What was made in memory, which may be lacking.
+fn made_in_memory(check: Result<u64, AllocError>) -> Result<Made, Fault> {
+    Ok(Made::Check(check?))
+}
+
+/// What was made on image files.
+fn made_on_files(check: Result<u64, Fault>) -> Result<Made, Fault> {
+    Ok(Made::Check(check?))
+}
+
+/// What was made by calls on image files.
+fn made_by_calls(made: Result<(u64, Calls), Fault>) -> Result<Made, Fault> {
+    let (check, calls) = made?;
+    Ok(Made::Redone(check, calls))
 }
 
 /// Adds multiples of a symbol to another, by each byte in turn, so many times, and one more that makes all of them together
@@ -109,11 +161,31 @@ fn check_of_solving<L: Ledger>(
     let known = places(alloc, 0, held)?;
     let wanted = places(alloc, held, total)?;
     let mut work = symbols_of(alloc, held, total)?;
+    solve_rounds::<L>(&mut mds, &known, &wanted, &mut work, rounds, blank);
+    Ok(check_of(&work, held, total))
+}
+
+/// Solves the wanted symbols from the known ones, so many times.
+fn solve_rounds<L: Ledger>(
+    mds: &mut Mds,
+    known: &[u16],
+    wanted: &[u16],
+    work: &mut Symbols,
+    rounds: u32,
+    blank: Blank,
+)
+    requires name { blank.name ≡ L.name }
+    requires parts { blank.parts ≡ L.parts }
+    requires some { 0 < L.parts }
+    requires known { AreKnownPlaces mds.old.shape.held mds.old.shape.total known.now }
+    requires wanted { AreWantedPlaces mds.old.shape known.now wanted.now }
+    requires work { length work.old ≡ mds.old.shape.total }
+    ensures { length work.new ≡ length work.old }
+{
     let mut steps = Steps::<L>::new(blank);
     for _round in 0..rounds {
-        mds.solve(&known, &wanted, &mut work, &mut steps);
+        mds.solve(known, wanted, work, &mut steps);
     }
-    Ok(check_of(&work, held, total))
 }
 
 /// Copies all held symbols, so many times.

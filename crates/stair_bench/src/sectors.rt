@@ -38,10 +38,21 @@ where
     F::File: Lock,
 {
     let sectors = varied_sectors(alloc)?;
-    let mut rack = attached(rt, alloc)?;
+    let mut rack = rack_here(rt, alloc)?;
+    write_sectors(&mut rack, &sectors, rounds)?;
+    Ok(check_of_blocks(&sectors))
+}
+
+/// Attaches slot 0, writes these sectors to it so many times, and syncs it.
+fn write_sectors<R: Rack>(
+    rack: &mut R,
+    sectors: &[[u8; SECTOR]],
+    rounds: u32,
+) -> Result<(), Fault> {
+    let _ = attach_first(rack, 1)?;
     for _round in 0..rounds {
         let mut number = 0;
-        for sector in &sectors {
+        for sector in sectors {
             if rack.write(0, number, sector) == Reply::Gone {
                 return Err(Fault::Image);
             }
@@ -51,7 +62,7 @@ where
     if rack.sync(0) == Reply::Gone {
         return Err(Fault::Image);
     }
-    Ok(check_of_blocks(&sectors))
+    Ok(())
 }
 
 /// Reads the sectors of that file so many times, and gives a check of what was read.
@@ -64,7 +75,18 @@ where
     F::File: Lock,
 {
     let mut sectors = vec![in alloc; [0; SECTOR]; usize::from(SECTORS)]?;
-    let mut rack = attached(rt, alloc)?;
+    let mut rack = rack_here(rt, alloc)?;
+    read_sectors(&mut rack, &mut sectors, rounds)?;
+    Ok(check_of_blocks(&sectors))
+}
+
+/// Attaches slot 0, and reads as many of its sectors so many times.
+fn read_sectors<R: Rack>(
+    rack: &mut R,
+    sectors: &mut [[u8; SECTOR]],
+    rounds: u32,
+) -> Result<(), Fault> {
+    let _ = attach_first(rack, 1)?;
     for _round in 0..rounds {
         let mut number = 0;
         for sector in sectors.iter_mut() {
@@ -74,7 +96,7 @@ where
             number = number.wrapping_add(1);
         }
     }
-    Ok(check_of_blocks(&sectors))
+    Ok(())
 }
 
 /// Writes one sector to the image files of so many slots in the current folder, so many times, each time under the next
@@ -90,8 +112,16 @@ where
     requires some { 0 < devices }
     requires within { devices ≤ 32 }
 {
-    let mut rack = FileRack::at(rt, alloc, ".", Access::Writing)?;
-    let live = attach_first(&mut rack, devices)?;
+    let mut rack = rack_here(rt, alloc)?;
+    write_to_all(&mut rack, devices, rounds)
+}
+
+/// The same on this rack.
+fn write_to_all<R: Rack>(rack: &mut R, devices: u8, rounds: u32) -> Result<u64, Fault>
+    requires some { 0 < devices }
+    requires within { devices ≤ 32 }
+{
+    let live = attach_first(rack, devices)?;
     let mut sector = varied(0);
     let mut number = 0;
     for _round in 0..rounds {
@@ -100,17 +130,32 @@ where
         } else {
             0
         };
-        if write_all(&mut rack, live, number, &sector).count() > 0 {
+        if !is_written(rack, live, number, &sector) {
             return Err(Fault::Image);
         }
     }
-    if rounds > 0
-        && (sync_all(&mut rack, live).count() > 0
-            || rack.read(devices - 1, number, &mut sector) != Got::Good)
-    {
+    if rounds > 0 && !is_kept(rack, live, devices - 1, number, &mut sector) {
         return Err(Fault::Image);
     }
     Ok(check_of_blocks(&[sector]))
+}
+
+/// Whether this sector was written under this number to all of these slots.
+fn is_written<R: Rack>(rack: &mut R, live: Slots, number: u32, sector: &[u8; SECTOR]) -> bool {
+    write_all(rack, live, number, sector).count() == 0
+}
+
+/// Whether all of these slots were synced, and then the sector of this number was read of that slot.
+fn is_kept<R: Rack>(
+    rack: &mut R,
+    live: Slots,
+    slot: u8,
+    number: u32,
+    into: &mut [u8; SECTOR],
+) -> bool
+    requires { slot < 32 }
+{
+    sync_all(rack, live).count() == 0 && rack.read(slot, number, into) == Got::Good
 }
 
 /// Attaches so many slots, and gives them.
@@ -127,14 +172,12 @@ pub(crate) fn attach_first<R: Rack>(rack: &mut R, devices: u8) -> Result<Slots, 
     Ok(live)
 }
 
-/// A rack over the current folder, whose slot 0 is attached.
-fn attached<F: Files + Drop>(rt: F, alloc: Global) -> Result<FileRack<F>, Fault>
+/// A rack over the current folder, to write.
+pub(crate) fn rack_here<F: Files + Drop>(rt: F, alloc: Global) -> Result<FileRack<F>, AllocError>
 where
     F::File: Lock,
 {
-    let mut rack = FileRack::at(rt, alloc, ".", Access::Writing)?;
-    let _ = attach_first(&mut rack, 1)?;
-    Ok(rack)
+    FileRack::at(rt, alloc, ".", Access::Writing)
 }
 
 /// The sectors that are written, in order.

@@ -2,7 +2,6 @@
 #![tactic(auto)]
 
 ghost use Rattle.std.specs.Prelude.{◌≡◌, ◌<◌};
-ghost use Rattle.stair_rack.specs.Watching.{watcher_view};
 ghost use Rattle.stair_watch.specs.WatcherList.{AllStay};
 
 use stair_engine::{Status, stair};
@@ -121,8 +120,8 @@ pub fn call_watched<R: Rack, K: Sink>(
     sink: &mut K,
     watchers: &mut Vec<Box<dyn Watcher>>,
 ) -> Result<(Status, usize), AllocError>
-    requires { AllStay (watcher_view told count left patience) watchers.old.items }
-    ensures { AllStay (watcher_view told count left patience) watchers.new.items }
+    requires { AllStay hears watchers.old.items }
+    ensures { AllStay hears watchers.new.items }
 {
     call_on::<R, K, Brand>(
         Blank::new(1),
@@ -150,8 +149,8 @@ fn call_on<R: Rack, K: Sink, L: Ledger>(
     requires name { blank.name ≡ L.name }
     requires parts { blank.parts ≡ L.parts }
     requires some { 0 < L.parts }
-    requires stay { AllStay (watcher_view told count left patience) watchers.old.items }
-    ensures stay { AllStay (watcher_view told count left patience) watchers.new.items }
+    requires stay { AllStay hears watchers.old.items }
+    ensures stay { AllStay hears watchers.new.items }
 {
     let mut source = MemSource::new(alloc, input, ends.piece.max(1), ends.fails_at)?;
     let mut steps = Steps::<L>::new(blank);

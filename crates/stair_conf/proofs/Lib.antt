@@ -1,6 +1,8 @@
 pub mod NumberLemmas
 pub mod VolumeLemmas
 pub mod WordsLemmas
+pub mod CommandWords
+pub mod VolumeWords
 pub mod RowLemmas
 pub mod WalkLaws
 pub mod CommandLaws

@@ -43,7 +43,7 @@ volume_word volume.List = inr (inr (inr (inl refl)))
 volume_word (volume.Read name block count) = inr (inr (inr (inr (inl refl))))
 volume_word (volume.Write name block count) = inr (inr (inr (inr (inr refl))))
 
-volume_letter : (job : VolumeJob) → get_or (volume_word_of job) 0 0 ≡ 118
+pub volume_letter : (job : VolumeJob) → get_or (volume_word_of job) 0 0 ≡ 118
 volume_letter volume.Ready = refl
 volume_letter (volume.Make name blocks) = refl
 volume_letter (volume.Remove name) = refl

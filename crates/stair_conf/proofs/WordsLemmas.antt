@@ -1,5 +1,5 @@
 -- What the words of a job are.
-use Rattle.std.proofs.Common.{◌≡◌, ◌≢◌, ◌∙◌, ◌<◌, ◌^◌, ℕ, List, [], ◌∷◌, false, map, drop, get_or, refl, sym, ap, inl, inr, arith}
+use Rattle.std.proofs.Common.{◌≡◌, ◌≢◌, ◌∙◌, ◌<◌, ◌^◌, ℕ, List, [], ◌∷◌, false, map, drop, get_or, refl, sym, ap, subst, inl, inr, arith}
 use Rattle.std.specs.Prelude.{codes}
 use Rattle.std.specs.Str.{bytes_eq}
 use Rattle.std.specs.Fmt.{decimal}
@@ -152,31 +152,31 @@ job_plain words Serve spells = rw spells (one_plain (codes "serve") (omega arith
 job_plain words (Volume job) spells = volume_plain words job spells
 job_plain words (Plan n m r e) spells = geometry_plain _ words n m r e (one_plain (codes "plan") (omega arith)) spells
 
-command_word : (words : List (List ℕ)) (job : Job) → Spells words job → IsCommandWord (get_or words 0 [])
-command_word words (OneStripe Check n m r e) spells = inl (ap (λ ws. get_or ws 0 []) spells.spelled)
-command_word words (OneStripe (Encode method) n m r e) spells = inr (inl (ap (λ ws. get_or ws 0 []) spells.spelled))
-command_word words (OneStripe Restore n m r e) spells = inr (inr (inl (ap (λ ws. get_or ws 0 []) spells.spelled)))
-command_word words Create spells = inr (inr (inr (inl (ap (λ ws. get_or ws 0 []) spells))))
-command_word words Show spells = inr (inr (inr (inr (inl (ap (λ ws. get_or ws 0 []) spells)))))
-command_word words (Read block count) spells = inr (inr (inr (inr (inr (inl (ap (λ ws. get_or ws 0 []) spells.spelled))))))
-command_word words (Write block count) spells = inr (inr (inr (inr (inr (inr (inl (ap (λ ws. get_or ws 0 []) spells.spelled)))))))
-command_word words Scrub spells = inr (inr (inr (inr (inr (inr (inr (inl (ap (λ ws. get_or ws 0 []) spells))))))))
-command_word words (Replace slot) spells = inr (inr (inr (inr (inr (inr (inr (inr (inl (ap (λ ws. get_or ws 0 []) spells.spelled)))))))))
-command_word words Rebuild spells = inr (inr (inr (inr (inr (inr (inr (inr (inr (inl (ap (λ ws. get_or ws 0 []) spells))))))))))
-command_word words Freeze spells = inr (inr (inr (inr (inr (inr (inr (inr (inr (inr (inl (ap (λ ws. get_or ws 0 []) spells)))))))))))
-command_word words Thaw spells = inr (inr (inr (inr (inr (inr (inr (inr (inr (inr (inr (inl (ap (λ ws. get_or ws 0 []) spells))))))))))))
-command_word words (Label text) spells = inr (inr (inr (inr (inr (inr (inr (inr (inr (inr (inr (inr (inl (ap (λ ws. get_or ws 0 []) spells.spelled)))))))))))))
-command_word words Run spells = inr (inr (inr (inr (inr (inr (inr (inr (inr (inr (inr (inr (inr (inl (ap (λ ws. get_or ws 0 []) spells))))))))))))))
-command_word words (Exercise number count) spells = inr (inr (inr (inr (inr (inr (inr (inr (inr (inr (inr (inr (inr (inr (inl (ap (λ ws. get_or ws 0 []) spells.spelled)))))))))))))))
-command_word words (Guard events fences) spells = inr (inr (inr (inr (inr (inr (inr (inr (inr (inr (inr (inr (inr (inr (inr (inl (ap (λ ws. get_or ws 0 []) spells.counted.spelled))))))))))))))))
-command_word words Report spells = inr (inr (inr (inr (inr (inr (inr (inr (inr (inr (inr (inr (inr (inr (inr (inr (inl (ap (λ ws. get_or ws 0 []) spells)))))))))))))))))
-command_word words Serve spells = inr (inr (inr (inr (inr (inr (inr (inr (inr (inr (inr (inr (inr (inr (inr (inr (inr (inl (ap (λ ws. get_or ws 0 []) spells))))))))))))))))))
-command_word words (Volume job) spells = inr (inr (inr (inr (inr (inr (inr (inr (inr (inr (inr (inr (inr (inr (inr (inr (inr (inr (inr (rw (volume_first words job spells) (volume_word job))))))))))))))))))))
-command_word words (Plan n m r e) spells = inr (inr (inr (inr (inr (inr (inr (inr (inr (inr (inr (inr (inr (inr (inr (inr (inr (inr (inl (ap (λ ws. get_or ws 0 []) spells.spelled)))))))))))))))))))
+pub command_word : (job : Job) → IsCommandWord (word_of job)
+command_word (OneStripe Check n m r e) = inl refl
+command_word (OneStripe (Encode method) n m r e) = inr (inl refl)
+command_word (OneStripe Restore n m r e) = inr (inr (inl refl))
+command_word Create = inr (inr (inr (inl refl)))
+command_word Show = inr (inr (inr (inr (inl refl))))
+command_word (Read block count) = inr (inr (inr (inr (inr (inl refl)))))
+command_word (Write block count) = inr (inr (inr (inr (inr (inr (inl refl))))))
+command_word Scrub = inr (inr (inr (inr (inr (inr (inr (inl refl)))))))
+command_word (Replace slot) = inr (inr (inr (inr (inr (inr (inr (inr (inl refl))))))))
+command_word Rebuild = inr (inr (inr (inr (inr (inr (inr (inr (inr (inl refl)))))))))
+command_word Freeze = inr (inr (inr (inr (inr (inr (inr (inr (inr (inr (inl refl))))))))))
+command_word Thaw = inr (inr (inr (inr (inr (inr (inr (inr (inr (inr (inr (inl refl)))))))))))
+command_word (Label text) = inr (inr (inr (inr (inr (inr (inr (inr (inr (inr (inr (inr (inl refl))))))))))))
+command_word Run = inr (inr (inr (inr (inr (inr (inr (inr (inr (inr (inr (inr (inr (inl refl)))))))))))))
+command_word (Exercise number count) = inr (inr (inr (inr (inr (inr (inr (inr (inr (inr (inr (inr (inr (inr (inl refl))))))))))))))
+command_word (Guard events fences) = inr (inr (inr (inr (inr (inr (inr (inr (inr (inr (inr (inr (inr (inr (inr (inl refl)))))))))))))))
+command_word Report = inr (inr (inr (inr (inr (inr (inr (inr (inr (inr (inr (inr (inr (inr (inr (inr (inl refl))))))))))))))))
+command_word Serve = inr (inr (inr (inr (inr (inr (inr (inr (inr (inr (inr (inr (inr (inr (inr (inr (inr (inl refl)))))))))))))))))
+command_word (Volume job) = inr (inr (inr (inr (inr (inr (inr (inr (inr (inr (inr (inr (inr (inr (inr (inr (inr (inr (inr (volume_word job)))))))))))))))))))
+command_word (Plan n m r e) = inr (inr (inr (inr (inr (inr (inr (inr (inr (inr (inr (inr (inr (inr (inr (inr (inr (inr (inl refl))))))))))))))))))
 
 -- the words of a job are a command line
 pub job_line : (words : List (List ℕ)) (job : Job) → Spells words job → IsCommandLine words
-job_line words job spells = record { command = command_word words job spells; no_option = job_plain words job spells }
+job_line words job spells = record { command = subst IsCommandWord (sym (first_word words job spells)) (command_word job); no_option = job_plain words job spells }
 
 -- ---- words spell one job at most
 
@@ -224,14 +224,8 @@ one_stripe_once words a b n m r e n' m' r' e' one two =
     let first = sym (first_word words (OneStripe a n m r e) one) ∙ first_word words (OneStripe b n' m' r' e') two in
     cc
 
--- words that begin with `guard` spell no job of another command
-not_guard : (words : List (List ℕ)) (job : Job) → get_or words 0 [] ≡ codes "guard" → Spells words job → bytes_eq (codes "guard") (word_of job) ≡ false → ⊥
-not_guard words job first spells apart =
-    not_from_Decides (bytes_eq (codes "guard") (word_of job)) (bytes_eq-Decides (codes "guard") (word_of job)) apart
-    (sym first ∙ first_word words job spells)
-
 -- words with the same words before spell one number and one count
-counted_once : (before words : List (List ℕ)) (number count number' count' : ℕ)
+pub counted_once : (before words : List (List ℕ)) (number count number' count' : ℕ)
     → SpellsCounted before words number count → SpellsCounted before words number' count' → (number ≡ number') × (count ≡ count')
 counted_once before words number count number' count' one two =
     let same = append_cancel_left before _ _ (sym one.spelled ∙ two.spelled) in
@@ -240,24 +234,6 @@ counted_once before words number count number' count' one two =
       decimal_injective number number' one.number_fits two.number_fits number_texts,
       decimal_injective count count' one.count_fits two.count_fits count_texts,
     )
-
--- behind `guard` two numbers are limits of a watcher only where each is at least 1
-pub limits_some : (words : List (List ℕ)) (number count : ℕ) (job : Job) → get_or words 0 [] ≡ codes "guard"
-    → SpellsCounted [] (drop 1 words) number count → Spells words job → (0 < number) × (0 < count)
-limits_some words number count (Guard events fences) first counted spells =
-    let behind_word : SpellsCounted [] (drop 1 words) events fences = record {
-      spelled = ap (drop 1) spells.counted.spelled;
-      number_fits = spells.counted.number_fits;
-      count_fits = spells.counted.count_fits;
-    } in
-    let same = counted_once [] (drop 1 words) number count events fences counted behind_word in
-    (rw same.0 spells.some_events, rw same.1 spells.some_fences)
-limits_some words number count (OneStripe Check n m r e) first counted spells = absurd (not_guard words (OneStripe Check n m r e) first spells refl)
-limits_some words number count (OneStripe (Encode method) n m r e) first counted spells = absurd (not_guard words (OneStripe (Encode method) n m r e) first spells refl)
-limits_some words number count (OneStripe Restore n m r e) first counted spells = absurd (not_guard words (OneStripe Restore n m r e) first spells refl)
-limits_some words number count (Volume job) first counted spells =
-    absurd (omega (arith, volume_begins words job spells, ap (λ word. get_or word 0 0) first))
-limits_some words number count job first counted spells = absurd (not_guard words job first spells refl)
 
 -- words with the same words before spell one slot
 slot_once : (before words : List (List ℕ)) (slot slot' : ℕ) → SpellsSlot before words slot → SpellsSlot before words slot' → slot ≡ slot'

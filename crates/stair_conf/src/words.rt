@@ -1,4 +1,4 @@
-ghost use Rattle.std.specs.Prelude.{◌≡◌, ◌≢◌, ◌<◌, false, true, length, map, string_bytes, IfOk, Any, slice_index};
+ghost use Rattle.std.specs.Prelude.{◌≡◌, ◌≢◌, ◌<◌, false, true, length, map, string_bytes, IfOk, IfSome, IsNone, Any, slice_index};
 ghost use Rattle.stair_conf.specs.Commands.{HasNoOption};
 ghost use Rattle.stair_conf.specs.Words.{Spells, IsCommandLine};
 ghost use Rattle.stair_conf.specs.declared.job.Job.{Job};
@@ -7,7 +7,7 @@ ghost use Rattle.stair_conf.specs.declared.job.Job.TheVariants.{Guard, OneStripe
 use crate::commands::{read_counted, read_geometry, read_label, read_slot, read_stripe};
 use crate::matches::{Counted, GeometryNumbers};
 use crate::volumes::read_volume;
-use crate::{Job, StripeCommand, WordsFault};
+use crate::{Job, StripeCommand, VolumeJob, WordsFault};
 use std::alloc::Global;
 
 /// Reads the words of a command: `check N M R E..`, `stripe METHOD N M R E..`, `restore N M R E..` or `plan N M R E..`, with at
@@ -31,6 +31,9 @@ pub fn read_words(alloc: Global, words: &[String]) -> Result<Job, WordsFault>
     if has_option(words) {
         return Err(WordsFault::Usage);
     }
+    if let Some(job) = lone_job(words) {
+        return Ok(job);
+    }
     match command.as_str() {
         "check" => Ok(one_stripe(StripeCommand::Check, read_geometry(alloc, words)?)),
         "stripe" => {
@@ -38,8 +41,6 @@ pub fn read_words(alloc: Global, words: &[String]) -> Result<Job, WordsFault>
             Ok(one_stripe(StripeCommand::Encode(method), numbers))
         }
         "restore" => Ok(one_stripe(StripeCommand::Restore, read_geometry(alloc, words)?)),
-        "create" => alone(words, Job::Create),
-        "show" => alone(words, Job::Show),
         "read" => {
             let Counted { number, count } = read_counted(alloc, words)?;
             Ok(Job::Read {
@@ -54,24 +55,17 @@ pub fn read_words(alloc: Global, words: &[String]) -> Result<Job, WordsFault>
                 count,
             })
         }
-        "scrub" => alone(words, Job::Scrub),
         "replace" => Ok(Job::Replace {
             slot: read_slot(alloc, words)?,
         }),
-        "rebuild" => alone(words, Job::Rebuild),
-        "freeze" => alone(words, Job::Freeze),
-        "thaw" => alone(words, Job::Thaw),
         "label" => Ok(Job::Label {
             text: read_label(alloc, words)?,
         }),
-        "run" => alone(words, Job::Run),
         "exercise" => {
             let Counted { number, count } = read_counted(alloc, words)?;
             Ok(Job::Exercise { number, count })
         }
         "guard" => limits(read_counted(alloc, words)?),
-        "report" => alone(words, Job::Report),
-        "serve" => alone(words, Job::Serve),
         "plan" => Ok(plan(read_geometry(alloc, words)?)),
         _ => Ok(Job::Volume(read_volume(alloc, words)?)),
     }
@@ -117,16 +111,28 @@ fn limits(counted: Counted) -> Result<Job, WordsFault>
     }
 }
 
-// The job of a command that has no values, where its word stands alone.
-pub(crate) fn alone<J: Drop>(words: &[String], job: J) -> Result<J, WordsFault>
-    ensures ok { IfOk result (λ read. (read ≡ job) × (length words.now ≡ 1)) }
-    ensures usage { result ≡ Err WordsFault.Usage → length words.now ≢ 1 }
-    ensures memory { result ≢ Err WordsFault.Memory }
+// The job of a command without operands, where its word is the only one.
+fn lone_job(words: &[String]) -> Option<Job>
+    ensures some { IfSome result (λ job. Spells (map string_bytes words.now) job) }
+    ensures none { IsNone result → length words.now ≡ 1
+        → (job : Job) → Spells (map string_bytes words.now) job → ⊥ }
 {
-    if words.len() == 1 {
-        Ok(job)
-    } else {
-        Err(WordsFault::Usage)
+    let [command] = words else {
+        return None;
+    };
+    match command.as_str() {
+        "create" => Some(Job::Create),
+        "show" => Some(Job::Show),
+        "scrub" => Some(Job::Scrub),
+        "rebuild" => Some(Job::Rebuild),
+        "freeze" => Some(Job::Freeze),
+        "thaw" => Some(Job::Thaw),
+        "run" => Some(Job::Run),
+        "report" => Some(Job::Report),
+        "serve" => Some(Job::Serve),
+        "vinit" => Some(Job::Volume(VolumeJob::Ready)),
+        "vlist" => Some(Job::Volume(VolumeJob::List)),
+        _ => None,
     }
 }
 

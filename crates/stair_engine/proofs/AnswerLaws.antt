@@ -15,7 +15,7 @@ use Rattle.stair_model.specs.Encoding.{IsEncodedFrom}
 use Rattle.stair_model.proofs.CoverageLaws.{count_in_slot-none}
 use Rattle.stair_model.specs.Restoring.{IsRestored, SameHeld}
 use Rattle.stair_conf.specs.declared.job.Method.{Method}
-use Rattle.stair_story.specs.declared.status.Status.TheVariants.{Done, NoCodeword, Lost}
+use Rattle.stair_status.specs.declared.status.Status.TheVariants.{Done, NoCodeword, Lost}
 use Rattle.stair_conf.specs.declared.job.StripeCommand.TheVariants.{Encode, Restore}
 use Rattle.stair_story.specs.Answer.{HasBytes, Judges, cell_bytes, map_bytes}
 use Rattle.stair_story.specs.Encode.{IsCostOfMethod, TakesSteps}

@@ -7,7 +7,7 @@ use Rattle.stair_story.specs.Fault.{status_of}
 use Rattle.stair_story.specs.Outside.{SinkView, SourceView, no_source, outside}
 use Rattle.stair_story.specs.Plan.{Over}
 use Rattle.stair_story.specs.declared.fault.Fault.{Fault}
-use Rattle.stair_story.specs.declared.status.Status.{Status}
+use Rattle.stair_status.specs.declared.status.Status.{Status}
 use Rattle.stair_story.proofs.DeviceLaws.{any_source}
 use Rattle.stair_engine.specs.Plans.{job_plan}
 

@@ -29,8 +29,8 @@ use Rattle.stair_engine.specs.Plans.{costs_plan, create_plan, job_plan, making_p
 use Rattle.stair_story.specs.Plan.{Over}
 use Rattle.stair_story.specs.Rack.{MeansOver, RackView, Works, told_of}
 use Rattle.stair_engine.specs.Task.{one_stripe}
-use Rattle.stair_story.specs.declared.status.Status.{Status}
-use Rattle.stair_story.specs.declared.status.Status.TheVariants.{Done, Usage, InputFault, OutputFault, OutOfMemory}
+use Rattle.stair_status.specs.declared.status.Status.{Status}
+use Rattle.stair_status.specs.declared.status.Status.TheVariants.{Done, Usage, InputFault, OutputFault, OutOfMemory}
 use Rattle.stair_engine.proofs.JobLaws.{config_own, create_own, job_looks, job_own, survey_own, words_first, words_no_step, words_put, words_tell, words_untaken, words_unwritten}
 use Rattle.stair_engine.proofs.OpenLaws.{IsOfJob}
 use Rattle.stair_engine.proofs.ReportLaws.{report_so}

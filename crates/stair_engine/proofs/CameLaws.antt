@@ -20,8 +20,8 @@ use Rattle.stair_story.specs.Plan.{Plan, Over, Ask, Put, Allocate, take_step, un
 use Rattle.stair_story.specs.Question.{IsReply, Words}
 use Rattle.stair_story.specs.Refused.{status_of_refusal}
 use Rattle.stair_story.specs.Story.{Deed, Found, Took, TookLast, TakeFailed, HasPut, PutFailed, Grew, RanOut, Did, Stepped, Leads, Moves, after, taken_in}
-use Rattle.stair_story.specs.declared.status.Status.{Status}
-use Rattle.stair_story.specs.declared.status.Status.TheVariants.{Done, Input, InputFault, OutOfMemory, OutputFault}
+use Rattle.stair_status.specs.declared.status.Status.{Status}
+use Rattle.stair_status.specs.declared.status.Status.TheVariants.{Done, Input, InputFault, OutOfMemory, OutputFault}
 use Rattle.stair_story.proofs.EndLaws.{no_move}
 use Rattle.stair_story.proofs.EndingLaws.{ends_so}
 use Rattle.stair_engine.specs.Blocks.{if_in_range, is_in_range, part_of, whole_of, within_range, write_plan, writes}

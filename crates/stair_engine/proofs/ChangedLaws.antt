@@ -14,8 +14,8 @@ use Rattle.stair_story.specs.Plan.{Plan, Over, Ask}
 use Rattle.stair_story.specs.Question.{IsReply, Words}
 use Rattle.stair_story.specs.Run.{Now, Runs, history_of, now}
 use Rattle.stair_story.specs.Story.{Deed, Found, Grew, RanOut, Leads, Moves, put_in, taken_in}
-use Rattle.stair_story.specs.declared.status.Status.{Status}
-use Rattle.stair_story.specs.declared.status.Status.TheVariants.{OutOfMemory}
+use Rattle.stair_status.specs.declared.status.Status.{Status}
+use Rattle.stair_status.specs.declared.status.Status.TheVariants.{OutOfMemory}
 use Rattle.stair_story.proofs.LifeLaws.{kept_whole}
 use Rattle.stair_volume.specs.Volumes.{IsCommand}
 use Rattle.stair_volume.proofs.OpenedLaws.{Reached, before_at, cut_goes, finished, goes_so, over_before, reached}

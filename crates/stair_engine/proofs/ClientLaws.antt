@@ -6,8 +6,8 @@ use Rattle.stair_nbd.specs.Client.{client_plan}
 use Rattle.stair_nbd.proofs.ClientLaws.{IsEnd, IsOfRequest, client_so}
 use Rattle.stair_story.specs.Ending.{AdmitsNone, AllowsAtMost, AsksForNone, EachStep, EndsIn}
 use Rattle.stair_story.specs.Plan.{Plan, Over, Try}
-use Rattle.stair_story.specs.declared.status.Status.{Status}
-use Rattle.stair_story.specs.declared.status.Status.TheVariants.{BadMessage, Done, Input}
+use Rattle.stair_status.specs.declared.status.Status.{Status}
+use Rattle.stair_status.specs.declared.status.Status.TheVariants.{BadMessage, Done, Input}
 use Rattle.stair_engine.proofs.OpenLaws.{IsOfJob}
 
 end_own : (status : Status) → IsEnd status → IsOfJob status

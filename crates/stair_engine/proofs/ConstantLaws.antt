@@ -6,8 +6,8 @@ use Rattle.stair_model.proofs.LimitLaws.{none_broken}
 use Rattle.stair_rack.specs.Count.{Rose}
 use Rattle.stair_conf.specs.Words.{Spells}
 use Rattle.stair_conf.specs.declared.job.Job.TheVariants.{Plan}
-use Rattle.stair_story.specs.declared.status.Status.{Status}
-use Rattle.stair_story.specs.declared.status.Status.TheVariants.{OutputFault}
+use Rattle.stair_status.specs.declared.status.Status.{Status}
+use Rattle.stair_status.specs.declared.status.Status.TheVariants.{OutputFault}
 use Rattle.stair_story.specs.Outside.{Outside, Views, outside}
 use Rattle.stair_story.specs.Question.{IsReply, Limits}
 use Rattle.stair_story.specs.Sure.{IsDone}

@@ -13,8 +13,8 @@ use Rattle.stair_story.specs.Question.{Costs}
 use Rattle.stair_story.specs.Story.{HasPut, IsPart, PutFailed}
 use Rattle.stair_story.specs.declared.fault.Fault.{Fault}
 use Rattle.stair_story.specs.declared.fault.Fault.TheVariants.{Memory, Output}
-use Rattle.stair_story.specs.declared.status.Status.{Status}
-use Rattle.stair_story.specs.declared.status.Status.TheVariants.{Done}
+use Rattle.stair_status.specs.declared.status.Status.{Status}
+use Rattle.stair_status.specs.declared.status.Status.TheVariants.{Done}
 use Rattle.stair_story.proofs.PlanLaws.{and_then, cannot_put, finds, grows, hands_on, puts, runs_out}
 use Rattle.stair_engine.specs.Plans.{costs_plan}
 

@@ -56,15 +56,15 @@ use Rattle.stair_story.specs.Living.{IsLiveAt, IsLiveUnwritten, StaysWhole}
 use Rattle.stair_story.specs.Means.{Holds}
 use Rattle.stair_story.specs.Outside.{SinkView}
 use Rattle.stair_story.specs.Question.{Question}
-use Rattle.stair_story.specs.declared.status.Status.{Status}
-use Rattle.stair_story.specs.declared.status.Status.TheVariants.{Done}
+use Rattle.stair_status.specs.declared.status.Status.{Status}
+use Rattle.stair_status.specs.declared.status.Status.TheVariants.{Done}
 use Rattle.stair_story.specs.Plan.{Over, Put}
 use Rattle.stair_story.specs.Story.{Deed, HasPut, PutFailed, Stepped, Leads, Moves}
 use Rattle.stair_story.specs.Sure.{IsThere}
 use Rattle.stair_story.proofs.RunLaws.{one_ran, works_ran}
 use Rattle.stair_story.proofs.SureSlotLaws.{not_gone}
 use Rattle.stair_story.proofs.SureStepLaws.{ends_open}
-use Rattle.stair_story.specs.declared.status.Status.TheVariants.{Done}
+use Rattle.stair_status.specs.declared.status.Status.TheVariants.{Done}
 use Rattle.stair_engine.specs.Counted.{AreBad, AreBadFrom, IsExact, IsQuiet, IsUndisturbed, PutsAlone, cells_in}
 use Rattle.stair_engine.specs.Laws.{ScrubsAreCounted}
 use Rattle.stair_engine.specs.Mending.{scrubbed_line, scrubs}

@@ -5,8 +5,8 @@ use Rattle.stair_array.specs.Draws.{allowance}
 use Rattle.stair_array.specs.Machine.{Answer, GivenBy, ReadBlock, ScrubStripe, Step, WriteBlocks}
 use Rattle.stair_story.specs.Ending.{AdmitsNone, AllowsAtMost, AsksForNone, EachStep, EndsIn, PutsLast, TakesNothing}
 use Rattle.stair_story.specs.Plan.{Plan, Over, Put, Try, take_step}
-use Rattle.stair_story.specs.declared.status.Status.{Status}
-use Rattle.stair_story.specs.declared.status.Status.TheVariants.{Done, OutOfRange}
+use Rattle.stair_status.specs.declared.status.Status.{Status}
+use Rattle.stair_status.specs.declared.status.Status.TheVariants.{Done, OutOfRange}
 use Rattle.stair_engine.specs.declared.exercise.Exercised.{Exercised}
 use Rattle.stair_engine.specs.Exercise.{exercise_steps, exercised_line, exercises, if_few, kind_of, most_steps, next_number, none_exercised, step_one}
 use Rattle.stair_engine.proofs.LineLaws.{IsOfLine}

@@ -14,8 +14,8 @@ use Rattle.stair_story.specs.Devices.{DeviceView, Devices, devices}
 use Rattle.stair_story.specs.Plan.{Plan, Over, Put, take_step, if_so}
 use Rattle.stair_story.specs.Refused.{status_of_refusal}
 use Rattle.stair_story.specs.Steps.{Takes}
-use Rattle.stair_story.specs.declared.status.Status.{Status}
-use Rattle.stair_story.specs.declared.status.Status.TheVariants.{Done, OutOfRange}
+use Rattle.stair_status.specs.declared.status.Status.{Status}
+use Rattle.stair_status.specs.declared.status.Status.TheVariants.{Done, OutOfRange}
 use Rattle.stair_watch.specs.WatcherList.{AllStay}
 use Rattle.stair_story.proofs.ComesLaws.{comes_none, comes_refusal, comes_step, comes_then}
 use Rattle.stair_engine.specs.declared.exercise.Exercised.{Exercised}

@@ -20,8 +20,8 @@ use Rattle.stair_story.specs.Question.{IsReply, Question, Words}
 use Rattle.stair_story.specs.Refused.{status_of_refusal}
 use Rattle.stair_story.specs.Sound.{HasDeed, IsScrubOf}
 use Rattle.stair_story.specs.Story.{Deed, Found, HasPut, PutFailed, Grew, RanOut, Did, Stepped, Leads, Moves, after}
-use Rattle.stair_story.specs.declared.status.Status.{Status}
-use Rattle.stair_story.specs.declared.status.Status.TheVariants.{Done, Gone, OutOfMemory, OutOfRange, OutputFault}
+use Rattle.stair_status.specs.declared.status.Status.{Status}
+use Rattle.stair_status.specs.declared.status.Status.TheVariants.{Done, Gone, OutOfMemory, OutOfRange, OutputFault}
 use Rattle.stair_story.proofs.EndLaws.{no_move}
 use Rattle.stair_story.proofs.EndingLaws.{ends_so}
 use Rattle.stair_engine.specs.Mending.{if_live, if_slot, replaced_line, replaces, scrubbed_line, scrubs}

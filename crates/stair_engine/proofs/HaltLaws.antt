@@ -23,8 +23,8 @@ use Rattle.stair_story.specs.Question.{Costs, IsReply, Judgement, Limits, EventL
 use Rattle.stair_story.specs.Refused.{status_of_refusal}
 use Rattle.stair_story.specs.Story.{Deed, Did, Found, Grew, HasPut, Leads, Moves, PutFailed, RanOut, Stepped, TakeFailed, Took, TookLast, after, events_of_story}
 use Rattle.stair_story.specs.Texts.{SCRIPT_LIMIT, ends_line}
-use Rattle.stair_story.specs.declared.status.Status.{Status}
-use Rattle.stair_story.specs.declared.status.Status.TheVariants.{Done, Halted, InputFault, OutOfMemory, OutOfRange, OutputFault}
+use Rattle.stair_status.specs.declared.status.Status.{Status}
+use Rattle.stair_status.specs.declared.status.Status.TheVariants.{Done, Halted, InputFault, OutOfMemory, OutOfRange, OutputFault}
 use Rattle.stair_story.proofs.DeviceLaws.{are_told}
 use Rattle.stair_story.proofs.EndLaws.{no_move}
 use Rattle.stair_watch.specs.WatcherList.{AllStay, AreLeft, GoesOn}
@@ -382,10 +382,10 @@ module _ {W : Type 0} (view : WatcherView W) (events : List Event) where
   few_left (w ∷ old) new (inl stays) = omega (arith, few_left old stays.1 stays.5, ap length stays.6)
   few_left (w ∷ old) new (inr gone) = omega (arith, few_left old new gone.1)
 
-  all_go_on : (old new : List W) → AreLeft view events old new → length old ≤ length new → All (λ w. GoesOn events (view.patience w)) old
-  all_go_on [] new is many = All-nil (λ w. GoesOn events (view.patience w))
+  all_go_on : (old new : List W) → AreLeft view events old new → length old ≤ length new → All (λ w. GoesOn events (view w).patience) old
+  all_go_on [] new is many = All-nil (λ w. GoesOn events (view w).patience)
   all_go_on (w ∷ old) new (inl stays) many =
-      All-cons (λ w. GoesOn events (view.patience w)) w old stays.4 (all_go_on old stays.1 stays.5 (omega (arith, many, ap length stays.6)))
+      All-cons (λ w. GoesOn events (view w).patience) w old stays.4 (all_go_on old stays.1 stays.5 (omega (arith, many, ap length stays.6)))
   all_go_on (w ∷ old) new (inr gone) many = absurd (omega (arith, many, few_left old new gone.1))
 
 module _ {R W : Type 0} (view : DeviceView R W) where
@@ -441,7 +441,7 @@ module _ {R W : Type 0} (view : DeviceView R W) where
 
   patient_yet : (front rest story : List Deed) (x z : Devices R W) → AllStay view.watcher x.watchers → story ≡ front ++ rest
       → Leads (WorksAll view) story x z → halt_line 0 front ≡ None
-      → All (λ w. GoesOn (events_of_story front) (view.watcher.patience w)) x.watchers
+      → All (λ w. GoesOn (events_of_story front) (view.watcher w).patience) x.watchers
   patient_yet front rest story x z stay same works none =
       let part = front_of front rest x z (subst (λ (all : List Deed). Leads (WorksAll view) all x z) same works) in
       all_go_on view.watcher (events_of_story front) x.watchers part.0.watchers (are_told view front x part.0 stay part.1).left
@@ -462,7 +462,7 @@ guards_halt R W S K view streams words events fences status a b x y watchers lef
     story = whole.with.means.story
 
     patient : (front rest : List Deed) → story ≡ front ++ rest → halt_line 0 front ≡ None
-        → All (λ w. GoesOn (events_of_story front) (view.watcher.patience w)) watchers
+        → All (λ w. GoesOn (events_of_story front) (view.watcher w).patience) watchers
     patient front rest same none = patient_yet view front rest story _ _ stay same whole.with.works none
 
     same_number : (m n : ℕ) → Halted m ≡ Halted n → m ≡ n

@@ -14,8 +14,8 @@ use Rattle.stair_conf.specs.declared.job.StripeCommand.{StripeCommand}
 use Rattle.stair_conf.specs.declared.job.StripeCommand.TheVariants.{Check, Encode, Restore}
 use Rattle.stair_member.specs.declared.fault.SurveyFault.{SurveyFault}
 use Rattle.stair_member.specs.declared.fault.SurveyFault.TheVariants as survey
-use Rattle.stair_story.specs.declared.status.Status.{Status}
-use Rattle.stair_story.specs.declared.status.Status.TheVariants.{Done, NotCodeword, NoCodeword, Lost, OutOfMemory}
+use Rattle.stair_status.specs.declared.status.Status.{Status}
+use Rattle.stair_status.specs.declared.status.Status.TheVariants.{Done, NotCodeword, NoCodeword, Lost, OutOfMemory}
 use Rattle.stair_story.specs.Action.{status_of_create, status_of_survey}
 use Rattle.stair_story.specs.Answer.{Judges}
 use Rattle.stair_story.specs.Ending.{AdmitsNone, AllowsAtMost, AsksFirst, AsksForNone, AsksUnwritten, EachStep, EndsIn, IfNothingIsPutOut, IsNoFault, OnlyLooks, PutsLast, TakesNoStep, TakesNothing, TellsFaults}

@@ -16,8 +16,8 @@ use Rattle.stair_story.specs.Question.{ScriptLine}
 use Rattle.stair_story.specs.Story.{Found, TakeFailed, Took, TookLast}
 use Rattle.stair_story.specs.Texts.{FailsByte, SCRIPT_LIMIT, TakesByte, ends_line}
 use Rattle.stair_story.specs.declared.fault.Fault.{Fault}
-use Rattle.stair_story.specs.declared.status.Status.{Status}
-use Rattle.stair_story.specs.declared.status.Status.TheVariants.{BadLine, Done, Halted, Input, InputFault}
+use Rattle.stair_status.specs.declared.status.Status.{Status}
+use Rattle.stair_status.specs.declared.status.Status.TheVariants.{BadLine, Done, Halted, Input, InputFault}
 use Rattle.stair_story.proofs.ComesLaws.{comes_by, comes_then, with_comes}
 use Rattle.stair_story.proofs.DeviceLaws.{with_none, with_one, with_part, with_put, with_source, with_then}
 use Rattle.stair_watch.specs.WatcherList.{AllStay}

@@ -6,8 +6,8 @@ use Rattle.stair_array.specs.Draws.{allowance}
 use Rattle.stair_array.specs.Machine.{Answer, Chunk, Dropped, GivenBy, Nothing, Progress, Promoted, ReadBlock, RebuildNext, Recover, ReplaceSlot, ScrubStripe, Step, WriteBlocks}
 use Rattle.stair_script.specs.declared.line.Line.{Line}
 use Rattle.stair_script.specs.declared.line.Line.TheVariants.{Blank, Read, Write, Scrub, Replace, Rebuild}
-use Rattle.stair_story.specs.declared.status.Status.{Status}
-use Rattle.stair_story.specs.declared.status.Status.TheVariants.{BadLine, Done, Halted, OutOfMemory, OutOfRange}
+use Rattle.stair_status.specs.declared.status.Status.{Status}
+use Rattle.stair_status.specs.declared.status.Status.TheVariants.{BadLine, Done, Halted, OutOfMemory, OutOfRange}
 use Rattle.stair_story.specs.Ending.{AllowsAtMost, AsksForNone, EndsIn, TakesNothing}
 use Rattle.stair_story.specs.Plan.{Plan, Over, Ask, Take, Put, Allocate, Do, Try, RebuildAll, watch_step}
 use Rattle.stair_story.specs.Question.{ScriptLine}

@@ -20,7 +20,7 @@ use Rattle.stair_story.specs.Devices.{DeviceView, Devices, devices, some_left}
 use Rattle.stair_story.specs.Plan.{Plan, Over, Put, watch_step}
 use Rattle.stair_story.specs.Refused.{status_of_refusal}
 use Rattle.stair_story.specs.Steps.{Takes}
-use Rattle.stair_story.specs.declared.status.Status.TheVariants.{OutOfRange}
+use Rattle.stair_status.specs.declared.status.Status.TheVariants.{OutOfRange}
 use Rattle.stair_story.proofs.ComesLaws.{comes_none, comes_refused, comes_then, comes_watched, left_either, none_left, takes_fewer}
 use Rattle.stair_story.proofs.IntakeLaws.{if_err_of}
 use Rattle.stair_story.proofs.TakenLaws.{taken_geometry}

@@ -5,7 +5,7 @@ use Rattle.stair_conf.specs.declared.job.Job.{Job}
 use Rattle.stair_conf.specs.declared.job.Job.TheVariants.{Volume}
 use Rattle.stair_conf.specs.declared.job.VolumeJob.{VolumeJob}
 use Rattle.stair_conf.specs.declared.job.VolumeJob.TheVariants.{Make}
-use Rattle.stair_story.specs.declared.status.Status.TheVariants.{Done}
+use Rattle.stair_status.specs.declared.status.Status.TheVariants.{Done}
 use Rattle.stair_volume.specs.declared.fault.VolumeFault.{VolumeFault}
 use Rattle.stair_volume.specs.Commands.{status_of, status_of_volume}
 use Rattle.stair_volume.specs.Parts.{MakesSome}

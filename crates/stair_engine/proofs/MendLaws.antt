@@ -5,7 +5,7 @@ use Rattle.stair_super.specs.declared.mark.Mark.{Mark}
 use Rattle.stair_super.specs.declared.mark.Mark.TheVariants.{Down, Live, Rebuilding}
 use Rattle.stair_story.specs.Ending.{AdmitsNone, AdmitsOnce, AllowsAtMost, AsksForNone, EachStep, EndsIn, PutsLast, TakesNothing}
 use Rattle.stair_story.specs.Plan.{Plan, Over}
-use Rattle.stair_story.specs.declared.status.Status.TheVariants.{Done, Gone, OutOfRange}
+use Rattle.stair_status.specs.declared.status.Status.TheVariants.{Done, Gone, OutOfRange}
 use Rattle.stair_engine.specs.Mending.{if_live, if_slot, replaces, scrubs}
 use Rattle.stair_engine.proofs.OpenLaws.{IsOfJob, refusal_own, unless_so}
 

@@ -41,8 +41,8 @@ use Rattle.stair_story.specs.Headline.{IsBorneOut}
 use Rattle.stair_story.specs.Rebuilt.{stands_in}
 use Rattle.stair_story.specs.Sound.{AreSoundChunks, HasDeed, IsPromotionOf, IsReplacementOf, IsScrubOf, IsSound}
 use Rattle.stair_story.specs.Story.{Deed, HasPut, Stepped, Leads, Moves}
-use Rattle.stair_story.specs.declared.status.Status.{Status}
-use Rattle.stair_story.specs.declared.status.Status.TheVariants.{Done}
+use Rattle.stair_status.specs.declared.status.Status.{Status}
+use Rattle.stair_status.specs.declared.status.Status.TheVariants.{Done}
 use Rattle.stair_story.proofs.PerformedLaws.{borne_whole}
 use Rattle.stair_story.proofs.KeptLaws.{known_once}
 use Rattle.stair_story.proofs.PromotedLaws.{geometry_stays, was_promoted}

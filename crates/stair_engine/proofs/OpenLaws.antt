@@ -3,12 +3,12 @@ use Rattle.std.proofs.Common.{◌≢◌, ◌+◌, ℕ, zero, suc, Bool, true, fa
 use Rattle.stair_model.specs.Geometry.{Geometry, block_count}
 use Rattle.stair_array.specs.Machine.{Recover, Refusal}
 use Rattle.stair_array.specs.Machine as array
-use Rattle.stair_story.specs.declared.status.Status.{Status}
-use Rattle.stair_story.specs.declared.status.Status.TheVariants.{Usage, OutOfMemory}
+use Rattle.stair_status.specs.declared.status.Status.{Status}
+use Rattle.stair_status.specs.declared.status.Status.TheVariants.{Usage, OutOfMemory}
 use Rattle.stair_story.specs.Ending.{AdmitsNone, AdmitsOnce, AllowsAtMost, AsksForNone, EachStep, EndsIn, IsNoFault, PutsLast, TakesNothing}
 use Rattle.stair_story.specs.Plan.{Plan, Over, take_step, unless_refused, if_so}
 use Rattle.stair_story.specs.Refused.{status_of_refusal}
-use Rattle.stair_story.specs.declared.status.Status.TheVariants.{OutOfRange}
+use Rattle.stair_status.specs.declared.status.Status.TheVariants.{OutOfRange}
 use Rattle.stair_engine.specs.Blocks.{if_in_range, is_in_range, part_of, within_range, writes}
 use Rattle.stair_story.specs.Transfers.{reads, wrote}
 use Rattle.stair_story.specs.Sure.{most_allowed}

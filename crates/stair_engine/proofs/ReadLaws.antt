@@ -14,7 +14,7 @@ use Rattle.stair_story.specs.Plan.{Plan, Over, Put, take_step}
 use Rattle.stair_story.specs.Refused.{status_of_refusal}
 use Rattle.stair_story.specs.Steps.{Takes}
 use Rattle.stair_story.specs.Story.{HasPut, IsPart, PutFailed}
-use Rattle.stair_story.specs.declared.status.Status.TheVariants.{Done, OutputFault}
+use Rattle.stair_status.specs.declared.status.Status.TheVariants.{Done, OutputFault}
 use Rattle.stair_story.proofs.DeviceLaws.{with_none, with_part, with_put, with_refusal, with_step, with_then}
 use Rattle.stair_story.proofs.TakenLaws.{taken_geometry}
 use Rattle.stair_watch.specs.WatcherList.{AllStay}

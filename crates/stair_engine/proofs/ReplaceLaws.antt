@@ -20,7 +20,7 @@ use Rattle.stair_story.specs.Steps.{Takes}
 use Rattle.stair_story.proofs.ComesLaws.{comes_none, comes_refusal, comes_step, comes_then}
 use Rattle.stair_story.proofs.LookTaken.{look_refused, look_taken}
 use Rattle.stair_story.proofs.TakenLaws.{taken_geometry}
-use Rattle.stair_story.specs.declared.status.Status.TheVariants.{Gone, OutOfRange}
+use Rattle.stair_status.specs.declared.status.Status.TheVariants.{Gone, OutOfRange}
 use Rattle.stair_engine.specs.Mending.{if_live, if_slot, replaced, replaces}
 
 -- behind the rebuild

@@ -15,8 +15,8 @@ use Rattle.stair_story.specs.Story.{Deed, Leads, Moves}
 use Rattle.stair_story.specs.Question.{EventLine, IsReply}
 use Rattle.stair_story.specs.Sure.{HasNoFault, IsDone, IsSure}
 use Rattle.stair_story.specs.Texts.{AreLines, SCRIPT_LIMIT, ends_line, last_of}
-use Rattle.stair_story.specs.declared.status.Status.{Status}
-use Rattle.stair_story.specs.declared.status.Status.TheVariants.{BadLine, Input}
+use Rattle.stair_status.specs.declared.status.Status.{Status}
+use Rattle.stair_status.specs.declared.status.Status.TheVariants.{BadLine, Input}
 use Rattle.stair_story.proofs.RackLaws.{IsOffDevices, no_call_moves}
 use Rattle.stair_story.proofs.SureLaws.{CarriesOn, ends_done}
 use Rattle.stair_story.proofs.TextSureLaws.{AreShort, IsOfText, text_so}

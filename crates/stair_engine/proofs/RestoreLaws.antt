@@ -9,8 +9,8 @@ use lib.Seq.{drop-append-add}
 use Rattle.stair_model.specs.Geometry.{Geometry}
 use Rattle.stair_model.specs.Stripe.{Stripe, IsSector, cell}
 use Rattle.stair_model.specs.CellSet.{CellSet, HasCell}
-use Rattle.stair_story.specs.declared.status.Status.{Status}
-use Rattle.stair_story.specs.declared.status.Status.TheVariants.{Done, NotCodeword, NoCodeword, Limit, Input, Lost}
+use Rattle.stair_status.specs.declared.status.Status.{Status}
+use Rattle.stair_status.specs.declared.status.Status.TheVariants.{Done, NotCodeword, NoCodeword, Limit, Input, Lost}
 use Rattle.stair_conf.specs.declared.job.StripeCommand.TheVariants.{Restore}
 use Rattle.stair_story.specs.Answer.{HasBytes, IsAnswer, IsJudged, cell_bytes, map_bytes}
 use Rattle.stair_engine.specs.Laws.{DifferAtErased, cell_of_input}

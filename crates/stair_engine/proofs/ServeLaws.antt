@@ -21,7 +21,7 @@ use Rattle.stair_story.specs.Plan.{Plan, Over, Try}
 use Rattle.stair_story.specs.Served.{EachStepFor, EndsDone, IsServed}
 use Rattle.stair_story.specs.Story.{Deed, Did, Stepped}
 use Rattle.stair_story.specs.Sure.{HasNoFault, IsDone, ServesAlong, most_allowed}
-use Rattle.stair_story.specs.declared.status.Status.{Status}
+use Rattle.stair_status.specs.declared.status.Status.{Status}
 use Rattle.stair_story.proofs.PlannedLaws.{AllSteps}
 use Rattle.stair_story.proofs.PlannedSureLaws.{none_replaced}
 use Rattle.stair_story.proofs.ServedLaws.{MakesNone, ends_anyhow, planned_served, steps_for}

@@ -23,8 +23,8 @@ use Rattle.stair_story.specs.Steps.{Takes}
 use Rattle.stair_story.specs.Story.{Did, Grew, RanOut}
 use Rattle.stair_story.specs.declared.fault.Fault.{Fault}
 use Rattle.stair_story.specs.declared.fault.Fault.TheVariants as fault
-use Rattle.stair_story.specs.declared.status.Status.{Status}
-use Rattle.stair_story.specs.declared.status.Status.TheVariants.{Done, OutOfMemory}
+use Rattle.stair_status.specs.declared.status.Status.{Status}
+use Rattle.stair_status.specs.declared.status.Status.TheVariants.{Done, OutOfMemory}
 use Rattle.stair_story.proofs.ComesLaws.{comes_by, comes_refused, comes_watched, comes_then, with_comes}
 use Rattle.stair_story.proofs.DeviceLaws.{with_still, with_then}
 use Rattle.stair_story.proofs.TakenLaws.{taken_geometry}

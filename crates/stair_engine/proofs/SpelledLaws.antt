@@ -8,8 +8,8 @@ use Rattle.stair_story.specs.Outside.{Outside, Views}
 use Rattle.stair_story.specs.Plan.{Over, Ask}
 use Rattle.stair_story.specs.Question.{IsReply, Words}
 use Rattle.stair_story.specs.Story.{Found, Grew, RanOut}
-use Rattle.stair_story.specs.declared.status.Status.{Status}
-use Rattle.stair_story.specs.declared.status.Status.TheVariants.{OutOfMemory}
+use Rattle.stair_status.specs.declared.status.Status.{Status}
+use Rattle.stair_status.specs.declared.status.Status.TheVariants.{OutOfMemory}
 use Rattle.stair_story.proofs.DeviceLaws.{whole_behind, with_one, with_then}
 use Rattle.stair_story.proofs.PerformedLaws.{borne_whole}
 use Rattle.stair_engine.specs.Plans.{if_spelled, plan_of}

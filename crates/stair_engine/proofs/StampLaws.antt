@@ -11,8 +11,8 @@ use Rattle.stair_story.specs.Plan.{Over, Put, take_step}
 use Rattle.stair_story.specs.Refused.{status_of_refusal}
 use Rattle.stair_story.specs.Steps.{Takes}
 use Rattle.stair_story.specs.declared.fault.Fault.{Fault}
-use Rattle.stair_story.specs.declared.status.Status.{Status}
-use Rattle.stair_story.specs.declared.status.Status.TheVariants.{Done}
+use Rattle.stair_status.specs.declared.status.Status.{Status}
+use Rattle.stair_status.specs.declared.status.Status.TheVariants.{Done}
 use Rattle.stair_story.proofs.ComesLaws.{comes_refusal, comes_step}
 use Rattle.stair_engine.specs.Blocks.{BeginsSession}
 use Rattle.stair_engine.specs.Mending.{stamps}

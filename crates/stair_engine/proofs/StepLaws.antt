@@ -9,8 +9,8 @@ use Rattle.stair_conf.specs.declared.fault.ConfigFault.TheVariants as config
 use Rattle.stair_story.specs.Action.{Create, Outcome, Survey}
 use Rattle.stair_story.specs.declared.fault.Fault.{Fault}
 use Rattle.stair_story.specs.declared.fault.Fault.TheVariants as fault
-use Rattle.stair_story.specs.declared.status.Status.{Status}
-use Rattle.stair_story.specs.declared.status.Status.TheVariants.{Done, Input, InputFault}
+use Rattle.stair_status.specs.declared.status.Status.{Status}
+use Rattle.stair_status.specs.declared.status.Status.TheVariants.{Done, Input, InputFault}
 use Rattle.stair_story.specs.Fault.{status_of, status_of_config, status_of_fault}
 use Rattle.stair_story.specs.Outside.{Outside, SinkView, Views, outside}
 use Rattle.stair_story.specs.Plan.{Plan, Over, Ask, Put, Allocate, Do}

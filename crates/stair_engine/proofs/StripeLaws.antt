@@ -6,8 +6,8 @@ use Rattle.stair_story.specs.Answer.{Judges, bytes_needed}
 use Rattle.stair_conf.specs.declared.job.StripeCommand.{StripeCommand}
 use Rattle.stair_story.specs.declared.fault.Fault.{Fault}
 use Rattle.stair_story.specs.declared.fault.Fault.TheVariants.{Memory, Output}
-use Rattle.stair_story.specs.declared.status.Status.{Status}
-use Rattle.stair_story.specs.declared.status.Status.TheVariants.{Done}
+use Rattle.stair_status.specs.declared.status.Status.{Status}
+use Rattle.stair_status.specs.declared.status.Status.TheVariants.{Done}
 use Rattle.stair_story.specs.Fault.{status_of}
 use Rattle.stair_story.specs.Means.{Counts, Holds, Means}
 use Rattle.stair_story.specs.Outside.{Outside, Views, outside}

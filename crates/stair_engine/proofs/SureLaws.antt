@@ -14,7 +14,7 @@ use Rattle.stair_session.specs.Returning.{AnyReturns, IsCalm, NoneReturns, Retur
 use Rattle.stair_array.specs.Machine.{IsDecided}
 use Rattle.stair_array.specs.Promise.{Begun, Session, is_open}
 use Rattle.stair_story.specs.Plan.{Plan, Allocate, Over, opens_array}
-use Rattle.stair_story.specs.declared.status.Status.{Status}
+use Rattle.stair_status.specs.declared.status.Status.{Status}
 use Rattle.stair_story.specs.Devices.{DeviceView, Devices, WorksAll}
 use Rattle.stair_story.specs.Run.{history_of}
 use Rattle.stair_story.specs.Story.{Deed, Leads, Moves}

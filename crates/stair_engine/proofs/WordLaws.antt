@@ -8,8 +8,8 @@ use Rattle.stair_story.specs.Plan.{Plan, Over}
 use Rattle.stair_story.specs.Question.{IsReply, Words}
 use Rattle.stair_story.specs.Rack.{MeansOver, RackView, Works}
 use Rattle.stair_story.specs.Story.{Deed}
-use Rattle.stair_story.specs.declared.status.Status.{Status}
-use Rattle.stair_story.specs.declared.status.Status.TheVariants.{Usage, OutOfMemory}
+use Rattle.stair_status.specs.declared.status.Status.{Status}
+use Rattle.stair_status.specs.declared.status.Status.TheVariants.{Usage, OutOfMemory}
 use Rattle.stair_story.proofs.AllEnds.{AllEnd, over_all}
 use Rattle.stair_engine.specs.Plans.{if_spelled, job_plan, plan_of}
 

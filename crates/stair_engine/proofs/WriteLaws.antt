@@ -13,7 +13,7 @@ use Rattle.stair_array.specs.declared.fault.ArrayFault.{ArrayFault}
 use Rattle.stair_story.specs.declared.intake.Intake.{Intake}
 use Rattle.stair_story.specs.declared.fault.Fault.{Fault}
 use Rattle.stair_story.specs.declared.fault.Fault.TheVariants as fault
-use Rattle.stair_story.specs.declared.status.Status.TheVariants.{Done, Input, InputFault, OutputFault}
+use Rattle.stair_status.specs.declared.status.Status.TheVariants.{Done, Input, InputFault, OutputFault}
 use Rattle.stair_story.specs.Devices.{DeviceView, MeansWith, devices}
 use Rattle.stair_story.specs.Fault.{status_of_fault}
 use Rattle.stair_story.specs.Means.{Gives, Holds}

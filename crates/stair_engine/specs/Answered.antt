@@ -9,7 +9,7 @@ use Rattle.stair_story.specs.Outside.{Outside, Views}
 use Rattle.stair_story.specs.Plan.{Over}
 use Rattle.stair_story.specs.Story.{Deed, Stepped}
 use Rattle.stair_story.specs.Sure.{ServesAlong}
-use Rattle.stair_story.specs.declared.status.Status.{Status}
+use Rattle.stair_status.specs.declared.status.Status.{Status}
 use Rattle.stair_engine.specs.Complete.{IsThawed}
 use Rattle.stair_engine.specs.Plans.{plan_of}
 

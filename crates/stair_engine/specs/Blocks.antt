@@ -11,7 +11,7 @@ use Rattle.stair_array.specs.Promise.{Begun, Closed, Found, Opened, Session}
 use Rattle.stair_array.specs.declared.fault.RecoverFault.TheVariants as recover
 use Rattle.stair_story.specs.declared.fault.Fault.{Fault}
 use Rattle.stair_story.specs.declared.fault.Fault.TheVariants as fault
-use Rattle.stair_story.specs.declared.status.Status.TheVariants.{Input}
+use Rattle.stair_status.specs.declared.status.Status.TheVariants.{Input}
 use Rattle.stair_story.specs.Comes.{ComesTo}
 use Rattle.stair_story.specs.Fault.{status_of_fault}
 use Rattle.stair_story.specs.Devices.{DeviceView, devices, some_left}

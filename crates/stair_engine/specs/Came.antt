@@ -2,8 +2,8 @@
 use Rattle.std.specs.Prelude.{◌≡◌, ◌+◌, ℕ, List, [], ◌∷◌, ◌++◌, length, Ok, ⊤}
 use Rattle.stair_array.specs.Machine.{WriteBlocks}
 use Rattle.stair_story.specs.Story.{Deed, Stepped}
-use Rattle.stair_story.specs.declared.status.Status.{Status}
-use Rattle.stair_story.specs.declared.status.Status.TheVariants.{Done, Input, InputFault, OutputFault}
+use Rattle.stair_status.specs.declared.status.Status.{Status}
+use Rattle.stair_status.specs.declared.status.Status.TheVariants.{Done, Input, InputFault, OutputFault}
 
 -- The writes that were acknowledged over a story wrote these blocks, from this one on, and no others.
 abbrev pub AreWritten : ℕ → List (List ℕ) → List Deed → Type 0

@@ -12,8 +12,8 @@ use Rattle.stair_story.specs.Outside.{Outside, Views}
 use Rattle.stair_story.specs.Plan.{Over}
 use Rattle.stair_story.specs.Run.{IsRun, IsSafe}
 use Rattle.stair_story.specs.Story.{put_in, taken_in}
-use Rattle.stair_story.specs.declared.status.Status.{Status}
-use Rattle.stair_story.specs.declared.status.Status.TheVariants.{Done}
+use Rattle.stair_status.specs.declared.status.Status.{Status}
+use Rattle.stair_status.specs.declared.status.Status.TheVariants.{Done}
 use Rattle.stair_volume.specs.Volumes.{Goes, IsFinished}
 use Rattle.stair_engine.specs.Plans.{plan_of}
 

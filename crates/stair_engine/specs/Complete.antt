@@ -35,8 +35,8 @@ use Rattle.stair_story.specs.Sure.{HasDevice, HasNoFault, IsDone, ServesAlong, S
 use Rattle.stair_story.specs.Texts.{AreLines, SCRIPT_LIMIT}
 use Rattle.stair_engine.specs.Stands.{StandsThroughout}
 use Rattle.stair_engine.specs.Task.{one_stripe}
-use Rattle.stair_story.specs.declared.status.Status.{Status}
-use Rattle.stair_story.specs.declared.status.Status.TheVariants.{Halted, OutOfMemory}
+use Rattle.stair_status.specs.declared.status.Status.{Status}
+use Rattle.stair_status.specs.declared.status.Status.TheVariants.{Halted, OutOfMemory}
 use Rattle.stair_volume.specs.Ends.{MayEnd}
 
 -- what is judged Done: the cells of a codeword, any blocks, and cells of which the erased ones are covered and the others are

@@ -20,8 +20,8 @@ use Rattle.stair_array.specs.Looking.{cells_at}
 use Rattle.stair_story.specs.Living.{IsLiveAt, IsLiveUnwritten, StaysWhole}
 use Rattle.stair_story.specs.Outside.{SinkView}
 use Rattle.stair_story.specs.Story.{Deed, HasPut, PutFailed}
-use Rattle.stair_story.specs.declared.status.Status.{Status}
-use Rattle.stair_story.specs.declared.status.Status.TheVariants.{Done}
+use Rattle.stair_status.specs.declared.status.Status.{Status}
+use Rattle.stair_status.specs.declared.status.Status.TheVariants.{Done}
 use Rattle.stair_engine.specs.Mending.{scrubbed_line}
 
 -- the gate of no slot that is live at h is open

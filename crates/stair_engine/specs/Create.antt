@@ -7,8 +7,8 @@ use Rattle.stair_array.specs.Creates.{IsMade}
 use Rattle.stair_array.specs.Keeping.{ToleratedUnwritten}
 use Rattle.stair_conf.specs.Config.{TextReadsAs}
 use Rattle.stair_engine.specs.Stands.{ArrayStands}
-use Rattle.stair_story.specs.declared.status.Status.{Status}
-use Rattle.stair_story.specs.declared.status.Status.TheVariants.{Done, OutputFault}
+use Rattle.stair_status.specs.declared.status.Status.{Status}
+use Rattle.stair_status.specs.declared.status.Status.TheVariants.{Done, OutputFault}
 
 -- a `create` that ends so made an array, though its line may not have been put out
 abbrev pub IsOnceMade : Status → Type 0

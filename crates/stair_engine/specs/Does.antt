@@ -2,7 +2,7 @@
 -- are the laws' words, and no clause of a command cites them.
 use Rattle.std.specs.Prelude.{IfSome}
 use Rattle.stair_model.specs.Geometry.{Geometry}
-use Rattle.stair_story.specs.declared.status.Status.{Status}
+use Rattle.stair_status.specs.declared.status.Status.{Status}
 use Rattle.stair_conf.specs.declared.job.StripeCommand.{StripeCommand}
 use Rattle.stair_engine.specs.Cause.{CountsSteps, HasCause, LimitsComeFirst, LooksForEnd, PutsOut, TakesInput}
 use Rattle.stair_story.specs.Outside.{Outside, Views}

@@ -4,7 +4,7 @@ use Rattle.std.specs.Fmt.{decimal}
 use Rattle.stair_model.specs.Geometry.{Geometry, block_count}
 use Rattle.stair_model.specs.Stripe.{SECTOR}
 use Rattle.stair_array.specs.Machine.{ReadBlock, ScrubStripe, WriteBlocks}
-use Rattle.stair_story.specs.declared.status.Status.TheVariants.{Done, OutOfRange}
+use Rattle.stair_status.specs.declared.status.Status.TheVariants.{Done, OutOfRange}
 use Rattle.stair_story.specs.Plan.{Plan, Over, Put, take_step, if_so, opens_array}
 use Rattle.stair_engine.specs.declared.exercise.Exercised.{Exercised}
 

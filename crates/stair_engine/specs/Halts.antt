@@ -10,8 +10,8 @@ use Rattle.stair_story.specs.Outside.{Outside, Views}
 use Rattle.stair_story.specs.Plan.{Plan, Over, Ask, Allocate}
 use Rattle.stair_story.specs.Question.{ScriptLine, Words}
 use Rattle.stair_story.specs.Story.{Deed, Found, Leads, Moves, PutFailed, Stepped, events_of_story}
-use Rattle.stair_story.specs.declared.status.Status.{Status}
-use Rattle.stair_story.specs.declared.status.Status.TheVariants.{Done, Halted}
+use Rattle.stair_status.specs.declared.status.Status.{Status}
+use Rattle.stair_status.specs.declared.status.Status.TheVariants.{Done, Halted}
 use Rattle.stair_engine.specs.Plans.{if_spelled, job_plan, plan_of}
 use Rattle.stair_engine.specs.Scripts.{lines}
 
@@ -55,7 +55,7 @@ pub record EndsGuarded {W : Type 0} (view : WatcherView W) (words : List (List �
   pub unhalted : ((number : ℕ) → ¬ (status ≡ Halted number))
       → Leads Moves story (unguarded_plan words) (Over status)
   pub patient : (front rest : List Deed) → story ≡ front ++ rest → halt_line 0 front ≡ None
-      → All (λ w. GoesOn (events_of_story front) (view.patience w)) watchers
+      → All (λ w. GoesOn (events_of_story front) (view w).patience) watchers
 
 -- so along each story that bears out the call
 abbrev pub IsGuarded : {R W S K : Type 0} → DeviceView R W → Views S K → List (List ℕ) → Status

@@ -12,8 +12,8 @@ use Rattle.stair_conf.specs.declared.job.Job.TheVariants.{OneStripe, Create, Gua
 use Rattle.stair_conf.specs.declared.job.VolumeJob.{VolumeJob}
 use Rattle.stair_conf.specs.declared.job.StripeCommand.{StripeCommand}
 use Rattle.stair_script.specs.declared.line.Line.{Line}
-use Rattle.stair_story.specs.declared.status.Status.{Status}
-use Rattle.stair_story.specs.declared.status.Status.TheVariants.{Done, Usage, InputFault, OutputFault, OutOfMemory}
+use Rattle.stair_status.specs.declared.status.Status.{Status}
+use Rattle.stair_status.specs.declared.status.Status.TheVariants.{Done, Usage, InputFault, OutputFault, OutOfMemory}
 use Rattle.stair_story.specs.Answer.{map_bytes}
 use Rattle.stair_engine.specs.Cause.{Answers, IfRefusedAtOnce}
 use Rattle.stair_watch.specs.WatcherList.{AllStay}

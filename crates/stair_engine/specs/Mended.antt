@@ -15,8 +15,8 @@ use Rattle.stair_array.specs.Promise.{AreFound, Opened, Session}
 use Rattle.stair_conf.specs.declared.job.Job.{Job}
 use Rattle.stair_conf.specs.declared.job.Job.TheVariants as job
 use Rattle.stair_story.specs.Sound.{AreSoundChunks, IsSound}
-use Rattle.stair_story.specs.declared.status.Status.{Status}
-use Rattle.stair_story.specs.declared.status.Status.TheVariants.{Done}
+use Rattle.stair_status.specs.declared.status.Status.{Status}
+use Rattle.stair_status.specs.declared.status.Status.TheVariants.{Done}
 
 -- the job mends an array
 abbrev pub Mends : Job → Type 0

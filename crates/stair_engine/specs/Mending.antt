@@ -6,7 +6,7 @@ use Rattle.stair_model.specs.Geometry.{Geometry}
 use Rattle.stair_super.specs.declared.mark.Mark.{Mark}
 use Rattle.stair_super.specs.declared.mark.Mark.TheVariants.{Live}
 use Rattle.stair_array.specs.Machine.{LookAtSeats, ReplaceSlot, ScrubStripe, SetFrozen, SetLabel, Step}
-use Rattle.stair_story.specs.declared.status.Status.TheVariants.{Done, Gone, OutOfRange}
+use Rattle.stair_status.specs.declared.status.Status.TheVariants.{Done, Gone, OutOfRange}
 use Rattle.stair_story.specs.Plan.{Plan, Over, Put, RebuildAll, take_step, opens_array}
 
 -- SCRUBS

@@ -8,7 +8,7 @@ use Rattle.stair_conf.specs.declared.fault.ConfigFault.{ConfigFault}
 use Rattle.stair_conf.specs.declared.job.Job.{Job}
 use Rattle.stair_conf.specs.declared.job.Job.TheVariants as job
 use Rattle.stair_conf.specs.declared.job.StripeCommand.{StripeCommand}
-use Rattle.stair_story.specs.declared.status.Status.TheVariants.{Done, Usage, Limit, Input}
+use Rattle.stair_status.specs.declared.status.Status.TheVariants.{Done, Usage, Limit, Input}
 use Rattle.stair_story.specs.Action.{Create, Survey}
 use Rattle.stair_story.specs.Answer.{bytes_needed}
 use Rattle.stair_story.specs.Fault.{status_of_config}

@@ -8,7 +8,7 @@ use Rattle.stair_script.specs.declared.line.Line.{Line}
 use Rattle.stair_script.specs.declared.line.Line.TheVariants.{Blank, Read, Write, Scrub, Replace, Rebuild}
 use Rattle.stair_story.specs.declared.fault.Fault.{Fault}
 use Rattle.stair_story.specs.declared.fault.Fault.TheVariants as fault
-use Rattle.stair_story.specs.declared.status.Status.TheVariants.{BadLine, Done, Halted, OutOfRange}
+use Rattle.stair_status.specs.declared.status.Status.TheVariants.{BadLine, Done, Halted, OutOfRange}
 use Rattle.stair_story.specs.Means.{Holds}
 use Rattle.stair_story.specs.Outside.{SinkView}
 use Rattle.stair_story.specs.Plan.{Plan, Over, Ask, Put, if_so, watch_step, watches_array}

@@ -9,8 +9,8 @@ use Rattle.stair_engine.specs.Show.{show_text}
 use Rattle.stair_story.specs.Streams.{PutsAll}
 use Rattle.stair_story.specs.declared.fault.Fault.{Fault}
 use Rattle.stair_story.specs.declared.fault.Fault.TheVariants.{Output, Survey}
-use Rattle.stair_story.specs.declared.status.Status.{Status}
-use Rattle.stair_story.specs.declared.status.Status.TheVariants.{Done}
+use Rattle.stair_status.specs.declared.status.Status.{Status}
+use Rattle.stair_status.specs.declared.status.Status.TheVariants.{Done}
 
 -- the array that was found is put out; where none was, nothing is
 abbrev pub PutsFound : {K : Type 0} → SinkView K → Result Membership SurveyFault → Result Status Fault → K → K →

@@ -28,9 +28,9 @@ pub(crate) fn take_blocks<S: Source>(
     requires of { IsStripeOf geometry.now stripe.old }
     requires well_formed { IsWellFormed stripe.old }
     requires room { intake.old.took + block_bytes_of geometry.now ≤ intake.old.needed }
-    ensures ok { OnOk result (TakesBlocksTo (source_view S.left S.ended S.faults) geometry.now
+    ensures ok { OnOk result (TakesBlocksTo (source_view S.Source) geometry.now
         (data_cells geometry.now) intake.old intake.new stripe.new input.old input.new) }
-    ensures cut { IfErr result (CutsShort (source_view S.left S.ended S.faults)
+    ensures cut { IfErr result (CutsShort (source_view S.Source)
         intake.old input.old input.new) }
     ensures of { IsStripeOf geometry.now stripe.new }
     ensures well_formed { IsWellFormed stripe.new }

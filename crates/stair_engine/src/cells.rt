@@ -29,9 +29,9 @@ pub(crate) fn take_stripe<S: Source>(
     requires of { IsStripeOf geometry.now stripe.old }
     requires well_formed { IsWellFormed stripe.old }
     requires room { intake.old.took + cell_bytes_of geometry.now ≤ intake.old.needed }
-    ensures ok { OnOk result (TakesBytes (source_view S.left S.ended S.faults)
+    ensures ok { OnOk result (TakesBytes (source_view S.Source)
         intake.old intake.new (concat stripe.new.cells) input.old input.new) }
-    ensures cut { IfErr result (CutsShort (source_view S.left S.ended S.faults)
+    ensures cut { IfErr result (CutsShort (source_view S.Source)
         intake.old input.old input.new) }
     ensures of { IsStripeOf geometry.now stripe.new }
     ensures well_formed { IsWellFormed stripe.new }
@@ -54,7 +54,7 @@ pub(crate) fn put_stripe<K: Sink>(
 ) -> Result<(), Fault>
     requires of { IsStripeOf geometry.now stripe.now }
     requires well_formed { IsWellFormed stripe.now }
-    ensures puts { PutsAll (sink_view K.held K.faults) result (concat stripe.now.cells)
+    ensures puts { PutsAll (sink_view K.Sink) result (concat stripe.now.cells)
         output.old output.new }
     ensures failed { IfErr result (λ fault. fault ≡ Fault.Output) }
 {

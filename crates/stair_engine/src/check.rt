@@ -23,7 +23,7 @@ pub(crate) fn check<S: Source, K: Sink>(
     input: &mut S,
     output: &mut K,
 ) -> Result<Status, Fault>
-    ensures { (counter : ℕ) → Means (views S.left S.ended S.faults K.held K.faults)
+    ensures { (counter : ℕ) → Means (views S.Source K.Sink)
         (stripe_plan Check geometry.now) (Over (status_of result))
         (outside input.old output.old counter) (outside input.new output.new counter) }
 {
@@ -45,7 +45,7 @@ fn take_input<S: Source>(
     requires of { IsStripeOf geometry.now stripe.old }
     requires well_formed { IsWellFormed stripe.old }
     ensures limits { IsWithinLimits geometry.now }
-    ensures takes { TakesWhole (source_view S.left S.ended S.faults)
+    ensures takes { TakesWhole (source_view S.Source)
         (bytes_needed Check geometry.now) result (λ done. HasBytes geometry.now stripe.new)
         input.old input.new }
     ensures of { IsStripeOf geometry.now stripe.new }

@@ -22,8 +22,8 @@ pub(crate) fn create<R: Rack, S: Source, K: Sink>(
     input: &mut S,
     output: &mut K,
 ) -> Result<Status, Fault>
-    ensures { (counter : ℕ) → MeansOver (rack_view R.is_honest R.history R.bads R.gones)
-        (views S.left S.ended S.faults K.held K.faults) create_plan (Over (status_of result))
+    ensures { (counter : ℕ) → MeansOver (rack_view R.Rack)
+        (views S.Source K.Sink) create_plan (Over (status_of result))
         (outside input.old output.old counter) (outside input.new output.new counter)
         rack.old rack.new }
 {
@@ -40,7 +40,7 @@ pub(crate) fn create<R: Rack, S: Source, K: Sink>(
 /// Takes a text up to the end of the input, and tells how many bytes it has.
 fn take_text<S: Source>(input: &mut S, into: &mut [u8]) -> Result<usize, Fault>
     requires { length into.old ≡ LIMIT + 1 }
-    ensures { TakesText (source_view S.left S.ended S.faults) result into.new
+    ensures { TakesText (source_view S.Source) result into.new
         input.old input.new }
 {
     match take_at_least(input, into.len(), into) {

@@ -32,7 +32,7 @@ pub(crate) fn encode<S: Source, K: Sink, L: Ledger>(
     output: &mut K,
     steps: &mut Steps<L>,
 ) -> Result<Status, Fault>
-    ensures { Means (views S.left S.ended S.faults K.held K.faults)
+    ensures { Means (views S.Source K.Sink)
         (stripe_plan (Encode method) geometry.now) (Over (status_of result))
         (outside input.old output.old steps.old) (outside input.new output.new steps.new) }
 {
@@ -53,7 +53,7 @@ fn encode_by<C: StripeCode, S: Source, K: Sink, L: Ledger>(
     requires cost { IsCostOfMethod method (C.shape code.old) (C.cost code.old) }
     requires of { IsStripeOf (C.shape code.old) stripe.old }
     requires well_formed { IsWellFormed stripe.old }
-    ensures { Means (views S.left S.ended S.faults K.held K.faults)
+    ensures { Means (views S.Source K.Sink)
         (input_plan (Encode method) (C.shape code.old)) (Over (status_of result))
         (outside input.old output.old steps.old) (outside input.new output.new steps.new) }
 {
@@ -73,7 +73,7 @@ fn take_input<S: Source>(
     requires of { IsStripeOf geometry.now stripe.old }
     requires well_formed { IsWellFormed stripe.old }
     ensures limits { IsWithinLimits geometry.now }
-    ensures takes { TakesWhole (source_view S.left S.ended S.faults) (block_bytes_of geometry.now)
+    ensures takes { TakesWhole (source_view S.Source) (block_bytes_of geometry.now)
         result (λ done. HoldsInput geometry.now stripe.new) input.old input.new }
     ensures of { IsStripeOf geometry.now stripe.new }
     ensures well_formed { IsWellFormed stripe.new }

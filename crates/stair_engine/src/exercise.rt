@@ -1,5 +1,4 @@
 ghost use Rattle.std.specs.Prelude.{◌≡◌, ◌+◌, ◌<◌, ◌≤◌, ℕ, IfErr, IfOk};
-ghost use Rattle.stair_rack.specs.Watching.{watcher_view};
 ghost use Rattle.stair_array.specs.Promise.{Opened as IsOpen};
 ghost use Rattle.stair_engine.specs.declared.exercise.Exercised.{Exercised};
 ghost use Rattle.stair_engine.specs.Exercise.{exercise_plan, exercised_line as line_of_exercised, exercises, next_number as number_behind, none_exercised, step_one};
@@ -40,14 +39,14 @@ pub(crate) fn exercise<R: Rack, K: Sink>(
     output: &mut K,
     watchers: &mut Vec<Box<dyn Watcher>>,
 ) -> Result<Status, Fault>
-    requires stay { AllStay (watcher_view told count (λ w. (Watcher-box w).left w.value) patience) watchers.old.items }
+    requires stay { AllStay hears watchers.old.items }
     ensures means { (counter : ℕ) → MeansWhole
-        (device_view (rack_view R.is_honest R.history R.bads R.gones) (watcher_view told count (λ w. (Watcher-box w).left w.value) patience))
-        (sink_alone K.held K.faults)
+        (device_view (rack_view R.Rack) hears)
+        (sink_alone K.Sink)
         (exercise_plan number steps) (Over (status_of result))
         (outside tt output.old counter) (outside tt output.new counter)
         rack.old rack.new watchers.old.items watchers.new.items }
-    ensures stay { AllStay (watcher_view told count (λ w. (Watcher-box w).left w.value) patience) watchers.new.items }
+    ensures stay { AllStay hears watchers.new.items }
 {
     let mut array = session(alloc, rack, watchers)?;
     if steps > MOST_STEPS {
@@ -69,19 +68,19 @@ fn take_steps<C: StripeCode, R: Rack>(
     watchers: &mut Vec<Box<dyn Watcher>>,
 ) -> Result<Exercised, Fault>
     requires few { steps ≤ 1000000 }
-    requires stay { AllStay (watcher_view told count (λ w. (Watcher-box w).left w.value) patience) watchers.old.items }
+    requires stay { AllStay hears watchers.old.items }
     ensures done { IfOk result (λ came. (k : Exercised → Plan) → ComesTo
-        (device_view (rack_view R.is_honest R.history R.bads R.gones) (watcher_view told count (λ w. (Watcher-box w).left w.value) patience))
+        (device_view (rack_view R.Rack) hears)
         (exercises array.old.member.array.geometry steps first none_exercised k) (k came)
         (devices rack.old (IsOpen array.old) watchers.old.items)
         (devices rack.new (IsOpen array.new) watchers.new.items)) }
     ensures refused { IfErr result (λ fault. (k : Exercised → Plan) → ComesTo
-        (device_view (rack_view R.is_honest R.history R.bads R.gones) (watcher_view told count (λ w. (Watcher-box w).left w.value) patience))
+        (device_view (rack_view R.Rack) hears)
         (exercises array.old.member.array.geometry steps first none_exercised k) (Over (status_of_fault fault))
         (devices rack.old (IsOpen array.old) watchers.old.items)
         (devices rack.new (IsOpen array.new) watchers.new.items)) }
     ensures geometry { array.new.member.array.geometry ≡ array.old.member.array.geometry }
-    ensures stay { AllStay (watcher_view told count (λ w. (Watcher-box w).left w.value) patience) watchers.new.items }
+    ensures stay { AllStay hears watchers.new.items }
 {
     let mut number = first;
     let mut came = Exercised {
@@ -107,21 +106,21 @@ fn take_step<C: StripeCode, R: Rack>(
     watchers: &mut Vec<Box<dyn Watcher>>,
 ) -> Result<Exercised, Fault>
     requires few { so_far.reads + so_far.writes + so_far.scrubs < 1000000 }
-    requires stay { AllStay (watcher_view told count (λ w. (Watcher-box w).left w.value) patience) watchers.old.items }
+    requires stay { AllStay hears watchers.old.items }
     ensures done { IfOk result (λ came. (k : Exercised → Plan) → ComesTo
-        (device_view (rack_view R.is_honest R.history R.bads R.gones) (watcher_view told count (λ w. (Watcher-box w).left w.value) patience))
+        (device_view (rack_view R.Rack) hears)
         (step_one array.old.member.array.geometry number so_far k) (k came)
         (devices rack.old (IsOpen array.old) watchers.old.items)
         (devices rack.new (IsOpen array.new) watchers.new.items)) }
     ensures one { IfOk result (λ came. came.reads + came.writes + came.scrubs
         ≡ so_far.reads + so_far.writes + so_far.scrubs + 1) }
     ensures refused { IfErr result (λ fault. (k : Exercised → Plan) → ComesTo
-        (device_view (rack_view R.is_honest R.history R.bads R.gones) (watcher_view told count (λ w. (Watcher-box w).left w.value) patience))
+        (device_view (rack_view R.Rack) hears)
         (step_one array.old.member.array.geometry number so_far k) (Over (status_of_fault fault))
         (devices rack.old (IsOpen array.old) watchers.old.items)
         (devices rack.new (IsOpen array.new) watchers.new.items)) }
     ensures geometry { array.new.member.array.geometry ≡ array.old.member.array.geometry }
-    ensures stay { AllStay (watcher_view told count (λ w. (Watcher-box w).left w.value) patience) watchers.new.items }
+    ensures stay { AllStay hears watchers.new.items }
 {
     let geometry = array.geometry();
     let slots = geometry.n();

@@ -30,7 +30,7 @@ ghost use Rattle.stair_engine.specs.Laws.{
   VolumesAreChanged,
 };
 ghost use Rattle.stair_story.specs.Outside.{views};
-ghost use Rattle.stair_story.specs.declared.status.Status.{Status};
+ghost use Rattle.stair_status.specs.declared.status.Status.{Status};
 ghost use Rattle.stair_conf.specs.declared.job.StripeCommand.TheVariants.{Restore};
 
 use stair_rack::{Sink, Source};
@@ -43,10 +43,10 @@ pub fn plan_laws<R, W, S: Source, K: Sink>()
     ensures constant { PlanIsDone S K }
     // of a command on one stripe: limits, cause, what is taken, that the end is looked for, what is put out, and the
     // steps, by the status
-    ensures done { WordsAreDone (views S.left S.ended S.faults K.held K.faults) }
+    ensures done { WordsAreDone (views S.Source K.Sink) }
     // of such a command and a source that tells its bytes, without faults and want of memory: the status and the output
     // for these bytes
-    ensures answers { BytesAreAnswered (views S.left S.ended S.faults K.held K.faults) }
+    ensures answers { BytesAreAnswered (views S.Source K.Sink) }
     // a fault comes only where its count rose, no count falls, and what nothing is put out of
     ensures kept { AllIsKept S K }
     // a command on one stripe makes no call on the devices, and what it refuses before the input leaves all

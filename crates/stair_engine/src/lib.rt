@@ -40,7 +40,6 @@ ghost use Rattle.stair_engine.specs.Counted.{TellsCount};
 ghost use Rattle.stair_engine.specs.Create.{IsOnceMade, MakesArray, SparesArrays};
 ghost use Rattle.stair_monitor.specs.Reports.{status_of as status_of_report};
 ghost use Rattle.stair_story.specs.Fault.{status_of};
-ghost use Rattle.stair_rack.specs.Watching.{watcher_view};
 ghost use Rattle.stair_engine.specs.Halts.{IsGuarded};
 ghost use Rattle.stair_engine.specs.Jobs.{IsMade, MayWrite, NotSpelled};
 ghost use Rattle.stair_engine.specs.Mended.{IsMended};
@@ -83,7 +82,7 @@ use write::write;
 
 /// Does what the words say, over this input and output and the devices of the rack, and tells what came of it.
 ///
-/// `docs/formats.md` has what each command takes, does and puts out, and when each status comes. In short: `check`, `stripe` and
+/// `docs/reference.md` has what each command takes, does and puts out, and when each status comes. In short: `check`, `stripe` and
 /// `restore` work on one stripe of n·r cells of 512 bytes and make no call on the rack; `create` takes a geometry text, of at
 /// most 4,096 bytes, and makes an array of it ([`stair_array::create`]); `show` looks for an array ([`stair_member::survey`]),
 /// takes nothing and changes nothing on a device. `read` and `write` look for an array, open it ([`stair_array::Array`]) and put out
@@ -126,18 +125,16 @@ pub fn stair<R: Rack, S: Source, K: Sink, L: Ledger>(
     steps: &mut Steps<L>,
 ) -> Status
     // None of the watchers has left.
-    requires { AllStay (watcher_view told count (λ w. (Watcher-box w).left w.value) patience) watchers.old.items }
+    requires { AllStay hears watchers.old.items }
 
     // The call went as the plan of the words says, and source, sink, counter, rack and watchers bear it out.
-    ensures borne_out { IsBorneOut (device_view (rack_view R.is_honest R.history R.bads R.gones)
-        (watcher_view told count (λ w. (Watcher-box w).left w.value) patience))
-        (views S.left S.ended S.faults K.held K.faults)
+    ensures borne_out { IsBorneOut (device_view (rack_view R.Rack) hears) (views S.Source K.Sink)
         (plan_of (map string_bytes words.now)) (Over result)
         (outside input.old output.old steps.old) (outside input.new output.new steps.new)
         rack.old rack.new watchers.old.items watchers.new.items }
 
     // Those that are left haven't left, so they may be told of what the next call does.
-    ensures stay { AllStay (watcher_view told count (λ w. (Watcher-box w).left w.value) patience) watchers.new.items }
+    ensures stay { AllStay hears watchers.new.items }
 
     // Want of memory: only where a command's word comes first and no word begins with a hyphen.
     ensures memory { result ≡ Status.OutOfMemory → IsCommandLine (map string_bytes words.now) }
@@ -160,17 +157,14 @@ pub fn stair<R: Rack, S: Source, K: Sink, L: Ledger>(
     // Where it can be done, and neither source nor sink fails, the answer is Done or want of memory, or of `guard` that it was halted,
     // or of a command on volumes what they and its input make of it.
     ensures complete { (job : Jobs) → Spells (map string_bytes words.now) job →
-        IsComplete (rack_view R.is_honest R.history R.bads R.gones)
-        (views S.left S.ended S.faults K.held K.faults) job result
+        IsComplete (rack_view R.Rack) (views S.Source K.Sink) job result
         (outside input.old output.old steps.old) (outside input.new output.new steps.new)
         rack.old rack.new }
 
     // `guard` is halted exactly behind the first line at which a watcher left, once its steps were done and its reply was put out; up
     // to there it went as `run` does. A watcher that tells its patience is waiting for more where none left.
     ensures halted { (events fences : ℕ) → Spells (map string_bytes words.now) (Guard events fences) →
-        IsGuarded (device_view (rack_view R.is_honest R.history R.bads R.gones)
-        (watcher_view told count (λ w. (Watcher-box w).left w.value) patience))
-        (views S.left S.ended S.faults K.held K.faults) (map string_bytes words.now) result
+        IsGuarded (device_view (rack_view R.Rack) hears) (views S.Source K.Sink) (map string_bytes words.now) result
         (outside input.old output.old steps.old) (outside input.new output.new steps.new)
         rack.old rack.new watchers.old.items watchers.new.items }
 
@@ -178,9 +172,7 @@ pub fn stair<R: Rack, S: Source, K: Sink, L: Ledger>(
     // failures staying within tolerance.
     ensures complete_wherever { (job : Jobs) → Spells (map string_bytes words.now) job →
         IsCompleteWherever AnyReturns
-        (device_view (rack_view R.is_honest R.history R.bads R.gones)
-        (watcher_view told count (λ w. (Watcher-box w).left w.value) patience))
-        (views S.left S.ended S.faults K.held K.faults) (map string_bytes words.now) job result
+        (device_view (rack_view R.Rack) hears) (views S.Source K.Sink) (map string_bytes words.now) job result
         (outside input.old output.old steps.old) (outside input.new output.new steps.new)
         rack.old rack.new watchers.old.items watchers.new.items }
 
@@ -188,9 +180,7 @@ pub fn stair<R: Rack, S: Source, K: Sink, L: Ledger>(
     // call, where the array serves along it, whether media come back or not.
     ensures answered { Spells (map string_bytes words.now) Serve → (returning : Returning)
         → AnswersClient returning
-        (device_view (rack_view R.is_honest R.history R.bads R.gones)
-        (watcher_view told count (λ w. (Watcher-box w).left w.value) patience))
-        (views S.left S.ended S.faults K.held K.faults) (map string_bytes words.now) result
+        (device_view (rack_view R.Rack) hears) (views S.Source K.Sink) (map string_bytes words.now) result
         (outside input.old output.old steps.old) (outside input.new output.new steps.new)
         rack.old rack.new watchers.old.items watchers.new.items }
 
@@ -199,9 +189,7 @@ pub fn stair<R: Rack, S: Source, K: Sink, L: Ledger>(
     // are those after, and `vread` put out what its volume holds.
     ensures volumes { (job : VolumeJobs) → Spells (map string_bytes words.now) (Volume job) →
         ChangesVolumes job
-        (device_view (rack_view R.is_honest R.history R.bads R.gones)
-        (watcher_view told count (λ w. (Watcher-box w).left w.value) patience))
-        (views S.left S.ended S.faults K.held K.faults) (map string_bytes words.now) result
+        (device_view (rack_view R.Rack) hears) (views S.Source K.Sink) (map string_bytes words.now) result
         (outside input.old output.old steps.old) (outside input.new output.new steps.new)
         rack.old rack.new watchers.old.items watchers.new.items }
 
@@ -214,7 +202,7 @@ pub fn stair<R: Rack, S: Source, K: Sink, L: Ledger>(
     // On such a rack that is left alone meanwhile, and on which no redo is left, the line of `scrub` tells exactly how many stripe
     // cells couldn't be read at first, on the slots that were live.
     ensures counted { IsTrue R.is_honest → Spells (map string_bytes words.now) Scrub →
-        TellsCount (sink_view K.held K.faults) result output.old output.new
+        TellsCount (sink_view K.Sink) result output.old output.new
         (R.history rack.old) (R.history rack.new) }
 {
     match read_words(alloc, words) {
@@ -235,13 +223,12 @@ fn work<R: Rack, S: Source, K: Sink, L: Ledger>(
     steps: &mut Steps<L>,
 ) -> Status
     requires some { IsMade job }
-    requires stay { AllStay (watcher_view told count (λ w. (Watcher-box w).left w.value) patience) watchers.old.items }
+    requires stay { AllStay hears watchers.old.items }
     ensures means { MeansWhole
-        (device_view (rack_view R.is_honest R.history R.bads R.gones) (watcher_view told count (λ w. (Watcher-box w).left w.value) patience))
-        (views S.left S.ended S.faults K.held K.faults) (job_plan job) (Over result)
+        (device_view (rack_view R.Rack) hears) (views S.Source K.Sink) (job_plan job) (Over result)
         (outside input.old output.old steps.old) (outside input.new output.new steps.new)
         rack.old rack.new watchers.old.items watchers.new.items }
-    ensures stay { AllStay (watcher_view told count (λ w. (Watcher-box w).left w.value) patience) watchers.new.items }
+    ensures stay { AllStay hears watchers.new.items }
 {
     match job {
         Job::OneStripe {
@@ -329,7 +316,7 @@ fn run<S: Source, K: Sink, L: Ledger>(
     output: &mut K,
     steps: &mut Steps<L>,
 ) -> Result<Status, Fault>
-    ensures { Means (views S.left S.ended S.faults K.held K.faults)
+    ensures { Means (views S.Source K.Sink)
         (stripe_plan command geometry.now) (Over (status_of result))
         (outside input.old output.old steps.old) (outside input.new output.new steps.new) }
 {

@@ -1,6 +1,5 @@
 // What each line of a script does.
 ghost use Rattle.std.specs.Prelude.{◌≡◌, ℕ, Bool, false, IfErr, IfOk, OnOk};
-ghost use Rattle.stair_rack.specs.Watching.{watcher_view};
 ghost use Rattle.stair_array.specs.Promise.{Opened as IsOpen};
 ghost use Rattle.stair_engine.specs.Scripts.{
   PutsReply,
@@ -39,20 +38,20 @@ pub(crate) fn take_line<C: StripeCode, R: Rack>(
     rack: &mut R,
     watchers: &mut Vec<Box<dyn Watcher>>,
 ) -> Result<Option<Reply>, Fault>
-    requires stay { AllStay (watcher_view told count (λ w. (Watcher-box w).left w.value) patience) watchers.old.items }
+    requires stay { AllStay hears watchers.old.items }
     ensures done { IfOk result (λ reply. (rest : Bool → Plan) → ComesTo
-        (device_view (rack_view R.is_honest R.history R.bads R.gones) (watcher_view told count (λ w. (Watcher-box w).left w.value) patience))
+        (device_view (rack_view R.Rack) hears)
         (does_line array.old.member.array.geometry number line.now rest)
         (replies reply (rest (some_left watchers.old.items watchers.new.items)))
         (devices rack.old (IsOpen array.old) watchers.old.items)
         (devices rack.new (IsOpen array.new) watchers.new.items)) }
     ensures refused { IfErr result (λ fault. (rest : Bool → Plan) → ComesTo
-        (device_view (rack_view R.is_honest R.history R.bads R.gones) (watcher_view told count (λ w. (Watcher-box w).left w.value) patience))
+        (device_view (rack_view R.Rack) hears)
         (does_line array.old.member.array.geometry number line.now rest) (Over (status_of_fault fault))
         (devices rack.old (IsOpen array.old) watchers.old.items)
         (devices rack.new (IsOpen array.new) watchers.new.items)) }
     ensures geometry { array.new.member.array.geometry ≡ array.old.member.array.geometry }
-    ensures stay { AllStay (watcher_view told count (λ w. (Watcher-box w).left w.value) patience) watchers.new.items }
+    ensures stay { AllStay hears watchers.new.items }
 {
     match read_line(line) {
         Some(said) => do_line(array, said, rack, watchers),
@@ -62,9 +61,9 @@ pub(crate) fn take_line<C: StripeCode, R: Rack>(
 
 /// Puts out the reply, if there is one.
 pub(crate) fn put_reply<K: Sink>(output: &mut K, reply: &Option<Reply>) -> Result<(), Fault>
-    ensures put { OnOk result (PutsReply (sink_view K.held K.faults)
+    ensures put { OnOk result (PutsReply (sink_view K.Sink)
         reply.now output.old output.new) }
-    ensures cut { IfErr result (λ fault. ReplyIsCut (sink_view K.held K.faults)
+    ensures cut { IfErr result (λ fault. ReplyIsCut (sink_view K.Sink)
         reply.now fault output.old output.new) }
 {
     if let Some(reply) = reply {
@@ -80,20 +79,20 @@ fn do_line<C: StripeCode, R: Rack>(
     rack: &mut R,
     watchers: &mut Vec<Box<dyn Watcher>>,
 ) -> Result<Option<Reply>, Fault>
-    requires stay { AllStay (watcher_view told count (λ w. (Watcher-box w).left w.value) patience) watchers.old.items }
+    requires stay { AllStay hears watchers.old.items }
     ensures done { IfOk result (λ reply. (rest : Bool → Plan) → ComesTo
-        (device_view (rack_view R.is_honest R.history R.bads R.gones) (watcher_view told count (λ w. (Watcher-box w).left w.value) patience))
+        (device_view (rack_view R.Rack) hears)
         (line_plan array.old.member.array.geometry said rest)
         (replies reply (rest (some_left watchers.old.items watchers.new.items)))
         (devices rack.old (IsOpen array.old) watchers.old.items)
         (devices rack.new (IsOpen array.new) watchers.new.items)) }
     ensures refused { IfErr result (λ fault. (rest : Bool → Plan) → ComesTo
-        (device_view (rack_view R.is_honest R.history R.bads R.gones) (watcher_view told count (λ w. (Watcher-box w).left w.value) patience))
+        (device_view (rack_view R.Rack) hears)
         (line_plan array.old.member.array.geometry said rest) (Over (status_of_fault fault))
         (devices rack.old (IsOpen array.old) watchers.old.items)
         (devices rack.new (IsOpen array.new) watchers.new.items)) }
     ensures geometry { array.new.member.array.geometry ≡ array.old.member.array.geometry }
-    ensures stay { AllStay (watcher_view told count (λ w. (Watcher-box w).left w.value) patience) watchers.new.items }
+    ensures stay { AllStay hears watchers.new.items }
 {
     match said {
         Line::Blank => Ok(None),
@@ -121,20 +120,20 @@ fn read_block<C: StripeCode, R: Rack>(
     rack: &mut R,
     watchers: &mut Vec<Box<dyn Watcher>>,
 ) -> Result<Reply, Fault>
-    requires stay { AllStay (watcher_view told count (λ w. (Watcher-box w).left w.value) patience) watchers.old.items }
+    requires stay { AllStay hears watchers.old.items }
     ensures done { IfOk result (λ reply. (rest : Bool → Plan) → ComesTo
-        (device_view (rack_view R.is_honest R.history R.bads R.gones) (watcher_view told count (λ w. (Watcher-box w).left w.value) patience))
+        (device_view (rack_view R.Rack) hears)
         (line_plan array.old.member.array.geometry (Read block) rest)
         (Put reply (rest (some_left watchers.old.items watchers.new.items)))
         (devices rack.old (IsOpen array.old) watchers.old.items)
         (devices rack.new (IsOpen array.new) watchers.new.items)) }
     ensures refused { IfErr result (λ fault. (rest : Bool → Plan) → ComesTo
-        (device_view (rack_view R.is_honest R.history R.bads R.gones) (watcher_view told count (λ w. (Watcher-box w).left w.value) patience))
+        (device_view (rack_view R.Rack) hears)
         (line_plan array.old.member.array.geometry (Read block) rest) (Over (status_of_fault fault))
         (devices rack.old (IsOpen array.old) watchers.old.items)
         (devices rack.new (IsOpen array.new) watchers.new.items)) }
     ensures geometry { array.new.member.array.geometry ≡ array.old.member.array.geometry }
-    ensures stay { AllStay (watcher_view told count (λ w. (Watcher-box w).left w.value) patience) watchers.new.items }
+    ensures stay { AllStay hears watchers.new.items }
 {
     let slots = array.geometry().n();
     let mut contents = [0; SECTOR];
@@ -152,21 +151,21 @@ fn write_block<C: StripeCode, R: Rack>(
     rack: &mut R,
     watchers: &mut Vec<Box<dyn Watcher>>,
 ) -> Result<(), Fault>
-    requires stay { AllStay (watcher_view told count (λ w. (Watcher-box w).left w.value) patience) watchers.old.items }
+    requires stay { AllStay hears watchers.old.items }
     ensures done { OnOk result ((rest : Bool → Plan) → ComesTo
-        (device_view (rack_view R.is_honest R.history R.bads R.gones) (watcher_view told count (λ w. (Watcher-box w).left w.value) patience))
+        (device_view (rack_view R.Rack) hears)
         (line_plan array.old.member.array.geometry (Write block contents.now) rest)
         (Put (reply_of_wrote block) (rest (some_left watchers.old.items watchers.new.items)))
         (devices rack.old (IsOpen array.old) watchers.old.items)
         (devices rack.new (IsOpen array.new) watchers.new.items)) }
     ensures refused { IfErr result (λ fault. (rest : Bool → Plan) → ComesTo
-        (device_view (rack_view R.is_honest R.history R.bads R.gones) (watcher_view told count (λ w. (Watcher-box w).left w.value) patience))
+        (device_view (rack_view R.Rack) hears)
         (line_plan array.old.member.array.geometry (Write block contents.now) rest)
         (Over (status_of_fault fault))
         (devices rack.old (IsOpen array.old) watchers.old.items)
         (devices rack.new (IsOpen array.new) watchers.new.items)) }
     ensures geometry { array.new.member.array.geometry ≡ array.old.member.array.geometry }
-    ensures stay { AllStay (watcher_view told count (λ w. (Watcher-box w).left w.value) patience) watchers.new.items }
+    ensures stay { AllStay hears watchers.new.items }
 {
     let slots = array.geometry().n();
     if let Err(fault) = array.write_blocks(rack, block, contents, watchers) {
@@ -182,20 +181,20 @@ fn scrub_stripe<C: StripeCode, R: Rack>(
     rack: &mut R,
     watchers: &mut Vec<Box<dyn Watcher>>,
 ) -> Result<Reply, Fault>
-    requires stay { AllStay (watcher_view told count (λ w. (Watcher-box w).left w.value) patience) watchers.old.items }
+    requires stay { AllStay hears watchers.old.items }
     ensures done { IfOk result (λ reply. (rest : Bool → Plan) → ComesTo
-        (device_view (rack_view R.is_honest R.history R.bads R.gones) (watcher_view told count (λ w. (Watcher-box w).left w.value) patience))
+        (device_view (rack_view R.Rack) hears)
         (line_plan array.old.member.array.geometry (Scrub stripe) rest)
         (Put reply (rest (some_left watchers.old.items watchers.new.items)))
         (devices rack.old (IsOpen array.old) watchers.old.items)
         (devices rack.new (IsOpen array.new) watchers.new.items)) }
     ensures refused { IfErr result (λ fault. (rest : Bool → Plan) → ComesTo
-        (device_view (rack_view R.is_honest R.history R.bads R.gones) (watcher_view told count (λ w. (Watcher-box w).left w.value) patience))
+        (device_view (rack_view R.Rack) hears)
         (line_plan array.old.member.array.geometry (Scrub stripe) rest) (Over (status_of_fault fault))
         (devices rack.old (IsOpen array.old) watchers.old.items)
         (devices rack.new (IsOpen array.new) watchers.new.items)) }
     ensures geometry { array.new.member.array.geometry ≡ array.old.member.array.geometry }
-    ensures stay { AllStay (watcher_view told count (λ w. (Watcher-box w).left w.value) patience) watchers.new.items }
+    ensures stay { AllStay hears watchers.new.items }
 {
     let geometry = array.geometry();
     let limit = u64::from(geometry.stripes());
@@ -224,20 +223,20 @@ fn admit<C: StripeCode, R: Rack>(
     rack: &mut R,
     watchers: &mut Vec<Box<dyn Watcher>>,
 ) -> Result<(), Fault>
-    requires stay { AllStay (watcher_view told count (λ w. (Watcher-box w).left w.value) patience) watchers.old.items }
+    requires stay { AllStay hears watchers.old.items }
     ensures done { OnOk result ((rest : Bool → Plan) → ComesTo
-        (device_view (rack_view R.is_honest R.history R.bads R.gones) (watcher_view told count (λ w. (Watcher-box w).left w.value) patience))
+        (device_view (rack_view R.Rack) hears)
         (line_plan array.old.member.array.geometry (Replace slot) rest)
         (Put (reply_of_admitted slot) (rest (some_left watchers.old.items watchers.new.items)))
         (devices rack.old (IsOpen array.old) watchers.old.items)
         (devices rack.new (IsOpen array.new) watchers.new.items)) }
     ensures refused { IfErr result (λ fault. (rest : Bool → Plan) → ComesTo
-        (device_view (rack_view R.is_honest R.history R.bads R.gones) (watcher_view told count (λ w. (Watcher-box w).left w.value) patience))
+        (device_view (rack_view R.Rack) hears)
         (line_plan array.old.member.array.geometry (Replace slot) rest) (Over (status_of_fault fault))
         (devices rack.old (IsOpen array.old) watchers.old.items)
         (devices rack.new (IsOpen array.new) watchers.new.items)) }
     ensures geometry { array.new.member.array.geometry ≡ array.old.member.array.geometry }
-    ensures stay { AllStay (watcher_view told count (λ w. (Watcher-box w).left w.value) patience) watchers.new.items }
+    ensures stay { AllStay hears watchers.new.items }
 {
     let slots = array.geometry().n();
     let limit = u64::from(slots);
@@ -257,20 +256,20 @@ fn rebuild_some<C: StripeCode, R: Rack>(
     rack: &mut R,
     watchers: &mut Vec<Box<dyn Watcher>>,
 ) -> Result<u64, Fault>
-    requires stay { AllStay (watcher_view told count (λ w. (Watcher-box w).left w.value) patience) watchers.old.items }
+    requires stay { AllStay hears watchers.old.items }
     ensures done { IfOk result (λ done. (k : ℕ → Bool → Plan) → ComesTo
-        (device_view (rack_view R.is_honest R.history R.bads R.gones) (watcher_view told count (λ w. (Watcher-box w).left w.value) patience))
+        (device_view (rack_view R.Rack) hears)
         (some_rebuilds array.old.member.array.geometry.n steps 0 false k)
         (k done (some_left watchers.old.items watchers.new.items))
         (devices rack.old (IsOpen array.old) watchers.old.items)
         (devices rack.new (IsOpen array.new) watchers.new.items)) }
     ensures refused { IfErr result (λ fault. (k : ℕ → Bool → Plan) → ComesTo
-        (device_view (rack_view R.is_honest R.history R.bads R.gones) (watcher_view told count (λ w. (Watcher-box w).left w.value) patience))
+        (device_view (rack_view R.Rack) hears)
         (some_rebuilds array.old.member.array.geometry.n steps 0 false k) (Over (status_of_fault fault))
         (devices rack.old (IsOpen array.old) watchers.old.items)
         (devices rack.new (IsOpen array.new) watchers.new.items)) }
     ensures geometry { array.new.member.array.geometry ≡ array.old.member.array.geometry }
-    ensures stay { AllStay (watcher_view told count (λ w. (Watcher-box w).left w.value) patience) watchers.new.items }
+    ensures stay { AllStay hears watchers.new.items }
 {
     let slots = array.geometry().n();
     for done in 0..steps {

@@ -22,9 +22,9 @@ pub(crate) fn take_map<S: Source>(
     input: &mut S,
 ) -> Result<CellSet, Fault>
     requires room { intake.old.took + map_bytes geometry.now ≤ intake.old.needed }
-    ensures ok { IfOk result (λ erased. TakesMap (source_view S.left S.ended S.faults) geometry.now
+    ensures ok { IfOk result (λ erased. TakesMap (source_view S.Source) geometry.now
         intake.old intake.new erased input.old input.new) }
-    ensures cut { IfErr result (CutsShort (source_view S.left S.ended S.faults)
+    ensures cut { IfErr result (CutsShort (source_view S.Source)
         intake.old input.old input.new) }
 {
     let mut erased = CellSet::empty();

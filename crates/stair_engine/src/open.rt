@@ -1,5 +1,4 @@
 ghost use Rattle.std.specs.Prelude.{◌≡◌, ◌+◌, ◌*◌, ◌^◌, ◌<◌, true, IfErr, IfOk, Ok, OnOk};
-ghost use Rattle.stair_rack.specs.Watching.{watcher_view};
 ghost use Rattle.stair_array.specs.Machine.{Recover};
 ghost use Rattle.stair_array.specs.Promise.{Found, Opened as IsOpen};
 ghost use Rattle.stair_engine.specs.Blocks.{BeginsSession, EndsSession, IsPast, IsUnopened, is_in_range};
@@ -22,14 +21,14 @@ pub(crate) fn session<R: Rack>(
     rack: &mut R,
     watchers: &mut Vec<Box<dyn Watcher>>,
 ) -> Result<Opened<Codec>, Fault>
-    requires stay { AllStay (watcher_view told count left patience) watchers.old.items }
+    requires stay { AllStay hears watchers.old.items }
     ensures begins { IfOk result (λ array. BeginsSession
-        (device_view (rack_view R.is_honest R.history R.bads R.gones) (watcher_view told count left patience))
+        (device_view (rack_view R.Rack) hears)
         array rack.old rack.new watchers.old.items watchers.new.items) }
     ensures refused { IfErr result (λ fault. EndsSession
-        (device_view (rack_view R.is_honest R.history R.bads R.gones) (watcher_view told count left patience))
+        (device_view (rack_view R.Rack) hears)
         fault rack.old rack.new watchers.old.items watchers.new.items) }
-    ensures stay { AllStay (watcher_view told count left patience) watchers.new.items }
+    ensures stay { AllStay hears watchers.new.items }
 {
     let member = survey(rack)?;
     open(alloc, rack, member, watchers)
@@ -42,16 +41,16 @@ pub(crate) fn open<R: Rack>(
     member: Member,
     watchers: &mut Vec<Box<dyn Watcher>>,
 ) -> Result<Opened<Codec>, Fault>
-    requires stay { AllStay (watcher_view told count left patience) watchers.old.items }
+    requires stay { AllStay hears watchers.old.items }
     ensures taken { IfOk result (λ array. Takes
-        (device_view (rack_view R.is_honest R.history R.bads R.gones) (watcher_view told count left patience))
+        (device_view (rack_view R.Rack) hears)
         Recover (Ok member.array.geometry)
         (devices rack.old (Found member) watchers.old.items)
         (devices rack.new (IsOpen array) watchers.new.items)) }
     ensures refused { IfErr result (λ fault. IsUnopened
-        (device_view (rack_view R.is_honest R.history R.bads R.gones) (watcher_view told count left patience))
+        (device_view (rack_view R.Rack) hears)
         member fault rack.old rack.new watchers.old.items watchers.new.items) }
-    ensures stay { AllStay (watcher_view told count left patience) watchers.new.items }
+    ensures stay { AllStay hears watchers.new.items }
 {
     let code = Codec::new(alloc, &member.geometry(), By::Fewest)?;
     Ok(Opened::open(alloc, rack, member, code, watchers)?)

@@ -54,9 +54,9 @@ impl Piece {
         requires some { 0 < blocks }
         requires room { BYTES * blocks ≤ self.old.room }
         requires needed { intake.old.took + (BYTES * blocks - length self.old.bytes) ≤ intake.old.needed }
-        ensures ok { OnOk result (TakesPiece (source_view S.left S.ended S.faults) blocks
+        ensures ok { OnOk result (TakesPiece (source_view S.Source) blocks
             self.old self.new intake.old intake.new input.old input.new) }
-        ensures cut { IfErr result (PieceIsCut (source_view S.left S.ended S.faults)
+        ensures cut { IfErr result (PieceIsCut (source_view S.Source)
             (BYTES - length self.old.bytes) intake.old input.old input.new) }
         ensures room { self.new.room ≡ self.old.room }
     {

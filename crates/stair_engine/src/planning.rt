@@ -17,7 +17,7 @@ pub(crate) fn tell_costs<K: Sink>(
     geometry: &Geometry,
     output: &mut K,
 ) -> Result<Status, Fault>
-    ensures { (counter : ℕ) → Means (sink_alone K.held K.faults)
+    ensures { (counter : ℕ) → Means (sink_alone K.Sink)
         (costs_plan geometry.now) (Over (status_of result))
         (outside tt output.old counter) (outside tt output.new counter) }
 {

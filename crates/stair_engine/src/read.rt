@@ -1,5 +1,4 @@
 ghost use Rattle.std.specs.Prelude.{◌≡◌, ◌+◌, ◌^◌, ◌<◌, ℕ};
-ghost use Rattle.stair_rack.specs.Watching.{watcher_view};
 ghost use Rattle.stair_array.specs.Promise.{Opened as IsOpen};
 ghost use Rattle.stair_engine.specs.Blocks.{read_plan};
 ghost use Rattle.stair_story.specs.Transfers.{reads};
@@ -26,14 +25,14 @@ pub(crate) fn read<R: Rack, K: Sink>(
     output: &mut K,
     watchers: &mut Vec<Box<dyn Watcher>>,
 ) -> Result<Status, Fault>
-    requires stay { AllStay (watcher_view told count left patience) watchers.old.items }
+    requires stay { AllStay hears watchers.old.items }
     ensures means { (counter : ℕ) → MeansWhole
-        (device_view (rack_view R.is_honest R.history R.bads R.gones) (watcher_view told count left patience))
-        (sink_alone K.held K.faults)
+        (device_view (rack_view R.Rack) hears)
+        (sink_alone K.Sink)
         (read_plan first blocks) (Over (status_of result))
         (outside tt output.old counter) (outside tt output.new counter)
         rack.old rack.new watchers.old.items watchers.new.items }
-    ensures stay { AllStay (watcher_view told count left patience) watchers.new.items }
+    ensures stay { AllStay hears watchers.new.items }
 {
     let member = survey(rack)?;
     let geometry = member.geometry();
@@ -52,15 +51,15 @@ fn put_blocks<C: StripeCode, R: Rack, K: Sink>(
     watchers: &mut Vec<Box<dyn Watcher>>,
 ) -> Result<Status, Fault>
     requires within { first + blocks < 2 ^ 64 }
-    requires stay { AllStay (watcher_view told count left patience) watchers.old.items }
+    requires stay { AllStay hears watchers.old.items }
     ensures means { (counter : ℕ) → MeansWith
-        (device_view (rack_view R.is_honest R.history R.bads R.gones) (watcher_view told count left patience))
-        (sink_alone K.held K.faults)
+        (device_view (rack_view R.Rack) hears)
+        (sink_alone K.Sink)
         (reads array.old.member.array.geometry first blocks) (Over (status_of result))
         (outside tt output.old counter) (outside tt output.new counter)
         (devices rack.old (IsOpen array.old) watchers.old.items)
         (devices rack.new (IsOpen array.new) watchers.new.items) }
-    ensures stay { AllStay (watcher_view told count left patience) watchers.new.items }
+    ensures stay { AllStay hears watchers.new.items }
 {
     let slots = array.geometry().n();
     for done in 0..blocks {

@@ -1,6 +1,5 @@
 ghost use Rattle.std.specs.Prelude.{◌≡◌, ℕ, IfErr, IfOk};
 ghost use Rattle.stair_model.specs.Geometry.{Geometry};
-ghost use Rattle.stair_rack.specs.Watching.{watcher_view};
 ghost use Rattle.stair_array.specs.Promise.{Opened as IsOpen};
 ghost use Rattle.stair_engine.specs.Mending.{rebuild_plan, rebuilt_line as line_of_rebuilt};
 ghost use Rattle.stair_story.specs.Comes.{ComesTo};
@@ -27,14 +26,14 @@ pub(crate) fn rebuild<R: Rack, K: Sink>(
     output: &mut K,
     watchers: &mut Vec<Box<dyn Watcher>>,
 ) -> Result<Status, Fault>
-    requires stay { AllStay (watcher_view told count (λ w. (Watcher-box w).left w.value) patience) watchers.old.items }
+    requires stay { AllStay hears watchers.old.items }
     ensures means { (counter : ℕ) → MeansWhole
-        (device_view (rack_view R.is_honest R.history R.bads R.gones) (watcher_view told count (λ w. (Watcher-box w).left w.value) patience))
-        (sink_alone K.held K.faults)
+        (device_view (rack_view R.Rack) hears)
+        (sink_alone K.Sink)
         rebuild_plan (Over (status_of result))
         (outside tt output.old counter) (outside tt output.new counter)
         rack.old rack.new watchers.old.items watchers.new.items }
-    ensures stay { AllStay (watcher_view told count (λ w. (Watcher-box w).left w.value) patience) watchers.new.items }
+    ensures stay { AllStay hears watchers.new.items }
 {
     let mut array = session(alloc, rack, watchers)?;
     let steps = rebuild_all(&mut array, rack, watchers)?;
@@ -47,19 +46,19 @@ pub(crate) fn rebuild_all<C: StripeCode, R: Rack>(
     rack: &mut R,
     watchers: &mut Vec<Box<dyn Watcher>>,
 ) -> Result<u64, Fault>
-    requires stay { AllStay (watcher_view told count (λ w. (Watcher-box w).left w.value) patience) watchers.old.items }
+    requires stay { AllStay hears watchers.old.items }
     ensures done { IfOk result (λ steps. (k : ℕ → Plan) → ComesTo
-        (device_view (rack_view R.is_honest R.history R.bads R.gones) (watcher_view told count (λ w. (Watcher-box w).left w.value) patience))
+        (device_view (rack_view R.Rack) hears)
         (RebuildAll array.old.member.array.geometry.n 0 k) (k steps)
         (devices rack.old (IsOpen array.old) watchers.old.items)
         (devices rack.new (IsOpen array.new) watchers.new.items)) }
     ensures refused { IfErr result (λ fault. (k : ℕ → Plan) → ComesTo
-        (device_view (rack_view R.is_honest R.history R.bads R.gones) (watcher_view told count (λ w. (Watcher-box w).left w.value) patience))
+        (device_view (rack_view R.Rack) hears)
         (RebuildAll array.old.member.array.geometry.n 0 k) (Over (status_of_fault fault))
         (devices rack.old (IsOpen array.old) watchers.old.items)
         (devices rack.new (IsOpen array.new) watchers.new.items)) }
     ensures geometry { array.new.member.array.geometry ≡ array.old.member.array.geometry }
-    ensures stay { AllStay (watcher_view told count (λ w. (Watcher-box w).left w.value) patience) watchers.new.items }
+    ensures stay { AllStay hears watchers.new.items }
 {
     let slots = array.geometry().n();
     let mut steps = 0;

@@ -26,7 +26,7 @@ pub(crate) fn restore<S: Source, K: Sink>(
     input: &mut S,
     output: &mut K,
 ) -> Result<Status, Fault>
-    ensures { (counter : ℕ) → Means (views S.left S.ended S.faults K.held K.faults)
+    ensures { (counter : ℕ) → Means (views S.Source K.Sink)
         (stripe_plan Restore geometry.now) (Over (status_of result))
         (outside input.old output.old counter) (outside input.new output.new counter) }
 {
@@ -45,7 +45,7 @@ fn restore_by<C: StripeCode, S: Source, K: Sink>(
 ) -> Result<Status, Fault>
     requires of { IsStripeOf (C.shape code.old) stripe.old }
     requires well_formed { IsWellFormed stripe.old }
-    ensures { (counter : ℕ) → Means (views S.left S.ended S.faults K.held K.faults)
+    ensures { (counter : ℕ) → Means (views S.Source K.Sink)
         (input_plan Restore (C.shape code.old)) (Over (status_of result))
         (outside input.old output.old counter) (outside input.new output.new counter) }
 {
@@ -74,7 +74,7 @@ fn take_input<S: Source>(
     requires of { IsStripeOf geometry.now stripe.old }
     requires well_formed { IsWellFormed stripe.old }
     ensures limits { IsWithinLimits geometry.now }
-    ensures takes { TakesWhole (source_view S.left S.ended S.faults)
+    ensures takes { TakesWhole (source_view S.Source)
         (bytes_needed Restore geometry.now) result (IsMapAndCells geometry.now stripe.new)
         input.old input.new }
     ensures of { IsStripeOf geometry.now stripe.new }

@@ -1,5 +1,4 @@
 ghost use Rattle.std.specs.Prelude.{◌≡◌, ◌<◌, ◌≤◌, ℕ, false, true, IfErr, IfOk};
-ghost use Rattle.stair_rack.specs.Watching.{watcher_view};
 ghost use Rattle.stair_array.specs.Promise.{Opened as IsOpen};
 ghost use Rattle.stair_engine.specs.Scripts.{all_lines, last_line, script_plan};
 ghost use Rattle.stair_story.specs.Devices.{MeansWhole, MeansWith, device_view, devices};
@@ -31,14 +30,13 @@ pub(crate) fn run_script<R: Rack, S: Source, K: Sink>(
     output: &mut K,
     watchers: &mut Vec<Box<dyn Watcher>>,
 ) -> Result<Status, Fault>
-    requires stay { AllStay (watcher_view told count (λ w. (Watcher-box w).left w.value) patience) watchers.old.items }
+    requires stay { AllStay hears watchers.old.items }
     ensures means { (counter : ℕ) → MeansWhole
-        (device_view (rack_view R.is_honest R.history R.bads R.gones) (watcher_view told count (λ w. (Watcher-box w).left w.value) patience))
-        (views S.left S.ended S.faults K.held K.faults)
+        (device_view (rack_view R.Rack) hears) (views S.Source K.Sink)
         (script_plan guarded) (Over (status_of result))
         (outside input.old output.old counter) (outside input.new output.new counter)
         rack.old rack.new watchers.old.items watchers.new.items }
-    ensures stay { AllStay (watcher_view told count (λ w. (Watcher-box w).left w.value) patience) watchers.new.items }
+    ensures stay { AllStay hears watchers.new.items }
 {
     let before = watchers.len();
     let mut array = session(alloc, rack, watchers)?;
@@ -57,15 +55,14 @@ fn do_lines<C: StripeCode, R: Rack, S: Source, K: Sink>(
     output: &mut K,
     watchers: &mut Vec<Box<dyn Watcher>>,
 ) -> Result<Status, Fault>
-    requires stay { AllStay (watcher_view told count (λ w. (Watcher-box w).left w.value) patience) watchers.old.items }
+    requires stay { AllStay hears watchers.old.items }
     ensures means { (counter : ℕ) → MeansWith
-        (device_view (rack_view R.is_honest R.history R.bads R.gones) (watcher_view told count (λ w. (Watcher-box w).left w.value) patience))
-        (views S.left S.ended S.faults K.held K.faults)
+        (device_view (rack_view R.Rack) hears) (views S.Source K.Sink)
         (all_lines guarded array.old.member.array.geometry) (Over (status_of result))
         (outside input.old output.old counter) (outside input.new output.new counter)
         (devices rack.old (IsOpen array.old) watchers.old.items)
         (devices rack.new (IsOpen array.new) watchers.new.items) }
-    ensures stay { AllStay (watcher_view told count (λ w. (Watcher-box w).left w.value) patience) watchers.new.items }
+    ensures stay { AllStay hears watchers.new.items }
 {
     let mut line = Line::new();
     let mut number = 1;
@@ -107,15 +104,15 @@ fn do_last<C: StripeCode, R: Rack, K: Sink>(
     output: &mut K,
     watchers: &mut Vec<Box<dyn Watcher>>,
 ) -> Result<Status, Fault>
-    requires stay { AllStay (watcher_view told count (λ w. (Watcher-box w).left w.value) patience) watchers.old.items }
+    requires stay { AllStay hears watchers.old.items }
     ensures means { (counter : ℕ) → MeansWith
-        (device_view (rack_view R.is_honest R.history R.bads R.gones) (watcher_view told count (λ w. (Watcher-box w).left w.value) patience))
-        (sink_alone K.held K.faults)
+        (device_view (rack_view R.Rack) hears)
+        (sink_alone K.Sink)
         (last_line guarded array.old.member.array.geometry number line.now) (Over (status_of result))
         (outside tt output.old counter) (outside tt output.new counter)
         (devices rack.old (IsOpen array.old) watchers.old.items)
         (devices rack.new (IsOpen array.new) watchers.new.items) }
-    ensures stay { AllStay (watcher_view told count (λ w. (Watcher-box w).left w.value) patience) watchers.new.items }
+    ensures stay { AllStay hears watchers.new.items }
 {
     if line.is_empty() {
         return Ok(Status::Done);
@@ -139,9 +136,9 @@ fn is_halted(guarded: bool, before: usize, left: usize) -> bool
 
 // Takes the next byte of the input, unless that has ended.
 fn next_byte<S: Source>(input: &mut S) -> Result<Option<u8>, Fault>
-    ensures taken { IfOk result (λ byte. TakesByte (source_view S.left S.ended S.faults)
+    ensures taken { IfOk result (λ byte. TakesByte (source_view S.Source)
         byte input.old input.new) }
-    ensures failed { IfErr result (λ fault. FailsByte (source_view S.left S.ended S.faults)
+    ensures failed { IfErr result (λ fault. FailsByte (source_view S.Source)
         fault input.old input.new) }
 {
     let mut piece = [0];

@@ -1,5 +1,4 @@
 ghost use Rattle.std.specs.Prelude.{◌≡◌, ℕ, IfErr, IfOk};
-ghost use Rattle.stair_rack.specs.Watching.{watcher_view};
 ghost use Rattle.stair_array.specs.Promise.{Opened as IsOpen};
 ghost use Rattle.stair_engine.specs.Mending.{scrub_plan, scrubbed, scrubbed_line as line_of_scrubbed, scrubs};
 ghost use Rattle.stair_story.specs.Comes.{ComesTo};
@@ -25,14 +24,14 @@ pub(crate) fn scrub<R: Rack, K: Sink>(
     output: &mut K,
     watchers: &mut Vec<Box<dyn Watcher>>,
 ) -> Result<Status, Fault>
-    requires stay { AllStay (watcher_view told count (λ w. (Watcher-box w).left w.value) patience) watchers.old.items }
+    requires stay { AllStay hears watchers.old.items }
     ensures means { (counter : ℕ) → MeansWhole
-        (device_view (rack_view R.is_honest R.history R.bads R.gones) (watcher_view told count (λ w. (Watcher-box w).left w.value) patience))
-        (sink_alone K.held K.faults)
+        (device_view (rack_view R.Rack) hears)
+        (sink_alone K.Sink)
         scrub_plan (Over (status_of result))
         (outside tt output.old counter) (outside tt output.new counter)
         rack.old rack.new watchers.old.items watchers.new.items }
-    ensures stay { AllStay (watcher_view told count (λ w. (Watcher-box w).left w.value) patience) watchers.new.items }
+    ensures stay { AllStay hears watchers.new.items }
 {
     let mut array = session(alloc, rack, watchers)?;
     let stripes = array.geometry().stripes();
@@ -46,20 +45,20 @@ fn scrub_all<C: StripeCode, R: Rack>(
     rack: &mut R,
     watchers: &mut Vec<Box<dyn Watcher>>,
 ) -> Result<u64, Fault>
-    requires stay { AllStay (watcher_view told count (λ w. (Watcher-box w).left w.value) patience) watchers.old.items }
+    requires stay { AllStay hears watchers.old.items }
     ensures done { IfOk result (λ cells. ComesTo
-        (device_view (rack_view R.is_honest R.history R.bads R.gones) (watcher_view told count (λ w. (Watcher-box w).left w.value) patience))
+        (device_view (rack_view R.Rack) hears)
         (scrubs array.old.member.array.geometry 0 array.old.member.array.geometry.stripes 0)
         (scrubbed array.old.member.array.geometry.stripes cells)
         (devices rack.old (IsOpen array.old) watchers.old.items)
         (devices rack.new (IsOpen array.new) watchers.new.items)) }
     ensures refused { IfErr result (λ fault. ComesTo
-        (device_view (rack_view R.is_honest R.history R.bads R.gones) (watcher_view told count (λ w. (Watcher-box w).left w.value) patience))
+        (device_view (rack_view R.Rack) hears)
         (scrubs array.old.member.array.geometry 0 array.old.member.array.geometry.stripes 0)
         (Over (status_of_fault fault))
         (devices rack.old (IsOpen array.old) watchers.old.items)
         (devices rack.new (IsOpen array.new) watchers.new.items)) }
-    ensures stay { AllStay (watcher_view told count (λ w. (Watcher-box w).left w.value) patience) watchers.new.items }
+    ensures stay { AllStay hears watchers.new.items }
 {
     let geometry = array.geometry();
     let slots = geometry.n();

@@ -21,13 +21,14 @@ ghost use Rattle.stair_watch.specs.declared.line.TheConstants.{LINE_LIMIT};
 use stair_base::Geometry;
 use stair_member::{Member, Why, survey};
 use stair_rack::{Rack, Sink};
-use stair_story::{Fault, Status, identity_digits, put_all};
+use stair_status::identity_digits;
+use stair_story::{Fault, Status, put_all};
 use stair_super::{Label, Mark};
 use stair_watch::Line;
 
 /// Looks for the array of the rack, and puts out what it is and what its slots are.
 pub(crate) fn show<R: Rack, K: Sink>(rack: &mut R, output: &mut K) -> Result<Status, Fault>
-    ensures { Shows (rack_view R.is_honest R.history R.bads R.gones) (sink_view K.held K.faults)
+    ensures { Shows (rack_view R.Rack) (sink_view K.Sink)
         result rack.old rack.new output.old output.new }
 {
     let member = survey(rack)?;
@@ -36,7 +37,7 @@ pub(crate) fn show<R: Rack, K: Sink>(rack: &mut R, output: &mut K) -> Result<Sta
 }
 
 fn put_member<K: Sink>(output: &mut K, member: &Member) -> Result<(), Fault>
-    ensures puts { PutsAll (sink_view K.held K.faults) result (show_text member.now)
+    ensures puts { PutsAll (sink_view K.Sink) result (show_text member.now)
         output.old output.new }
     ensures failed { IfErr result (λ fault. fault ≡ Fault.Output) }
 {
@@ -49,7 +50,7 @@ fn put_member<K: Sink>(output: &mut K, member: &Member) -> Result<(), Fault>
 
 // What the epoch names of the array.
 fn put_array<K: Sink>(output: &mut K, member: &Member) -> Result<(), Fault>
-    ensures puts { PutsAll (sink_view K.held K.faults) result (array_text member.now)
+    ensures puts { PutsAll (sink_view K.Sink) result (array_text member.now)
         output.old output.new }
     ensures failed { IfErr result (λ fault. fault ≡ Fault.Output) }
 {

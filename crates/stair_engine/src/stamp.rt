@@ -1,5 +1,4 @@
 ghost use Rattle.std.specs.Prelude.{ℕ};
-ghost use Rattle.stair_rack.specs.Watching.{watcher_view};
 ghost use Rattle.stair_engine.specs.Mending.{freeze_plan, label_plan, thaw_plan};
 ghost use Rattle.stair_story.specs.Devices.{MeansWhole, device_view};
 ghost use Rattle.stair_story.specs.Fault.{status_of};
@@ -22,14 +21,14 @@ pub(crate) fn freeze<R: Rack, K: Sink>(
     output: &mut K,
     watchers: &mut Vec<Box<dyn Watcher>>,
 ) -> Result<Status, Fault>
-    requires stay { AllStay (watcher_view told count (λ w. (Watcher-box w).left w.value) patience) watchers.old.items }
+    requires stay { AllStay hears watchers.old.items }
     ensures means { (counter : ℕ) → MeansWhole
-        (device_view (rack_view R.is_honest R.history R.bads R.gones) (watcher_view told count (λ w. (Watcher-box w).left w.value) patience))
-        (sink_alone K.held K.faults)
+        (device_view (rack_view R.Rack) hears)
+        (sink_alone K.Sink)
         freeze_plan (Over (status_of result))
         (outside tt output.old counter) (outside tt output.new counter)
         rack.old rack.new watchers.old.items watchers.new.items }
-    ensures stay { AllStay (watcher_view told count (λ w. (Watcher-box w).left w.value) patience) watchers.new.items }
+    ensures stay { AllStay hears watchers.new.items }
 {
     let mut array = session(alloc, rack, watchers)?;
     let slots = array.geometry().n();
@@ -46,14 +45,14 @@ pub(crate) fn thaw<R: Rack, K: Sink>(
     output: &mut K,
     watchers: &mut Vec<Box<dyn Watcher>>,
 ) -> Result<Status, Fault>
-    requires stay { AllStay (watcher_view told count (λ w. (Watcher-box w).left w.value) patience) watchers.old.items }
+    requires stay { AllStay hears watchers.old.items }
     ensures means { (counter : ℕ) → MeansWhole
-        (device_view (rack_view R.is_honest R.history R.bads R.gones) (watcher_view told count (λ w. (Watcher-box w).left w.value) patience))
-        (sink_alone K.held K.faults)
+        (device_view (rack_view R.Rack) hears)
+        (sink_alone K.Sink)
         thaw_plan (Over (status_of result))
         (outside tt output.old counter) (outside tt output.new counter)
         rack.old rack.new watchers.old.items watchers.new.items }
-    ensures stay { AllStay (watcher_view told count (λ w. (Watcher-box w).left w.value) patience) watchers.new.items }
+    ensures stay { AllStay hears watchers.new.items }
 {
     let mut array = session(alloc, rack, watchers)?;
     let slots = array.geometry().n();
@@ -71,14 +70,14 @@ pub(crate) fn label<R: Rack, K: Sink>(
     output: &mut K,
     watchers: &mut Vec<Box<dyn Watcher>>,
 ) -> Result<Status, Fault>
-    requires stay { AllStay (watcher_view told count (λ w. (Watcher-box w).left w.value) patience) watchers.old.items }
+    requires stay { AllStay hears watchers.old.items }
     ensures means { (counter : ℕ) → MeansWhole
-        (device_view (rack_view R.is_honest R.history R.bads R.gones) (watcher_view told count (λ w. (Watcher-box w).left w.value) patience))
-        (sink_alone K.held K.faults)
+        (device_view (rack_view R.Rack) hears)
+        (sink_alone K.Sink)
         (label_plan text) (Over (status_of result))
         (outside tt output.old counter) (outside tt output.new counter)
         rack.old rack.new watchers.old.items watchers.new.items }
-    ensures stay { AllStay (watcher_view told count (λ w. (Watcher-box w).left w.value) patience) watchers.new.items }
+    ensures stay { AllStay hears watchers.new.items }
 {
     let mut array = session(alloc, rack, watchers)?;
     let slots = array.geometry().n();

@@ -1,5 +1,4 @@
 ghost use Rattle.std.specs.Prelude.{◌≡◌, ℕ};
-ghost use Rattle.stair_rack.specs.Watching.{watcher_view};
 ghost use Rattle.stair_engine.specs.Volumes.{volumes_plan};
 ghost use Rattle.stair_story.specs.Devices.{MeansWhole, device_view};
 ghost use Rattle.stair_story.specs.Fault.{status_of};
@@ -28,14 +27,13 @@ pub(crate) fn volumes<R: Rack, S: Source, K: Sink>(
     watchers: &mut Vec<Box<dyn Watcher>>,
 ) -> Result<Status, Fault>
     requires some { MakesSome job.now }
-    requires stay { AllStay (watcher_view told count (λ w. (Watcher-box w).left w.value) patience) watchers.old.items }
+    requires stay { AllStay hears watchers.old.items }
     ensures means { (counter : ℕ) → MeansWhole
-        (device_view (rack_view R.is_honest R.history R.bads R.gones) (watcher_view told count (λ w. (Watcher-box w).left w.value) patience))
-        (views S.left S.ended S.faults K.held K.faults)
+        (device_view (rack_view R.Rack) hears) (views S.Source K.Sink)
         (volumes_plan job.now) (Over (status_of result))
         (outside input.old output.old counter) (outside input.new output.new counter)
         rack.old rack.new watchers.old.items watchers.new.items }
-    ensures stay { AllStay (watcher_view told count (λ w. (Watcher-box w).left w.value) patience) watchers.new.items }
+    ensures stay { AllStay hears watchers.new.items }
 {
     let member = survey(rack)?;
     let geometry = member.geometry();

@@ -1,5 +1,4 @@
 ghost use Rattle.std.specs.Prelude.{◌≡◌, ◌+◌, ◌*◌, ◌^◌, ◌<◌, ◌≤◌, ℕ, []};
-ghost use Rattle.stair_rack.specs.Watching.{watcher_view};
 ghost use Rattle.stair_array.specs.Promise.{Opened as IsOpen};
 ghost use Rattle.stair_engine.specs.Blocks.{IsInRange, write_plan, writes};
 ghost use Rattle.stair_model.specs.Geometry.{data_cells};
@@ -29,14 +28,13 @@ pub(crate) fn write<R: Rack, S: Source, K: Sink>(
     output: &mut K,
     watchers: &mut Vec<Box<dyn Watcher>>,
 ) -> Result<Status, Fault>
-    requires stay { AllStay (watcher_view told count (λ w. (Watcher-box w).left w.value) patience) watchers.old.items }
+    requires stay { AllStay hears watchers.old.items }
     ensures means { (counter : ℕ) → MeansWhole
-        (device_view (rack_view R.is_honest R.history R.bads R.gones) (watcher_view told count (λ w. (Watcher-box w).left w.value) patience))
-        (views S.left S.ended S.faults K.held K.faults)
+        (device_view (rack_view R.Rack) hears) (views S.Source K.Sink)
         (write_plan first blocks) (Over (status_of result))
         (outside input.old output.old counter) (outside input.new output.new counter)
         rack.old rack.new watchers.old.items watchers.new.items }
-    ensures stay { AllStay (watcher_view told count (λ w. (Watcher-box w).left w.value) patience) watchers.new.items }
+    ensures stay { AllStay hears watchers.new.items }
 {
     let member = survey(rack)?;
     let geometry = member.geometry();
@@ -64,16 +62,14 @@ fn write_input<C: StripeCode, R: Rack, S: Source, K: Sink>(
     requires needed { BYTES * blocks < 2 ^ 63 }
     requires room { data_cells array.old.member.array.geometry * BYTES ≤ piece.old.room }
     requires empty { piece.old.bytes ≡ [] }
-    requires stay { AllStay (watcher_view told count (λ w. (Watcher-box w).left w.value) patience) watchers.old.items }
+    requires stay { AllStay hears watchers.old.items }
     ensures means { (counter : ℕ) → MeansWith
-        (device_view (rack_view R.is_honest R.history R.bads R.gones)
-        (watcher_view told count (λ w. (Watcher-box w).left w.value) patience))
-        (views S.left S.ended S.faults K.held K.faults)
+        (device_view (rack_view R.Rack) hears) (views S.Source K.Sink)
         (writes array.old.member.array.geometry first blocks blocks 0 []) (Over (status_of result))
         (outside input.old output.old counter) (outside input.new output.new counter)
         (devices rack.old (IsOpen array.old) watchers.old.items)
         (devices rack.new (IsOpen array.new) watchers.new.items) }
-    ensures stay { AllStay (watcher_view told count (λ w. (Watcher-box w).left w.value) patience) watchers.new.items }
+    ensures stay { AllStay hears watchers.new.items }
 {
     let geometry = array.geometry();
     let mut intake = Intake::new(SECTOR as u64 * blocks);

@@ -1,6 +1,5 @@
 // Watchers over two calls of `stair`, and what they print.
 ghost use Rattle.std.specs.Prelude.{None};
-ghost use Rattle.stair_rack.specs.Watching.{watcher_view};
 ghost use Rattle.stair_watch.specs.WatcherList.{AllStay};
 
 use stair_calls::{Came, Ends, WHOLE, act, call_watched, sector, told, with_blocks, words_of};
@@ -89,8 +88,8 @@ fn ran(
     ends: Ends,
     watchers: &mut Vec<Box<dyn Watcher>>,
 ) -> Result<Came, AllocError>
-    requires { AllStay (watcher_view told count left patience) watchers.old.items }
-    ensures { AllStay (watcher_view told count left patience) watchers.new.items }
+    requires { AllStay hears watchers.old.items }
+    ensures { AllStay hears watchers.new.items }
 {
     let words = words_of(alloc, line)?;
     let mut sink = MemSink::new(alloc, ends.room)?;

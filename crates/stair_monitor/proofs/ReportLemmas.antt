@@ -15,7 +15,7 @@ use Rattle.stair_story.specs.Plan.{Plan, Over, Put, if_so}
 use Rattle.stair_story.specs.Question.{EventLine}
 use Rattle.stair_story.specs.Story.{Deed, Found, Took, TookLast, TakeFailed, Leads, Moves}
 use Rattle.stair_story.specs.Texts.{SCRIPT_LIMIT, TakesByte, ends_line, last_of}
-use Rattle.stair_story.specs.declared.status.Status.TheVariants.{BadLine, Done, Input, InputFault, OutputFault}
+use Rattle.stair_status.specs.declared.status.Status.TheVariants.{BadLine, Done, Input, InputFault, OutputFault}
 use Rattle.stair_watch.specs.Lines.{PutsFront}
 use Rattle.stair_monitor.specs.Reports.{EVENT_LIMIT, event_taken, report_over, report_plan, report_text, reports, status_of, status_of_report}
 use Rattle.stair_monitor.specs.Seen.{FailsByte, IsEventOf, IsReading, Reads, ReadsText, SeesLast, Tells}

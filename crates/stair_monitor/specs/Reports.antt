@@ -10,8 +10,8 @@ use Rattle.stair_rack.specs.declared.watcher.EventKind.TheVariants.{Fenced, Repa
 use Rattle.stair_story.specs.Plan.{Plan, Over, Ask, Put}
 use Rattle.stair_story.specs.Question.{EventLine}
 use Rattle.stair_story.specs.Texts.{LineDoes, SCRIPT_LIMIT, by_lines}
-use Rattle.stair_story.specs.declared.status.Status.{Status}
-use Rattle.stair_story.specs.declared.status.Status.TheVariants.{BadLine, Done, Input, InputFault, OutputFault}
+use Rattle.stair_status.specs.declared.status.Status.{Status}
+use Rattle.stair_status.specs.declared.status.Status.TheVariants.{BadLine, Done, Input, InputFault, OutputFault}
 use Rattle.stair_watch.specs.Lines.{newline}
 
 -- how often a slot was fenced

@@ -1,10 +1,10 @@
 // A watcher with a limit of events of one kind.
-ghost use Rattle.std.specs.Prelude.{◌≡◌, ◌≢◌, ◌≤◌, ◌^◌, ◌-◌, ◌↔◌, IsTrue, None, Some, false};
+ghost use Rattle.std.specs.Prelude.{◌≡◌, ◌≢◌, ◌≤◌, ◌^◌, ◌-◌, ◌↔◌, IsTrue, false};
 ghost use Rattle.stair_rack.specs.Watching.{HearsOne, kind_of};
 ghost use Rattle.stair_rack.specs.declared.watcher.Next.{Next};
 ghost use Rattle.stair_watch.specs.Lines.{Prints, event_line};
 ghost use Rattle.stair_watch.specs.Watchers.{count_in, no_counts, sum_in};
-ghost use Rattle.stair_monitor.specs.Quotas.{quota_left, quota_patience, quota_view, quota_waits};
+ghost use Rattle.stair_monitor.specs.Quotas.{quota_left, quota_view, quota_waits};
 
 use crate::printing::text_of;
 use stair_rack::{Counts, Event, EventKind, Next, Sink, Watcher};
@@ -61,13 +61,7 @@ impl<K: Sink + Drop> Quota<K> {
 }
 
 impl<K: Sink + Drop> Watcher for Quota<K> {
-    ghost left = { quota_left };
-
-    ghost count = { λ q. count_in q.counts };
-
-    ghost told = { λ _. None };
-
-    ghost patience = { λ q. Some (quota_patience q) };
+    ghost hears = { quota_view };
 
     ghost waits = { quota_waits };
 

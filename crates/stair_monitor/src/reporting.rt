@@ -36,7 +36,7 @@ pub enum ReportFault {
 /// ([`read_event`]). A text has at most as many bytes as a script. It is taken byte by byte, and nothing is put out before all of it
 /// was. It takes no memory.
 pub fn report<S: Source, K: Sink>(input: &mut S, output: &mut K) -> Result<(), ReportFault>
-    ensures { (counter : ℕ) → Means (views S.left S.ended S.faults K.held K.faults)
+    ensures { (counter : ℕ) → Means (views S.Source K.Sink)
         report_plan (Over (status_of result))
         (outside input.old output.old counter) (outside input.new output.new counter) }
 {
@@ -144,7 +144,7 @@ fn push_slot(text: &mut Line, slot: u8, fences: u32)
 
 // Takes the whole text, and counts its events.
 fn take_events<S: Source>(input: &mut S) -> Result<Seen, ReportFault>
-    ensures { ReadsText (source_view S.left S.ended S.faults) result input.old input.new }
+    ensures { ReadsText (source_view S.Source) result input.old input.new }
 {
     let mut seen = Seen::none();
     let mut line = Line::new();
@@ -192,9 +192,9 @@ fn event_of(line: &[u8], number: u64) -> Result<Event, ReportFault>
 
 // Takes the next byte of the input, unless that has ended.
 fn next_byte<S: Source>(input: &mut S) -> Result<Option<u8>, ReportFault>
-    ensures taken { IfOk result (λ byte. TakesByte (source_view S.left S.ended S.faults)
+    ensures taken { IfOk result (λ byte. TakesByte (source_view S.Source)
         byte input.old input.new) }
-    ensures failed { IfErr result (λ why. FailsByte (source_view S.left S.ended S.faults)
+    ensures failed { IfErr result (λ why. FailsByte (source_view S.Source)
         why input.old input.new) }
 {
     let mut piece = [0];

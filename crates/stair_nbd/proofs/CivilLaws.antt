@@ -9,7 +9,7 @@ use Rattle.stair_array.specs.Machine.{Answer, ReadBlock, Step, WriteBlocks}
 use Rattle.stair_story.specs.Plan.{Plan, Over, Put, Try, if_so, take_exactly}
 use Rattle.stair_story.specs.Served.{EndsDone}
 use Rattle.stair_story.specs.Story.{AreEnough}
-use Rattle.stair_story.specs.declared.status.Status.TheVariants.{BadMessage, Done, Input}
+use Rattle.stair_status.specs.declared.status.Status.TheVariants.{BadMessage, Done, Input}
 use Rattle.stair_nbd.specs.declared.wire.OptionRequest.{OptionRequest}
 use Rattle.stair_nbd.specs.declared.wire.Request.{Request}
 use Rattle.stair_nbd.specs.Civil.{AreOptions, AreRequests, IsCivil, IsMessage}

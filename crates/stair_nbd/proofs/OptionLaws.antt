@@ -5,8 +5,8 @@ use Rattle.std.specs.Result.{IsErrAnd}
 use Rattle.stair_story.specs.Outside.{SourceView, Views}
 use Rattle.stair_story.specs.Plan.{Plan, Over, Put, if_so}
 use Rattle.stair_story.specs.Talks.{PutsTo, TakesTo, TalksTo}
-use Rattle.stair_story.specs.declared.status.Status.{Status}
-use Rattle.stair_story.specs.declared.status.Status.TheVariants.{BadMessage, Done}
+use Rattle.stair_status.specs.declared.status.Status.{Status}
+use Rattle.stair_status.specs.declared.status.Status.TheVariants.{BadMessage, Done}
 use Rattle.stair_story.proofs.TalkLaws.{talks_none, talks_put, talks_taken, talks_then}
 use Rattle.stair_nbd.specs.Client.{SESSION_LIMIT, answers_option, if_message, options, status_of_nbd, takes_data, takes_header, too_late}
 use Rattle.stair_nbd.specs.Sessions.{after_header, after_options}

@@ -15,8 +15,8 @@ use Rattle.stair_story.specs.Talks.{PutsTo, TakesTo, TalksTo}
 use Rattle.stair_story.proofs.ComesLaws.{with_comes}
 use Rattle.stair_story.proofs.DeviceLaws.{with_none, with_then}
 use Rattle.stair_story.proofs.TalkLaws.{talks_put, talks_taken, with_talk}
-use Rattle.stair_story.specs.declared.status.Status.{Status}
-use Rattle.stair_story.specs.declared.status.Status.TheVariants.{BadMessage, Done}
+use Rattle.stair_status.specs.declared.status.Status.{Status}
+use Rattle.stair_status.specs.declared.status.Status.TheVariants.{BadMessage, Done}
 use Rattle.stair_nbd.specs.declared.fault.NbdFault.{NbdFault}
 use Rattle.stair_nbd.specs.declared.place.Place.{Place}
 use Rattle.stair_nbd.specs.declared.reply.Reply.{Reply}

@@ -3,8 +3,8 @@ use Rattle.std.proofs.Common.{◌≡◌, ◌∙◌, ℕ, Bool, true, false, List
 use Rattle.stair_story.specs.Outside.{Views}
 use Rattle.stair_story.specs.Plan.{Plan, Over, Put, if_so}
 use Rattle.stair_story.specs.Talks.{PutsTo, TakesTo, TalksTo}
-use Rattle.stair_story.specs.declared.status.Status.{Status}
-use Rattle.stair_story.specs.declared.status.Status.TheVariants.{BadMessage}
+use Rattle.stair_status.specs.declared.status.Status.{Status}
+use Rattle.stair_status.specs.declared.status.Status.TheVariants.{BadMessage}
 use Rattle.stair_story.proofs.TalkLaws.{talks_put, talks_taken, talks_then}
 use Rattle.stair_nbd.specs.Client.{SESSION_LIMIT, options, shakes_hands, takes_header}
 use Rattle.stair_nbd.specs.Sessions.{after_options}

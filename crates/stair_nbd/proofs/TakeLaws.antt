@@ -6,7 +6,7 @@ use Rattle.std.proofs.lemmas.Slice.{between-put_mid}
 use borrow.Rule.Slice.PartMut.{put_mid}
 use Rattle.stair_model.specs.Stripe.{SECTOR}
 use Rattle.stair_story.specs.declared.streams.Filled.TheVariants.{Enough, Failed, Short}
-use Rattle.stair_story.specs.declared.status.Status.TheVariants.{BadMessage, Done, Input, InputFault}
+use Rattle.stair_status.specs.declared.status.Status.TheVariants.{BadMessage, Done, Input, InputFault}
 use Rattle.stair_story.specs.Means.{Gives}
 use Rattle.stair_story.specs.Outside.{SourceView}
 use Rattle.stair_story.specs.Plan.{Plan, Over, take_exactly}

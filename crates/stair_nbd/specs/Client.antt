@@ -6,8 +6,8 @@ use Rattle.stair_array.specs.Arrays.{blocks_of}
 use Rattle.stair_array.specs.Machine.{GivenBy, ReadBlock, Refusal, Step, WriteBlocks}
 use Rattle.stair_story.specs.Pieces.{piece_blocks}
 use Rattle.stair_story.specs.Plan.{Plan, Over, Put, Try, if_so, take_exactly}
-use Rattle.stair_story.specs.declared.status.Status.{Status}
-use Rattle.stair_story.specs.declared.status.Status.TheVariants.{BadMessage, Done, Input, InputFault, OutputFault}
+use Rattle.stair_status.specs.declared.status.Status.{Status}
+use Rattle.stair_status.specs.declared.status.Status.TheVariants.{BadMessage, Done, Input, InputFault, OutputFault}
 use Rattle.stair_nbd.specs.declared.fault.NbdFault.{NbdFault}
 use Rattle.stair_nbd.specs.declared.fault.NbdFault.TheVariants as fault
 use Rattle.stair_nbd.specs.declared.wire.Command.{Command}

@@ -5,7 +5,7 @@ use Rattle.stair_array.specs.declared.fault.ArrayFault.{ArrayFault}
 use Rattle.stair_story.specs.Outside.{SourceView}
 use Rattle.stair_story.specs.Plan.{Plan, Over}
 use Rattle.stair_story.specs.Talks.{TakesTo}
-use Rattle.stair_story.specs.declared.status.Status.TheVariants.{Done}
+use Rattle.stair_status.specs.declared.status.Status.TheVariants.{Done}
 use Rattle.stair_nbd.specs.declared.fault.NbdFault.{NbdFault}
 use Rattle.stair_nbd.specs.declared.place.Place.{Place}
 use Rattle.stair_nbd.specs.declared.reply.Reply.{Reply}

@@ -3,7 +3,6 @@ ghost use Rattle.std.specs.Prelude.{◌≡◌, ◌+◌, ◌*◌, ◌/◌, ◌^�
 ghost use Rattle.stair_array.specs.Promise.{Opened as IsOpen};
 ghost use Rattle.stair_model.specs.Geometry.{block_count};
 ghost use Rattle.stair_model.specs.Stripe.{SECTOR as BYTES};
-ghost use Rattle.stair_rack.specs.Watching.{watcher_view};
 ghost use Rattle.stair_story.specs.Comes.{ComesTo};
 ghost use Rattle.stair_story.specs.Devices.{device_view, devices};
 ghost use Rattle.stair_story.specs.Plan.{Plan};
@@ -117,17 +116,17 @@ pub(crate) fn respond<C: StripeCode, R: Rack>(
     watchers: &mut Vec<Box<dyn Watcher>>,
 ) -> Reply
     requires room { length buffer.old ≡ BUFFER }
-    requires stay { AllStay (watcher_view told count left patience) watchers.old.items }
+    requires stay { AllStay hears watchers.old.items }
     ensures comes { (bytes : List ℕ) → IsKept (size_of array.old.member.array.geometry) request.now (data_length request.now) bytes buffer.old
         → (k : Comes) → ComesTo
-        (device_view (rack_view R.is_honest R.history R.bads R.gones) (watcher_view told count left patience))
+        (device_view (rack_view R.Rack) hears)
         (responds array.old.member.array.geometry request.now bytes k request.now.command)
         (k result.error (data_of result buffer.new))
         (devices rack.old (IsOpen array.old) watchers.old.items)
         (devices rack.new (IsOpen array.new) watchers.new.items) }
     ensures geometry { array.new.member.array.geometry ≡ array.old.member.array.geometry }
     ensures within { result.start + result.length ≤ length buffer.new }
-    ensures stay { AllStay (watcher_view told count left patience) watchers.new.items }
+    ensures stay { AllStay hears watchers.new.items }
 {
     match request.command {
         Command::Read => read(request, array, rack, buffer, watchers),
@@ -146,16 +145,16 @@ fn read<C: StripeCode, R: Rack>(
     watchers: &mut Vec<Box<dyn Watcher>>,
 ) -> Reply
     requires room { length buffer.old ≡ BUFFER }
-    requires stay { AllStay (watcher_view told count left patience) watchers.old.items }
+    requires stay { AllStay hears watchers.old.items }
     ensures comes { (k : Comes) → ComesTo
-        (device_view (rack_view R.is_honest R.history R.bads R.gones) (watcher_view told count left patience))
+        (device_view (rack_view R.Rack) hears)
         (reads_for array.old.member.array.geometry request.now k)
         (k result.error (data_of result buffer.new))
         (devices rack.old (IsOpen array.old) watchers.old.items)
         (devices rack.new (IsOpen array.new) watchers.new.items) }
     ensures geometry { array.new.member.array.geometry ≡ array.old.member.array.geometry }
     ensures within { result.start + result.length ≤ length buffer.new }
-    ensures stay { AllStay (watcher_view told count left patience) watchers.new.items }
+    ensures stay { AllStay hears watchers.new.items }
 {
     let size = array_size(array);
     if request.is_too_long() || request.is_past(size) {
@@ -188,15 +187,15 @@ fn read_blocks<C: StripeCode, R: Rack>(
 ) -> Result<(), ArrayFault>
     requires whole { BYTES * (length into.old / BYTES) ≡ length into.old }
     requires fits { first + length into.old < 2 ^ 64 }
-    requires stay { AllStay (watcher_view told count left patience) watchers.old.items }
+    requires stay { AllStay hears watchers.old.items }
     ensures comes { (refused : Plan) (k : List ℕ → Plan) → ComesTo
-        (device_view (rack_view R.is_honest R.history R.bads R.gones) (watcher_view told count left patience))
+        (device_view (rack_view R.Rack) hears)
         (reads_on first (length into.old / BYTES) [] refused k)
         (after_steps result refused (k into.new))
         (devices rack.old (IsOpen array.old) watchers.old.items)
         (devices rack.new (IsOpen array.new) watchers.new.items) }
     ensures geometry { array.new.member.array.geometry ≡ array.old.member.array.geometry }
-    ensures stay { AllStay (watcher_view told count left patience) watchers.new.items }
+    ensures stay { AllStay hears watchers.new.items }
 {
     let mut block = [0; SECTOR];
     for i in 0..into.len() / SECTOR {
@@ -215,15 +214,15 @@ fn write<C: StripeCode, R: Rack>(
     watchers: &mut Vec<Box<dyn Watcher>>,
 ) -> ReplyError
     requires room { length buffer.old ≡ BUFFER }
-    requires stay { AllStay (watcher_view told count left patience) watchers.old.items }
+    requires stay { AllStay hears watchers.old.items }
     ensures comes { (bytes : List ℕ) → IsKept (size_of array.old.member.array.geometry) request.now request.now.length bytes buffer.old
         → (k : Comes) → ComesTo
-        (device_view (rack_view R.is_honest R.history R.bads R.gones) (watcher_view told count left patience))
+        (device_view (rack_view R.Rack) hears)
         (writes_for array.old.member.array.geometry request.now bytes k) (k result [])
         (devices rack.old (IsOpen array.old) watchers.old.items)
         (devices rack.new (IsOpen array.new) watchers.new.items) }
     ensures geometry { array.new.member.array.geometry ≡ array.old.member.array.geometry }
-    ensures stay { AllStay (watcher_view told count left patience) watchers.new.items }
+    ensures stay { AllStay hears watchers.new.items }
 {
     if request.is_too_long() {
         return ReplyError::Invalid;
@@ -253,16 +252,16 @@ fn write_touched<C: StripeCode, R: Rack>(
     requires inside { is_past (size_of array.old.member.array.geometry) request.now ≡ false }
     requires fits { request.now.offset + request.now.length < 2 ^ 64 }
     requires some { 0 < request.now.length }
-    requires stay { AllStay (watcher_view told count left patience) watchers.old.items }
+    requires stay { AllStay hears watchers.old.items }
     ensures comes { (refused done : Plan) → ComesTo
-        (device_view (rack_view R.is_honest R.history R.bads R.gones) (watcher_view told count left patience))
+        (device_view (rack_view R.Rack) hears)
         (writes_blocks array.old.member.array.geometry request.now
         (take request.now.length (drop (bytes_skipped request.now) buffer.old)) refused done)
         (after_steps result refused done)
         (devices rack.old (IsOpen array.old) watchers.old.items)
         (devices rack.new (IsOpen array.new) watchers.new.items) }
     ensures geometry { array.new.member.array.geometry ≡ array.old.member.array.geometry }
-    ensures stay { AllStay (watcher_view told count left patience) watchers.new.items }
+    ensures stay { AllStay hears watchers.new.items }
 {
     let whole = SECTOR * request.touched();
     read_around(request, array, rack, &mut buffer[..whole], watchers)?;
@@ -286,9 +285,9 @@ fn read_around<C: StripeCode, R: Rack>(
     requires whole { length blocks.old ≡ BYTES * blocks_touched (bytes_skipped request.now) request.now.length }
     requires some { 0 < request.now.length }
     requires fits { request.now.offset + request.now.length < 2 ^ 64 }
-    requires stay { AllStay (watcher_view told count left patience) watchers.old.items }
+    requires stay { AllStay hears watchers.old.items }
     ensures comes { (refused : Plan) (k : List ℕ → Plan) → ComesTo
-        (device_view (rack_view R.is_honest R.history R.bads R.gones) (watcher_view told count left patience))
+        (device_view (rack_view R.Rack) hears)
         (reads_front request.now refused (λ front. reads_back request.now front refused
         (λ back. k (around request.now front
         (take request.now.length (drop (bytes_skipped request.now) blocks.old)) back))))
@@ -296,7 +295,7 @@ fn read_around<C: StripeCode, R: Rack>(
         (devices rack.old (IsOpen array.old) watchers.old.items)
         (devices rack.new (IsOpen array.new) watchers.new.items) }
     ensures geometry { array.new.member.array.geometry ≡ array.old.member.array.geometry }
-    ensures stay { AllStay (watcher_view told count left patience) watchers.new.items }
+    ensures stay { AllStay hears watchers.new.items }
 {
     let mut block = [0; SECTOR];
     let before = request.skipped();
@@ -325,16 +324,16 @@ fn write_blocks<C: StripeCode, R: Rack>(
 ) -> Result<(), ArrayFault>
     requires whole { BYTES * (length blocks.now / BYTES) ≡ length blocks.now }
     requires within { first + length blocks.now / BYTES ≤ block_count array.old.member.array.geometry }
-    requires stay { AllStay (watcher_view told count left patience) watchers.old.items }
+    requires stay { AllStay hears watchers.old.items }
     ensures comes { (refused done : Plan) → ComesTo
-        (device_view (rack_view R.is_honest R.history R.bads R.gones) (watcher_view told count left patience))
+        (device_view (rack_view R.Rack) hears)
         (writes_on array.old.member.array.geometry (length blocks.now / BYTES) first
         (length blocks.now / BYTES) blocks.now refused done)
         (after_steps result refused done)
         (devices rack.old (IsOpen array.old) watchers.old.items)
         (devices rack.new (IsOpen array.new) watchers.new.items) }
     ensures geometry { array.new.member.array.geometry ≡ array.old.member.array.geometry }
-    ensures stay { AllStay (watcher_view told count left patience) watchers.new.items }
+    ensures stay { AllStay hears watchers.new.items }
 {
     let geometry = array.geometry();
     let mut done = 0;

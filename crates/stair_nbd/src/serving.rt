@@ -1,7 +1,6 @@
 // A session: a client's flags, options, and requests.
 ghost use Rattle.std.specs.Prelude.{◌≡◌, ℕ, IfOk, IfSome, length};
 ghost use Rattle.stair_array.specs.Promise.{Opened as IsOpen};
-ghost use Rattle.stair_rack.specs.Watching.{watcher_view};
 ghost use Rattle.stair_story.specs.Devices.{MeansWith, device_view, devices};
 ghost use Rattle.stair_story.specs.Outside.{outside, views};
 ghost use Rattle.stair_story.specs.Plan.{Over, Plan};
@@ -43,15 +42,14 @@ pub fn session<C: StripeCode, R: Rack, S: Source, K: Sink>(
     watchers: &mut Vec<Box<dyn Watcher>>,
 ) -> Result<(), NbdFault>
     requires room { length buffer.old ≡ ROOM }
-    requires stay { AllStay (watcher_view told count (λ w. (Watcher-box w).left w.value) patience) watchers.old.items }
+    requires stay { AllStay hears watchers.old.items }
     ensures means { (counter : ℕ) → MeansWith
-        (device_view (rack_view R.is_honest R.history R.bads R.gones) (watcher_view told count (λ w. (Watcher-box w).left w.value) patience))
-        (views S.left S.ended S.faults K.held K.faults)
+        (device_view (rack_view R.Rack) hears) (views S.Source K.Sink)
         (client_plan array.old.member.array.geometry) (Over (status_of result))
         (outside input.old output.old counter) (outside input.new output.new counter)
         (devices rack.old (IsOpen array.old) watchers.old.items)
         (devices rack.new (IsOpen array.new) watchers.new.items) }
-    ensures stay { AllStay (watcher_view told count (λ w. (Watcher-box w).left w.value) patience) watchers.new.items }
+    ensures stay { AllStay hears watchers.new.items }
 {
     let size = array_size(array);
     match shake_hands(size, buffer, input, output)? {
@@ -70,7 +68,7 @@ fn shake_hands<S: Source, K: Sink>(
 ) -> Result<Option<Place>, NbdFault>
     requires room { length buffer.old ≡ ROOM }
     ensures talks { (rest : (number taken : ℕ) → Plan) → TalksTo
-        (views S.left S.ended S.faults K.held K.faults)
+        (views S.Source K.Sink)
         (shakes_hands size rest) (after_options result rest)
         input.old input.new output.old output.new }
     ensures place { IfOk result (λ place. IfSome place IsPlace) }
@@ -96,7 +94,7 @@ fn answer_options<S: Source, K: Sink>(
 ) -> Result<Option<Place>, NbdFault>
     requires room { length buffer.old ≡ ROOM }
     ensures talks { (rest : (number taken : ℕ) → Plan) → TalksTo
-        (views S.left S.ended S.faults K.held K.faults)
+        (views S.Source K.Sink)
         (options export.now rest LIMIT 2 4) (after_options result rest)
         input.old input.new output.old output.new }
     ensures place { IfOk result (λ place. IfSome place IsPlace) }
@@ -143,15 +141,14 @@ fn answer_requests<C: StripeCode, R: Rack, S: Source, K: Sink>(
 ) -> Result<(), NbdFault>
     requires place { IsPlace place }
     requires room { length buffer.old ≡ ROOM }
-    requires stay { AllStay (watcher_view told count (λ w. (Watcher-box w).left w.value) patience) watchers.old.items }
+    requires stay { AllStay hears watchers.old.items }
     ensures means { (counter : ℕ) → MeansWith
-        (device_view (rack_view R.is_honest R.history R.bads R.gones) (watcher_view told count (λ w. (Watcher-box w).left w.value) patience))
-        (views S.left S.ended S.faults K.held K.faults)
+        (device_view (rack_view R.Rack) hears) (views S.Source K.Sink)
         (requests array.old.member.array.geometry LIMIT place.number place.taken) (Over (status_of result))
         (outside input.old output.old counter) (outside input.new output.new counter)
         (devices rack.old (IsOpen array.old) watchers.old.items)
         (devices rack.new (IsOpen array.new) watchers.new.items) }
-    ensures stay { AllStay (watcher_view told count (λ w. (Watcher-box w).left w.value) patience) watchers.new.items }
+    ensures stay { AllStay hears watchers.new.items }
 {
     let size = array_size(array);
     while !place.is_too_late() {

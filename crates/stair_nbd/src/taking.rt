@@ -18,7 +18,7 @@ pub(crate) const DATA_LIMIT: u32 = 1 << 25;
 /// Takes a header whole. It tells whether there was one: the input may end before it.
 pub(crate) fn take_header<S: Source>(input: &mut S, header: &mut [u8]) -> Result<bool, NbdFault>
     requires { 0 < length header.old }
-    ensures { (k : List ℕ → Plan) → TakesTo (source_view S.left S.ended S.faults)
+    ensures { (k : List ℕ → Plan) → TakesTo (source_view S.Source)
         (takes_header (length header.old) k) (after_header result header.new k)
         input.old input.new }
 {
@@ -42,7 +42,7 @@ pub(crate) fn take_data<S: Source>(
 ) -> Result<(), NbdFault>
     requires short { header ≤ 28 }
     requires fits { length into.old < 4294967296 }
-    ensures { (k : List ℕ → Plan) → TakesTo (source_view S.left S.ended S.faults)
+    ensures { (k : List ℕ → Plan) → TakesTo (source_view S.Source)
         (takes_data header (length into.old) k) (after_data result into.new k)
         input.old input.new }
 {
@@ -70,7 +70,7 @@ pub(crate) fn drop_data<S: Source>(
     requires short { header ≤ 28 }
     requires room { length buffer.old ≡ BUFFER }
     ensures { (bytes : List ℕ) × ((k : List ℕ → Plan) →
-        TakesTo (source_view S.left S.ended S.faults)
+        TakesTo (source_view S.Source)
         (takes_data header count k) (after_data result bytes k)
         input.old input.new) }
 {
@@ -101,7 +101,7 @@ pub(crate) fn take_request_data<S: Source>(
     buffer: &mut [u8],
 ) -> Result<(), NbdFault>
     requires { length buffer.old ≡ BUFFER }
-    ensures { TakesData (source_view S.left S.ended S.faults) size request.now result buffer.new
+    ensures { TakesData (source_view S.Source) size request.now result buffer.new
         input.old input.new }
 {
     let length = request.data_length();
@@ -118,7 +118,7 @@ pub(crate) fn take_request_data<S: Source>(
 
 /// Looks for the end of the input where no message may begin any more.
 pub(crate) fn take_end<S: Source>(input: &mut S, place: Place) -> Result<(), NbdFault>
-    ensures { TakesTo (source_view S.left S.ended S.faults)
+    ensures { TakesTo (source_view S.Source)
         (comes_too_late place.number) (Over (status_of result)) input.old input.new }
 {
     match take_at_least(input, 1, &mut [0]) {
@@ -130,7 +130,7 @@ pub(crate) fn take_end<S: Source>(input: &mut S, place: Place) -> Result<(), Nbd
 
 /// Puts the bytes out.
 pub(crate) fn put<K: Sink>(output: &mut K, bytes: &[u8]) -> Result<(), NbdFault>
-    ensures { (rest : Plan) → PutsTo (sink_view K.held K.faults)
+    ensures { (rest : Plan) → PutsTo (sink_view K.Sink)
         (Put bytes.now rest) (after_done result rest) output.old output.new }
 {
     match put_all(output, bytes) {

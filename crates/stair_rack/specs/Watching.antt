@@ -48,17 +48,23 @@ pub record Patience : Type 0 where
   pub all : ℕ
   pub kind : Option (EventKind × ℕ)
 
--- what a watcher tells: whether it has left, its counts, its list and its patience
-pub record WatcherView (W : Type 0) : Type 0 where
-  pub told : W → Option (List Event)
-  pub count : W → EventKind → ℕ
-  pub left : W → Bool
-  pub patience : W → Option Patience
+-- what a watcher tells: the events that it was told, the oldest first, where it tells these; how many of each kind; whether it
+-- has left; and how many events more it waits for, where it tells that
+pub record Heard : Type 0 where
+  pub told : Option (List Event)
+  pub count : EventKind → ℕ
+  pub left : Bool
+  pub patience : Option Patience
 
+-- how watchers are seen: what each of them tells
+abbrev pub WatcherView : Type 0 → Type 0
+WatcherView W = W → Heard
+
+-- one that is given member by member
 abbrev pub watcher_view : {W : Type 0} → (W → Option (List Event)) → (W → EventKind → ℕ) →
     (W → Bool) → (W → Option Patience) → WatcherView W
-watcher_view told count left patience =
-    record { told = told; count = count; left = left; patience = patience }
+watcher_view told count left patience w =
+    record { told = told w; count = count w; left = left w; patience = patience w }
 
 -- so many of a kind less
 abbrev pub less_of : List Event → EventKind × ℕ → EventKind × ℕ
@@ -78,12 +84,12 @@ IsPatient events patience = (length events < patience.all)
 
 -- A watcher was told these events: its list grows by them, each count by those of its kind, and it waits for so many less.
 pub record Hears {W : Type 0} (view : WatcherView W) (events : List Event) (old new : W) : Type 0 where
-  pub list : view.told new ≡ option_map (λ told. told ++ events) (view.told old)
-  pub counts : (kind : EventKind) → view.count new kind ≡ view.count old kind + count_of kind events
-  pub waits : view.patience new ≡ option_map (less events) (view.patience old)
+  pub list : (view new).told ≡ option_map (λ told. told ++ events) (view old).told
+  pub counts : (kind : EventKind) → (view new).count kind ≡ (view old).count kind + count_of kind events
+  pub waits : (view new).patience ≡ option_map (less events) (view old).patience
 
 -- A watcher that tells its patience left at this event exactly where it was the last that it waited for.
 pub record HearsOne {W : Type 0} (view : WatcherView W) (one : Event) (old new : W) : Type 0 where
   pub hears : Hears view (one ∷ []) old new
-  pub leaves : IfSome (view.patience old) (λ patience.
-      (view.left new ≡ false) ↔ IsPatient (one ∷ []) patience)
+  pub leaves : IfSome (view old).patience (λ patience.
+      ((view new).left ≡ false) ↔ IsPatient (one ∷ []) patience)

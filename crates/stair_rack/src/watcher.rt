@@ -1,8 +1,6 @@
 // What is told of an array as it changes, and who is told.
-ghost use Rattle.std.specs.Prelude.{◌≡◌, ◌↔◌, ◌≤◌, ◌^◌, ◌-◌, ℕ, Bool, IfSome, IsTrue, List, [], Option, true, false};
-ghost use Rattle.stair_rack.specs.declared.watcher.Event.{Event};
-ghost use Rattle.stair_rack.specs.declared.watcher.EventKind.{EventKind};
-ghost use Rattle.stair_rack.specs.Watching.{HearsOne, IsPatient, Patience, counts_of, event_at, sum_of_counts, watcher_view};
+ghost use Rattle.std.specs.Prelude.{◌≡◌, ◌↔◌, ◌≤◌, ◌^◌, ◌-◌, IfSome, IsTrue, [], false};
+ghost use Rattle.stair_rack.specs.Watching.{Heard, HearsOne, IsPatient, counts_of, event_at, sum_of_counts};
 
 /// What was done to the slots of an array, or to the cells of a stripe.
 #[derive(Clone, Copy, Debug, PartialEq, Eq, Drop)]
@@ -66,36 +64,27 @@ pub enum Next {
 /// it waits for, of all kinds and, where it waits for one kind besides, of that kind. It then leaves exactly at the event by
 /// which one of these numbers is reached.
 pub trait Watcher: Drop {
-    // Whether it has left.
-    ghost left: { Self → Bool };
-
-    // How many events of each kind it was told.
-    ghost count: { Self → EventKind → ℕ };
-
-    // What it was told, the oldest first, where it tells that.
-    ghost told: { Self → Option (List Event) };
-
-    // How many events more it waits for, where it tells that.
-    ghost patience: { Self → Option Patience };
+    // What it tells.
+    ghost hears: { Self → Heard };
 
     /// Is told of an event. It takes no memory.
     ///
     /// - `Stay`: it is told of the next one too.
     /// - `Leave`: it has left, at the latest where it was told of 2^64 - 1 events in all.
     fn notice(&mut self, event: Event) -> Next
-        requires { left self.old ≡ false }
-        ensures left { (result ≡ Next.Leave) ↔ IsTrue (left self.new) }
-        ensures heard { HearsOne (watcher_view told count left patience) event self.old self.new }
-        ensures full { 2 ^ 64 - 1 ≤ sum_of_counts (count self.new) → result ≡ Next.Leave };
+        requires { (hears self.old).left ≡ false }
+        ensures left { (result ≡ Next.Leave) ↔ IsTrue (hears self.new).left }
+        ensures heard { HearsOne hears event self.old self.new }
+        ensures full { 2 ^ 64 - 1 ≤ sum_of_counts (hears self.new).count → result ≡ Next.Leave };
 
     /// How many events of each kind it was told.
     fn counts(&self) -> Counts
-        ensures { result ≡ counts_of (count self.now) };
+        ensures { result ≡ counts_of (hears self.now).count };
 
     /// Event number `at` of those that it tells, counted from 0, and `None` exactly where it tells none or has no such event.
     fn kept(&self, at: u64) -> Option<Event>
-        ensures { result ≡ event_at (told self.now) at };
+        ensures { result ≡ event_at (hears self.now).told at };
 
     // One that hasn't left waits for an event more at least.
-    ghost waits: { (w : Self) → left w ≡ false → IfSome (patience w) (IsPatient []) };
+    ghost waits: { (w : Self) → (hears w).left ≡ false → IfSome (hears w).patience (IsPatient []) };
 }

@@ -2,8 +2,8 @@
 -- call that means the plan.
 use Rattle.std.proofs.Common.{◌≡◌, ℕ, Bool, ◌<◌, List, [], ◌∷◌, Ok, Err, length, refl, sym, subst}
 use Rattle.stair_array.specs.Machine.{Answer, Chunk, Dropped, Nothing, Progress, Promoted, Refusal}
-use Rattle.stair_story.specs.declared.status.Status.{Status}
-use Rattle.stair_story.specs.declared.status.Status.TheVariants.{InputFault, OutputFault, OutOfMemory}
+use Rattle.stair_status.specs.declared.status.Status.{Status}
+use Rattle.stair_status.specs.declared.status.Status.TheVariants.{InputFault, OutputFault, OutOfMemory}
 use Rattle.stair_story.specs.Action.{Action, OkOf, Outcome, RefusalOf, refused}
 use Rattle.stair_story.specs.Ending.{EndsIn}
 use Rattle.stair_story.specs.Means.{Counts, Gives, Holds, Means}

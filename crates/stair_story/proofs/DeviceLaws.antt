@@ -8,8 +8,8 @@ use Rattle.stair_watch.specs.WatcherList.{AllStay, TellsAll}
 use Rattle.stair_story.specs.Laws.{AreTold}
 use Rattle.stair_watch.proofs.WatchLemmas.{all_told, stay_throughout, told_then}
 use Rattle.stair_story.specs.declared.fault.Fault.{Fault}
-use Rattle.stair_story.specs.declared.status.Status.{Status}
-use Rattle.stair_story.specs.declared.status.Status.TheVariants.{OutputFault}
+use Rattle.stair_status.specs.declared.status.Status.{Status}
+use Rattle.stair_status.specs.declared.status.Status.TheVariants.{OutputFault}
 use Rattle.stair_story.specs.Fault.{status_of, status_of_fault}
 use Rattle.stair_story.specs.Means.{Counts, Gives, Holds, Means}
 use Rattle.stair_story.proofs.EndingLaws.{gives_along}

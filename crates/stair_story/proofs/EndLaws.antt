@@ -1,6 +1,6 @@
 -- Plans that are over, and outsides that are left.
 use Rattle.std.proofs.Common.{◌≡◌}
-use Rattle.stair_story.specs.declared.status.Status.{Status}
+use Rattle.stair_status.specs.declared.status.Status.{Status}
 use Rattle.stair_story.specs.Outside.{Outside, Views}
 use Rattle.stair_story.specs.Plan.{Plan, Over}
 use Rattle.stair_story.specs.Story.{Deed, Grew, Moves}

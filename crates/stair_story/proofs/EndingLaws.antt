@@ -4,8 +4,8 @@ use Rattle.std.specs.Prelude.{Result}
 use Rattle.stair_rack.specs.Count.{Rose, Rose-kept, kept-Rose}
 use Rattle.stair_array.specs.Machine.{Chunk, Dropped, Nothing, Progress, Promoted, Refusal}
 use Rattle.stair_array.specs.Machine as array
-use Rattle.stair_story.specs.declared.status.Status.{Status}
-use Rattle.stair_story.specs.declared.status.Status.TheVariants.{Done, InputFault, OutputFault, OutOfMemory}
+use Rattle.stair_status.specs.declared.status.Status.{Status}
+use Rattle.stair_status.specs.declared.status.Status.TheVariants.{Done, InputFault, OutputFault, OutOfMemory}
 use Rattle.stair_story.specs.Action.{Action, OkOf, Outcome, refused}
 use Rattle.stair_story.specs.Ending.{AsksFirst, AsksForNone, ByMemory, ByPlan, BySink, BySource, Ended, EndsIn, IfNothingIsPutOut, PutsLast, TakesNothing, TellsFaults}
 use Rattle.stair_story.specs.Means.{Gives, Holds, Means}

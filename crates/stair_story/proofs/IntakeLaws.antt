@@ -11,7 +11,7 @@ use Rattle.stair_story.specs.declared.fault.Fault.{Fault}
 use Rattle.stair_story.specs.declared.fault.Fault.TheVariants as fault
 use Rattle.stair_story.specs.Means.{Gives}
 use Rattle.stair_story.specs.Outside.{SourceView}
-use Rattle.stair_story.specs.declared.status.Status.TheVariants.{Input, InputFault}
+use Rattle.stair_status.specs.declared.status.Status.TheVariants.{Input, InputFault}
 use Rattle.stair_story.specs.Plan.{Over, take_exactly}
 use Rattle.stair_story.specs.Story.{AreEnough, Took, TookLast, TakeFailed}
 use Rattle.stair_story.specs.Taking.{CutsShort, GoesOn, PieceIsCut, TakesBytes, TakesWhole, TookSoFar, intake_of}

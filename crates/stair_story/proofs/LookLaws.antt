@@ -8,7 +8,7 @@ use Rattle.stair_member.specs.Membership.{Membership}
 use Rattle.stair_member.specs.Survey.{Surveys}
 use Rattle.stair_member.proofs.AskedLemmas.{asked_ran}
 use Rattle.stair_story.specs.Action.{Create, Outcome, Survey}
-use Rattle.stair_story.specs.declared.status.Status.TheVariants.{OutOfMemory}
+use Rattle.stair_status.specs.declared.status.Status.TheVariants.{OutOfMemory}
 use Rattle.stair_story.specs.Devices.{DeviceView, Devices, WorksAll}
 use Rattle.stair_story.specs.Ending.{AsksFirst, AsksForNone, AsksUnwritten, MakesNoCall, OnlyLooks}
 use Rattle.stair_story.specs.Outside.{Outside, Views, outside}

@@ -14,7 +14,7 @@ use Rattle.stair_story.specs.Plan.{Plan, Over, Ask, Take, Put, Allocate, Do, Try
 use Rattle.stair_story.specs.Question.{IsReply, Reply}
 use Rattle.stair_story.specs.Story.{AreEnough, Deed, Found as FoundOut, Took, TookLast, TakeFailed, HasPut, PutFailed, Grew, RanOut, Did, Stepped, Leads, Moves, after}
 use Rattle.stair_story.specs.Sure.{IsToldSo}
-use Rattle.stair_story.specs.declared.status.Status.TheVariants.{InputFault, OutOfMemory, OutputFault}
+use Rattle.stair_status.specs.declared.status.Status.TheVariants.{InputFault, OutOfMemory, OutputFault}
 
 -- ---- the steps of a story
 

@@ -24,7 +24,7 @@ use Rattle.stair_story.specs.Rack.{told_of}
 use Rattle.stair_story.specs.Run.{history_of}
 use Rattle.stair_story.specs.Story.{Deed, Did, Stepped, Leads}
 use Rattle.stair_story.specs.Sure.{CanReplaceAt, EachCanReplace, EachDeed, EachHasDraws, HasDrawsAt, HasNoFault, IsDone, IsSure, LeavesDraws, MediumLeavesDraws, ServesAlong, most_allowed, most_borne}
-use Rattle.stair_story.specs.declared.status.Status.{Status}
+use Rattle.stair_status.specs.declared.status.Status.{Status}
 use Rattle.stair_story.proofs.AlongLaws.{Serves, along_found, serves_on}
 use Rattle.stair_story.proofs.FoundLaws.{IsArrayFound}
 use Rattle.stair_story.proofs.BoundedCallLaws.{survey_few, survey_slots, survey_stays}

@@ -5,8 +5,8 @@ use Rattle.stair_story.specs.Outside.{Outside, Views, outside}
 use Rattle.stair_story.specs.Plan.{Plan, Over, Ask, Take, Put, Allocate, Do, Try, RebuildAll}
 use Rattle.stair_story.specs.Rack.{MeansOver, RackView, Works}
 use Rattle.stair_story.specs.Story.{Deed, Found, Took, TookLast, TakeFailed, HasPut, PutFailed, Grew, RanOut, Did, Stepped, Leads, Moves, IsPart}
-use Rattle.stair_story.specs.declared.status.Status.{Status}
-use Rattle.stair_story.specs.declared.status.Status.TheVariants.{Done, OutputFault, OutOfMemory}
+use Rattle.stair_status.specs.declared.status.Status.{Status}
+use Rattle.stair_status.specs.declared.status.Status.TheVariants.{Done, OutputFault, OutOfMemory}
 use Rattle.stair_story.proofs.PlanLaws.{and_then, does, leads_then}
 use Rattle.std.specs.Result.{IsErrAnd}
 use Rattle.stair_story.specs.declared.fault.Fault.{Fault}

@@ -27,8 +27,8 @@ use Rattle.stair_story.specs.Plan.{Plan, Over, Ask, Take, Put, Allocate, Do, Try
 use Rattle.stair_story.specs.Served.{EachStepFor, EndsDone, EndsServed, IsDoneIfPassed, IsRefusedFrozen, IsServed, PassesItsTests}
 use Rattle.stair_story.specs.Story.{Deed, Found, Took, TookLast, TakeFailed, HasPut, PutFailed, Grew, RanOut, Did, Stepped, Leads, Moves, after}
 use Rattle.stair_story.specs.Sure.{BeginsAs, EachCanReplace, HasNoFault, IsDone, ServesAlong, most_allowed}
-use Rattle.stair_story.specs.declared.status.Status.{Status}
-use Rattle.stair_story.specs.declared.status.Status.TheVariants.{OutOfMemory}
+use Rattle.stair_status.specs.declared.status.Status.{Status}
+use Rattle.stair_status.specs.declared.status.Status.TheVariants.{OutOfMemory}
 use Rattle.stair_story.proofs.EndingLaws.{ends_so}
 use Rattle.stair_story.proofs.HeadlineLaws.{all_lead}
 use Rattle.stair_story.proofs.PerformedLaws.{all_performed}

@@ -15,8 +15,8 @@ use Rattle.stair_state.proofs.OutsideLemmas.{unwritten_ran}
 use Rattle.stair_session.specs.Returning.{Returning, StandsFor}
 use Rattle.stair_array.specs.Machine.{Answer, Chunk, Dropped, GivenBy, Nothing, PassesTests, Progress, Promoted, RebuildNext, Step}
 use Rattle.stair_member.specs.Seats.{Seats}
-use Rattle.stair_story.specs.declared.status.Status.{Status}
-use Rattle.stair_story.specs.declared.status.Status.TheVariants.{Done, OutOfMemory}
+use Rattle.stair_status.specs.declared.status.Status.{Status}
+use Rattle.stair_status.specs.declared.status.Status.TheVariants.{Done, OutOfMemory}
 use Rattle.stair_story.specs.Action.{Action, Create, OkOf, Outcome, Survey}
 use Rattle.stair_story.specs.Means.{Gives, Holds}
 use Rattle.stair_story.specs.Outside.{Outside, SinkView, SourceView, Views}

@@ -26,7 +26,7 @@ use Rattle.stair_array.specs.Draws.{HasDraws}
 use Rattle.stair_array.specs.Machine.{Answer, EpochsSpent, GivenBy, PassesTests, Recover, Refusal, ReplaceSlot, Row, Step, TooFew}
 use Rattle.stair_array.specs.Promise.{AnswersStopped, Begun, BeginsWith, EndsIn, Ends, Found, GoesOn, IsFitFor, IsLed, IsOpenFor, Keeps, MayReplace, Opened, Performs, Seen, ServesState, Session, StartsFrom, Stops, is_open}
 use Rattle.stair_array.proofs.OpenStepLemmas.{IsOpened, opening_or_open}
-use Rattle.stair_story.specs.declared.status.Status.{Status}
+use Rattle.stair_status.specs.declared.status.Status.{Status}
 use Rattle.stair_story.specs.Action.{Outcome, Survey}
 use Rattle.stair_story.specs.Devices.{DeviceView, Devices, MeansWith, WorksAll, seen_of}
 use Rattle.stair_story.specs.Outside.{Outside, Views}

@@ -8,7 +8,7 @@ use Rattle.stair_story.specs.Outside.{SinkView, SourceView, Views, outside}
 use Rattle.stair_story.specs.Plan.{Plan, Over, Put}
 use Rattle.stair_story.specs.Story.{Deed, HasPut, IsPart, Leads, Moves, PutFailed, TakeFailed, Took, TookLast}
 use Rattle.stair_story.specs.Talks.{IsPut, IsSpoken, IsTaken, PutsTo, TakesTo, TalksTo}
-use Rattle.stair_story.specs.declared.status.Status.TheVariants.{OutputFault}
+use Rattle.stair_status.specs.declared.status.Status.TheVariants.{OutputFault}
 use Rattle.stair_story.proofs.PlanLaws.{leads_then}
 
 -- ---- a source

@@ -61,8 +61,3 @@ pub puts_more : {K : Type 0} (view : SinkView K) (before piece : List ℕ) (a b 
     → Holds view (HasPut (before ++ piece)) a c
 puts_more view before piece a b c first then =
     (Appends-trans (view.held a) (view.held b) (view.held c) before piece first.0 then.0, omega (arith, first.1, then.1))
-
--- whether the text is empty
-abbrev pub is_empty : List ℕ → Bool
-is_empty [] = true
-is_empty (x ∷ xs) = false

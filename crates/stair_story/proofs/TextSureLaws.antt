@@ -6,7 +6,7 @@ use Rattle.std.proofs.lemmas.List.Elements.{All-head, All-tail}
 use Rattle.stair_story.specs.Plan.{Plan, Over, if_so, take_exactly}
 use Rattle.stair_story.specs.Story.{AreEnough}
 use Rattle.stair_story.specs.Texts.{AreLines, LineDoes, by_lines, last_of}
-use Rattle.stair_story.specs.declared.status.Status.TheVariants.{BadLine}
+use Rattle.stair_status.specs.declared.status.Status.TheVariants.{BadLine}
 
 -- Lines of so many bytes at most, none of which ends one.
 pub record AreShort {L : Type 0} (Spells : List ℕ → L → Type 0) (longest : ℕ) : Type 0 where

@@ -6,8 +6,8 @@ use Rattle.stair_array.specs.declared.fault.CreateFault.TheVariants as fault
 use Rattle.stair_member.specs.Membership.{Membership}
 use Rattle.stair_member.specs.declared.fault.SurveyFault.{SurveyFault}
 use Rattle.stair_member.specs.declared.fault.SurveyFault.TheVariants as survey
-use Rattle.stair_story.specs.declared.status.Status.{Status}
-use Rattle.stair_story.specs.declared.status.Status.TheVariants.{NoArray, TwoArrays, TooFew, Gone, SmallDevice, AlreadyArray}
+use Rattle.stair_status.specs.declared.status.Status.{Status}
+use Rattle.stair_status.specs.declared.status.Status.TheVariants.{NoArray, TwoArrays, TooFew, Gone, SmallDevice, AlreadyArray}
 
 pub data Action : Type 0 where
   -- an array of this geometry is made on the devices of the rack

@@ -11,8 +11,8 @@ use Rattle.stair_codec.specs.declared.choice.By.TheVariants as by
 use Rattle.stair_codec.specs.declared.choice.Encoder.{Encoder}
 use Rattle.stair_conf.specs.declared.job.Method.{Method}
 use Rattle.stair_conf.specs.declared.job.Method.TheVariants.{Standard, Up, Down, Fewest}
-use Rattle.stair_story.specs.declared.status.Status.{Status}
-use Rattle.stair_story.specs.declared.status.Status.TheVariants.{Done}
+use Rattle.stair_status.specs.declared.status.Status.{Status}
+use Rattle.stair_status.specs.declared.status.Status.TheVariants.{Done}
 
 -- the blocks of a stripe, which have these bytes one after the other
 pub record HasBlocks (g : Geometry) (blocks : List (List ℕ)) (bytes : List ℕ) : Type 0 where

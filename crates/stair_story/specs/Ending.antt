@@ -3,8 +3,8 @@ use Rattle.std.specs.Prelude.{◌≡◌, ◌≢◌, ◌+◌, ◌≤◌, ℕ, Boo
 use Rattle.stair_array.specs.Draws.{allowance}
 use Rattle.stair_array.specs.Machine.{Answer, RebuildNext, Refusal, ReplaceSlot, Step}
 use Rattle.stair_rack.specs.Count.{Rose}
-use Rattle.stair_story.specs.declared.status.Status.{Status}
-use Rattle.stair_story.specs.declared.status.Status.TheVariants.{Done, InputFault, OutputFault, OutOfMemory}
+use Rattle.stair_status.specs.declared.status.Status.{Status}
+use Rattle.stair_status.specs.declared.status.Status.TheVariants.{Done, InputFault, OutputFault, OutOfMemory}
 use Rattle.stair_member.specs.Membership.{Membership}
 use Rattle.stair_story.specs.Action.{Create, OkOf, RefusalOf, Survey, refused}
 use Rattle.stair_story.specs.Outside.{Outside, Views}

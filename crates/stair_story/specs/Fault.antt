@@ -9,8 +9,8 @@ use Rattle.stair_story.specs.declared.fault.Fault.{Fault}
 use Rattle.stair_story.specs.declared.fault.Fault.TheVariants as fault
 use Rattle.stair_story.specs.Action.{status_of_create, status_of_survey}
 use Rattle.stair_story.specs.Refused.{status_of_refusal}
-use Rattle.stair_story.specs.declared.status.Status.{Status}
-use Rattle.stair_story.specs.declared.status.Status.TheVariants.{BadLine, EpochsSpent, Gone, JournalLost, Key, Limit, NotToml, Input, InputFault, OutOfRange, OutputFault, OutOfMemory, TooFew}
+use Rattle.stair_status.specs.declared.status.Status.{Status}
+use Rattle.stair_status.specs.declared.status.Status.TheVariants.{BadLine, EpochsSpent, Gone, JournalLost, Key, Limit, NotToml, Input, InputFault, OutOfRange, OutputFault, OutOfMemory, TooFew}
 
 -- the status of a geometry text
 abbrev pub status_of_config : ConfigFault → Status

@@ -4,8 +4,8 @@ use Rattle.stair_rack.specs.Answers.{Ran}
 use Rattle.stair_member.specs.Asked.{LeavesSectors}
 use Rattle.stair_rack.specs.Watching.{WatcherView}
 use Rattle.stair_watch.specs.WatcherList.{AllStay, AreLeft, TellsAll}
-use Rattle.stair_story.specs.declared.status.Status.{Status}
-use Rattle.stair_story.specs.declared.status.Status.TheVariants.{InputFault, OutOfMemory}
+use Rattle.stair_status.specs.declared.status.Status.{Status}
+use Rattle.stair_status.specs.declared.status.Status.TheVariants.{InputFault, OutOfMemory}
 use Rattle.stair_story.specs.Devices.{DeviceView, Devices, MeansWith}
 use Rattle.stair_story.specs.Ending.{AsksFirst, AsksUnwritten, EndsIn, IfNothingIsPutOut, IsNoFault, MakesNoCall, OnlyLooks, PutsLast, TakesNoStep, TakesNothing, TellsFaults}
 use Rattle.stair_story.specs.Means.{Means}

@@ -1,5 +1,4 @@
 -- What a command does, and what a call did.
-pub mod Status
 pub mod Action
 pub mod Refused
 pub mod Fault

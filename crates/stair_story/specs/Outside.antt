@@ -1,5 +1,7 @@
 -- What the outside of a call shows: its source, its sink and its counter.
 use Rattle.std.specs.Prelude.{ℕ, Bool, false, List, Option, None}
+use Rattle.stair_rack.specs.declared.sink.Sink as sink
+use Rattle.stair_rack.specs.declared.source.Source as source
 
 -- what a source shows: the bytes that are left, where it tells them, whether it has answered its
 -- end, and its count of faults
@@ -17,25 +19,21 @@ pub record Views (S K : Type 0) : Type 0 where
   pub source : SourceView S
   pub sink : SinkView K
 
-abbrev pub source_view : {S : Type 0} → (S → Option (List ℕ)) → (S → Bool) → (S → ℕ) → SourceView S
-source_view left ended faults = record { left = left; ended = ended; faults = faults }
+abbrev pub source_view : {S : Type 0} → source.Ghosts S → SourceView S
+source_view members = record { left = members.left; ended = members.ended; faults = members.faults }
 
-abbrev pub sink_view : {K : Type 0} → (K → Option (List ℕ)) → (K → ℕ) → SinkView K
-sink_view held faults = record { held = held; faults = faults }
+abbrev pub sink_view : {K : Type 0} → sink.Ghosts K → SinkView K
+sink_view members = record { held = members.held; faults = members.faults }
 
-abbrev pub views : {S K : Type 0} → (S → Option (List ℕ)) → (S → Bool) → (S → ℕ) →
-    (K → Option (List ℕ)) → (K → ℕ) → Views S K
-views left ended faults held put_faults = record {
-  source = source_view left ended faults;
-  sink = sink_view held put_faults;
-}
+abbrev pub views : {S K : Type 0} → source.Ghosts S → sink.Ghosts K → Views S K
+views source sink = record { source = source_view source; sink = sink_view sink }
 
 -- where nothing is taken it doesn't matter of which source
 abbrev pub no_source : SourceView (Unit {0})
-no_source = source_view (λ none. None) (λ none. false) (λ none. 0)
+no_source = record { left = λ none. None; ended = λ none. false; faults = λ none. 0 }
 
-abbrev pub sink_alone : {K : Type 0} → (K → Option (List ℕ)) → (K → ℕ) → Views (Unit {0}) K
-sink_alone held faults = record { source = no_source; sink = sink_view held faults }
+abbrev pub sink_alone : {K : Type 0} → sink.Ghosts K → Views (Unit {0}) K
+sink_alone members = record { source = no_source; sink = sink_view members }
 
 -- source, sink and counter, at a moment
 pub record Outside (S K : Type 0) : Type 0 where

@@ -2,8 +2,8 @@
 use Rattle.std.specs.Prelude.{ℕ, ◌+◌, Bool, true, false, List, length, Result, Ok, Err}
 use Rattle.stair_model.specs.Geometry.{Geometry}
 use Rattle.stair_array.specs.Machine.{Answer, GivenBy, Nothing, Progress, Recover, Refusal, Step}
-use Rattle.stair_story.specs.declared.status.Status.{Status}
-use Rattle.stair_story.specs.declared.status.Status.TheVariants.{Done, Input}
+use Rattle.stair_status.specs.declared.status.Status.{Status}
+use Rattle.stair_status.specs.declared.status.Status.TheVariants.{Done, Input}
 use Rattle.stair_story.specs.Action.{Action, OkOf, Survey}
 use Rattle.stair_story.specs.Question.{Question, Reply}
 use Rattle.stair_story.specs.Refused.{status_of_refusal}

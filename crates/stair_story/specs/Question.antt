@@ -11,7 +11,7 @@ use Rattle.stair_rack.specs.declared.watcher.Event.{Event}
 use Rattle.stair_script.specs.Events.{SpellsEvent}
 use Rattle.stair_script.specs.Line.{SpellsLine}
 use Rattle.stair_script.specs.declared.line.Line.{Line}
-use Rattle.stair_story.specs.declared.status.Status.{Status}
+use Rattle.stair_status.specs.declared.status.Status.{Status}
 use Rattle.stair_conf.specs.declared.job.StripeCommand.{StripeCommand}
 use Rattle.stair_story.specs.Answer.{Judges}
 

@@ -4,6 +4,7 @@ use Rattle.stair_rack.specs.History.{Happening}
 use Rattle.stair_array.specs.Creates.{Creates}
 use Rattle.stair_member.specs.Survey.{Surveys}
 use Rattle.stair_rack.specs.Telling.{Telling, telling}
+use Rattle.stair_rack.specs.declared.rack.Rack.{Ghosts}
 use Rattle.stair_story.specs.Action.{Create, Survey}
 use Rattle.stair_story.specs.Means.{Means}
 use Rattle.stair_story.specs.Outside.{Outside, Views}
@@ -17,9 +18,9 @@ pub record RackView (R : Type 0) : Type 0 where
   pub bads : R → ℕ
   pub gones : R → ℕ → ℕ
 
-abbrev pub rack_view : {R : Type 0} → Bool → (R → List Happening) → (R → ℕ) → (R → ℕ → ℕ) → RackView R
-rack_view honest history bads gones =
-    record { honest = honest; history = history; bads = bads; gones = gones }
+abbrev pub rack_view : {R : Type 0} → Ghosts R → RackView R
+rack_view members =
+    record { honest = members.is_honest; history = members.history; bads = members.bads; gones = members.gones }
 
 abbrev pub told_of : {R : Type 0} → RackView R → R → Telling
 told_of view rack = telling view.honest (view.history rack) (view.bads rack) (view.gones rack)

@@ -2,8 +2,8 @@
 use Rattle.std.specs.Prelude.{ℕ}
 use Rattle.stair_array.specs.Machine.{Refusal}
 use Rattle.stair_array.specs.Machine as array
-use Rattle.stair_story.specs.declared.status.Status.{Status}
-use Rattle.stair_story.specs.declared.status.Status.TheVariants.{AlreadyArray, EpochsSpent, Frozen, Gone, JournalLost, Lost, OutOfRange, SlotBusy, SmallDevice, TooFew}
+use Rattle.stair_status.specs.declared.status.Status.{Status}
+use Rattle.stair_status.specs.declared.status.Status.TheVariants.{AlreadyArray, EpochsSpent, Frozen, Gone, JournalLost, Lost, OutOfRange, SlotBusy, SmallDevice, TooFew}
 
 -- by an array of so many slots
 abbrev pub status_of_refusal : ℕ → Refusal → Status

@@ -7,8 +7,8 @@ use Rattle.stair_model.specs.CellSet.{CellSet, HasCell, IsInStripe, count_in_slo
 use Rattle.stair_model.specs.Codeword.{IsCodeword}
 use Rattle.stair_model.specs.Coverage.{IsCovered}
 use Rattle.stair_model.specs.Restoring.{SameHeld}
-use Rattle.stair_story.specs.declared.status.Status.{Status}
-use Rattle.stair_story.specs.declared.status.Status.TheVariants.{Done, NoCodeword, Lost}
+use Rattle.stair_status.specs.declared.status.Status.{Status}
+use Rattle.stair_status.specs.declared.status.Status.TheVariants.{Done, NoCodeword, Lost}
 
 -- the erased cells are those whose byte of the map, row by row, is not `.`
 pub record IsErasedBy (g : Geometry) (map : List ℕ) (erased : CellSet) : Type 0 where

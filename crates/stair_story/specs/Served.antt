@@ -7,8 +7,8 @@ use Rattle.stair_state.specs.State.{State, without_seats}
 use Rattle.stair_session.specs.Returning.{Returning}
 use Rattle.stair_array.specs.Machine.{Answer, Frozen, PassesTests, RebuildNext, Recover, Refusal, Row, Step, WriteBlocks}
 use Rattle.stair_array.specs.Promise.{Begun}
-use Rattle.stair_story.specs.declared.status.Status.{Status}
-use Rattle.stair_story.specs.declared.status.Status.TheVariants.{Done}
+use Rattle.stair_status.specs.declared.status.Status.{Status}
+use Rattle.stair_status.specs.declared.status.Status.TheVariants.{Done}
 use Rattle.stair_story.specs.Action.{Create, Survey}
 use Rattle.stair_story.specs.Devices.{DeviceView, MeansWhole, devices}
 use Rattle.stair_story.specs.Ending.{AllowsAtMost}

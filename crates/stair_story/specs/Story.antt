@@ -3,7 +3,7 @@ use Rattle.std.specs.Prelude.{◌≡◌, ℕ, ◌<◌, ◌≤◌, List, [], ◌�
 use Rattle.stair_rack.specs.declared.watcher.Event.{Event}
 use Rattle.stair_array.specs.Machine.{Answer, RebuildNext, Step}
 use Rattle.stair_story.specs.Action.{Action, OkOf, Outcome, refused}
-use Rattle.stair_story.specs.declared.status.Status.TheVariants.{InputFault, OutputFault, OutOfMemory}
+use Rattle.stair_status.specs.declared.status.Status.TheVariants.{InputFault, OutputFault, OutOfMemory}
 use Rattle.stair_story.specs.Question.{Question, Reply, IsReply}
 use Rattle.stair_story.specs.Plan.{Plan, Over, Ask, Take, Put, Allocate, Do, Try, RebuildAll, after_rebuild}
 

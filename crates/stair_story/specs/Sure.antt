@@ -26,8 +26,8 @@ use Rattle.stair_array.specs.Draws.{HasDraws, most_drawn}
 use Rattle.stair_array.specs.Looking.{cells_at}
 use Rattle.stair_array.specs.Machine.{GivenBy, Nothing, PassesTests, Progress, RebuildNext, Recover, ReplaceSlot, Row, Step}
 use Rattle.stair_array.specs.Promise.{Begun, Found, Opened, Session}
-use Rattle.stair_story.specs.declared.status.Status.{Status}
-use Rattle.stair_story.specs.declared.status.Status.TheVariants.{Done, OutOfMemory}
+use Rattle.stair_status.specs.declared.status.Status.{Status}
+use Rattle.stair_status.specs.declared.status.Status.TheVariants.{Done, OutOfMemory}
 use Rattle.stair_story.specs.Action.{Create, Survey}
 use Rattle.stair_story.specs.Bounded.{IsBoundedAt}
 use Rattle.stair_story.specs.Devices.{DeviceView, Devices, MeansWhole, MeansWith, WorksAll, devices}

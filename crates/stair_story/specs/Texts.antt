@@ -2,7 +2,7 @@
 use Rattle.std.specs.Prelude.{◌≡◌, ◌⊎◌, ◌==◌, ◌+◌, ◌<◌, ℕ, zero, suc, Bool, nat_lt, List, [], ◌∷◌, ◌++◌, Option, None, Some, length, slice_index}
 use Rattle.stair_story.specs.declared.fault.Fault.{Fault}
 use Rattle.stair_story.specs.declared.fault.Fault.TheVariants as fault
-use Rattle.stair_story.specs.declared.status.Status.TheVariants.{BadLine, Input}
+use Rattle.stair_status.specs.declared.status.Status.TheVariants.{BadLine, Input}
 use Rattle.stair_story.specs.Means.{Gives}
 use Rattle.stair_story.specs.Outside.{SourceView}
 use Rattle.stair_story.specs.Plan.{Plan, Over, if_so, take_exactly}

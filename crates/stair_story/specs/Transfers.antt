@@ -4,7 +4,7 @@ use Rattle.std.specs.Fmt.{decimal}
 use Rattle.stair_model.specs.Geometry.{Geometry}
 use Rattle.stair_model.specs.Stripe.{SECTOR}
 use Rattle.stair_array.specs.Machine.{ReadBlock}
-use Rattle.stair_story.specs.declared.status.Status.TheVariants.{Done, Input, OutOfRange}
+use Rattle.stair_status.specs.declared.status.Status.TheVariants.{Done, Input, OutOfRange}
 use Rattle.stair_story.specs.Plan.{Plan, Over, Put, if_so, take_exactly, take_step}
 
 -- RANGES

@@ -27,9 +27,9 @@ impl Intake {
     pub fn fill<S: Source>(&mut self, input: &mut S, into: &mut [u8]) -> Result<(), Fault>
         requires piece { 0 < length into.old }
         requires room { self.old.took + length into.old ≤ self.old.needed }
-        ensures ok { OnOk result (TakesBytes (source_view S.left S.ended S.faults)
+        ensures ok { OnOk result (TakesBytes (source_view S.Source)
             self.old self.new into.new input.old input.new) }
-        ensures cut { IfErr result (CutsShort (source_view S.left S.ended S.faults)
+        ensures cut { IfErr result (CutsShort (source_view S.Source)
             self.old input.old input.new) }
     {
         self.take(input, into.len(), into)?;
@@ -47,11 +47,11 @@ impl Intake {
         requires piece { least ≤ length into.old }
         requires room { self.old.took + length into.old ≤ self.old.needed }
         ensures ok { IfOk result (λ count. (least ≤ count) × (count ≤ length into.new)
-            × Gives (source_view S.left S.ended S.faults) (Took (take count into.new))
+            × Gives (source_view S.Source) (Took (take count into.new))
             input.old input.new) }
         ensures counted { IfOk result (λ count.
             self.new ≡ record self.old { took = self.old.took + count }) }
-        ensures cut { IfErr result (PieceIsCut (source_view S.left S.ended S.faults)
+        ensures cut { IfErr result (PieceIsCut (source_view S.Source)
             least self.old input.old input.new) }
     {
         match take_at_least(input, least, into) {
@@ -71,9 +71,9 @@ impl Intake {
     pub fn end<S: Source>(&self, input: &mut S) -> Result<(), Fault>
         requires all { self.now.took ≡ self.now.needed }
         requires fits { self.now.needed < 2 ^ 63 }
-        ensures ok { OnOk result (Gives (source_view S.left S.ended S.faults)
+        ensures ok { OnOk result (Gives (source_view S.Source)
             (TookLast []) input.old input.new) }
-        ensures more { IfErr result (GoesOn (source_view S.left S.ended S.faults)
+        ensures more { IfErr result (GoesOn (source_view S.Source)
             self.now.needed input.old input.new) }
     {
         match input.take(&mut [0]) {

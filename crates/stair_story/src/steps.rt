@@ -1,7 +1,6 @@
 // The open array of a session, whose steps are told to watchers.
 
 ghost use Rattle.std.specs.Prelude.{◌≡◌, ◌%◌, ◌/◌, ◌<◌, length, IfErr, IfOk, None, OnOk, Some, Ok, Err};
-ghost use Rattle.stair_rack.specs.Watching.{watcher_view};
 ghost use Rattle.stair_array.specs.Arrays.{answer_as, blocks_of, outcome, rebuilt_as, replaced_as};
 ghost use Rattle.stair_array.specs.Faults.{array_fault, opening_refusal};
 ghost use Rattle.stair_member.specs.declared.fault.FenceFault.{FenceFault};
@@ -68,21 +67,21 @@ impl<C: StripeCode> Opened<C> {
         watchers: &mut Vec<Box<dyn Watcher>>,
     ) -> Result<Opened<C>, RecoverFault>
         requires fits { C.shape code ≡ member.array.geometry }
-        requires stay { AllStay (watcher_view told count left patience) watchers.old.items }
+        requires stay { AllStay hears watchers.old.items }
         ensures taken { IfOk result (λ array. Takes
-            (device_view (rack_view R.is_honest R.history R.bads R.gones) (watcher_view told count left patience))
+            (device_view (rack_view R.Rack) hears)
             Recover (Ok member.array.geometry)
             (devices rack.old (Found member) watchers.old.items)
             (devices rack.new (IsOpen array) watchers.new.items)) }
         ensures refused { IfErr result (λ fault. (refusal : Refusal) →
             opening_refusal fault ≡ Some refusal → Takes
-            (device_view (rack_view R.is_honest R.history R.bads R.gones) (watcher_view told count left patience))
+            (device_view (rack_view R.Rack) hears)
             Recover (Err refusal)
             (devices rack.old (Found member) watchers.old.items)
             (devices rack.new Closed watchers.new.items)) }
         ensures memory { IfErr result (λ fault. fault ≡ RecoverFault.Memory →
             (rack.new ≡ rack.old) × (watchers.new.items ≡ watchers.old.items)) }
-        ensures stay { AllStay (watcher_view told count left patience) watchers.new.items }
+        ensures stay { AllStay hears watchers.new.items }
     {
         // by whose rules what was found is one of its geometry
         let _ = member.geometry();
@@ -99,13 +98,13 @@ impl<C: StripeCode> Opened<C> {
         into: &mut [u8; SECTOR],
         watchers: &mut Vec<Box<dyn Watcher>>,
     ) -> Result<(), ArrayFault>
-        requires stay { AllStay (watcher_view told count left patience) watchers.old.items }
+        requires stay { AllStay hears watchers.old.items }
         ensures taken { Takes
-            (device_view (rack_view R.is_honest R.history R.bads R.gones) (watcher_view told count left patience))
+            (device_view (rack_view R.Rack) hears)
             (ReadBlock block) (answer_as into.new result)
             (devices rack.old (IsOpen self.old) watchers.old.items)
             (devices rack.new (IsOpen self.new) watchers.new.items) }
-        ensures stay { AllStay (watcher_view told count left patience) watchers.new.items }
+        ensures stay { AllStay hears watchers.new.items }
     {
         self.array.clear_news();
         let read = self.array.read(rack, block, into);
@@ -124,13 +123,13 @@ impl<C: StripeCode> Opened<C> {
         requires whole { length from.now % 512 ≡ 0 }
         requires together { AreOfOneStripe self.old.member.array.geometry first
             (length from.now / 512) }
-        requires stay { AllStay (watcher_view told count left patience) watchers.old.items }
+        requires stay { AllStay hears watchers.old.items }
         ensures taken { Takes
-            (device_view (rack_view R.is_honest R.history R.bads R.gones) (watcher_view told count left patience))
+            (device_view (rack_view R.Rack) hears)
             (WriteBlocks first (blocks_of from.now)) (outcome result)
             (devices rack.old (IsOpen self.old) watchers.old.items)
             (devices rack.new (IsOpen self.new) watchers.new.items) }
-        ensures stay { AllStay (watcher_view told count left patience) watchers.new.items }
+        ensures stay { AllStay hears watchers.new.items }
     {
         self.array.clear_news();
         let written = self.array.write_blocks(rack, first, from);
@@ -145,13 +144,13 @@ impl<C: StripeCode> Opened<C> {
         stripe: u32,
         watchers: &mut Vec<Box<dyn Watcher>>,
     ) -> Result<u16, ArrayFault>
-        requires stay { AllStay (watcher_view told count left patience) watchers.old.items }
+        requires stay { AllStay hears watchers.old.items }
         ensures taken { Takes
-            (device_view (rack_view R.is_honest R.history R.bads R.gones) (watcher_view told count left patience))
+            (device_view (rack_view R.Rack) hears)
             (ScrubStripe stripe) (outcome result)
             (devices rack.old (IsOpen self.old) watchers.old.items)
             (devices rack.new (IsOpen self.new) watchers.new.items) }
-        ensures stay { AllStay (watcher_view told count left patience) watchers.new.items }
+        ensures stay { AllStay hears watchers.new.items }
     {
         self.array.clear_news();
         let scrubbed = scrub_step(&mut self.array, rack, stripe);
@@ -166,13 +165,13 @@ impl<C: StripeCode> Opened<C> {
         slot: u8,
         watchers: &mut Vec<Box<dyn Watcher>>,
     ) -> Result<(), ReplaceFault>
-        requires stay { AllStay (watcher_view told count left patience) watchers.old.items }
+        requires stay { AllStay hears watchers.old.items }
         ensures taken { Takes
-            (device_view (rack_view R.is_honest R.history R.bads R.gones) (watcher_view told count left patience))
+            (device_view (rack_view R.Rack) hears)
             (ReplaceSlot slot) (replaced_as result)
             (devices rack.old (IsOpen self.old) watchers.old.items)
             (devices rack.new (IsOpen self.new) watchers.new.items) }
-        ensures stay { AllStay (watcher_view told count left patience) watchers.new.items }
+        ensures stay { AllStay hears watchers.new.items }
     {
         self.array.clear_news();
         let replaced = replace(&mut self.array, rack, slot);
@@ -186,13 +185,13 @@ impl<C: StripeCode> Opened<C> {
         rack: &mut R,
         watchers: &mut Vec<Box<dyn Watcher>>,
     ) -> Result<Progress, RebuildFault>
-        requires stay { AllStay (watcher_view told count left patience) watchers.old.items }
+        requires stay { AllStay hears watchers.old.items }
         ensures taken { Takes
-            (device_view (rack_view R.is_honest R.history R.bads R.gones) (watcher_view told count left patience))
+            (device_view (rack_view R.Rack) hears)
             RebuildNext (rebuilt_as result)
             (devices rack.old (IsOpen self.old) watchers.old.items)
             (devices rack.new (IsOpen self.new) watchers.new.items) }
-        ensures stay { AllStay (watcher_view told count left patience) watchers.new.items }
+        ensures stay { AllStay hears watchers.new.items }
         ensures sooner { IfOk result (λ progress. (progress ≡ Progress.Nothing → ⊥) →
             steps_left self.new < steps_left self.old) }
     {
@@ -209,13 +208,13 @@ impl<C: StripeCode> Opened<C> {
         frozen: bool,
         watchers: &mut Vec<Box<dyn Watcher>>,
     ) -> Result<(), ArrayFault>
-        requires stay { AllStay (watcher_view told count left patience) watchers.old.items }
+        requires stay { AllStay hears watchers.old.items }
         ensures taken { Takes
-            (device_view (rack_view R.is_honest R.history R.bads R.gones) (watcher_view told count left patience))
+            (device_view (rack_view R.Rack) hears)
             (SetFrozen frozen) (outcome result)
             (devices rack.old (IsOpen self.old) watchers.old.items)
             (devices rack.new (IsOpen self.new) watchers.new.items) }
-        ensures stay { AllStay (watcher_view told count left patience) watchers.new.items }
+        ensures stay { AllStay hears watchers.new.items }
     {
         self.array.clear_news();
         let stamped = self.array.set_frozen(rack, frozen);
@@ -230,13 +229,13 @@ impl<C: StripeCode> Opened<C> {
         label: Label,
         watchers: &mut Vec<Box<dyn Watcher>>,
     ) -> Result<(), ArrayFault>
-        requires stay { AllStay (watcher_view told count left patience) watchers.old.items }
+        requires stay { AllStay hears watchers.old.items }
         ensures taken { Takes
-            (device_view (rack_view R.is_honest R.history R.bads R.gones) (watcher_view told count left patience))
+            (device_view (rack_view R.Rack) hears)
             (SetLabel label) (outcome result)
             (devices rack.old (IsOpen self.old) watchers.old.items)
             (devices rack.new (IsOpen self.new) watchers.new.items) }
-        ensures stay { AllStay (watcher_view told count left patience) watchers.new.items }
+        ensures stay { AllStay hears watchers.new.items }
     {
         self.array.clear_news();
         let stamped = self.array.set_label(rack, label);
@@ -269,10 +268,10 @@ impl<C: StripeCode> Opened<C> {
 
 // Tells the watchers all events of the news, in their order.
 fn tell_all(news: News, watchers: &mut Vec<Box<dyn Watcher>>)
-    requires stay { AllStay (watcher_view told count left patience) watchers.old.items }
-    ensures told { TellsAll (watcher_view told count left patience) (events_in news)
+    requires stay { AllStay hears watchers.old.items }
+    ensures told { TellsAll hears (events_in news)
         watchers.old.items watchers.new.items }
-    ensures stay { AllStay (watcher_view told count left patience) watchers.new.items }
+    ensures stay { AllStay hears watchers.new.items }
 {
     for at in 0..MOST_EVENTS {
         match news.event(at) {

@@ -21,7 +21,7 @@ pub enum Filled {
 pub fn take_at_least<S: Source>(input: &mut S, least: usize, into: &mut [u8]) -> Filled
     requires some { 0 < least }
     requires room { least ≤ length into.old }
-    ensures { FillGives (source_view S.left S.ended S.faults) least result into.new
+    ensures { FillGives (source_view S.Source) least result into.new
         input.old input.new }
 {
     let mut filled = 0;
@@ -37,7 +37,7 @@ pub fn take_at_least<S: Source>(input: &mut S, least: usize, into: &mut [u8]) ->
 
 /// Puts all of the bytes into the sink.
 pub fn put_all<K: Sink>(output: &mut K, bytes: &[u8]) -> Result<(), Fault>
-    ensures puts { PutsAll (sink_view K.held K.faults) result bytes.now output.old output.new }
+    ensures puts { PutsAll (sink_view K.Sink) result bytes.now output.old output.new }
     ensures failed { IfErr result (λ fault. fault ≡ Fault.Output) }
 {
     if put_until_fault(output, bytes) < bytes.len() {

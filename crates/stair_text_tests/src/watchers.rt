@@ -1,4 +1,3 @@
-ghost use Rattle.stair_rack.specs.Watching.{watcher_view};
 ghost use Rattle.stair_watch.specs.WatcherList.{AllStay};
 
 use stair_monitor::Quota;
@@ -18,8 +17,8 @@ const EVENTS: [Event; 4] = [
 
 // Reports the event, and returns how many watchers remain.
 fn left_after(watchers: &mut Vec<Box<dyn Watcher>>, event: Event) -> usize
-    requires { AllStay (watcher_view told count left patience) watchers.old.items }
-    ensures { AllStay (watcher_view told count left patience) watchers.new.items }
+    requires { AllStay hears watchers.old.items }
+    ensures { AllStay hears watchers.new.items }
 {
     tell(watchers, event);
     watchers.len()

@@ -11,8 +11,8 @@ use Rattle.stair_story.specs.Plan.{Plan, Over, Ask, Take, Put, Allocate, Do, Try
 use Rattle.stair_story.specs.Question.{IsReply, Reply}
 use Rattle.stair_story.specs.Run.{Goes, IsNext, IsRefusedAgain, Now, Runs, TakesStep, stop_of}
 use Rattle.stair_story.specs.Story.{AreEnough, Deed, Found, Took, TookLast, TakeFailed, HasPut, PutFailed, Grew, RanOut, Did, Stepped, Leads, Moves, put_in, taken_in}
-use Rattle.stair_story.specs.declared.status.Status.{Status}
-use Rattle.stair_story.specs.declared.status.Status.TheVariants.{Done, InputFault, OutputFault, OutOfMemory}
+use Rattle.stair_status.specs.declared.status.Status.{Status}
+use Rattle.stair_status.specs.declared.status.Status.TheVariants.{Done, InputFault, OutputFault, OutOfMemory}
 use Rattle.stair_story.proofs.LifeLaws.{Came, came_row, some_none}
 
 -- what has come so far: what the array holds, what was taken, and what was put out

@@ -9,7 +9,7 @@ use Rattle.stair_array.specs.declared.fault.ArrayFault.{ArrayFault}
 use Rattle.stair_story.specs.Comes.{ComesTo}
 use Rattle.stair_story.specs.Devices.{DeviceView, Devices}
 use Rattle.stair_story.specs.Plan.{Plan, Over, Put}
-use Rattle.stair_story.specs.declared.status.Status.TheVariants.{Done}
+use Rattle.stair_status.specs.declared.status.Status.TheVariants.{Done}
 use Rattle.stair_story.proofs.ComesLaws.{comes_none, comes_then}
 use Rattle.stair_volume.specs.declared.extent.Extent.{Extent}
 use Rattle.stair_volume.specs.declared.fault.VolumeFault.{VolumeFault}

@@ -6,7 +6,7 @@ use Rattle.stair_story.specs.Devices.{DeviceView, Devices, MeansWith}
 use Rattle.stair_story.specs.Outside.{Views, outside}
 use Rattle.stair_story.specs.Plan.{Plan, Over}
 use Rattle.stair_story.specs.Talks.{PutsTo, TakesTo}
-use Rattle.stair_story.specs.declared.status.Status.TheVariants.{Done}
+use Rattle.stair_status.specs.declared.status.Status.TheVariants.{Done}
 use Rattle.stair_story.proofs.ComesLaws.{with_comes}
 use Rattle.stair_story.proofs.DeviceLaws.{with_none, with_then}
 use Rattle.stair_story.proofs.TalkLaws.{talks_put, talks_taken, with_talk}

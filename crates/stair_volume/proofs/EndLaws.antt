@@ -15,8 +15,8 @@ use Rattle.stair_story.specs.Plan.{Plan, Over, Put, if_so, take_step}
 use Rattle.stair_story.specs.Refused.{status_of_refusal}
 use Rattle.stair_story.specs.Served.{EndsServed}
 use Rattle.stair_story.specs.Transfers.{if_within, is_within, reads}
-use Rattle.stair_story.specs.declared.status.Status.{Status}
-use Rattle.stair_story.specs.declared.status.Status.TheVariants.{Done, Frozen}
+use Rattle.stair_status.specs.declared.status.Status.{Status}
+use Rattle.stair_status.specs.declared.status.Status.TheVariants.{Done, Frozen}
 use Rattle.stair_story.proofs.PieceLaws.{piece_left, piece_some, some_blocks}
 use Rattle.stair_volume.specs.declared.extent.Entry.{Entry}
 use Rattle.stair_volume.specs.declared.extent.Extent.{Extent}

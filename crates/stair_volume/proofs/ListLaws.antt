@@ -9,7 +9,7 @@ use Rattle.stair_story.specs.Outside.{SinkView}
 use Rattle.stair_story.specs.Plan.{Plan, Over, Put}
 use Rattle.stair_story.specs.Story.{Moves}
 use Rattle.stair_story.specs.Talks.{IsPut, PutsTo}
-use Rattle.stair_story.specs.declared.status.Status.TheVariants.{Done}
+use Rattle.stair_status.specs.declared.status.Status.TheVariants.{Done}
 use Rattle.stair_story.proofs.PlanLaws.{leads_then}
 use Rattle.stair_volume.specs.declared.extent.Entry.{Entry}
 use Rattle.stair_volume.specs.declared.fault.VolumeFault.{VolumeFault}

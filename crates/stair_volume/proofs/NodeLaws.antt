@@ -10,8 +10,8 @@ use Rattle.stair_story.specs.Pieces.{piece_blocks}
 use Rattle.stair_story.specs.Plan.{Plan, Over, Put, Take, Try, if_so, take_step, unless_refused}
 use Rattle.stair_story.specs.Refused.{status_of_refusal}
 use Rattle.stair_story.specs.Transfers.{if_within, is_within, reads, wrote_line}
-use Rattle.stair_story.specs.declared.status.Status.{Status}
-use Rattle.stair_story.specs.declared.status.Status.TheVariants.{Done, Input, InputFault, OutOfMemory, OutputFault, Usage}
+use Rattle.stair_status.specs.declared.status.Status.{Status}
+use Rattle.stair_status.specs.declared.status.Status.TheVariants.{Done, Input, InputFault, OutOfMemory, OutputFault, Usage}
 use Rattle.stair_volume.specs.declared.extent.Entry.{Entry}
 use Rattle.stair_volume.specs.declared.extent.Extent.{Extent}
 use Rattle.stair_volume.specs.declared.table_fault.TableFault.{TableFault}

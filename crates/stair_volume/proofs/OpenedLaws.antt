@@ -16,8 +16,8 @@ use Rattle.stair_story.specs.Plan.{Plan, Over, Allocate, opens_array, take_step,
 use Rattle.stair_story.specs.Refused.{status_of_refusal}
 use Rattle.stair_story.specs.Run.{Goes as DeedGoes, IsNext, IsRefusedAgain, Now, Runs, TakesStep, now}
 use Rattle.stair_story.specs.Story.{Deed, Found, Took, TookLast, TakeFailed, HasPut, PutFailed, Grew, RanOut, Did, Stepped, Leads, Moves, after, put_in, taken_in}
-use Rattle.stair_story.specs.declared.status.Status.{Status}
-use Rattle.stair_story.specs.declared.status.Status.TheVariants.{Done, OutOfMemory}
+use Rattle.stair_status.specs.declared.status.Status.{Status}
+use Rattle.stair_status.specs.declared.status.Status.TheVariants.{Done, OutOfMemory}
 use Rattle.stair_story.proofs.LifeLaws.{kept_whole, some_none}
 use Rattle.stair_volume.specs.Commands.{volume_plan}
 use Rattle.stair_volume.specs.Volumes.{AreFront, Goes, HasVolumes, IsCommand, IsFinished, IsSettled, KeepsVolumes, PutsOut, after_job}

@@ -20,8 +20,8 @@ use Rattle.stair_story.specs.Pieces.{piece_blocks}
 use Rattle.stair_story.specs.Plan.{Plan, Over, Put, if_so, take_step, unless_refused}
 use Rattle.stair_story.specs.Refused.{status_of_refusal}
 use Rattle.stair_story.specs.Transfers.{if_within, is_within, reads}
-use Rattle.stair_story.specs.declared.status.Status.{Status}
-use Rattle.stair_story.specs.declared.status.Status.TheVariants.{Done, Input, NoVolume}
+use Rattle.stair_status.specs.declared.status.Status.{Status}
+use Rattle.stair_status.specs.declared.status.Status.TheVariants.{Done, Input, NoVolume}
 use Rattle.stair_story.proofs.LifeLaws.{block_set, blocks_stay}
 use Rattle.stair_story.proofs.PieceLaws.{piece_left, piece_some}
 use Rattle.stair_volume.specs.declared.extent.Entry.{Entry}

@@ -2,7 +2,7 @@
 use Rattle.std.proofs.Common.{◌≡◌, ℕ, ◌<◌, List, length, take, refl, subst, arith}
 use Rattle.std.proofs.lemmas.List.{length-take-le, take_all}
 use Rattle.stair_story.specs.declared.streams.Filled.TheVariants.{Enough, Failed, Short}
-use Rattle.stair_story.specs.declared.status.Status.TheVariants.{InputFault}
+use Rattle.stair_status.specs.declared.status.Status.TheVariants.{InputFault}
 use Rattle.stair_story.specs.Means.{Gives}
 use Rattle.stair_story.specs.Outside.{SourceView}
 use Rattle.stair_story.specs.Plan.{Plan, Over, take_exactly}

@@ -11,7 +11,7 @@ use Rattle.stair_story.specs.Plan.{Plan, Over, Put, take_exactly, take_step}
 use Rattle.stair_story.specs.Steps.{Takes}
 use Rattle.stair_story.specs.Talks.{PutsTo, TakesTo}
 use Rattle.stair_story.specs.Transfers.{reads, wrote_line}
-use Rattle.stair_story.specs.declared.status.Status.TheVariants.{Done, Input}
+use Rattle.stair_status.specs.declared.status.Status.TheVariants.{Done, Input}
 use Rattle.stair_watch.specs.WatcherList.{AllStay}
 use Rattle.stair_volume.specs.Commands.{writes_each}
 use Rattle.stair_volume.specs.Parts.{after_steps}

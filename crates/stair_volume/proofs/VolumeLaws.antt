@@ -19,7 +19,7 @@ use Rattle.stair_story.specs.Refused.{status_of_refusal}
 use Rattle.stair_story.specs.Steps.{Takes}
 use Rattle.stair_story.specs.Talks.{PutsTo}
 use Rattle.stair_story.specs.Transfers.{if_within, reads}
-use Rattle.stair_story.specs.declared.status.Status.TheVariants.{Done, InputFault, NoTable, OutOfRange}
+use Rattle.stair_status.specs.declared.status.Status.TheVariants.{Done, InputFault, NoTable, OutOfRange}
 use Rattle.stair_story.proofs.DeviceLaws.{with_source, with_then}
 use Rattle.stair_volume.specs.declared.extent.Entry.{Entry}
 use Rattle.stair_volume.specs.declared.extent.Extent.{Extent}

@@ -12,8 +12,8 @@ use Rattle.stair_story.specs.Pieces.{piece_blocks}
 use Rattle.stair_story.specs.Plan.{Plan, Over, Put, if_so, take_exactly, take_step}
 use Rattle.stair_story.specs.Refused.{status_of_refusal}
 use Rattle.stair_story.specs.Transfers.{if_within, is_within, reads, wrote}
-use Rattle.stair_story.specs.declared.status.Status.{Status}
-use Rattle.stair_story.specs.declared.status.Status.TheVariants.{Done, Input, InputFault, NameTaken, NoRoom, NoTable, NoVolume, OutputFault, TableFull, TableThere}
+use Rattle.stair_status.specs.declared.status.Status.{Status}
+use Rattle.stair_status.specs.declared.status.Status.TheVariants.{Done, Input, InputFault, NameTaken, NoRoom, NoTable, NoVolume, OutputFault, TableFull, TableThere}
 use Rattle.stair_volume.specs.declared.extent.Entry.{Entry}
 use Rattle.stair_volume.specs.declared.extent.Extent.{Extent}
 use Rattle.stair_volume.specs.declared.fault.VolumeFault.{VolumeFault}

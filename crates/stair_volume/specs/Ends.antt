@@ -3,8 +3,8 @@ use Rattle.std.specs.Prelude.{◌≡◌, ◌≢◌, ◌*◌, ⊤}
 use Rattle.stair_model.specs.Stripe.{SECTOR}
 use Rattle.stair_conf.specs.declared.job.VolumeJob.{VolumeJob}
 use Rattle.stair_conf.specs.declared.job.VolumeJob.TheVariants as volume
-use Rattle.stair_story.specs.declared.status.Status.{Status}
-use Rattle.stair_story.specs.declared.status.Status.TheVariants.{Done, Frozen, Input, NameTaken, NoRoom, NoTable, NoVolume, OutOfRange, TableFull, TableThere}
+use Rattle.stair_status.specs.declared.status.Status.{Status}
+use Rattle.stair_status.specs.declared.status.Status.TheVariants.{Done, Frozen, Input, NameTaken, NoRoom, NoTable, NoVolume, OutOfRange, TableFull, TableThere}
 
 -- All is done; or the table is such that it can't be, or the range isn't the volume's, or the input had another length, or the array
 -- is frozen and was to be written.

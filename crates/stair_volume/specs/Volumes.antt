@@ -10,7 +10,7 @@ use Rattle.stair_conf.specs.Name.{IsName}
 use Rattle.stair_story.specs.Plan.{Plan, Over, opens_array}
 use Rattle.stair_story.specs.Run.{IsNext, Now, Runs, now}
 use Rattle.stair_story.specs.Story.{Deed, Leads, Moves, put_in, taken_in}
-use Rattle.stair_story.specs.declared.status.Status.TheVariants.{Done}
+use Rattle.stair_status.specs.declared.status.Status.TheVariants.{Done}
 use Rattle.stair_volume.specs.Commands.{volume_plan}
 use Rattle.stair_model.specs.Stripe.{SECTOR}
 use Rattle.stair_state.specs.Blocks.{Blocks, zero_block}

@@ -4,7 +4,6 @@ ghost use Rattle.stair_array.specs.Promise.{Opened as IsOpen};
 ghost use Rattle.stair_model.specs.Geometry.{block_count, data_cells};
 ghost use Rattle.stair_model.specs.Stripe.{SECTOR as BYTES};
 ghost use Rattle.stair_conf.specs.declared.job.VolumeJob.TheVariants as volume;
-ghost use Rattle.stair_rack.specs.Watching.{watcher_view};
 ghost use Rattle.stair_story.specs.Comes.{ComesTo};
 ghost use Rattle.stair_story.specs.Devices.{device_view, devices};
 ghost use Rattle.stair_story.specs.Plan.{Plan};
@@ -32,14 +31,14 @@ pub(crate) fn make_ready<C: StripeCode, R: Rack>(
     rack: &mut R,
     watchers: &mut Vec<Box<dyn Watcher>>,
 ) -> Result<Line, VolumeFault>
-    requires stay { AllStay (watcher_view told count left patience) watchers.old.items }
+    requires stay { AllStay hears watchers.old.items }
     ensures comes { ComesTo
-        (device_view (rack_view R.is_honest R.history R.bads R.gones) (watcher_view told count left patience))
+        (device_view (rack_view R.Rack) hears)
         (on_table array.old.member.array.geometry volume.Ready None)
         (after_line array.old.member.array.geometry.n result)
         (devices rack.old (IsOpen array.old) watchers.old.items)
         (devices rack.new (IsOpen array.new) watchers.new.items) }
-    ensures stay { AllStay (watcher_view told count left patience) watchers.new.items }
+    ensures stay { AllStay hears watchers.new.items }
 {
     let empty = Table::empty(array.geometry().blocks());
     set_table(&empty, array, rack, watchers)?;
@@ -59,14 +58,14 @@ pub(crate) fn make<C: StripeCode, R: Rack>(
     requires of { table.now.blocks ≡ block_count array.old.member.array.geometry }
     requires some { 1 ≤ blocks }
     requires zeros { zeros.now ≡ replicate (BYTES * data_cells array.old.member.array.geometry) 0 }
-    requires stay { AllStay (watcher_view told count left patience) watchers.old.items }
+    requires stay { AllStay hears watchers.old.items }
     ensures comes { ComesTo
-        (device_view (rack_view R.is_honest R.history R.bads R.gones) (watcher_view told count left patience))
+        (device_view (rack_view R.Rack) hears)
         (makes array.old.member.array.geometry name (with_volume table.now name blocks))
         (after_line array.old.member.array.geometry.n result)
         (devices rack.old (IsOpen array.old) watchers.old.items)
         (devices rack.new (IsOpen array.new) watchers.new.items) }
-    ensures stay { AllStay (watcher_view told count left patience) watchers.new.items }
+    ensures stay { AllStay hears watchers.new.items }
 {
     let grown = table.with(name, blocks)?;
     // by whose rules its volumes are within the array
@@ -85,14 +84,14 @@ pub(crate) fn remove<C: StripeCode, R: Rack>(
     rack: &mut R,
     watchers: &mut Vec<Box<dyn Watcher>>,
 ) -> Result<Line, VolumeFault>
-    requires stay { AllStay (watcher_view told count left patience) watchers.old.items }
+    requires stay { AllStay hears watchers.old.items }
     ensures comes { ComesTo
-        (device_view (rack_view R.is_honest R.history R.bads R.gones) (watcher_view told count left patience))
+        (device_view (rack_view R.Rack) hears)
         (removes array.old.member.array.geometry name (without_volume table.now name))
         (after_line array.old.member.array.geometry.n result)
         (devices rack.old (IsOpen array.old) watchers.old.items)
         (devices rack.new (IsOpen array.new) watchers.new.items) }
-    ensures stay { AllStay (watcher_view told count left patience) watchers.new.items }
+    ensures stay { AllStay hears watchers.new.items }
 {
     let shrunk = table.without(name)?;
     set_table(&shrunk, array, rack, watchers)?;
@@ -109,15 +108,15 @@ fn clear<C: StripeCode, R: Rack>(
 ) -> Result<(), ArrayFault>
     requires within { extent.first + extent.blocks ≤ block_count array.old.member.array.geometry }
     requires zeros { zeros.now ≡ replicate (BYTES * data_cells array.old.member.array.geometry) 0 }
-    requires stay { AllStay (watcher_view told count left patience) watchers.old.items }
+    requires stay { AllStay hears watchers.old.items }
     ensures comes { (rest : Plan) → ComesTo
-        (device_view (rack_view R.is_honest R.history R.bads R.gones) (watcher_view told count left patience))
+        (device_view (rack_view R.Rack) hears)
         (clears array.old.member.array.geometry extent.blocks extent.first extent.blocks rest)
         (after_steps array.old.member.array.geometry.n result rest)
         (devices rack.old (IsOpen array.old) watchers.old.items)
         (devices rack.new (IsOpen array.new) watchers.new.items) }
     ensures geometry { array.new.member.array.geometry ≡ array.old.member.array.geometry }
-    ensures stay { AllStay (watcher_view told count left patience) watchers.new.items }
+    ensures stay { AllStay hears watchers.new.items }
 {
     let geometry = array.geometry();
     let mut block = u64::from(extent.first);
@@ -137,15 +136,15 @@ fn set_table<C: StripeCode, R: Rack>(
     rack: &mut R,
     watchers: &mut Vec<Box<dyn Watcher>>,
 ) -> Result<(), ArrayFault>
-    requires stay { AllStay (watcher_view told count left patience) watchers.old.items }
+    requires stay { AllStay hears watchers.old.items }
     ensures comes { (rest : Plan) → ComesTo
-        (device_view (rack_view R.is_honest R.history R.bads R.gones) (watcher_view told count left patience))
+        (device_view (rack_view R.Rack) hears)
         (sets_table array.old.member.array.geometry table.now rest)
         (after_steps array.old.member.array.geometry.n result rest)
         (devices rack.old (IsOpen array.old) watchers.old.items)
         (devices rack.new (IsOpen array.new) watchers.new.items) }
     ensures geometry { array.new.member.array.geometry ≡ array.old.member.array.geometry }
-    ensures stay { AllStay (watcher_view told count left patience) watchers.new.items }
+    ensures stay { AllStay hears watchers.new.items }
 {
     // by whose rules a block alone is of one stripe
     let _ = array.geometry();

@@ -3,7 +3,6 @@ ghost use Rattle.std.specs.Prelude.{◌≡◌, ◌+◌, ◌*◌, ◌^◌, ◌<�
 ghost use Rattle.stair_array.specs.Promise.{Opened as IsOpen};
 ghost use Rattle.stair_model.specs.Geometry.{block_count, data_cells};
 ghost use Rattle.stair_model.specs.Stripe.{SECTOR as BYTES};
-ghost use Rattle.stair_rack.specs.Watching.{watcher_view};
 ghost use Rattle.stair_story.specs.Devices.{MeansWith, device_view, devices};
 ghost use Rattle.stair_story.specs.Outside.{outside, sink_alone, sink_view, views};
 ghost use Rattle.stair_story.specs.Plan.{Over};
@@ -46,16 +45,15 @@ pub fn volume<C: StripeCode, R: Rack, S: Source, K: Sink>(
 ) -> Result<(), VolumeFault>
     requires command { MakesSome job.now }
     requires zeros { zeros.now ≡ replicate (BYTES * data_cells array.old.member.array.geometry) 0 }
-    requires stay { AllStay (watcher_view told count (λ w. (Watcher-box w).left w.value) patience) watchers.old.items }
+    requires stay { AllStay hears watchers.old.items }
     ensures means { (counter : ℕ) → MeansWith
-        (device_view (rack_view R.is_honest R.history R.bads R.gones) (watcher_view told count (λ w. (Watcher-box w).left w.value) patience))
-        (views S.left S.ended S.faults K.held K.faults)
+        (device_view (rack_view R.Rack) hears) (views S.Source K.Sink)
         (volume_plan job.now array.old.member.array.geometry)
         (Over (status_of array.old.member.array.geometry.n result))
         (outside input.old output.old counter) (outside input.new output.new counter)
         (devices rack.old (IsOpen array.old) watchers.old.items)
         (devices rack.new (IsOpen array.new) watchers.new.items) }
-    ensures stay { AllStay (watcher_view told count (λ w. (Watcher-box w).left w.value) patience) watchers.new.items }
+    ensures stay { AllStay hears watchers.new.items }
 {
     let mut page = [0; SECTOR];
     array.read(rack, 0, &mut page, watchers)?;
@@ -85,16 +83,15 @@ fn with_table<C: StripeCode, R: Rack, S: Source, K: Sink>(
     requires command { MakesSome job.now }
     requires of { table.now.blocks ≡ block_count array.old.member.array.geometry }
     requires zeros { zeros.now ≡ replicate (BYTES * data_cells array.old.member.array.geometry) 0 }
-    requires stay { AllStay (watcher_view told count (λ w. (Watcher-box w).left w.value) patience) watchers.old.items }
+    requires stay { AllStay hears watchers.old.items }
     ensures means { (counter : ℕ) → MeansWith
-        (device_view (rack_view R.is_honest R.history R.bads R.gones) (watcher_view told count (λ w. (Watcher-box w).left w.value) patience))
-        (views S.left S.ended S.faults K.held K.faults)
+        (device_view (rack_view R.Rack) hears) (views S.Source K.Sink)
         (on_table array.old.member.array.geometry job.now (Some table.now))
         (Over (status_of array.old.member.array.geometry.n result))
         (outside input.old output.old counter) (outside input.new output.new counter)
         (devices rack.old (IsOpen array.old) watchers.old.items)
         (devices rack.new (IsOpen array.new) watchers.new.items) }
-    ensures stay { AllStay (watcher_view told count (λ w. (Watcher-box w).left w.value) patience) watchers.new.items }
+    ensures stay { AllStay hears watchers.new.items }
 {
     match *job {
         VolumeJob::Ready => Err(VolumeFault::TableThere),
@@ -120,7 +117,7 @@ fn with_table<C: StripeCode, R: Rack, S: Source, K: Sink>(
 
 // Puts out a line for each volume.
 fn list<K: Sink>(table: &Table, output: &mut K) -> Result<(), VolumeFault>
-    ensures { (slots : ℕ) → PutsTo (sink_view K.held K.faults)
+    ensures { (slots : ℕ) → PutsTo (sink_view K.Sink)
         (lists table.now.entries) (Over (status_of slots result)) output.old output.new }
 {
     for entry in table.entries() {
@@ -156,16 +153,16 @@ fn put_blocks<C: StripeCode, R: Rack, K: Sink>(
     watchers: &mut Vec<Box<dyn Watcher>>,
 ) -> Result<(), VolumeFault>
     requires fits { 0 < blocks → first + blocks < 2 ^ 33 }
-    requires stay { AllStay (watcher_view told count (λ w. (Watcher-box w).left w.value) patience) watchers.old.items }
+    requires stay { AllStay hears watchers.old.items }
     ensures means { (counter : ℕ) → MeansWith
-        (device_view (rack_view R.is_honest R.history R.bads R.gones) (watcher_view told count (λ w. (Watcher-box w).left w.value) patience))
-        (sink_alone K.held K.faults)
+        (device_view (rack_view R.Rack) hears)
+        (sink_alone K.Sink)
         (reads array.old.member.array.geometry first blocks)
         (Over (status_of array.old.member.array.geometry.n result))
         (outside tt output.old counter) (outside tt output.new counter)
         (devices rack.old (IsOpen array.old) watchers.old.items)
         (devices rack.new (IsOpen array.new) watchers.new.items) }
-    ensures stay { AllStay (watcher_view told count (λ w. (Watcher-box w).left w.value) patience) watchers.new.items }
+    ensures stay { AllStay hears watchers.new.items }
 {
     let mut block = [0; SECTOR];
     for done in 0..blocks {
@@ -186,16 +183,15 @@ fn write_input<C: StripeCode, R: Rack, S: Source, K: Sink>(
     watchers: &mut Vec<Box<dyn Watcher>>,
 ) -> Result<(), VolumeFault>
     requires fits { 0 < blocks → first + blocks < 2 ^ 33 }
-    requires stay { AllStay (watcher_view told count (λ w. (Watcher-box w).left w.value) patience) watchers.old.items }
+    requires stay { AllStay hears watchers.old.items }
     ensures means { (counter : ℕ) → MeansWith
-        (device_view (rack_view R.is_honest R.history R.bads R.gones) (watcher_view told count (λ w. (Watcher-box w).left w.value) patience))
-        (views S.left S.ended S.faults K.held K.faults)
+        (device_view (rack_view R.Rack) hears) (views S.Source K.Sink)
         (writes_each array.old.member.array.geometry first blocks 0 blocks)
         (Over (status_of array.old.member.array.geometry.n result))
         (outside input.old output.old counter) (outside input.new output.new counter)
         (devices rack.old (IsOpen array.old) watchers.old.items)
         (devices rack.new (IsOpen array.new) watchers.new.items) }
-    ensures stay { AllStay (watcher_view told count (λ w. (Watcher-box w).left w.value) patience) watchers.new.items }
+    ensures stay { AllStay hears watchers.new.items }
 {
     // by whose rules a block alone is of one stripe
     let _ = array.geometry();

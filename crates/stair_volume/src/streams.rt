@@ -4,7 +4,7 @@ ghost use Rattle.stair_model.specs.Stripe.{SECTOR as BYTES};
 ghost use Rattle.stair_story.specs.Outside.{sink_view, source_view};
 ghost use Rattle.stair_story.specs.Plan.{Over, Plan, Put, take_exactly};
 ghost use Rattle.stair_story.specs.Talks.{PutsTo, TakesTo};
-ghost use Rattle.stair_story.specs.declared.status.Status.TheVariants.{Input};
+ghost use Rattle.stair_status.specs.declared.status.Status.TheVariants.{Input};
 ghost use Rattle.stair_volume.specs.Parts.{after_bytes, after_done};
 
 use crate::fault::VolumeFault;
@@ -20,7 +20,7 @@ pub(crate) fn take_block<S: Source>(
     into: &mut [u8; SECTOR],
 ) -> Result<(), VolumeFault>
     requires { took + BYTES ≤ needed }
-    ensures { (slots : ℕ) (k : List ℕ → Plan) → TakesTo (source_view S.left S.ended S.faults)
+    ensures { (slots : ℕ) (k : List ℕ → Plan) → TakesTo (source_view S.Source)
         (take_exactly BYTES k (λ bytes. Over (Input needed (took + length bytes))))
         (after_bytes slots result into.new k) input.old input.new }
 {
@@ -37,7 +37,7 @@ pub(crate) fn take_block<S: Source>(
 /// Looks for the end of the input, behind so many bytes, which are all that are needed.
 pub(crate) fn take_end<S: Source>(input: &mut S, needed: u64) -> Result<(), VolumeFault>
     requires { needed < 2 ^ 63 }
-    ensures { (slots : ℕ) (rest : Plan) → TakesTo (source_view S.left S.ended S.faults)
+    ensures { (slots : ℕ) (rest : Plan) → TakesTo (source_view S.Source)
         (take_exactly 1 (λ more. Over (Input needed (needed + 1))) (λ none. rest))
         (after_done slots result rest) input.old input.new }
 {
@@ -53,7 +53,7 @@ pub(crate) fn take_end<S: Source>(input: &mut S, needed: u64) -> Result<(), Volu
 
 /// Puts the bytes out.
 pub(crate) fn put<K: Sink>(output: &mut K, bytes: &[u8]) -> Result<(), VolumeFault>
-    ensures { (slots : ℕ) (rest : Plan) → PutsTo (sink_view K.held K.faults)
+    ensures { (slots : ℕ) (rest : Plan) → PutsTo (sink_view K.Sink)
         (Put bytes.now rest) (after_done slots result rest) output.old output.new }
 {
     match put_all(output, bytes) {

@@ -44,12 +44,12 @@ module _ {W : Type 0} (view : WatcherView W) (event : Event) where
   each_more w later (x ∷ done) heard each one =
       (each.0, each.1 ++ later ∷ [], each.2, each_more w later done each.1 each.3 one, ap (λ (l : List W). l ++ later ∷ []) each.4)
 
-  stayed-stays : (later : W) (heard : List W) → view.left later ≡ false → stayed view (heard ++ later ∷ []) ≡ stayed view heard ++ later ∷ []
-  stayed-stays later [] stays = cond-false (view.left later) [] (later ∷ []) stays
+  stayed-stays : (later : W) (heard : List W) → (view later).left ≡ false → stayed view (heard ++ later ∷ []) ≡ stayed view heard ++ later ∷ []
+  stayed-stays later [] stays = cond-false (view later).left [] (later ∷ []) stays
   stayed-stays later (x ∷ heard) stays = grind (arith, stayed-stays later heard stays)
 
-  stayed-leaves : (later : W) (heard : List W) → view.left later ≡ true → stayed view (heard ++ later ∷ []) ≡ stayed view heard
-  stayed-leaves later [] leaves = cond-true (view.left later) [] (later ∷ []) leaves
+  stayed-leaves : (later : W) (heard : List W) → (view later).left ≡ true → stayed view (heard ++ later ∷ []) ≡ stayed view heard
+  stayed-leaves later [] leaves = cond-true (view later).left [] (later ∷ []) leaves
   stayed-leaves later (x ∷ heard) leaves = grind (arith, stayed-leaves later heard leaves)
 
   pub at_first : (old : List W) → AllStay view old → InTurn view event old old 0
@@ -73,7 +73,7 @@ module _ {W : Type 0} (view : WatcherView W) (event : Event) where
     each : EachHears view event done heard
     list : now ≡ stayed view heard ++ (w ∷ rest)
     place : length (stayed view heard) ≡ at
-    stays : view.left w ≡ false
+    stays : (view w).left ≡ false
     still : AllStay view rest
 
   next : (old now : List W) (at : ℕ) (w : W) → InTurn view event old now at → at < length now → w ≡ slice_index_or now at w
@@ -95,17 +95,17 @@ module _ {W : Type 0} (view : WatcherView W) (event : Event) where
             each = turn.each;
             list = list ∙ ap (λ (y : W). stayed view turn.heard ++ (y ∷ rest)) same;
             place = turn.place;
-            stays = subst (λ (y : W). view.left y ≡ false) same still.0;
+            stays = subst (λ (y : W). (view y).left ≡ false) same still.0;
             still = still.1;
           }
 
   pub next_stays : (old now : List W) (at : ℕ) (w : W) → InTurn view event old now at → at < length now → w ≡ slice_index_or now at w
-      → view.left w ≡ false
+      → (view w).left ≡ false
   next_stays old now at w turn below is = (next old now at w turn below is).stays
 
   -- the next one heard the event and stays
   pub turn_stays : (old now : List W) (at : ℕ) (w later : W) → InTurn view event old now at → at < length now
-      → w ≡ slice_index_or now at w → HearsOne view event w later → view.left later ≡ false
+      → w ≡ slice_index_or now at w → HearsOne view event w later → (view later).left ≡ false
       → InTurn view event old (slice_set now at later) (at + 1)
   turn_stays old now at w later turn below is one stays =
       let n = next old now at w turn below is in
@@ -124,7 +124,7 @@ module _ {W : Type 0} (view : WatcherView W) (event : Event) where
 
   -- the next one heard the event and left
   pub turn_leaves : (old now : List W) (at : ℕ) (w later : W) → InTurn view event old now at → at < length now
-      → w ≡ slice_index_or now at w → HearsOne view event w later → view.left later ≡ true
+      → w ≡ slice_index_or now at w → HearsOne view event w later → (view later).left ≡ true
       → InTurn view event old (remove (slice_set now at later) at) at
   turn_leaves old now at w later turn below is one leaves =
       let n = next old now at w turn below is in

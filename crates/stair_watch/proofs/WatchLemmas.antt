@@ -98,16 +98,16 @@ waits_none (Some p) = ap Some (sym (less_none p))
 module _ {W : Type 0} (view : WatcherView W) where
   hears_then : (a b : List Event) (u v w : W) → Hears view a u v → Hears view b v w → Hears view (a ++ b) u w
   hears_then a b u v w first later = record {
-    list = list_then a b (view.told u) (view.told v) (view.told w) first.list later.list;
+    list = list_then a b (view u).told (view v).told (view w).told first.list later.list;
     counts = λ kind. omega (arith, first.counts kind, later.counts kind, count_of-append kind a b);
-    waits = waits_then a b (view.patience u) (view.patience v) (view.patience w) first.waits later.waits;
+    waits = waits_then a b (view u).patience (view v).patience (view w).patience first.waits later.waits;
   }
 
   hears_none : (w : W) → Hears view [] w w
   hears_none w = record {
-    list = list_none (view.told w);
+    list = list_none (view w).told;
     counts = λ kind. omega arith;
-    waits = waits_none (view.patience w);
+    waits = waits_none (view w).patience;
   }
 
   -- one event, and then others: of a watcher's patience, as its own and as what is left of it
@@ -137,7 +137,7 @@ module _ {W : Type 0} (view : WatcherView W) where
       → AreLeft view (event ∷ events) x z
   left_then event events [] y z first later = subst (λ (l : List W). AreLeft view events l z) first later
   left_then event events (w ∷ x) y z (inr gone) later =
-      inr (leaves_sooner event events (view.patience w) gone.0, left_then event events x y z gone.1 later)
+      inr (leaves_sooner event events (view w).patience gone.0, left_then event events x y z gone.1 later)
   left_then event events (w ∷ x) y z (inl stays) later =
       let v = stays.0 in
       let rest = stays.1 in
@@ -148,12 +148,12 @@ module _ {W : Type 0} (view : WatcherView W) where
           also.1,
           hears_then (event ∷ []) events w v also.0 heard also.2,
           also.3,
-          goes_then event events (view.patience w) (view.patience v) heard.waits stays.4 also.4,
+          goes_then event events (view w).patience (view v).patience heard.waits stays.4 also.4,
           left_then event events x rest also.1 stays.5 also.5,
           also.6,
         )
         | inr gone ↦ inr (
-          leaves_later event events (view.patience w) (view.patience v) heard.waits gone.0,
+          leaves_later event events (view w).patience (view v).patience heard.waits gone.0,
           left_then event events x rest z stays.5 gone.1,
         )
       ]
@@ -171,15 +171,15 @@ module _ {W : Type 0} (view : WatcherView W) where
       let one = each.2 in
       let more = one_told event old rest each.3 in
       subst (λ (l : List W). AreLeft view (event ∷ []) (w ∷ old) (stayed view l)) (sym each.4)
-      (elim (cases_Bool (view.left later)) [
+      (elim (cases_Bool (view later).left) [
         | inl gone ↦
             subst (λ (l : List W). AreLeft view (event ∷ []) (w ∷ old) l)
-            (sym (cond-true (view.left later) (stayed view rest) (later ∷ stayed view rest) gone))
-            (inr (spent (view.patience w) gone one.leaves, more))
+            (sym (cond-true (view later).left (stayed view rest) (later ∷ stayed view rest) gone))
+            (inr (spent (view w).patience gone one.leaves, more))
         | inr stays ↦
             subst (λ (l : List W). AreLeft view (event ∷ []) (w ∷ old) l)
-            (sym (cond-false (view.left later) (stayed view rest) (later ∷ stayed view rest) stays))
-            (inl (later, stayed view rest, one.hears, stays, waiting (view.patience w) stays one.leaves, more, refl))
+            (sym (cond-false (view later).left (stayed view rest) (later ∷ stayed view rest) stays))
+            (inl (later, stayed view rest, one.hears, stays, waiting (view w).patience stays one.leaves, more, refl))
       ])
     where
       spent : {left : Bool} (o : Option Patience) → left ≡ true → IfSome o (λ p. (left ≡ false) ↔ IsPatient (event ∷ []) p)
@@ -195,15 +195,15 @@ module _ {W : Type 0} (view : WatcherView W) where
   stayed_stay : (list : List W) → AllStay view (stayed view list)
   stayed_stay [] = tt
   stayed_stay (w ∷ list) =
-      elim (cases_Bool (view.left w)) [
-        | inl gone ↦ subst (λ (l : List W). AllStay view l) (sym (cond-true (view.left w) (stayed view list) (w ∷ stayed view list) gone))
+      elim (cases_Bool (view w).left) [
+        | inl gone ↦ subst (λ (l : List W). AllStay view l) (sym (cond-true (view w).left (stayed view list) (w ∷ stayed view list) gone))
             (stayed_stay list)
-        | inr stays ↦ subst (λ (l : List W). AllStay view l) (sym (cond-false (view.left w) (stayed view list) (w ∷ stayed view list) stays))
+        | inr stays ↦ subst (λ (l : List W). AllStay view l) (sym (cond-false (view w).left (stayed view list) (w ∷ stayed view list) stays))
             (stays, stayed_stay list)
       ]
 
   -- one that hasn't left, behind the others
-  pub AllStay-more : (list : List W) (w : W) → AllStay view list → view.left w ≡ false → AllStay view (list ++ w ∷ [])
+  pub AllStay-more : (list : List W) (w : W) → AllStay view list → (view w).left ≡ false → AllStay view (list ++ w ∷ [])
   AllStay-more [] w still stays = (stays, tt)
   AllStay-more (x ∷ list) w still stays = (still.0, AllStay-more list w still.1 stays)
 
@@ -237,25 +237,25 @@ module _ {W : Type 0} (view : WatcherView W) where
 
   stayed_all : (list : List W) → AllStay view list → stayed view list ≡ list
   stayed_all [] still = refl
-  stayed_all (w ∷ list) still = cond-false (view.left w) (stayed view list) (w ∷ stayed view list) still.0 ∙ ap (λ l. w ∷ l) (stayed_all list still.1)
+  stayed_all (w ∷ list) still = cond-false (view w).left (stayed view list) (w ∷ stayed view list) still.0 ∙ ap (λ l. w ∷ l) (stayed_all list still.1)
 
   all_stayed : (list : List W) → length (stayed view list) ≡ length list → AllStay view list
   all_stayed [] same = tt
   all_stayed (w ∷ list) same =
-      elim (cases_Bool (view.left w)) [
+      elim (cases_Bool (view w).left) [
         | inl gone ↦
             let none : ⊥ = omega (
               arith,
               same,
               length-stayed-le list,
-              ap length (cond-true (view.left w) (stayed view list) (w ∷ stayed view list) gone),
+              ap length (cond-true (view w).left (stayed view list) (w ∷ stayed view list) gone),
             ) in
             absurd none
         | inr stays ↦
             let fewer : length (stayed view list) ≡ length list = omega (
               arith,
               same,
-              ap length (cond-false (view.left w) (stayed view list) (w ∷ stayed view list) stays),
+              ap length (cond-false (view w).left (stayed view list) (w ∷ stayed view list) stays),
             ) in
             (stays, all_stayed list fewer)
       ]

@@ -6,7 +6,7 @@ use Rattle.stair_rack.specs.declared.watcher.Event.{Event}
 -- none of them has left
 abbrev pub AllStay : {W : Type 0} → WatcherView W → List W → Type 0
 AllStay view [] = ⊤
-AllStay view (w ∷ list) = (view.left w ≡ false) × AllStay view list
+AllStay view (w ∷ list) = ((view w).left ≡ false) × AllStay view list
 
 -- each watcher of the list heard the event
 abbrev pub EachHears : {W : Type 0} → WatcherView W → Event → List W → List W → Type 0
@@ -17,7 +17,7 @@ EachHears {W} view event (w ∷ list) new = (later : W) × (rest : List W) × He
 -- those that haven't left, in their order
 abbrev pub stayed : {W : Type 0} → WatcherView W → List W → List W
 stayed view [] = []
-stayed view (w ∷ list) = if view.left w then stayed view list else w ∷ stayed view list
+stayed view (w ∷ list) = if (view w).left then stayed view list else w ∷ stayed view list
 
 -- A list of watchers was told an event: each heard it, and those that left are taken out.
 pub record Tells {W : Type 0} (view : WatcherView W) (event : Event) (old new : List W) : Type 0 where
@@ -45,6 +45,6 @@ LeavesAmong (event ∷ events) waits = IfSome waits (λ patience. ¬ IsPatient (
 abbrev pub AreLeft : {W : Type 0} → WatcherView W → List Event → List W → List W → Type 0
 AreLeft view events [] new = new ≡ []
 AreLeft {W} view events (w ∷ list) new =
-    ((later : W) × (rest : List W) × Hears view events w later × (view.left later ≡ false)
-    × GoesOn events (view.patience w) × AreLeft view events list rest × (new ≡ later ∷ rest))
-    ⊎ (LeavesAmong events (view.patience w) × AreLeft view events list new)
+    ((later : W) × (rest : List W) × Hears view events w later × ((view later).left ≡ false)
+    × GoesOn events (view w).patience × AreLeft view events list rest × (new ≡ later ∷ rest))
+    ⊎ (LeavesAmong events (view w).patience × AreLeft view events list new)

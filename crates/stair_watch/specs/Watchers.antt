@@ -49,6 +49,10 @@ pub record KeptState : Type 0 where
 abbrev pub kept_left : KeptState → Bool
 kept_left k = nat_le k.room (length k.events)
 
+abbrev pub kept_view : WatcherView KeptState
+kept_view = watcher_view (λ k. Some k.events) (λ k. count_in k.counts) kept_left
+    (λ k. Some (rest_of k.room (length k.events)))
+
 -- the sink that the lines go to, and the number of events by kind
 pub record PrinterState (K : Type 0) : Type 0 where
   pub sink : K

@@ -1,6 +1,6 @@
 // A watcher that keeps what it is told.
-ghost use Rattle.std.specs.Prelude.{◌≡◌, ◌≤◌, IfOk, Some, [], false, length};
-ghost use Rattle.stair_watch.specs.Watchers.{count_in, kept_left, no_counts, rest_of, waits_on};
+ghost use Rattle.std.specs.Prelude.{◌≡◌, ◌≤◌, IfOk, [], false, length};
+ghost use Rattle.stair_watch.specs.Watchers.{kept_left, kept_view, no_counts, waits_on};
 
 use crate::tally::Tally;
 use stair_rack::{Counts, Event, Next, Watcher};
@@ -46,13 +46,7 @@ impl Kept {
 }
 
 impl Watcher for Kept {
-    ghost left = { kept_left };
-
-    ghost count = { λ k. count_in k.counts };
-
-    ghost told = { λ k. Some k.events };
-
-    ghost patience = { λ k. Some (rest_of k.room (length k.events)) };
+    ghost hears = { kept_view };
 
     ghost waits = { λ k. waits_on k.room (length k.events) };
 

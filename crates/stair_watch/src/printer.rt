@@ -1,14 +1,12 @@
 // A watcher that prints.
-ghost use Rattle.std.specs.Prelude.{◌≡◌, ◌≤◌, ◌^◌, ◌-◌, ◌↔◌, IsTrue, None, Some, false};
+ghost use Rattle.std.specs.Prelude.{◌≡◌, ◌≤◌, ◌^◌, ◌-◌, ◌↔◌, IsTrue, false};
 ghost use Rattle.stair_rack.specs.Watching.{HearsOne};
 ghost use Rattle.stair_rack.specs.declared.watcher.Next.{Next};
 ghost use Rattle.stair_watch.specs.Lines.{Prints, event_line};
 ghost use Rattle.stair_watch.specs.Watchers.{
-  count_in,
   no_counts,
   printer_left,
   printer_view,
-  rest_of,
   sum_in,
   waits_on,
 };
@@ -53,13 +51,7 @@ impl<K: Sink + Drop> Printer<K> {
 }
 
 impl<K: Sink + Drop> Watcher for Printer<K> {
-    ghost left = { printer_left };
-
-    ghost count = { λ p. count_in p.counts };
-
-    ghost told = { λ _. None };
-
-    ghost patience = { λ p. Some (rest_of (2 ^ 64 - 1) (sum_in p.counts)) };
+    ghost hears = { printer_view };
 
     ghost waits = { λ p. waits_on (2 ^ 64 - 1) (sum_in p.counts) };
 

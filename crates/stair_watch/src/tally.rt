@@ -1,11 +1,9 @@
 // A watcher that counts.
-ghost use Rattle.std.specs.Prelude.{◌≡◌, ◌≤◌, ◌-◌, ◌^◌, ◌↔◌, IsTrue, None, Some, false};
+ghost use Rattle.std.specs.Prelude.{◌≡◌, ◌≤◌, ◌-◌, ◌^◌, ◌↔◌, IsTrue, false};
 ghost use Rattle.stair_rack.specs.Watching.{HearsOne};
 ghost use Rattle.stair_rack.specs.declared.watcher.Next.{Next};
 ghost use Rattle.stair_watch.specs.Watchers.{
-  count_in,
   no_counts,
-  rest_of,
   sum_in,
   tally_left,
   tally_view,
@@ -53,13 +51,7 @@ impl Tally {
 }
 
 impl Watcher for Tally {
-    ghost left = { tally_left };
-
-    ghost count = { λ t. count_in t.counts };
-
-    ghost told = { λ _. None };
-
-    ghost patience = { λ t. Some (rest_of t.limit (sum_in t.counts)) };
+    ghost hears = { tally_view };
 
     ghost waits = { λ t. waits_on t.limit (sum_in t.counts) };
 

@@ -1,6 +1,6 @@
 // A list of watchers, and telling it of an event.
 ghost use Rattle.std.specs.Prelude.{◌≡◌, ◌++◌, ◌∷◌, [], IsErr, OnOk, false, true};
-ghost use Rattle.stair_rack.specs.Watching.{HearsOne, watcher_view};
+ghost use Rattle.stair_rack.specs.Watching.{HearsOne};
 ghost use Rattle.stair_rack.specs.declared.watcher.Next.{Next};
 ghost use Rattle.stair_watch.specs.WatcherList.{AllStay, Tells};
 
@@ -13,12 +13,12 @@ pub fn add(
     watchers: &mut Vec<Box<dyn Watcher>>,
     watcher: Box<dyn Watcher>,
 ) -> Result<(), AllocError>
-    requires others { AllStay (watcher_view told count left patience) watchers.old.items }
-    requires stays { left watcher ≡ false }
+    requires others { AllStay hears watchers.old.items }
+    requires stays { (hears watcher).left ≡ false }
     ensures added { OnOk result (watchers.new.items ≡ watchers.old.items ++ watcher ∷ []) }
     ensures refused { IsErr result → watchers.new.items ≡ watchers.old.items }
     // None of those in the list has left, so they may be told of an event.
-    ensures stay { AllStay (watcher_view told count left patience) watchers.new.items }
+    ensures stay { AllStay hears watchers.new.items }
 {
     Ok(watchers.push(watcher)?)
 }
@@ -26,12 +26,11 @@ pub fn add(
 /// Tells each watcher of the event, in order. One that answers `Leave` is taken out and dropped, and the others keep their
 /// order. It takes no memory.
 pub fn tell(watchers: &mut Vec<Box<dyn Watcher>>, event: Event)
-    requires { AllStay (watcher_view told count left patience) watchers.old.items }
-    ensures told { Tells (watcher_view told count left patience) event watchers.old.items
-        watchers.new.items }
+    requires { AllStay hears watchers.old.items }
+    ensures told { Tells hears event watchers.old.items watchers.new.items }
 
     // None of those that are left has left, so they may be told of the next event.
-    ensures stay { AllStay (watcher_view told count left patience) watchers.new.items }
+    ensures stay { AllStay hears watchers.new.items }
 {
     let mut at = 0;
     while at < watchers.len() {
@@ -44,10 +43,10 @@ pub fn tell(watchers: &mut Vec<Box<dyn Watcher>>, event: Event)
 
 // The call of one watcher, whatever its type.
 fn notify(watcher: &mut Box<dyn Watcher>, event: Event) -> Next
-    requires { left watcher.old ≡ false }
-    ensures stays { result ≡ Next.Stay → left watcher.new ≡ false }
-    ensures leaves { result ≡ Next.Leave → left watcher.new ≡ true }
-    ensures heard { HearsOne (watcher_view told count left patience) event watcher.old watcher.new }
+    requires { (hears watcher.old).left ≡ false }
+    ensures stays { result ≡ Next.Stay → (hears watcher.new).left ≡ false }
+    ensures leaves { result ≡ Next.Leave → (hears watcher.new).left ≡ true }
+    ensures heard { HearsOne hears event watcher.old watcher.new }
 {
     watcher.notice(event)
 }

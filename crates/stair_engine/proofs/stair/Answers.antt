@@ -5,8 +5,7 @@ use Rattle.stair_conf.specs.declared.job.Job.TheVariants.{Guard, Serve, Volume}
 use Rattle.stair_conf.specs.declared.fault.WordsFault.{WordsFault}
 use Rattle.stair_conf.specs.declared.fault.WordsFault.TheVariants.{Usage}
 use Rattle.stair_array.specs.Promise.{Begun}
-use Rattle.stair_rack.specs.Watching.{watcher_view}
-use Rattle.stair_story.specs.declared.status.Status.TheVariants as status
+use Rattle.stair_status.specs.declared.status.Status.TheVariants as status
 use Rattle.stair_story.specs.Devices.{device_view}
 use Rattle.stair_story.specs.Outside.{outside, views}
 use Rattle.stair_story.specs.Rack.{rack_view}
@@ -25,14 +24,8 @@ use Rattle.stair_engine.proofs.stair.Goals as goal
 
 pub returns-in-Ok : goal.returns-in-Ok
 returns-in-Ok g c =
-    let view = views g.S.Source.left g.S.Source.ended g.S.Source.faults g.K.Sink.held g.K.Sink.faults in
-    let told = watcher_view
-    (λ b. (goal.Watcher-dyn g (b.vtable, b.value)).told b.value)
-    (λ b. (goal.Watcher-dyn g (b.vtable, b.value)).count b.value)
-    (λ b. (goal.Watcher-dyn g (b.vtable, b.value)).left b.value)
-    (λ b. (goal.Watcher-dyn g (b.vtable, b.value)).patience b.value)
-    in
-    let devices = device_view (rack_view g.R.Rack.is_honest g.R.Rack.history g.R.Rack.bads g.R.Rack.gones) told in
+    let view = views g.S.Source g.K.Sink in
+    let devices = device_view (rack_view g.R.Rack) (λ b. (goal.Watcher-dyn g (b.vtable, b.value)).hears b.value) in
     let words = map string_bytes c.args.words.now in
     let old = outside c.args.input.now c.args.output.now c.args.steps.now in
     let whole =
@@ -55,14 +48,8 @@ returns-in-Ok g c =
 
 pub returns-in-Err-Usage-clause-borne_out : goal.returns-in-Err-Usage-clause-borne_out
 returns-in-Err-Usage-clause-borne_out g c =
-    let view = views g.S.Source.left g.S.Source.ended g.S.Source.faults g.K.Sink.held g.K.Sink.faults in
-    let told = watcher_view
-    (λ b. (goal.Watcher-dyn g (b.vtable, b.value)).told b.value)
-    (λ b. (goal.Watcher-dyn g (b.vtable, b.value)).count b.value)
-    (λ b. (goal.Watcher-dyn g (b.vtable, b.value)).left b.value)
-    (λ b. (goal.Watcher-dyn g (b.vtable, b.value)).patience b.value)
-    in
-    let devices = device_view (rack_view g.R.Rack.is_honest g.R.Rack.history g.R.Rack.bads g.R.Rack.gones) told in
+    let view = views g.S.Source g.K.Sink in
+    let devices = device_view (rack_view g.R.Rack) (λ b. (goal.Watcher-dyn g (b.vtable, b.value)).hears b.value) in
     let words = map string_bytes c.args.words.now in
     let old = outside c.args.input.now c.args.output.now c.args.steps.now in
     let usage : c.read_words.result ≡ Err Usage =
@@ -77,14 +64,8 @@ returns-in-Err-Usage-clause-borne_out g c =
 
 pub returns-in-Err-Memory-clause-borne_out : goal.returns-in-Err-Memory-clause-borne_out
 returns-in-Err-Memory-clause-borne_out g c =
-    let view = views g.S.Source.left g.S.Source.ended g.S.Source.faults g.K.Sink.held g.K.Sink.faults in
-    let told = watcher_view
-    (λ b. (goal.Watcher-dyn g (b.vtable, b.value)).told b.value)
-    (λ b. (goal.Watcher-dyn g (b.vtable, b.value)).count b.value)
-    (λ b. (goal.Watcher-dyn g (b.vtable, b.value)).left b.value)
-    (λ b. (goal.Watcher-dyn g (b.vtable, b.value)).patience b.value)
-    in
-    let devices = device_view (rack_view g.R.Rack.is_honest g.R.Rack.history g.R.Rack.bads g.R.Rack.gones) told in
+    let view = views g.S.Source g.K.Sink in
+    let devices = device_view (rack_view g.R.Rack) (λ b. (goal.Watcher-dyn g (b.vtable, b.value)).hears b.value) in
     short_borne devices view (map string_bytes c.args.words.now) _ _ _
 
 pub returns-in-Err-Usage-clause-stands : goal.returns-in-Err-Usage-clause-stands
@@ -101,14 +82,8 @@ returns-in-Err-Memory-clause-spared g c honest spells = still_spared _ _ (λ mad
 
 pub returns-in-Err-Memory-clause-halted : goal.returns-in-Err-Memory-clause-halted
 returns-in-Err-Memory-clause-halted g c events fences spells =
-    let view = views g.S.Source.left g.S.Source.ended g.S.Source.faults g.K.Sink.held g.K.Sink.faults in
-    let told = watcher_view
-    (λ b. (goal.Watcher-dyn g (b.vtable, b.value)).told b.value)
-    (λ b. (goal.Watcher-dyn g (b.vtable, b.value)).count b.value)
-    (λ b. (goal.Watcher-dyn g (b.vtable, b.value)).left b.value)
-    (λ b. (goal.Watcher-dyn g (b.vtable, b.value)).patience b.value)
-    in
-    let devices = device_view (rack_view g.R.Rack.is_honest g.R.Rack.history g.R.Rack.bads g.R.Rack.gones) told in
+    let view = views g.S.Source g.K.Sink in
+    let devices = device_view (rack_view g.R.Rack) (λ b. (goal.Watcher-dyn g (b.vtable, b.value)).hears b.value) in
     guards_halt _ _ _ _ devices view (map string_bytes c.args.words.now) events fences status.OutOfMemory _ _ _ _ _ _ spells c.requires
 
 pub returns-in-Err-Usage-clause-halted : goal.returns-in-Err-Usage-clause-halted
@@ -120,14 +95,8 @@ returns-in-Err-Usage-clause-halted g c events fences spells =
 
 pub returns-in-Err-Memory-clause-volumes : goal.returns-in-Err-Memory-clause-volumes
 returns-in-Err-Memory-clause-volumes g c job spells =
-    let view = views g.S.Source.left g.S.Source.ended g.S.Source.faults g.K.Sink.held g.K.Sink.faults in
-    let told = watcher_view
-    (λ b. (goal.Watcher-dyn g (b.vtable, b.value)).told b.value)
-    (λ b. (goal.Watcher-dyn g (b.vtable, b.value)).count b.value)
-    (λ b. (goal.Watcher-dyn g (b.vtable, b.value)).left b.value)
-    (λ b. (goal.Watcher-dyn g (b.vtable, b.value)).patience b.value)
-    in
-    let devices = device_view (rack_view g.R.Rack.is_honest g.R.Rack.history g.R.Rack.bads g.R.Rack.gones) told in
+    let view = views g.S.Source g.K.Sink in
+    let devices = device_view (rack_view g.R.Rack) (λ b. (goal.Watcher-dyn g (b.vtable, b.value)).hears b.value) in
     volumes_are_changed _ _ _ _ devices view (map string_bytes c.args.words.now) job status.OutOfMemory _ _ _ _ _ _ spells
 
 pub returns-in-Err-Usage-clause-volumes : goal.returns-in-Err-Usage-clause-volumes
@@ -139,14 +108,8 @@ returns-in-Err-Usage-clause-volumes g c job spells =
 
 pub returns-in-Err-Memory-clause-answered : goal.returns-in-Err-Memory-clause-answered
 returns-in-Err-Memory-clause-answered g c spells returning =
-    let view = views g.S.Source.left g.S.Source.ended g.S.Source.faults g.K.Sink.held g.K.Sink.faults in
-    let told = watcher_view
-    (λ b. (goal.Watcher-dyn g (b.vtable, b.value)).told b.value)
-    (λ b. (goal.Watcher-dyn g (b.vtable, b.value)).count b.value)
-    (λ b. (goal.Watcher-dyn g (b.vtable, b.value)).left b.value)
-    (λ b. (goal.Watcher-dyn g (b.vtable, b.value)).patience b.value)
-    in
-    let devices = device_view (rack_view g.R.Rack.is_honest g.R.Rack.history g.R.Rack.bads g.R.Rack.gones) told in
+    let view = views g.S.Source g.K.Sink in
+    let devices = device_view (rack_view g.R.Rack) (λ b. (goal.Watcher-dyn g (b.vtable, b.value)).hears b.value) in
     clients_are_answered _ _ _ _ returning devices view (map string_bytes c.args.words.now) status.OutOfMemory _ _ _ _ _ _ spells
 
 pub returns-in-Err-Usage-clause-answered : goal.returns-in-Err-Usage-clause-answered

@@ -6,7 +6,6 @@ use Rattle.stair_conf.specs.declared.job.Job.{Job}
 use Rattle.stair_story.specs.Fault.{status_of, status_of_fault}
 use Rattle.stair_story.specs.Means.{Means}
 use Rattle.stair_story.specs.Outside.{outside, sink_alone, views}
-use Rattle.stair_rack.specs.Watching.{watcher_view}
 use Rattle.stair_conf.specs.declared.job.Job.TheVariants.{Create, Exercise, Freeze, Label, Plan, Read, Rebuild, Replace, Report, Scrub, Show, Thaw}
 use Rattle.stair_story.specs.Devices.{MeansWhole, device_view}
 use Rattle.stair_story.proofs.DeviceLaws.{any_source, calls_once, with_once}
@@ -24,8 +23,8 @@ use Rattle.stair_story.specs.Rack.{MeansOver, rack_view}
 use Rattle.stair_engine.specs.Task.{one_stripe}
 use Rattle.stair_engine.specs.Volumes.{volumes_plan}
 use Rattle.stair_story.specs.declared.fault.Fault.{Fault}
-use Rattle.stair_story.specs.declared.status.Status.{Status}
-use Rattle.stair_story.specs.declared.status.Status.TheVariants.{Limit}
+use Rattle.stair_status.specs.declared.status.Status.{Status}
+use Rattle.stair_status.specs.declared.status.Status.TheVariants.{Limit}
 use Rattle.stair_engine.proofs.StepLaws.{shows}
 use Rattle.stair_engine.proofs.work.Goals as goal
 use Rattle.stair_story.proofs.PlanLaws.{and_then, finds}
@@ -40,15 +39,9 @@ status_is status (Err fault) is = is
 
 pub returns-in-Ok-clause-means : goal.returns-in-Ok-clause-means
 returns-in-Ok-clause-means g c =
-    let view = views g.S.Source.left g.S.Source.ended g.S.Source.faults g.K.Sink.held g.K.Sink.faults in
-    let rack = rack_view g.R.Rack.is_honest g.R.Rack.history g.R.Rack.bads g.R.Rack.gones in
-    let told = watcher_view
-    (λ b. (goal.Watcher-dyn g (b.vtable, b.value)).told b.value)
-    (λ b. (goal.Watcher-dyn g (b.vtable, b.value)).count b.value)
-    (λ b. (goal.Watcher-dyn g (b.vtable, b.value)).left b.value)
-    (λ b. (goal.Watcher-dyn g (b.vtable, b.value)).patience b.value)
-    in
-    let devices = device_view rack told in
+    let view = views g.S.Source g.K.Sink in
+    let rack = rack_view g.R.Rack in
+    let devices = device_view rack (λ b. (goal.Watcher-dyn g (b.vtable, b.value)).hears b.value) in
     let o = c.in-OneStripe in
     let of = one_stripe o.n o.m o.r o.e in
     let status = c.unwrap_or_else.result in
@@ -68,15 +61,9 @@ returns-in-Ok-clause-means g c =
 
 pub returns-in-OneStripe-clause-means : goal.returns-in-OneStripe-clause-means
 returns-in-OneStripe-clause-means g c =
-    let view = views g.S.Source.left g.S.Source.ended g.S.Source.faults g.K.Sink.held g.K.Sink.faults in
-    let rack = rack_view g.R.Rack.is_honest g.R.Rack.history g.R.Rack.bads g.R.Rack.gones in
-    let told = watcher_view
-    (λ b. (goal.Watcher-dyn g (b.vtable, b.value)).told b.value)
-    (λ b. (goal.Watcher-dyn g (b.vtable, b.value)).count b.value)
-    (λ b. (goal.Watcher-dyn g (b.vtable, b.value)).left b.value)
-    (λ b. (goal.Watcher-dyn g (b.vtable, b.value)).patience b.value)
-    in
-    let devices = device_view rack told in
+    let view = views g.S.Source g.K.Sink in
+    let rack = rack_view g.R.Rack in
+    let devices = device_view rack (λ b. (goal.Watcher-dyn g (b.vtable, b.value)).hears b.value) in
     let o = c.in-OneStripe in
     let of = one_stripe o.n o.m o.r o.e in
     let old = outside c.args.input.now c.args.output.now c.args.steps.now in
@@ -88,15 +75,9 @@ returns-in-OneStripe-clause-means g c =
 
 pub returns-in-Create-clause-means : goal.returns-in-Create-clause-means
 returns-in-Create-clause-means g c =
-    let view = views g.S.Source.left g.S.Source.ended g.S.Source.faults g.K.Sink.held g.K.Sink.faults in
-    let rack = rack_view g.R.Rack.is_honest g.R.Rack.history g.R.Rack.bads g.R.Rack.gones in
-    let told = watcher_view
-    (λ b. (goal.Watcher-dyn g (b.vtable, b.value)).told b.value)
-    (λ b. (goal.Watcher-dyn g (b.vtable, b.value)).count b.value)
-    (λ b. (goal.Watcher-dyn g (b.vtable, b.value)).left b.value)
-    (λ b. (goal.Watcher-dyn g (b.vtable, b.value)).patience b.value)
-    in
-    let devices = device_view rack told in
+    let view = views g.S.Source g.K.Sink in
+    let rack = rack_view g.R.Rack in
+    let devices = device_view rack (λ b. (goal.Watcher-dyn g (b.vtable, b.value)).hears b.value) in
     let status = c.unwrap_or_else-in-Create.result in
     let is : status ≡ status_of c.create.result = status_is _ c.create.result c.unwrap_or_else-in-Create.ensures in
     let old = outside c.args.input.now c.args.output.now c.args.steps.now in
@@ -108,15 +89,9 @@ returns-in-Create-clause-means g c =
 
 pub returns-in-Show-clause-means : goal.returns-in-Show-clause-means
 returns-in-Show-clause-means g c =
-    let view = views g.S.Source.left g.S.Source.ended g.S.Source.faults g.K.Sink.held g.K.Sink.faults in
-    let rack = rack_view g.R.Rack.is_honest g.R.Rack.history g.R.Rack.bads g.R.Rack.gones in
-    let told = watcher_view
-    (λ b. (goal.Watcher-dyn g (b.vtable, b.value)).told b.value)
-    (λ b. (goal.Watcher-dyn g (b.vtable, b.value)).count b.value)
-    (λ b. (goal.Watcher-dyn g (b.vtable, b.value)).left b.value)
-    (λ b. (goal.Watcher-dyn g (b.vtable, b.value)).patience b.value)
-    in
-    let devices = device_view rack told in
+    let view = views g.S.Source g.K.Sink in
+    let rack = rack_view g.R.Rack in
+    let devices = device_view rack (λ b. (goal.Watcher-dyn g (b.vtable, b.value)).hears b.value) in
     let status = c.unwrap_or_else-in-Show.result in
     let is : status ≡ status_of c.show.result = status_is _ c.show.result c.unwrap_or_else-in-Show.ensures in
     let old = outside c.args.input.now c.args.output.now c.args.steps.now in
@@ -128,15 +103,9 @@ returns-in-Show-clause-means g c =
 
 pub returns-in-Read-clause-means : goal.returns-in-Read-clause-means
 returns-in-Read-clause-means g c =
-    let view = views g.S.Source.left g.S.Source.ended g.S.Source.faults g.K.Sink.held g.K.Sink.faults in
-    let rack = rack_view g.R.Rack.is_honest g.R.Rack.history g.R.Rack.bads g.R.Rack.gones in
-    let told = watcher_view
-    (λ b. (goal.Watcher-dyn g (b.vtable, b.value)).told b.value)
-    (λ b. (goal.Watcher-dyn g (b.vtable, b.value)).count b.value)
-    (λ b. (goal.Watcher-dyn g (b.vtable, b.value)).left b.value)
-    (λ b. (goal.Watcher-dyn g (b.vtable, b.value)).patience b.value)
-    in
-    let devices = device_view rack told in
+    let view = views g.S.Source g.K.Sink in
+    let rack = rack_view g.R.Rack in
+    let devices = device_view rack (λ b. (goal.Watcher-dyn g (b.vtable, b.value)).hears b.value) in
     let job = c.in-Read in
     let status = c.unwrap_or_else-in-Read.result in
     let is : status ≡ status_of c.read-done.result = status_is _ c.read-done.result c.unwrap_or_else-in-Read.ensures in
@@ -146,22 +115,16 @@ returns-in-Read-clause-means g c =
     (sym job.is)
     (any_source devices view.source view.sink (read_plan job.block job.count) (Over status) c.args.output.now c.read-done.new.output c.args.steps.now c.args.steps.now
     c.args.rack.now c.read-done.new.rack c.args.watchers.now.items c.read-done.new.watchers.items (job_untaken (Read job.block job.count) (λ no. no))
-    (subst (λ (s : Status). MeansWhole devices (sink_alone g.K.Sink.held g.K.Sink.faults) (read_plan job.block job.count) (Over s)
+    (subst (λ (s : Status). MeansWhole devices (sink_alone g.K.Sink) (read_plan job.block job.count) (Over s)
     (outside tt c.args.output.now c.args.steps.now) (outside tt c.read-done.new.output c.args.steps.now) c.args.rack.now c.read-done.new.rack
     c.args.watchers.now.items c.read-done.new.watchers.items) (sym is) (c.read-done.ensures.means c.args.steps.now))
     c.args.input.now)
 
 pub returns-in-Write-clause-means : goal.returns-in-Write-clause-means
 returns-in-Write-clause-means g c =
-    let view = views g.S.Source.left g.S.Source.ended g.S.Source.faults g.K.Sink.held g.K.Sink.faults in
-    let rack = rack_view g.R.Rack.is_honest g.R.Rack.history g.R.Rack.bads g.R.Rack.gones in
-    let told = watcher_view
-    (λ b. (goal.Watcher-dyn g (b.vtable, b.value)).told b.value)
-    (λ b. (goal.Watcher-dyn g (b.vtable, b.value)).count b.value)
-    (λ b. (goal.Watcher-dyn g (b.vtable, b.value)).left b.value)
-    (λ b. (goal.Watcher-dyn g (b.vtable, b.value)).patience b.value)
-    in
-    let devices = device_view rack told in
+    let view = views g.S.Source g.K.Sink in
+    let rack = rack_view g.R.Rack in
+    let devices = device_view rack (λ b. (goal.Watcher-dyn g (b.vtable, b.value)).hears b.value) in
     let job = c.in-Write in
     let status = c.unwrap_or_else-in-Write.result in
     let is : status ≡ status_of c.write-done.result = status_is _ c.write-done.result c.unwrap_or_else-in-Write.ensures in
@@ -174,15 +137,9 @@ returns-in-Write-clause-means g c =
 
 pub returns-in-Run-clause-means : goal.returns-in-Run-clause-means
 returns-in-Run-clause-means g c =
-    let view = views g.S.Source.left g.S.Source.ended g.S.Source.faults g.K.Sink.held g.K.Sink.faults in
-    let rack = rack_view g.R.Rack.is_honest g.R.Rack.history g.R.Rack.bads g.R.Rack.gones in
-    let told = watcher_view
-    (λ b. (goal.Watcher-dyn g (b.vtable, b.value)).told b.value)
-    (λ b. (goal.Watcher-dyn g (b.vtable, b.value)).count b.value)
-    (λ b. (goal.Watcher-dyn g (b.vtable, b.value)).left b.value)
-    (λ b. (goal.Watcher-dyn g (b.vtable, b.value)).patience b.value)
-    in
-    let devices = device_view rack told in
+    let view = views g.S.Source g.K.Sink in
+    let rack = rack_view g.R.Rack in
+    let devices = device_view rack (λ b. (goal.Watcher-dyn g (b.vtable, b.value)).hears b.value) in
     let status = c.unwrap_or_else-in-Run.result in
     let is : status ≡ status_of c.run_script-done.result = status_is _ c.run_script-done.result c.unwrap_or_else-in-Run.ensures in
     let old = outside c.args.input.now c.args.output.now c.args.steps.now in
@@ -194,15 +151,9 @@ returns-in-Run-clause-means g c =
 
 pub returns-in-Guard-clause-means : goal.returns-in-Guard-clause-means
 returns-in-Guard-clause-means g c =
-    let view = views g.S.Source.left g.S.Source.ended g.S.Source.faults g.K.Sink.held g.K.Sink.faults in
-    let rack = rack_view g.R.Rack.is_honest g.R.Rack.history g.R.Rack.bads g.R.Rack.gones in
-    let told = watcher_view
-    (λ b. (goal.Watcher-dyn g (b.vtable, b.value)).told b.value)
-    (λ b. (goal.Watcher-dyn g (b.vtable, b.value)).count b.value)
-    (λ b. (goal.Watcher-dyn g (b.vtable, b.value)).left b.value)
-    (λ b. (goal.Watcher-dyn g (b.vtable, b.value)).patience b.value)
-    in
-    let devices = device_view rack told in
+    let view = views g.S.Source g.K.Sink in
+    let rack = rack_view g.R.Rack in
+    let devices = device_view rack (λ b. (goal.Watcher-dyn g (b.vtable, b.value)).hears b.value) in
     let status = c.unwrap_or_else-in-Guard.result in
     let is : status ≡ status_of c.run_script-done-in-Guard.result = status_is _ c.run_script-done-in-Guard.result c.unwrap_or_else-in-Guard.ensures in
     let old = outside c.args.input.now c.args.output.now c.args.steps.now in
@@ -214,15 +165,9 @@ returns-in-Guard-clause-means g c =
 
 pub returns-in-Report-clause-means : goal.returns-in-Report-clause-means
 returns-in-Report-clause-means g c =
-    let view = views g.S.Source.left g.S.Source.ended g.S.Source.faults g.K.Sink.held g.K.Sink.faults in
-    let rack = rack_view g.R.Rack.is_honest g.R.Rack.history g.R.Rack.bads g.R.Rack.gones in
-    let told = watcher_view
-    (λ b. (goal.Watcher-dyn g (b.vtable, b.value)).told b.value)
-    (λ b. (goal.Watcher-dyn g (b.vtable, b.value)).count b.value)
-    (λ b. (goal.Watcher-dyn g (b.vtable, b.value)).left b.value)
-    (λ b. (goal.Watcher-dyn g (b.vtable, b.value)).patience b.value)
-    in
-    let devices = device_view rack told in
+    let view = views g.S.Source g.K.Sink in
+    let rack = rack_view g.R.Rack in
+    let devices = device_view rack (λ b. (goal.Watcher-dyn g (b.vtable, b.value)).hears b.value) in
     let status = c.reported.result in
     let old = outside c.args.input.now c.args.output.now c.args.steps.now in
     let new = outside c.report.new.input c.report.new.output c.args.steps.now in
@@ -234,115 +179,67 @@ returns-in-Report-clause-means g c =
 
 pub returns-in-Scrub-clause-means : goal.returns-in-Scrub-clause-means
 returns-in-Scrub-clause-means g c =
-    let rack = rack_view g.R.Rack.is_honest g.R.Rack.history g.R.Rack.bads g.R.Rack.gones in
-    let told = watcher_view
-    (λ b. (goal.Watcher-dyn g (b.vtable, b.value)).told b.value)
-    (λ b. (goal.Watcher-dyn g (b.vtable, b.value)).count b.value)
-    (λ b. (goal.Watcher-dyn g (b.vtable, b.value)).left b.value)
-    (λ b. (goal.Watcher-dyn g (b.vtable, b.value)).patience b.value)
-    in
-    let view = views g.S.Source.left g.S.Source.ended g.S.Source.faults g.K.Sink.held g.K.Sink.faults in
-    arm (device_view rack told) view.source view.sink Scrub (job_untaken Scrub (λ no. no)) c.scrub.result c.unwrap_or_else-in-Scrub.result
+    let rack = rack_view g.R.Rack in
+    let view = views g.S.Source g.K.Sink in
+    arm (device_view rack (λ b. (goal.Watcher-dyn g (b.vtable, b.value)).hears b.value)) view.source view.sink Scrub (job_untaken Scrub (λ no. no)) c.scrub.result c.unwrap_or_else-in-Scrub.result
     (status_is _ c.scrub.result c.unwrap_or_else-in-Scrub.ensures) _ c.in-Scrub.is c.args.input.now c.args.output.now c.scrub.new.output c.args.steps.now
     c.args.rack.now c.scrub.new.rack c.args.watchers.now.items c.scrub.new.watchers.items c.scrub.ensures.means
 
 pub returns-in-Replace-clause-means : goal.returns-in-Replace-clause-means
 returns-in-Replace-clause-means g c =
-    let rack = rack_view g.R.Rack.is_honest g.R.Rack.history g.R.Rack.bads g.R.Rack.gones in
-    let told = watcher_view
-    (λ b. (goal.Watcher-dyn g (b.vtable, b.value)).told b.value)
-    (λ b. (goal.Watcher-dyn g (b.vtable, b.value)).count b.value)
-    (λ b. (goal.Watcher-dyn g (b.vtable, b.value)).left b.value)
-    (λ b. (goal.Watcher-dyn g (b.vtable, b.value)).patience b.value)
-    in
-    let view = views g.S.Source.left g.S.Source.ended g.S.Source.faults g.K.Sink.held g.K.Sink.faults in
-    arm (device_view rack told) view.source view.sink (Replace c.in-Replace.slot) (job_untaken (Replace c.in-Replace.slot) (λ no. no)) c.replace-done.result c.unwrap_or_else-in-Replace.result
+    let rack = rack_view g.R.Rack in
+    let view = views g.S.Source g.K.Sink in
+    arm (device_view rack (λ b. (goal.Watcher-dyn g (b.vtable, b.value)).hears b.value)) view.source view.sink (Replace c.in-Replace.slot) (job_untaken (Replace c.in-Replace.slot) (λ no. no)) c.replace-done.result c.unwrap_or_else-in-Replace.result
     (status_is _ c.replace-done.result c.unwrap_or_else-in-Replace.ensures) _ c.in-Replace.is c.args.input.now c.args.output.now c.replace-done.new.output c.args.steps.now
     c.args.rack.now c.replace-done.new.rack c.args.watchers.now.items c.replace-done.new.watchers.items c.replace-done.ensures.means
 
 pub returns-in-Rebuild-clause-means : goal.returns-in-Rebuild-clause-means
 returns-in-Rebuild-clause-means g c =
-    let rack = rack_view g.R.Rack.is_honest g.R.Rack.history g.R.Rack.bads g.R.Rack.gones in
-    let told = watcher_view
-    (λ b. (goal.Watcher-dyn g (b.vtable, b.value)).told b.value)
-    (λ b. (goal.Watcher-dyn g (b.vtable, b.value)).count b.value)
-    (λ b. (goal.Watcher-dyn g (b.vtable, b.value)).left b.value)
-    (λ b. (goal.Watcher-dyn g (b.vtable, b.value)).patience b.value)
-    in
-    let view = views g.S.Source.left g.S.Source.ended g.S.Source.faults g.K.Sink.held g.K.Sink.faults in
-    arm (device_view rack told) view.source view.sink Rebuild (job_untaken Rebuild (λ no. no)) c.rebuild.result c.unwrap_or_else-in-Rebuild.result
+    let rack = rack_view g.R.Rack in
+    let view = views g.S.Source g.K.Sink in
+    arm (device_view rack (λ b. (goal.Watcher-dyn g (b.vtable, b.value)).hears b.value)) view.source view.sink Rebuild (job_untaken Rebuild (λ no. no)) c.rebuild.result c.unwrap_or_else-in-Rebuild.result
     (status_is _ c.rebuild.result c.unwrap_or_else-in-Rebuild.ensures) _ c.in-Rebuild.is c.args.input.now c.args.output.now c.rebuild.new.output c.args.steps.now
     c.args.rack.now c.rebuild.new.rack c.args.watchers.now.items c.rebuild.new.watchers.items c.rebuild.ensures.means
 
 pub returns-in-Freeze-clause-means : goal.returns-in-Freeze-clause-means
 returns-in-Freeze-clause-means g c =
-    let rack = rack_view g.R.Rack.is_honest g.R.Rack.history g.R.Rack.bads g.R.Rack.gones in
-    let told = watcher_view
-    (λ b. (goal.Watcher-dyn g (b.vtable, b.value)).told b.value)
-    (λ b. (goal.Watcher-dyn g (b.vtable, b.value)).count b.value)
-    (λ b. (goal.Watcher-dyn g (b.vtable, b.value)).left b.value)
-    (λ b. (goal.Watcher-dyn g (b.vtable, b.value)).patience b.value)
-    in
-    let view = views g.S.Source.left g.S.Source.ended g.S.Source.faults g.K.Sink.held g.K.Sink.faults in
-    arm (device_view rack told) view.source view.sink Freeze (job_untaken Freeze (λ no. no)) c.freeze.result c.unwrap_or_else-in-Freeze.result
+    let rack = rack_view g.R.Rack in
+    let view = views g.S.Source g.K.Sink in
+    arm (device_view rack (λ b. (goal.Watcher-dyn g (b.vtable, b.value)).hears b.value)) view.source view.sink Freeze (job_untaken Freeze (λ no. no)) c.freeze.result c.unwrap_or_else-in-Freeze.result
     (status_is _ c.freeze.result c.unwrap_or_else-in-Freeze.ensures) _ c.in-Freeze.is c.args.input.now c.args.output.now c.freeze.new.output c.args.steps.now
     c.args.rack.now c.freeze.new.rack c.args.watchers.now.items c.freeze.new.watchers.items c.freeze.ensures.means
 
 pub returns-in-Thaw-clause-means : goal.returns-in-Thaw-clause-means
 returns-in-Thaw-clause-means g c =
-    let rack = rack_view g.R.Rack.is_honest g.R.Rack.history g.R.Rack.bads g.R.Rack.gones in
-    let told = watcher_view
-    (λ b. (goal.Watcher-dyn g (b.vtable, b.value)).told b.value)
-    (λ b. (goal.Watcher-dyn g (b.vtable, b.value)).count b.value)
-    (λ b. (goal.Watcher-dyn g (b.vtable, b.value)).left b.value)
-    (λ b. (goal.Watcher-dyn g (b.vtable, b.value)).patience b.value)
-    in
-    let view = views g.S.Source.left g.S.Source.ended g.S.Source.faults g.K.Sink.held g.K.Sink.faults in
-    arm (device_view rack told) view.source view.sink Thaw (job_untaken Thaw (λ no. no)) c.thaw.result c.unwrap_or_else-in-Thaw.result
+    let rack = rack_view g.R.Rack in
+    let view = views g.S.Source g.K.Sink in
+    arm (device_view rack (λ b. (goal.Watcher-dyn g (b.vtable, b.value)).hears b.value)) view.source view.sink Thaw (job_untaken Thaw (λ no. no)) c.thaw.result c.unwrap_or_else-in-Thaw.result
     (status_is _ c.thaw.result c.unwrap_or_else-in-Thaw.ensures) _ c.in-Thaw.is c.args.input.now c.args.output.now c.thaw.new.output c.args.steps.now
     c.args.rack.now c.thaw.new.rack c.args.watchers.now.items c.thaw.new.watchers.items c.thaw.ensures.means
 
 pub returns-in-Label-clause-means : goal.returns-in-Label-clause-means
 returns-in-Label-clause-means g c =
-    let rack = rack_view g.R.Rack.is_honest g.R.Rack.history g.R.Rack.bads g.R.Rack.gones in
-    let told = watcher_view
-    (λ b. (goal.Watcher-dyn g (b.vtable, b.value)).told b.value)
-    (λ b. (goal.Watcher-dyn g (b.vtable, b.value)).count b.value)
-    (λ b. (goal.Watcher-dyn g (b.vtable, b.value)).left b.value)
-    (λ b. (goal.Watcher-dyn g (b.vtable, b.value)).patience b.value)
-    in
-    let view = views g.S.Source.left g.S.Source.ended g.S.Source.faults g.K.Sink.held g.K.Sink.faults in
-    arm (device_view rack told) view.source view.sink (Label c.in-Label.text) (job_untaken (Label c.in-Label.text) (λ no. no)) c.label-done.result c.unwrap_or_else-in-Label.result
+    let rack = rack_view g.R.Rack in
+    let view = views g.S.Source g.K.Sink in
+    arm (device_view rack (λ b. (goal.Watcher-dyn g (b.vtable, b.value)).hears b.value)) view.source view.sink (Label c.in-Label.text) (job_untaken (Label c.in-Label.text) (λ no. no)) c.label-done.result c.unwrap_or_else-in-Label.result
     (status_is _ c.label-done.result c.unwrap_or_else-in-Label.ensures) _ c.in-Label.is c.args.input.now c.args.output.now c.label-done.new.output c.args.steps.now
     c.args.rack.now c.label-done.new.rack c.args.watchers.now.items c.label-done.new.watchers.items c.label-done.ensures.means
 
 pub returns-in-Exercise-clause-means : goal.returns-in-Exercise-clause-means
 returns-in-Exercise-clause-means g c =
-    let rack = rack_view g.R.Rack.is_honest g.R.Rack.history g.R.Rack.bads g.R.Rack.gones in
-    let told = watcher_view
-    (λ b. (goal.Watcher-dyn g (b.vtable, b.value)).told b.value)
-    (λ b. (goal.Watcher-dyn g (b.vtable, b.value)).count b.value)
-    (λ b. (goal.Watcher-dyn g (b.vtable, b.value)).left b.value)
-    (λ b. (goal.Watcher-dyn g (b.vtable, b.value)).patience b.value)
-    in
-    let view = views g.S.Source.left g.S.Source.ended g.S.Source.faults g.K.Sink.held g.K.Sink.faults in
+    let rack = rack_view g.R.Rack in
+    let view = views g.S.Source g.K.Sink in
     let of = Exercise c.in-Exercise.number c.in-Exercise.count in
-    arm (device_view rack told) view.source view.sink of (job_untaken of (λ no. no)) c.exercise-done.result c.unwrap_or_else-in-Exercise.result
+    arm (device_view rack (λ b. (goal.Watcher-dyn g (b.vtable, b.value)).hears b.value)) view.source view.sink of (job_untaken of (λ no. no)) c.exercise-done.result c.unwrap_or_else-in-Exercise.result
     (status_is _ c.exercise-done.result c.unwrap_or_else-in-Exercise.ensures) _ c.in-Exercise.is c.args.input.now c.args.output.now
     c.exercise-done.new.output c.args.steps.now c.args.rack.now c.exercise-done.new.rack c.args.watchers.now.items c.exercise-done.new.watchers.items
     c.exercise-done.ensures.means
 
 pub returns-in-Serve-clause-means : goal.returns-in-Serve-clause-means
 returns-in-Serve-clause-means g c =
-    let view = views g.S.Source.left g.S.Source.ended g.S.Source.faults g.K.Sink.held g.K.Sink.faults in
-    let rack = rack_view g.R.Rack.is_honest g.R.Rack.history g.R.Rack.bads g.R.Rack.gones in
-    let told = watcher_view
-    (λ b. (goal.Watcher-dyn g (b.vtable, b.value)).told b.value)
-    (λ b. (goal.Watcher-dyn g (b.vtable, b.value)).count b.value)
-    (λ b. (goal.Watcher-dyn g (b.vtable, b.value)).left b.value)
-    (λ b. (goal.Watcher-dyn g (b.vtable, b.value)).patience b.value)
-    in
-    let devices = device_view rack told in
+    let view = views g.S.Source g.K.Sink in
+    let rack = rack_view g.R.Rack in
+    let devices = device_view rack (λ b. (goal.Watcher-dyn g (b.vtable, b.value)).hears b.value) in
     let status = c.unwrap_or_else-in-Serve.result in
     let is : status ≡ status_of c.serve-done.result = status_is _ c.serve-done.result c.unwrap_or_else-in-Serve.ensures in
     let old = outside c.args.input.now c.args.output.now c.args.steps.now in
@@ -354,15 +251,9 @@ returns-in-Serve-clause-means g c =
 
 pub returns-in-Volume-clause-means : goal.returns-in-Volume-clause-means
 returns-in-Volume-clause-means g c =
-    let view = views g.S.Source.left g.S.Source.ended g.S.Source.faults g.K.Sink.held g.K.Sink.faults in
-    let rack = rack_view g.R.Rack.is_honest g.R.Rack.history g.R.Rack.bads g.R.Rack.gones in
-    let told = watcher_view
-    (λ b. (goal.Watcher-dyn g (b.vtable, b.value)).told b.value)
-    (λ b. (goal.Watcher-dyn g (b.vtable, b.value)).count b.value)
-    (λ b. (goal.Watcher-dyn g (b.vtable, b.value)).left b.value)
-    (λ b. (goal.Watcher-dyn g (b.vtable, b.value)).patience b.value)
-    in
-    let devices = device_view rack told in
+    let view = views g.S.Source g.K.Sink in
+    let rack = rack_view g.R.Rack in
+    let devices = device_view rack (λ b. (goal.Watcher-dyn g (b.vtable, b.value)).hears b.value) in
     let of = c.in-Volume.volume in
     let status = c.unwrap_or_else-in-Volume.result in
     let is : status ≡ status_of c.volumes-done.result = status_is _ c.volumes-done.result c.unwrap_or_else-in-Volume.ensures in
@@ -375,19 +266,13 @@ returns-in-Volume-clause-means g c =
 
 pub returns-in-Ok-one_stripe-clause-means : goal.returns-in-Ok-one_stripe-clause-means
 returns-in-Ok-one_stripe-clause-means g c =
-    let view = views g.S.Source.left g.S.Source.ended g.S.Source.faults g.K.Sink.held g.K.Sink.faults in
-    let rack = rack_view g.R.Rack.is_honest g.R.Rack.history g.R.Rack.bads g.R.Rack.gones in
-    let told = watcher_view
-    (λ b. (goal.Watcher-dyn g (b.vtable, b.value)).told b.value)
-    (λ b. (goal.Watcher-dyn g (b.vtable, b.value)).count b.value)
-    (λ b. (goal.Watcher-dyn g (b.vtable, b.value)).left b.value)
-    (λ b. (goal.Watcher-dyn g (b.vtable, b.value)).patience b.value)
-    in
-    let devices = device_view rack told in
+    let view = views g.S.Source g.K.Sink in
+    let rack = rack_view g.R.Rack in
+    let devices = device_view rack (λ b. (goal.Watcher-dyn g (b.vtable, b.value)).hears b.value) in
     let o = c.in-Plan in
     let of = one_stripe o.n o.m o.r o.e in
     let job = Plan o.n o.m o.r o.e in
-    let alone = sink_alone g.K.Sink.held g.K.Sink.faults in
+    let alone = sink_alone g.K.Sink in
     let done = c.tell_costs-done.result in
     let later = c.tell_costs-done.new.output in
     arm devices view.source view.sink job (job_untaken job (λ no. no)) done c.unwrap_or_else-in-Ok-one_stripe.result
@@ -404,15 +289,9 @@ returns-in-Ok-one_stripe-clause-means g c =
 
 pub returns-clause-means : goal.returns-clause-means
 returns-clause-means g c =
-    let view = views g.S.Source.left g.S.Source.ended g.S.Source.faults g.K.Sink.held g.K.Sink.faults in
-    let rack = rack_view g.R.Rack.is_honest g.R.Rack.history g.R.Rack.bads g.R.Rack.gones in
-    let told = watcher_view
-    (λ b. (goal.Watcher-dyn g (b.vtable, b.value)).told b.value)
-    (λ b. (goal.Watcher-dyn g (b.vtable, b.value)).count b.value)
-    (λ b. (goal.Watcher-dyn g (b.vtable, b.value)).left b.value)
-    (λ b. (goal.Watcher-dyn g (b.vtable, b.value)).patience b.value)
-    in
-    let devices = device_view rack told in
+    let view = views g.S.Source g.K.Sink in
+    let rack = rack_view g.R.Rack in
+    let devices = device_view rack (λ b. (goal.Watcher-dyn g (b.vtable, b.value)).hears b.value) in
     let o = c.in-Plan in
     let of = one_stripe o.n o.m o.r o.e in
     let status = Limit c.in-Err-one_stripe.fault.limit in

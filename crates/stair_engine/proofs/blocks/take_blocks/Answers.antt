@@ -11,7 +11,7 @@ use Rattle.stair_engine.proofs.blocks.take_blocks.Goals as goal
 
 pub fill-requires-clause-room : goal.fill-requires-clause-room
 fill-requires-clause-room g c =
-    let took = took_blocks (source_view g.S.Source.left g.S.Source.ended g.S.Source.faults) _ _ _ _ _ _ _ c.loop-number.invariant.taken in
+    let took = took_blocks (source_view g.S.Source) _ _ _ _ _ _ _ c.loop-number.invariant.taken in
     let below : c.loop-number.number < data_cells c.args.geometry.now = omega (arith, c.u-number-end.ensures.value) in
     let long : length c.loop-number.sector ≡ 512 = search rules in
     omega (arith, took.0, took.1, below, long, c.requires.room)
@@ -19,7 +19,7 @@ fill-requires-clause-room g c =
 pub returns-in_err-fill-clause-cut : goal.returns-in_err-fill-clause-cut
 returns-in_err-fill-clause-cut g c =
     if_err_of _ c.in_err-fill.field-0.0 _ c.from_residual.ensures.1
-    (CutsShort-later (source_view g.S.Source.left g.S.Source.ended g.S.Source.faults) _ _ _ _ _ _ _ c.loop-number.invariant.taken.taken c.in_err-fill.ensures.cut)
+    (CutsShort-later (source_view g.S.Source) _ _ _ _ _ _ _ c.loop-number.invariant.taken.taken c.in_err-fill.ensures.cut)
 
 pub loop-number-preserved : goal.loop-number-preserved
 loop-number-preserved g c =
@@ -35,7 +35,7 @@ loop-number-preserved g c =
       well_formed = c.put.ensures.well_formed;
       taken =
           rw c.put.ensures.value
-          (TakesBlocksTo-more (source_view g.S.Source.left g.S.Source.ended g.S.Source.faults) of _ _ _ c.loop-number.stripe number _ _ c.fill.new.into _ _ _
+          (TakesBlocksTo-more (source_view g.S.Source) of _ _ _ c.loop-number.stripe number _ _ c.fill.new.into _ _ _
           c.loop-number.invariant.of c.loop-number.invariant.well_formed place.row_in place.chunk_in at
           (rw c.put.ensures.value at c.put.ensures.well_formed) c.loop-number.invariant.taken c.in_ok-fill.ensures.ok);
     }
@@ -44,12 +44,12 @@ pub loop-number-init : goal.loop-number-init
 loop-number-init g c = record {
   of = c.requires.of;
   well_formed = c.requires.well_formed;
-  taken = TakesBlocksTo-none (source_view g.S.Source.left g.S.Source.ended g.S.Source.faults) c.args.geometry.now c.args.intake.now c.args.stripe.now c.args.input.now;
+  taken = TakesBlocksTo-none (source_view g.S.Source) c.args.geometry.now c.args.intake.now c.args.stripe.now c.args.input.now;
 }
 
 pub returns-clause-ok : goal.returns-clause-ok
 returns-clause-ok g c =
-    let view = source_view g.S.Source.left g.S.Source.ended g.S.Source.faults in
+    let view = source_view g.S.Source in
     let of = c.args.geometry.now in
     let all : c.loop-number.number ≡ data_cells of = omega (arith, c.u-number-end.ensures.value) in
     subst (λ (count : ℕ). TakesBlocksTo view of count c.args.intake.now c.loop-number.intake c.loop-number.stripe c.args.input.now c.loop-number.input) all

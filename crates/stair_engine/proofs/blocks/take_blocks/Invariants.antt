@@ -8,6 +8,6 @@ abbrev pub invariant-loop-number : goal.invariant-loop-number
 invariant-loop-number g l = record {
   of : IsStripeOf l.geometry l.stripe;
   well_formed : IsWellFormed l.stripe;
-  taken : TakesBlocksTo (source_view g.S.Source.left g.S.Source.ended g.S.Source.faults) l.geometry l.number l.initial.intake l.intake l.stripe
+  taken : TakesBlocksTo (source_view g.S.Source) l.geometry l.number l.initial.intake l.intake l.stripe
       l.initial.input l.input;
 }

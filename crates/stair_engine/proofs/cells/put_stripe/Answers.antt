@@ -16,7 +16,7 @@ returns-in_err-put_all-clause-puts g c =
     let slot_in : c.loop-slot.slot < of.n = omega (arith, c.n-slot-end.ensures.value) in
     let row_in : c.loop-row.row < of.r = omega (arith, c.r-row-end.ensures.value) in
     let puts = c.in_err-put_all.ensures.puts in
-    PutsAll-err (sink_view g.K.Sink.held g.K.Sink.faults) _ _ _ _ _ c.from_residual.ensures.0
+    PutsAll-err (sink_view g.K.Sink) _ _ _ _ _ c.from_residual.ensures.0
     (puts_part of c.args.stripe.now _ _ c.cell.result.now puts.0 c.requires.of c.requires.well_formed row_in slot_in c.cell.ensures.value puts.1) (
       Appends-trans _ _ _ _ _ c.loop-slot.invariant.bytes puts.2.0,
       omega (arith, c.loop-slot.invariant.count, puts.2.1),

@@ -9,7 +9,7 @@ use Rattle.stair_model.proofs.StripeLaws.{number_in}
 pub returns-in_err-fill-clause-cut : goal.returns-in_err-fill-clause-cut
 returns-in_err-fill-clause-cut g c =
     if_err_of _ c.in_err-fill.field-0.0 _ c.from_residual.ensures.1
-    (CutsShort-later (source_view g.S.Source.left g.S.Source.ended g.S.Source.faults) _ _ _ _ _ _ _ c.loop-slot.invariant.taken c.in_err-fill.ensures.cut)
+    (CutsShort-later (source_view g.S.Source) _ _ _ _ _ _ _ c.loop-slot.invariant.taken c.in_err-fill.ensures.cut)
 
 pub loop-slot-preserved : goal.loop-slot-preserved
 loop-slot-preserved g c =
@@ -17,12 +17,12 @@ loop-slot-preserved g c =
     let slot_in : c.loop-slot.slot < of.n = omega (arith, c.n-slot-end.ensures.value) in
     let row_in : c.loop-row.row < of.r = omega (arith, c.r-row-end.ensures.value) in
     rw c.put.ensures.value
-    (HasTaken-more (source_view g.S.Source.left g.S.Source.ended g.S.Source.faults) of _ _ _ _ _ _ c.fill.new.into _ _ _ row_in slot_in (omega (arith, c.fill.auto.into))
+    (HasTaken-more (source_view g.S.Source) of _ _ _ _ _ _ c.fill.new.into _ _ _ row_in slot_in (omega (arith, c.fill.auto.into))
     (rw c.put.ensures.value at c.put.ensures.well_formed) c.loop-slot.invariant c.in_ok-fill.ensures.ok)
 
 pub loop-row-init : goal.loop-row-init
 loop-row-init g c =
-    let view = source_view g.S.Source.left g.S.Source.ended g.S.Source.faults in
+    let view = source_view g.S.Source in
     let of = c.args.geometry.now in
     let none : 0 ≡ 0 * of.n = omega arith in
     subst (λ (done : ℕ). HasTaken view of c.args.intake.now c.args.intake.now c.args.stripe.now done c.args.input.now c.args.input.now)
@@ -31,7 +31,7 @@ loop-row-init g c =
 
 pub loop-slot-init : goal.loop-slot-init
 loop-slot-init g c =
-    let view = source_view g.S.Source.left g.S.Source.ended g.S.Source.faults in
+    let view = source_view g.S.Source in
     let of = c.args.geometry.now in
     let none : c.loop-row.row * of.n ≡ c.loop-row.row * of.n + 0 = omega arith in
     subst (λ (done : ℕ). HasTaken view of c.args.intake.now c.loop-row.intake c.loop-row.stripe done c.args.input.now c.loop-row.input) none
@@ -48,7 +48,7 @@ fill-requires-clause-room g c =
 
 pub loop-row-preserved : goal.loop-row-preserved
 loop-row-preserved g c =
-    let view = source_view g.S.Source.left g.S.Source.ended g.S.Source.faults in
+    let view = source_view g.S.Source in
     let of = c.args.geometry.now in
     let all : c.loop-slot.slot ≡ of.n = omega (arith, c.n-slot-end.ensures.value) in
     subst (λ (done : ℕ). HasTaken view of c.args.intake.now c.loop-slot.intake c.loop-slot.stripe done c.args.input.now c.loop-slot.input)
@@ -56,7 +56,7 @@ loop-row-preserved g c =
 
 pub returns-clause-ok : goal.returns-clause-ok
 returns-clause-ok g c =
-    let view = source_view g.S.Source.left g.S.Source.ended g.S.Source.faults in
+    let view = source_view g.S.Source in
     let of = c.args.geometry.now in
     let all : c.loop-row.row ≡ of.r = omega (arith, c.r-row-end.ensures.value) in
     HasTaken-all view of _ _ c.loop-row.stripe (c.loop-row.row * of.n) _ _ (ap (λ (row : ℕ). row * of.n) all) c.loop-row.invariant

@@ -6,10 +6,10 @@ use Rattle.stair_engine.proofs.cells.take_stripe.Given as goal
 
 abbrev pub invariant-loop-row : goal.invariant-loop-row
 invariant-loop-row g l =
-    HasTaken (source_view g.S.Source.left g.S.Source.ended g.S.Source.faults) l.geometry l.initial.intake l.intake l.stripe
+    HasTaken (source_view g.S.Source) l.geometry l.initial.intake l.intake l.stripe
     (l.row * l.geometry.n) l.initial.input l.input
 
 abbrev pub invariant-loop-slot : goal.invariant-loop-slot
 invariant-loop-slot g l =
-    HasTaken (source_view g.S.Source.left g.S.Source.ended g.S.Source.faults) l.geometry l.fn.intake l.intake l.stripe
+    HasTaken (source_view g.S.Source) l.geometry l.fn.intake l.intake l.stripe
     (l.row * l.geometry.n + l.slot) l.fn.input l.input

@@ -2,7 +2,7 @@
 use Rattle.std.proofs.Common.{[], refl, rules}
 use Rattle.std.specs.Prelude.{IsNone}
 use Rattle.stair_story.specs.Answer.{codeword_line}
-use Rattle.stair_story.specs.declared.status.Status.TheVariants.{NotCodeword}
+use Rattle.stair_status.specs.declared.status.Status.TheVariants.{NotCodeword}
 use Rattle.stair_story.specs.Outside.{views}
 use Rattle.stair_conf.specs.declared.job.StripeCommand.TheVariants.{Check}
 use Rattle.stair_engine.proofs.check.check.Goals as goal
@@ -10,12 +10,12 @@ use Rattle.stair_engine.proofs.StripeLaws.{after_memory, input_refused, judged_p
 
 pub returns-in_err-stripe : goal.returns-in_err-stripe
 returns-in_err-stripe g c counter =
-    let view = views g.S.Source.left g.S.Source.ended g.S.Source.faults g.K.Sink.held g.K.Sink.faults in
+    let view = views g.S.Source g.K.Sink in
     no_memory view Check c.args.geometry.now _ _ c.from_residual.ensures.1
 
 pub returns-in_err-take_input : goal.returns-in_err-take_input
 returns-in_err-take_input g c counter =
-    let view = views g.S.Source.left g.S.Source.ended g.S.Source.faults g.K.Sink.held g.K.Sink.faults in
+    let view = views g.S.Source g.K.Sink in
     let of = c.args.geometry.now in
     after_memory view Check of _ _ _
     (input_refused view Check of of _ _ _ c.args.input.now c.take_input.new.input c.args.output.now counter refl c.in_err-take_input.ensures.takes
@@ -23,7 +23,7 @@ returns-in_err-take_input g c counter =
 
 pub returns-in-Some : goal.returns-in-Some
 returns-in-Some g c counter =
-    let view = views g.S.Source.left g.S.Source.ended g.S.Source.faults g.K.Sink.held g.K.Sink.faults in
+    let view = views g.S.Source g.K.Sink in
     let of = c.args.geometry.now in
     let whole = c.in_ok-take_input.ensures.takes in
     after_memory view Check of _ _ _
@@ -32,7 +32,7 @@ returns-in-Some g c counter =
 
 pub returns-in_err-put_all : goal.returns-in_err-put_all
 returns-in_err-put_all g c counter =
-    let view = views g.S.Source.left g.S.Source.ended g.S.Source.faults g.K.Sink.held g.K.Sink.faults in
+    let view = views g.S.Source g.K.Sink in
     let of = c.args.geometry.now in
     let none : IsNone c.first_broken.result = search rules in
     let whole = c.in_ok-take_input.ensures.takes in
@@ -44,7 +44,7 @@ returns-in_err-put_all g c counter =
 
 pub returns : goal.returns
 returns g c counter =
-    let view = views g.S.Source.left g.S.Source.ended g.S.Source.faults g.K.Sink.held g.K.Sink.faults in
+    let view = views g.S.Source g.K.Sink in
     let of = c.args.geometry.now in
     let none : IsNone c.first_broken.result = search rules in
     let whole = c.in_ok-take_input.ensures.takes in

@@ -12,31 +12,31 @@ use Rattle.stair_story.proofs.RackLaws.{over_cannot_put, over_hands_on, over_put
 
 pub returns-in_err-length : goal.returns-in_err-length
 returns-in_err-length g c counter =
-    let view = views g.S.Source.left g.S.Source.ended g.S.Source.faults g.K.Sink.held g.K.Sink.faults in
-    let rack = rack_view g.R.Rack.is_honest g.R.Rack.history g.R.Rack.bads g.R.Rack.gones in
+    let view = views g.S.Source g.K.Sink in
+    let rack = rack_view g.R.Rack in
     over_hands_on rack view _ _ _ _ _ _ _ c.from_residual.ensures.1
     (text_refused rack view _ _ _ _ _ _ _ c.in_err-length.ensures)
 
 pub returns-in_err-geometry : goal.returns-in_err-geometry
 returns-in_err-geometry g c counter =
-    let view = views g.S.Source.left g.S.Source.ended g.S.Source.faults g.K.Sink.held g.K.Sink.faults in
-    let rack = rack_view g.R.Rack.is_honest g.R.Rack.history g.R.Rack.bads g.R.Rack.gones in
+    let view = views g.S.Source g.K.Sink in
+    let rack = rack_view g.R.Rack in
     over_hands_on rack view _ _ _ _ _ _ _ c.from_residual-in_err-geometry.ensures.1
     (over_then rack view (takes_text rack view _ _ _ _ _ _ _ c.in_ok-length.ensures)
     (text_faulty rack view _ _ _ _ c.in_err-geometry.ensures.answer))
 
 pub returns-in_err-line : goal.returns-in_err-line
 returns-in_err-line g c counter =
-    let view = views g.S.Source.left g.S.Source.ended g.S.Source.faults g.K.Sink.held g.K.Sink.faults in
-    let rack = rack_view g.R.Rack.is_honest g.R.Rack.history g.R.Rack.bads g.R.Rack.gones in
+    let view = views g.S.Source g.K.Sink in
+    let rack = rack_view g.R.Rack in
     over_hands_on rack view _ _ _ _ _ _ Memory c.from_residual-in_err-line.ensures.1
     (over_then rack view (takes_text rack view _ _ _ _ _ _ _ c.in_ok-length.ensures)
     (over_then rack view (reads_text rack view _ _ _ _ (c.in_ok-geometry.ensures.answer (λ is. cc))) (over_runs_out rack view _ _ _)))
 
 pub returns-in_err-create : goal.returns-in_err-create
 returns-in_err-create g c counter =
-    let view = views g.S.Source.left g.S.Source.ended g.S.Source.faults g.K.Sink.held g.K.Sink.faults in
-    let rack = rack_view g.R.Rack.is_honest g.R.Rack.history g.R.Rack.bads g.R.Rack.gones in
+    let view = views g.S.Source g.K.Sink in
+    let rack = rack_view g.R.Rack in
     over_hands_on rack view _ _ _ _ _ _ _ c.from_residual-in_err-create.ensures.1
     (over_then rack view (takes_text rack view _ _ _ _ _ _ _ c.in_ok-length.ensures)
     (over_then rack view (reads_text rack view _ _ _ _ (c.in_ok-geometry.ensures.answer (λ is. cc)))
@@ -44,8 +44,8 @@ returns-in_err-create g c counter =
 
 pub returns-in_err-put_all : goal.returns-in_err-put_all
 returns-in_err-put_all g c counter =
-    let view = views g.S.Source.left g.S.Source.ended g.S.Source.faults g.K.Sink.held g.K.Sink.faults in
-    let rack = rack_view g.R.Rack.is_honest g.R.Rack.history g.R.Rack.bads g.R.Rack.gones in
+    let view = views g.S.Source g.K.Sink in
+    let rack = rack_view g.R.Rack in
     let failed = c.in_err-put_all.ensures.puts in
     let line = created_line c.in_ok-geometry.geometry in
     let is_line : c.as_bytes.result.now ≡ line = search rules in
@@ -57,8 +57,8 @@ returns-in_err-put_all g c counter =
 
 pub returns : goal.returns
 returns g c counter =
-    let view = views g.S.Source.left g.S.Source.ended g.S.Source.faults g.K.Sink.held g.K.Sink.faults in
-    let rack = rack_view g.R.Rack.is_honest g.R.Rack.history g.R.Rack.bads g.R.Rack.gones in
+    let view = views g.S.Source g.K.Sink in
+    let rack = rack_view g.R.Rack in
     let line = created_line c.in_ok-geometry.geometry in
     let is_line : c.as_bytes.result.now ≡ line = search rules in
     over_then rack view (takes_text rack view _ _ _ _ _ _ _ c.in_ok-length.ensures)

@@ -11,13 +11,13 @@ use Rattle.stair_engine.proofs.StripeLaws.{input_refused, judged_put, judged_unp
 
 pub returns-in_err-take_input : goal.returns-in_err-take_input
 returns-in_err-take_input g c =
-    let view = views g.S.Source.left g.S.Source.ended g.S.Source.faults g.K.Sink.held g.K.Sink.faults in
+    let view = views g.S.Source g.K.Sink in
     input_refused view (Encode c.args.method) c.geometry-geometry.result _ _ _ _ c.args.input.now c.take_input.new.input c.args.output.now c.args.steps.now
     c.geometry-geometry.ensures c.in_err-take_input.ensures.takes c.from_residual.ensures.1
 
 pub returns-in_err-put_stripe : goal.returns-in_err-put_stripe
 returns-in_err-put_stripe g c =
-    let view = views g.S.Source.left g.S.Source.ended g.S.Source.faults g.K.Sink.held g.K.Sink.faults in
+    let view = views g.S.Source g.K.Sink in
     let whole = c.in_ok-take_input.ensures.takes in
     let failed = c.in_err-put_stripe.ensures.puts in
     let is = judged_blocks c.args.method c.geometry-geometry.result _ c.take_input.new.stripe c.encode.new.stripe whole.bytes _ _ _ c.geometry-geometry.ensures
@@ -29,7 +29,7 @@ returns-in_err-put_stripe g c =
 
 pub returns : goal.returns
 returns g c =
-    let view = views g.S.Source.left g.S.Source.ended g.S.Source.faults g.K.Sink.held g.K.Sink.faults in
+    let view = views g.S.Source g.K.Sink in
     let whole = c.in_ok-take_input.ensures.takes in
     let is = judged_blocks c.args.method c.geometry-geometry.result _ c.take_input.new.stripe c.encode.new.stripe whole.bytes _ _ _ c.geometry-geometry.ensures
     c.take_input.ensures.limits whole.is_input c.encode.ensures.encoded c.requires.cost c.encode.ensures.takes

@@ -1,13 +1,12 @@
 -- A session in which so many steps are taken.
 use Rattle.std.proofs.Common.{◌∙◌, arith}
 use Rattle.stair_array.specs.Promise.{Opened}
-use Rattle.stair_rack.specs.Watching.{watcher_view}
 use Rattle.stair_story.specs.Devices.{device_view, devices}
 use Rattle.stair_story.specs.Fault.{status_of_fault}
 use Rattle.stair_story.specs.Outside.{outside, sink_alone}
 use Rattle.stair_story.specs.Plan.{Over, Put}
 use Rattle.stair_story.specs.Rack.{rack_view}
-use Rattle.stair_story.specs.declared.status.Status.TheVariants.{Done}
+use Rattle.stair_status.specs.declared.status.Status.TheVariants.{Done}
 use Rattle.stair_story.proofs.DeviceLaws.{whole_hands_on}
 use Rattle.stair_engine.specs.Exercise.{exercise_steps, exercised_line}
 use Rattle.stair_engine.proofs.ExercisedLaws.{few_asked, many_asked, tells_steps}
@@ -16,26 +15,16 @@ use Rattle.stair_engine.proofs.exercise.exercise.Goals as goal
 
 pub returns-in_err-array-clause-means : goal.returns-in_err-array-clause-means
 returns-in_err-array-clause-means g c counter =
-    let view = device_view (rack_view g.R.Rack.is_honest g.R.Rack.history g.R.Rack.bads g.R.Rack.gones)
-    (watcher_view
-    (λ b. (goal.Watcher-dyn g (b.vtable, b.value)).told b.value)
-    (λ b. (goal.Watcher-dyn g (b.vtable, b.value)).count b.value)
-    (λ b. (goal.Watcher-dyn g (b.vtable, b.value)).left b.value)
-    (λ b. (goal.Watcher-dyn g (b.vtable, b.value)).patience b.value)) in
-    let streams = sink_alone g.K.Sink.held g.K.Sink.faults in
+    let view = device_view (rack_view g.R.Rack) (λ b. (goal.Watcher-dyn g (b.vtable, b.value)).hears b.value) in
+    let streams = sink_alone g.K.Sink in
     whole_hands_on view streams _ _ _ _ _ _ _ c.from_residual.result c.in_err-array.field-0.0 c.from_residual.ensures.1
     (ended view streams (exercise_steps c.args.number c.args.steps) (outside tt c.args.output.now counter) c.args.rack.now c.session.new.rack
     c.args.watchers.now.items c.session.new.watchers.items c.in_err-array.field-0.0 c.in_err-array.ensures.refused)
 
 pub returns-then-steps-gt-MOST_STEPS-clause-means : goal.returns-then-steps-gt-MOST_STEPS-clause-means
 returns-then-steps-gt-MOST_STEPS-clause-means g c counter =
-    let view = device_view (rack_view g.R.Rack.is_honest g.R.Rack.history g.R.Rack.bads g.R.Rack.gones)
-    (watcher_view
-    (λ b. (goal.Watcher-dyn g (b.vtable, b.value)).told b.value)
-    (λ b. (goal.Watcher-dyn g (b.vtable, b.value)).count b.value)
-    (λ b. (goal.Watcher-dyn g (b.vtable, b.value)).left b.value)
-    (λ b. (goal.Watcher-dyn g (b.vtable, b.value)).patience b.value)) in
-    let streams = sink_alone g.K.Sink.held g.K.Sink.faults in
+    let view = device_view (rack_view g.R.Rack) (λ b. (goal.Watcher-dyn g (b.vtable, b.value)).hears b.value) in
+    let streams = sink_alone g.K.Sink in
     ends_with view streams (exercise_steps c.args.number c.args.steps) c.args.rack.now c.session.new.rack c.session.new.rack c.args.watchers.now.items
     c.session.new.watchers.items c.session.new.watchers.items c.in_ok-array.array c.in_ok-array.array c.in_ok-array.ensures.begins _ c.args.output.now
     counter
@@ -44,13 +33,8 @@ returns-then-steps-gt-MOST_STEPS-clause-means g c counter =
 
 pub returns-in_err-came-clause-means : goal.returns-in_err-came-clause-means
 returns-in_err-came-clause-means g c counter =
-    let view = device_view (rack_view g.R.Rack.is_honest g.R.Rack.history g.R.Rack.bads g.R.Rack.gones)
-    (watcher_view
-    (λ b. (goal.Watcher-dyn g (b.vtable, b.value)).told b.value)
-    (λ b. (goal.Watcher-dyn g (b.vtable, b.value)).count b.value)
-    (λ b. (goal.Watcher-dyn g (b.vtable, b.value)).left b.value)
-    (λ b. (goal.Watcher-dyn g (b.vtable, b.value)).patience b.value)) in
-    let streams = sink_alone g.K.Sink.held g.K.Sink.faults in
+    let view = device_view (rack_view g.R.Rack) (λ b. (goal.Watcher-dyn g (b.vtable, b.value)).hears b.value) in
+    let streams = sink_alone g.K.Sink in
     let of = c.in_ok-array.array.member.array.geometry in
     let first = devices c.session.new.rack (Opened c.in_ok-array.array) c.session.new.watchers.items in
     let last = devices c.take_steps.new.rack (Opened c.take_steps.new.array) c.take_steps.new.watchers.items in
@@ -63,13 +47,8 @@ returns-in_err-came-clause-means g c counter =
 
 pub returns-clause-means : goal.returns-clause-means
 returns-clause-means g c =
-    let view = device_view (rack_view g.R.Rack.is_honest g.R.Rack.history g.R.Rack.bads g.R.Rack.gones)
-    (watcher_view
-    (λ b. (goal.Watcher-dyn g (b.vtable, b.value)).told b.value)
-    (λ b. (goal.Watcher-dyn g (b.vtable, b.value)).count b.value)
-    (λ b. (goal.Watcher-dyn g (b.vtable, b.value)).left b.value)
-    (λ b. (goal.Watcher-dyn g (b.vtable, b.value)).patience b.value)) in
-    let streams = sink_alone g.K.Sink.held g.K.Sink.faults in
+    let view = device_view (rack_view g.R.Rack) (λ b. (goal.Watcher-dyn g (b.vtable, b.value)).hears b.value) in
+    let streams = sink_alone g.K.Sink in
     let of = c.in_ok-array.array.member.array.geometry in
     let first = devices c.session.new.rack (Opened c.in_ok-array.array) c.session.new.watchers.items in
     let last = devices c.take_steps.new.rack (Opened c.take_steps.new.array) c.take_steps.new.watchers.items in

@@ -1,6 +1,5 @@
 -- One step after the other.
 use Rattle.stair_array.specs.Promise.{Opened}
-use Rattle.stair_rack.specs.Watching.{watcher_view}
 use Rattle.stair_story.specs.Comes.{ComesTo}
 use Rattle.stair_story.specs.Devices.{device_view, devices}
 use Rattle.stair_story.specs.Fault.{status_of_fault}
@@ -14,12 +13,7 @@ use Rattle.stair_engine.proofs.exercise.take_steps.Goals as goal
 
 pub returns-in_err-came-clause-refused : goal.returns-in_err-came-clause-refused
 returns-in_err-came-clause-refused g c =
-    let view = device_view (rack_view g.R.Rack.is_honest g.R.Rack.history g.R.Rack.bads g.R.Rack.gones)
-    (watcher_view
-    (λ b. (goal.Watcher-dyn g (b.vtable, b.value)).told b.value)
-    (λ b. (goal.Watcher-dyn g (b.vtable, b.value)).count b.value)
-    (λ b. (goal.Watcher-dyn g (b.vtable, b.value)).left b.value)
-    (λ b. (goal.Watcher-dyn g (b.vtable, b.value)).patience b.value)) in
+    let view = device_view (rack_view g.R.Rack) (λ b. (goal.Watcher-dyn g (b.vtable, b.value)).hears b.value) in
     let of = c.args.array.now.member.array.geometry in
     let first = devices c.args.rack.now (Opened c.args.array.now) c.args.watchers.now.items in
     let last = devices c.take_step-taken.new.rack (Opened c.take_step-taken.new.array) c.take_step-taken.new.watchers.items in
@@ -33,12 +27,7 @@ returns-in_err-came-clause-refused g c =
 
 pub loop-preserved : goal.loop-preserved
 loop-preserved g c =
-    let view = device_view (rack_view g.R.Rack.is_honest g.R.Rack.history g.R.Rack.bads g.R.Rack.gones)
-    (watcher_view
-    (λ b. (goal.Watcher-dyn g (b.vtable, b.value)).told b.value)
-    (λ b. (goal.Watcher-dyn g (b.vtable, b.value)).count b.value)
-    (λ b. (goal.Watcher-dyn g (b.vtable, b.value)).left b.value)
-    (λ b. (goal.Watcher-dyn g (b.vtable, b.value)).patience b.value)) in
+    let view = device_view (rack_view g.R.Rack) (λ b. (goal.Watcher-dyn g (b.vtable, b.value)).hears b.value) in
     let of = c.args.array.now.member.array.geometry in
     let first = devices c.args.rack.now (Opened c.args.array.now) c.args.watchers.now.items in
     one_taken view of c.args.first c.args.steps c.loop.counter c.loop.number c.next_number-number.result c.loop.came first c.loop.rack

@@ -14,7 +14,7 @@ use Rattle.stair_engine.proofs.laws.plan_laws.Goals as goal
 
 pub returns : goal.returns
 returns g c =
-    let view = views g.S.Source.left g.S.Source.ended g.S.Source.faults g.K.Sink.held g.K.Sink.faults in
+    let view = views g.S.Source g.K.Sink in
     record {
       usage = usage_is_exact _ _;
       constant = plan_is_done _ _;

@@ -7,15 +7,15 @@ use Rattle.stair_story.specs.Plan.{Over, Put}
 use Rattle.stair_story.specs.Story.{HasPut, PutFailed}
 use Rattle.stair_story.specs.declared.fault.Fault.{Fault}
 use Rattle.stair_story.specs.declared.fault.Fault.TheVariants.{Output}
-use Rattle.stair_story.specs.declared.status.Status.{Status}
-use Rattle.stair_story.specs.declared.status.Status.TheVariants.{Done, OutputFault}
+use Rattle.stair_status.specs.declared.status.Status.{Status}
+use Rattle.stair_status.specs.declared.status.Status.TheVariants.{Done, OutputFault}
 use Rattle.stair_story.proofs.PlanLaws.{does}
 use Rattle.stair_engine.proofs.StepLaws.{handed_on}
 use Rattle.stair_engine.proofs.line.put_line.Goals as goal
 
 pub returns-in_err-put_all : goal.returns-in_err-put_all
 returns-in_err-put_all g c =
-    let streams = sink_alone g.K.Sink.held g.K.Sink.faults in
+    let streams = sink_alone g.K.Sink in
     let failed = c.in_err-put_all.ensures.puts in
     let same : c.from_residual.result ≡ Err Output =
     handed_on c.from_residual.result Output (rw c.in_err-put_all.ensures.failed at c.from_residual.ensures.1) in
@@ -30,6 +30,6 @@ returns-in_err-put_all g c =
 pub returns : goal.returns
 returns g c = record {
   means = λ counter.
-      does (sink_alone g.K.Sink.held g.K.Sink.faults) (HasPut c.args.line.now) (Put c.args.line.now (Over Done)) (Over Done)
+      does (sink_alone g.K.Sink) (HasPut c.args.line.now) (Put c.args.line.now (Over Done)) (Over Done)
       (outside tt c.args.output.now counter) (outside tt c.put_all.new.output counter) (refl, refl) refl c.in_ok-put_all.ensures.puts refl;
 }

@@ -1,7 +1,6 @@
 -- What the line says is done.
 use Rattle.std.proofs.Common.{Bool, List, Some, subst, sym, ℕ}
 use Rattle.stair_array.specs.Promise.{Opened}
-use Rattle.stair_rack.specs.Watching.{watcher_view}
 use Rattle.stair_script.specs.declared.line.Line.TheVariants.{Read, Replace, Scrub, Write}
 use Rattle.stair_story.specs.Comes.{ComesTo}
 use Rattle.stair_story.specs.Devices.{device_view, devices, some_left}
@@ -13,12 +12,7 @@ use Rattle.stair_engine.proofs.lines.do_line.Goals as goal
 
 pub returns-in_err-read_block-in-Read-clause-refused : goal.returns-in_err-read_block-in-Read-clause-refused
 returns-in_err-read_block-in-Read-clause-refused g c =
-    let view = device_view (rack_view g.R.Rack.is_honest g.R.Rack.history g.R.Rack.bads g.R.Rack.gones)
-    (watcher_view
-    (λ b. (goal.Watcher-dyn g (b.vtable, b.value)).told b.value)
-    (λ b. (goal.Watcher-dyn g (b.vtable, b.value)).count b.value)
-    (λ b. (goal.Watcher-dyn g (b.vtable, b.value)).left b.value)
-    (λ b. (goal.Watcher-dyn g (b.vtable, b.value)).patience b.value)) in
+    let view = device_view (rack_view g.R.Rack) (λ b. (goal.Watcher-dyn g (b.vtable, b.value)).hears b.value) in
     let of = c.args.array.now.member.array.geometry in
     let first = devices c.args.rack.now (Opened c.args.array.now) c.args.watchers.now.items in
     let next = devices c.read_block.new.rack (Opened c.read_block.new.array) c.read_block.new.watchers.items in
@@ -27,12 +21,7 @@ returns-in_err-read_block-in-Read-clause-refused g c =
 
 pub returns-in_err-write_block-in-Write-clause-refused : goal.returns-in_err-write_block-in-Write-clause-refused
 returns-in_err-write_block-in-Write-clause-refused g c =
-    let view = device_view (rack_view g.R.Rack.is_honest g.R.Rack.history g.R.Rack.bads g.R.Rack.gones)
-    (watcher_view
-    (λ b. (goal.Watcher-dyn g (b.vtable, b.value)).told b.value)
-    (λ b. (goal.Watcher-dyn g (b.vtable, b.value)).count b.value)
-    (λ b. (goal.Watcher-dyn g (b.vtable, b.value)).left b.value)
-    (λ b. (goal.Watcher-dyn g (b.vtable, b.value)).patience b.value)) in
+    let view = device_view (rack_view g.R.Rack) (λ b. (goal.Watcher-dyn g (b.vtable, b.value)).hears b.value) in
     let of = c.args.array.now.member.array.geometry in
     let first = devices c.args.rack.now (Opened c.args.array.now) c.args.watchers.now.items in
     let next = devices c.write_block.new.rack (Opened c.write_block.new.array) c.write_block.new.watchers.items in
@@ -41,12 +30,7 @@ returns-in_err-write_block-in-Write-clause-refused g c =
 
 pub returns-in_err-scrub_stripe-in-Scrub-clause-refused : goal.returns-in_err-scrub_stripe-in-Scrub-clause-refused
 returns-in_err-scrub_stripe-in-Scrub-clause-refused g c =
-    let view = device_view (rack_view g.R.Rack.is_honest g.R.Rack.history g.R.Rack.bads g.R.Rack.gones)
-    (watcher_view
-    (λ b. (goal.Watcher-dyn g (b.vtable, b.value)).told b.value)
-    (λ b. (goal.Watcher-dyn g (b.vtable, b.value)).count b.value)
-    (λ b. (goal.Watcher-dyn g (b.vtable, b.value)).left b.value)
-    (λ b. (goal.Watcher-dyn g (b.vtable, b.value)).patience b.value)) in
+    let view = device_view (rack_view g.R.Rack) (λ b. (goal.Watcher-dyn g (b.vtable, b.value)).hears b.value) in
     let of = c.args.array.now.member.array.geometry in
     let first = devices c.args.rack.now (Opened c.args.array.now) c.args.watchers.now.items in
     let next = devices c.scrub_stripe.new.rack (Opened c.scrub_stripe.new.array) c.scrub_stripe.new.watchers.items in
@@ -55,12 +39,7 @@ returns-in_err-scrub_stripe-in-Scrub-clause-refused g c =
 
 pub returns-in_err-admit-in-Replace-clause-refused : goal.returns-in_err-admit-in-Replace-clause-refused
 returns-in_err-admit-in-Replace-clause-refused g c =
-    let view = device_view (rack_view g.R.Rack.is_honest g.R.Rack.history g.R.Rack.bads g.R.Rack.gones)
-    (watcher_view
-    (λ b. (goal.Watcher-dyn g (b.vtable, b.value)).told b.value)
-    (λ b. (goal.Watcher-dyn g (b.vtable, b.value)).count b.value)
-    (λ b. (goal.Watcher-dyn g (b.vtable, b.value)).left b.value)
-    (λ b. (goal.Watcher-dyn g (b.vtable, b.value)).patience b.value)) in
+    let view = device_view (rack_view g.R.Rack) (λ b. (goal.Watcher-dyn g (b.vtable, b.value)).hears b.value) in
     let of = c.args.array.now.member.array.geometry in
     let first = devices c.args.rack.now (Opened c.args.array.now) c.args.watchers.now.items in
     let next = devices c.admit.new.rack (Opened c.admit.new.array) c.admit.new.watchers.items in
@@ -69,12 +48,7 @@ returns-in_err-admit-in-Replace-clause-refused g c =
 
 pub returns-in_ok-read_block-in-Read-clause-done : goal.returns-in_ok-read_block-in-Read-clause-done
 returns-in_ok-read_block-in-Read-clause-done g c =
-    let view = device_view (rack_view g.R.Rack.is_honest g.R.Rack.history g.R.Rack.bads g.R.Rack.gones)
-    (watcher_view
-    (λ b. (goal.Watcher-dyn g (b.vtable, b.value)).told b.value)
-    (λ b. (goal.Watcher-dyn g (b.vtable, b.value)).count b.value)
-    (λ b. (goal.Watcher-dyn g (b.vtable, b.value)).left b.value)
-    (λ b. (goal.Watcher-dyn g (b.vtable, b.value)).patience b.value)) in
+    let view = device_view (rack_view g.R.Rack) (λ b. (goal.Watcher-dyn g (b.vtable, b.value)).hears b.value) in
     let of = c.args.array.now.member.array.geometry in
     let first = devices c.args.rack.now (Opened c.args.array.now) c.args.watchers.now.items in
     let next = devices c.read_block.new.rack (Opened c.read_block.new.array) c.read_block.new.watchers.items in
@@ -82,12 +56,7 @@ returns-in_ok-read_block-in-Read-clause-done g c =
 
 pub returns-in_ok-write_block-in-Write-clause-done : goal.returns-in_ok-write_block-in-Write-clause-done
 returns-in_ok-write_block-in-Write-clause-done g c =
-    let view = device_view (rack_view g.R.Rack.is_honest g.R.Rack.history g.R.Rack.bads g.R.Rack.gones)
-    (watcher_view
-    (λ b. (goal.Watcher-dyn g (b.vtable, b.value)).told b.value)
-    (λ b. (goal.Watcher-dyn g (b.vtable, b.value)).count b.value)
-    (λ b. (goal.Watcher-dyn g (b.vtable, b.value)).left b.value)
-    (λ b. (goal.Watcher-dyn g (b.vtable, b.value)).patience b.value)) in
+    let view = device_view (rack_view g.R.Rack) (λ b. (goal.Watcher-dyn g (b.vtable, b.value)).hears b.value) in
     let of = c.args.array.now.member.array.geometry in
     let first = devices c.args.rack.now (Opened c.args.array.now) c.args.watchers.now.items in
     let next = devices c.write_block.new.rack (Opened c.write_block.new.array) c.write_block.new.watchers.items in
@@ -97,12 +66,7 @@ returns-in_ok-write_block-in-Write-clause-done g c =
 
 pub returns-in_ok-scrub_stripe-in-Scrub-clause-done : goal.returns-in_ok-scrub_stripe-in-Scrub-clause-done
 returns-in_ok-scrub_stripe-in-Scrub-clause-done g c =
-    let view = device_view (rack_view g.R.Rack.is_honest g.R.Rack.history g.R.Rack.bads g.R.Rack.gones)
-    (watcher_view
-    (λ b. (goal.Watcher-dyn g (b.vtable, b.value)).told b.value)
-    (λ b. (goal.Watcher-dyn g (b.vtable, b.value)).count b.value)
-    (λ b. (goal.Watcher-dyn g (b.vtable, b.value)).left b.value)
-    (λ b. (goal.Watcher-dyn g (b.vtable, b.value)).patience b.value)) in
+    let view = device_view (rack_view g.R.Rack) (λ b. (goal.Watcher-dyn g (b.vtable, b.value)).hears b.value) in
     let of = c.args.array.now.member.array.geometry in
     let first = devices c.args.rack.now (Opened c.args.array.now) c.args.watchers.now.items in
     let next = devices c.scrub_stripe.new.rack (Opened c.scrub_stripe.new.array) c.scrub_stripe.new.watchers.items in
@@ -110,12 +74,7 @@ returns-in_ok-scrub_stripe-in-Scrub-clause-done g c =
 
 pub returns-in_ok-admit-in-Replace-clause-done : goal.returns-in_ok-admit-in-Replace-clause-done
 returns-in_ok-admit-in-Replace-clause-done g c =
-    let view = device_view (rack_view g.R.Rack.is_honest g.R.Rack.history g.R.Rack.bads g.R.Rack.gones)
-    (watcher_view
-    (λ b. (goal.Watcher-dyn g (b.vtable, b.value)).told b.value)
-    (λ b. (goal.Watcher-dyn g (b.vtable, b.value)).count b.value)
-    (λ b. (goal.Watcher-dyn g (b.vtable, b.value)).left b.value)
-    (λ b. (goal.Watcher-dyn g (b.vtable, b.value)).patience b.value)) in
+    let view = device_view (rack_view g.R.Rack) (λ b. (goal.Watcher-dyn g (b.vtable, b.value)).hears b.value) in
     let of = c.args.array.now.member.array.geometry in
     let first = devices c.args.rack.now (Opened c.args.array.now) c.args.watchers.now.items in
     let next = devices c.admit.new.rack (Opened c.admit.new.array) c.admit.new.watchers.items in

@@ -1,6 +1,5 @@
 -- So many steps were made.
 use Rattle.stair_array.specs.Promise.{Opened}
-use Rattle.stair_rack.specs.Watching.{watcher_view}
 use Rattle.stair_story.specs.Devices.{device_view, devices}
 use Rattle.stair_story.specs.Rack.{rack_view}
 use Rattle.stair_engine.proofs.LineStepLaws.{RebuiltSome}
@@ -9,11 +8,6 @@ use Rattle.stair_engine.proofs.lines.rebuild_some.Given as goal
 abbrev pub invariant-loop-done : goal.invariant-loop-done
 invariant-loop-done g l =
     RebuiltSome
-    (device_view (rack_view g.R.Rack.is_honest g.R.Rack.history g.R.Rack.bads g.R.Rack.gones)
-    (watcher_view
-    (λ b. (goal.Watcher-dyn g (b.vtable, b.value)).told b.value)
-    (λ b. (goal.Watcher-dyn g (b.vtable, b.value)).count b.value)
-    (λ b. (goal.Watcher-dyn g (b.vtable, b.value)).left b.value)
-    (λ b. (goal.Watcher-dyn g (b.vtable, b.value)).patience b.value)))
+    (device_view (rack_view g.R.Rack) (λ b. (goal.Watcher-dyn g (b.vtable, b.value)).hears b.value))
     l.fn.array.member.array.geometry l.fn.steps (devices l.fn.rack (Opened l.fn.array) l.fn.watchers.items)
     l.done l.rack l.array l.watchers.items

@@ -2,7 +2,6 @@
 use Rattle.std.proofs.Common.{rules}
 use Rattle.stair_array.specs.Faults.{refusal_for}
 use Rattle.stair_array.specs.Promise.{Opened}
-use Rattle.stair_rack.specs.Watching.{watcher_view}
 use Rattle.stair_story.specs.Devices.{device_view, devices}
 use Rattle.stair_story.specs.Rack.{rack_view}
 use Rattle.stair_engine.proofs.LineStepLaws.{not_scrubbed, was_scrubbed}
@@ -10,12 +9,7 @@ use Rattle.stair_engine.proofs.lines.scrub_stripe.Goals as goal
 
 pub returns-in-Err-clause-refused : goal.returns-in-Err-clause-refused
 returns-in-Err-clause-refused g c rest =
-    let view = device_view (rack_view g.R.Rack.is_honest g.R.Rack.history g.R.Rack.bads g.R.Rack.gones)
-    (watcher_view
-    (λ b. (goal.Watcher-dyn g (b.vtable, b.value)).told b.value)
-    (λ b. (goal.Watcher-dyn g (b.vtable, b.value)).count b.value)
-    (λ b. (goal.Watcher-dyn g (b.vtable, b.value)).left b.value)
-    (λ b. (goal.Watcher-dyn g (b.vtable, b.value)).patience b.value)) in
+    let view = device_view (rack_view g.R.Rack) (λ b. (goal.Watcher-dyn g (b.vtable, b.value)).hears b.value) in
     let of = c.args.array.now.member.array.geometry in
     let first = devices c.args.rack.now (Opened c.args.array.now) c.args.watchers.now.items in
     let next = devices c.scrub.new.rack (Opened c.scrub.new.self) c.scrub.new.watchers.items in
@@ -23,12 +17,7 @@ returns-in-Err-clause-refused g c rest =
 
 pub returns-clause-done : goal.returns-clause-done
 returns-clause-done g c rest =
-    let view = device_view (rack_view g.R.Rack.is_honest g.R.Rack.history g.R.Rack.bads g.R.Rack.gones)
-    (watcher_view
-    (λ b. (goal.Watcher-dyn g (b.vtable, b.value)).told b.value)
-    (λ b. (goal.Watcher-dyn g (b.vtable, b.value)).count b.value)
-    (λ b. (goal.Watcher-dyn g (b.vtable, b.value)).left b.value)
-    (λ b. (goal.Watcher-dyn g (b.vtable, b.value)).patience b.value)) in
+    let view = device_view (rack_view g.R.Rack) (λ b. (goal.Watcher-dyn g (b.vtable, b.value)).hears b.value) in
     let of = c.args.array.now.member.array.geometry in
     let first = devices c.args.rack.now (Opened c.args.array.now) c.args.watchers.now.items in
     let next = devices c.scrub.new.rack (Opened c.scrub.new.self) c.scrub.new.watchers.items in

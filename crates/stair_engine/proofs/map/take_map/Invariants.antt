@@ -5,5 +5,5 @@ use Rattle.stair_engine.proofs.map.take_map.Given as goal
 
 abbrev pub invariant-loop-row : goal.invariant-loop-row
 invariant-loop-row g l =
-    HasMapped (source_view g.S.Source.left g.S.Source.ended g.S.Source.faults) l.geometry l.initial.intake l.intake l.erased l.row
+    HasMapped (source_view g.S.Source) l.geometry l.initial.intake l.intake l.erased l.row
     l.initial.input l.input

@@ -1,5 +1,4 @@
 -- An opening that was refused, or for which there was no memory.
-use Rattle.stair_rack.specs.Watching.{watcher_view}
 use Rattle.stair_story.specs.Devices.{device_view}
 use Rattle.stair_story.specs.Rack.{rack_view}
 use Rattle.stair_story.specs.declared.fault.Fault.TheVariants.{Opening}
@@ -10,12 +9,7 @@ use Rattle.stair_engine.proofs.open.open.Goals as goal
 
 pub returns-in_err-open-clause-refused : goal.returns-in_err-open-clause-refused
 returns-in_err-open-clause-refused g c =
-    let view = device_view (rack_view g.R.Rack.is_honest g.R.Rack.history g.R.Rack.bads g.R.Rack.gones)
-    (watcher_view
-    (λ b. (goal.Watcher-dyn g (b.vtable, b.value)).told b.value)
-    (λ b. (goal.Watcher-dyn g (b.vtable, b.value)).count b.value)
-    (λ b. (goal.Watcher-dyn g (b.vtable, b.value)).left b.value)
-    (λ b. (goal.Watcher-dyn g (b.vtable, b.value)).patience b.value)) in
+    let view = device_view (rack_view g.R.Rack) (λ b. (goal.Watcher-dyn g (b.vtable, b.value)).hears b.value) in
     if_err_of c.from_residual-in_err-open.result (Opening c.in_err-open.field-0.0)
     (λ fault. IsUnopened view c.args.member fault c.args.rack.now c.open.new.rack c.args.watchers.now.items c.open.new.watchers.items)
     c.from_residual-in_err-open.ensures.1

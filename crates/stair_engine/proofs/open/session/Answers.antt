@@ -1,5 +1,4 @@
 -- A session that is begun, or isn't.
-use Rattle.stair_rack.specs.Watching.{watcher_view}
 use Rattle.stair_story.specs.Devices.{device_view}
 use Rattle.stair_story.specs.Rack.{rack_view}
 use Rattle.stair_story.specs.declared.fault.Fault.TheVariants.{Survey}
@@ -10,24 +9,14 @@ use Rattle.stair_engine.proofs.open.session.Goals as goal
 
 pub returns-in_err-member-clause-refused : goal.returns-in_err-member-clause-refused
 returns-in_err-member-clause-refused g c =
-    let view = device_view (rack_view g.R.Rack.is_honest g.R.Rack.history g.R.Rack.bads g.R.Rack.gones)
-    (watcher_view
-    (λ b. (goal.Watcher-dyn g (b.vtable, b.value)).told b.value)
-    (λ b. (goal.Watcher-dyn g (b.vtable, b.value)).count b.value)
-    (λ b. (goal.Watcher-dyn g (b.vtable, b.value)).left b.value)
-    (λ b. (goal.Watcher-dyn g (b.vtable, b.value)).patience b.value)) in
+    let view = device_view (rack_view g.R.Rack) (λ b. (goal.Watcher-dyn g (b.vtable, b.value)).hears b.value) in
     if_err_of c.from_residual.result (Survey c.in_err-member.field-0.0)
     (λ fault. EndsSession view fault c.args.rack.now c.survey.new.rack c.args.watchers.now.items c.args.watchers.now.items) c.from_residual.ensures.1
     (not_found view c.args.rack.now c.survey.new.rack c.args.watchers.now.items c.in_err-member.field-0.0 c.in_err-member.ensures.told)
 
 pub returns-clause-begins : goal.returns-clause-begins
 returns-clause-begins g c =
-    let view = device_view (rack_view g.R.Rack.is_honest g.R.Rack.history g.R.Rack.bads g.R.Rack.gones)
-    (watcher_view
-    (λ b. (goal.Watcher-dyn g (b.vtable, b.value)).told b.value)
-    (λ b. (goal.Watcher-dyn g (b.vtable, b.value)).count b.value)
-    (λ b. (goal.Watcher-dyn g (b.vtable, b.value)).left b.value)
-    (λ b. (goal.Watcher-dyn g (b.vtable, b.value)).patience b.value)) in
+    let view = device_view (rack_view g.R.Rack) (λ b. (goal.Watcher-dyn g (b.vtable, b.value)).hears b.value) in
     if_ok_so c.open.result _ _
     (λ array takes.
     begun view c.args.rack.now c.survey.new.rack c.args.watchers.now.items c.in_ok-member.member c.in_ok-member.ensures.told c.open.new.rack
@@ -35,12 +24,7 @@ returns-clause-begins g c =
 
 pub returns-clause-refused : goal.returns-clause-refused
 returns-clause-refused g c =
-    let view = device_view (rack_view g.R.Rack.is_honest g.R.Rack.history g.R.Rack.bads g.R.Rack.gones)
-    (watcher_view
-    (λ b. (goal.Watcher-dyn g (b.vtable, b.value)).told b.value)
-    (λ b. (goal.Watcher-dyn g (b.vtable, b.value)).count b.value)
-    (λ b. (goal.Watcher-dyn g (b.vtable, b.value)).left b.value)
-    (λ b. (goal.Watcher-dyn g (b.vtable, b.value)).patience b.value)) in
+    let view = device_view (rack_view g.R.Rack) (λ b. (goal.Watcher-dyn g (b.vtable, b.value)).hears b.value) in
     if_err_so c.open.result _ _
     (λ fault is.
     not_begun view c.args.rack.now c.survey.new.rack c.args.watchers.now.items c.in_ok-member.member c.in_ok-member.ensures.told c.open.new.rack

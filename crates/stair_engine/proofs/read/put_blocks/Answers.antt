@@ -1,6 +1,5 @@
 -- One block after the other.
 use Rattle.std.proofs.Common.{arith, refl, rules}
-use Rattle.stair_rack.specs.Watching.{watcher_view}
 use Rattle.stair_story.specs.Devices.{device_view}
 use Rattle.stair_story.specs.Outside.{sink_alone}
 use Rattle.stair_story.specs.Rack.{rack_view}
@@ -11,25 +10,15 @@ use Rattle.stair_engine.proofs.read.put_blocks.Goals as goal
 
 pub loop-done-init : goal.loop-done-init
 loop-done-init g c =
-    let view = device_view (rack_view g.R.Rack.is_honest g.R.Rack.history g.R.Rack.bads g.R.Rack.gones)
-    (watcher_view
-    (λ b. (goal.Watcher-dyn g (b.vtable, b.value)).told b.value)
-    (λ b. (goal.Watcher-dyn g (b.vtable, b.value)).count b.value)
-    (λ b. (goal.Watcher-dyn g (b.vtable, b.value)).left b.value)
-    (λ b. (goal.Watcher-dyn g (b.vtable, b.value)).patience b.value)) in
-    let streams = sink_alone g.K.Sink.held g.K.Sink.faults in
+    let view = device_view (rack_view g.R.Rack) (λ b. (goal.Watcher-dyn g (b.vtable, b.value)).hears b.value) in
+    let streams = sink_alone g.K.Sink in
     let of = c.args.array.now.member.array.geometry in
     none_read view streams of c.args.first c.args.blocks c.args.rack.now c.args.array.now c.args.watchers.now.items c.args.output.now refl c.requires.stay
 
 pub returns-in-Err-clause-means : goal.returns-in-Err-clause-means
 returns-in-Err-clause-means g c =
-    let view = device_view (rack_view g.R.Rack.is_honest g.R.Rack.history g.R.Rack.bads g.R.Rack.gones)
-    (watcher_view
-    (λ b. (goal.Watcher-dyn g (b.vtable, b.value)).told b.value)
-    (λ b. (goal.Watcher-dyn g (b.vtable, b.value)).count b.value)
-    (λ b. (goal.Watcher-dyn g (b.vtable, b.value)).left b.value)
-    (λ b. (goal.Watcher-dyn g (b.vtable, b.value)).patience b.value)) in
-    let streams = sink_alone g.K.Sink.held g.K.Sink.faults in
+    let view = device_view (rack_view g.R.Rack) (λ b. (goal.Watcher-dyn g (b.vtable, b.value)).hears b.value) in
+    let streams = sink_alone g.K.Sink in
     let of = c.args.array.now.member.array.geometry in
     read_refused view streams of c.args.first c.args.blocks c.loop-done.done c.args.rack.now c.loop-done.rack c.read.new.rack c.args.array.now c.loop-done.array c.read.new.self
     c.args.watchers.now.items c.loop-done.watchers.items c.read.new.watchers.items c.args.output.now c.loop-done.output c.loop-done.output
@@ -37,13 +26,8 @@ returns-in-Err-clause-means g c =
 
 pub returns-in_err-put_all-clause-means : goal.returns-in_err-put_all-clause-means
 returns-in_err-put_all-clause-means g c counter =
-    let view = device_view (rack_view g.R.Rack.is_honest g.R.Rack.history g.R.Rack.bads g.R.Rack.gones)
-    (watcher_view
-    (λ b. (goal.Watcher-dyn g (b.vtable, b.value)).told b.value)
-    (λ b. (goal.Watcher-dyn g (b.vtable, b.value)).count b.value)
-    (λ b. (goal.Watcher-dyn g (b.vtable, b.value)).left b.value)
-    (λ b. (goal.Watcher-dyn g (b.vtable, b.value)).patience b.value)) in
-    let streams = sink_alone g.K.Sink.held g.K.Sink.faults in
+    let view = device_view (rack_view g.R.Rack) (λ b. (goal.Watcher-dyn g (b.vtable, b.value)).hears b.value) in
+    let streams = sink_alone g.K.Sink in
     let of = c.args.array.now.member.array.geometry in
     let failed = c.in_err-put_all.ensures.puts in
     with_hands_on view streams _ _ _ _ _ _ Output (rw c.in_err-put_all.ensures.failed at c.from_residual.ensures.1)
@@ -53,13 +37,8 @@ returns-in_err-put_all-clause-means g c counter =
 
 pub loop-done-preserved : goal.loop-done-preserved
 loop-done-preserved g c =
-    let view = device_view (rack_view g.R.Rack.is_honest g.R.Rack.history g.R.Rack.bads g.R.Rack.gones)
-    (watcher_view
-    (λ b. (goal.Watcher-dyn g (b.vtable, b.value)).told b.value)
-    (λ b. (goal.Watcher-dyn g (b.vtable, b.value)).count b.value)
-    (λ b. (goal.Watcher-dyn g (b.vtable, b.value)).left b.value)
-    (λ b. (goal.Watcher-dyn g (b.vtable, b.value)).patience b.value)) in
-    let streams = sink_alone g.K.Sink.held g.K.Sink.faults in
+    let view = device_view (rack_view g.R.Rack) (λ b. (goal.Watcher-dyn g (b.vtable, b.value)).hears b.value) in
+    let streams = sink_alone g.K.Sink in
     let of = c.args.array.now.member.array.geometry in
     one_read view streams of c.args.first c.args.blocks c.loop-done.done c.args.rack.now c.loop-done.rack c.read.new.rack c.args.array.now c.loop-done.array c.read.new.self
     c.args.watchers.now.items c.loop-done.watchers.items c.read.new.watchers.items c.args.output.now c.loop-done.output c.put_all.new.output
@@ -68,13 +47,8 @@ loop-done-preserved g c =
 
 pub returns-clause-means : goal.returns-clause-means
 returns-clause-means g c =
-    let view = device_view (rack_view g.R.Rack.is_honest g.R.Rack.history g.R.Rack.bads g.R.Rack.gones)
-    (watcher_view
-    (λ b. (goal.Watcher-dyn g (b.vtable, b.value)).told b.value)
-    (λ b. (goal.Watcher-dyn g (b.vtable, b.value)).count b.value)
-    (λ b. (goal.Watcher-dyn g (b.vtable, b.value)).left b.value)
-    (λ b. (goal.Watcher-dyn g (b.vtable, b.value)).patience b.value)) in
-    let streams = sink_alone g.K.Sink.held g.K.Sink.faults in
+    let view = device_view (rack_view g.R.Rack) (λ b. (goal.Watcher-dyn g (b.vtable, b.value)).hears b.value) in
+    let streams = sink_alone g.K.Sink in
     let of = c.args.array.now.member.array.geometry in
     all_read view streams of c.args.first c.args.blocks c.loop-done.done c.args.rack.now c.loop-done.rack c.args.array.now c.loop-done.array c.args.watchers.now.items c.loop-done.watchers.items
     c.args.output.now c.loop-done.output c.loop-done.invariant (omega (arith, c.loop-done-test.false))

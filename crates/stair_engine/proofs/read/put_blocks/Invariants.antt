@@ -1,5 +1,4 @@
 -- So many blocks were put out.
-use Rattle.stair_rack.specs.Watching.{watcher_view}
 use Rattle.stair_story.specs.Devices.{device_view}
 use Rattle.stair_story.specs.Outside.{sink_alone}
 use Rattle.stair_story.specs.Rack.{rack_view}
@@ -9,11 +8,6 @@ use Rattle.stair_engine.proofs.read.put_blocks.Given as goal
 abbrev pub invariant-loop-done : goal.invariant-loop-done
 invariant-loop-done g l =
     ReadSoFar
-    (device_view (rack_view g.R.Rack.is_honest g.R.Rack.history g.R.Rack.bads g.R.Rack.gones)
-    (watcher_view
-    (λ b. (goal.Watcher-dyn g (b.vtable, b.value)).told b.value)
-    (λ b. (goal.Watcher-dyn g (b.vtable, b.value)).count b.value)
-    (λ b. (goal.Watcher-dyn g (b.vtable, b.value)).left b.value)
-    (λ b. (goal.Watcher-dyn g (b.vtable, b.value)).patience b.value)))
-    (sink_alone g.K.Sink.held g.K.Sink.faults)
+    (device_view (rack_view g.R.Rack) (λ b. (goal.Watcher-dyn g (b.vtable, b.value)).hears b.value))
+    (sink_alone g.K.Sink)
     l.fn.array.member.array.geometry l.fn.first l.fn.blocks l.done l.fn.rack l.fn.array l.fn.watchers.items l.fn.output l.rack l.array l.watchers.items l.output

@@ -3,7 +3,6 @@ use Rattle.std.proofs.Common.{◌≡◌, Ok, refl, subst, true}
 use Rattle.stair_model.specs.Geometry.{Geometry}
 use Rattle.stair_array.specs.Machine.{Recover}
 use Rattle.stair_array.specs.Promise.{Found, Opened}
-use Rattle.stair_rack.specs.Watching.{watcher_view}
 use Rattle.stair_story.specs.Devices.{MeansWith, device_view, devices}
 use Rattle.stair_story.specs.Fault.{status_of}
 use Rattle.stair_story.specs.Outside.{outside, sink_alone}
@@ -19,13 +18,8 @@ use Rattle.stair_engine.proofs.read.read.Goals as goal
 
 pub returns-in_err-member-clause-means : goal.returns-in_err-member-clause-means
 returns-in_err-member-clause-means g c counter =
-    let view = device_view (rack_view g.R.Rack.is_honest g.R.Rack.history g.R.Rack.bads g.R.Rack.gones)
-    (watcher_view
-    (λ b. (goal.Watcher-dyn g (b.vtable, b.value)).told b.value)
-    (λ b. (goal.Watcher-dyn g (b.vtable, b.value)).count b.value)
-    (λ b. (goal.Watcher-dyn g (b.vtable, b.value)).left b.value)
-    (λ b. (goal.Watcher-dyn g (b.vtable, b.value)).patience b.value)) in
-    let streams = sink_alone g.K.Sink.held g.K.Sink.faults in
+    let view = device_view (rack_view g.R.Rack) (λ b. (goal.Watcher-dyn g (b.vtable, b.value)).hears b.value) in
+    let streams = sink_alone g.K.Sink in
     let k : Geometry → Plan = λ of. within_range of c.args.first c.args.blocks (reads of c.args.first c.args.blocks) in
     whole_hands_on view streams _ _ _ _ _ _ _ c.from_residual.result (Survey c.in_err-member.field-0.0) c.from_residual.ensures.1
     (none_found view streams k (outside tt c.args.output.now counter) c.args.rack.now c.survey.new.rack c.args.watchers.now.items c.in_err-member.field-0.0
@@ -33,13 +27,8 @@ returns-in_err-member-clause-means g c counter =
 
 pub returns-in_err-array-clause-means : goal.returns-in_err-array-clause-means
 returns-in_err-array-clause-means g c counter =
-    let view = device_view (rack_view g.R.Rack.is_honest g.R.Rack.history g.R.Rack.bads g.R.Rack.gones)
-    (watcher_view
-    (λ b. (goal.Watcher-dyn g (b.vtable, b.value)).told b.value)
-    (λ b. (goal.Watcher-dyn g (b.vtable, b.value)).count b.value)
-    (λ b. (goal.Watcher-dyn g (b.vtable, b.value)).left b.value)
-    (λ b. (goal.Watcher-dyn g (b.vtable, b.value)).patience b.value)) in
-    let streams = sink_alone g.K.Sink.held g.K.Sink.faults in
+    let view = device_view (rack_view g.R.Rack) (λ b. (goal.Watcher-dyn g (b.vtable, b.value)).hears b.value) in
+    let streams = sink_alone g.K.Sink in
     let k : Geometry → Plan = λ of. within_range of c.args.first c.args.blocks (reads of c.args.first c.args.blocks) in
     whole_hands_on view streams _ _ _ _ _ _ _ c.from_residual-in_err-array.result c.in_err-array.field-0.0 c.from_residual-in_err-array.ensures.1
     (not_opened view streams k (outside tt c.args.output.now counter) c.args.rack.now c.survey.new.rack c.args.watchers.now.items c.in_ok-member.member
@@ -47,13 +36,8 @@ returns-in_err-array-clause-means g c counter =
 
 pub returns-in_err-in_range-clause-means : goal.returns-in_err-in_range-clause-means
 returns-in_err-in_range-clause-means g c counter =
-    let view = device_view (rack_view g.R.Rack.is_honest g.R.Rack.history g.R.Rack.bads g.R.Rack.gones)
-    (watcher_view
-    (λ b. (goal.Watcher-dyn g (b.vtable, b.value)).told b.value)
-    (λ b. (goal.Watcher-dyn g (b.vtable, b.value)).count b.value)
-    (λ b. (goal.Watcher-dyn g (b.vtable, b.value)).left b.value)
-    (λ b. (goal.Watcher-dyn g (b.vtable, b.value)).patience b.value)) in
-    let streams = sink_alone g.K.Sink.held g.K.Sink.faults in
+    let view = device_view (rack_view g.R.Rack) (λ b. (goal.Watcher-dyn g (b.vtable, b.value)).hears b.value) in
+    let streams = sink_alone g.K.Sink in
     let k : Geometry → Plan = λ of. within_range of c.args.first c.args.blocks (reads of c.args.first c.args.blocks) in
     whole_hands_on view streams _ _ _ _ _ _ _ c.from_residual-in_err-in_range.result c.in_err-in_range.field-0.0 c.from_residual-in_err-in_range.ensures.1
     (record {
@@ -66,13 +50,8 @@ returns-in_err-in_range-clause-means g c counter =
 
 pub returns-clause-means : goal.returns-clause-means
 returns-clause-means g c counter =
-    let view = device_view (rack_view g.R.Rack.is_honest g.R.Rack.history g.R.Rack.bads g.R.Rack.gones)
-    (watcher_view
-    (λ b. (goal.Watcher-dyn g (b.vtable, b.value)).told b.value)
-    (λ b. (goal.Watcher-dyn g (b.vtable, b.value)).count b.value)
-    (λ b. (goal.Watcher-dyn g (b.vtable, b.value)).left b.value)
-    (λ b. (goal.Watcher-dyn g (b.vtable, b.value)).patience b.value)) in
-    let streams = sink_alone g.K.Sink.held g.K.Sink.faults in
+    let view = device_view (rack_view g.R.Rack) (λ b. (goal.Watcher-dyn g (b.vtable, b.value)).hears b.value) in
+    let streams = sink_alone g.K.Sink in
     let k : Geometry → Plan = λ of. within_range of c.args.first c.args.blocks (reads of c.args.first c.args.blocks) in
     let m = c.in_ok-member.member in
     let same = taken_geometry view Recover (Ok m.array.geometry) (devices c.survey.new.rack (Found m) c.args.watchers.now.items)

@@ -1,7 +1,6 @@
 -- One step after the other.
 use Rattle.std.proofs.Common.{arith, rules}
 use Rattle.stair_array.specs.Promise.{Opened}
-use Rattle.stair_rack.specs.Watching.{watcher_view}
 use Rattle.stair_story.specs.Devices.{device_view, devices}
 use Rattle.stair_story.specs.Rack.{rack_view}
 use Rattle.stair_engine.proofs.RebuildLaws.{all_rebuilt, few_left, one_rebuilt, rebuild_refused}
@@ -9,12 +8,7 @@ use Rattle.stair_engine.proofs.rebuild.rebuild_all.Goals as goal
 
 pub returns-in-Err-clause-refused : goal.returns-in-Err-clause-refused
 returns-in-Err-clause-refused g c =
-    let view = device_view (rack_view g.R.Rack.is_honest g.R.Rack.history g.R.Rack.bads g.R.Rack.gones)
-    (watcher_view
-    (λ b. (goal.Watcher-dyn g (b.vtable, b.value)).told b.value)
-    (λ b. (goal.Watcher-dyn g (b.vtable, b.value)).count b.value)
-    (λ b. (goal.Watcher-dyn g (b.vtable, b.value)).left b.value)
-    (λ b. (goal.Watcher-dyn g (b.vtable, b.value)).patience b.value)) in
+    let view = device_view (rack_view g.R.Rack) (λ b. (goal.Watcher-dyn g (b.vtable, b.value)).hears b.value) in
     let of = c.args.array.now.member.array.geometry in
     let first = devices c.args.rack.now (Opened c.args.array.now) c.args.watchers.now.items in
     rebuild_refused view of c.loop-came.steps first c.loop-came.rack c.rebuild_step.new.rack c.args.array.now c.loop-came.array c.rebuild_step.new.self
@@ -22,12 +16,7 @@ returns-in-Err-clause-refused g c =
 
 pub returns-in-Nothing-clause-done : goal.returns-in-Nothing-clause-done
 returns-in-Nothing-clause-done g c =
-    let view = device_view (rack_view g.R.Rack.is_honest g.R.Rack.history g.R.Rack.bads g.R.Rack.gones)
-    (watcher_view
-    (λ b. (goal.Watcher-dyn g (b.vtable, b.value)).told b.value)
-    (λ b. (goal.Watcher-dyn g (b.vtable, b.value)).count b.value)
-    (λ b. (goal.Watcher-dyn g (b.vtable, b.value)).left b.value)
-    (λ b. (goal.Watcher-dyn g (b.vtable, b.value)).patience b.value)) in
+    let view = device_view (rack_view g.R.Rack) (λ b. (goal.Watcher-dyn g (b.vtable, b.value)).hears b.value) in
     let of = c.args.array.now.member.array.geometry in
     let first = devices c.args.rack.now (Opened c.args.array.now) c.args.watchers.now.items in
     all_rebuilt view of c.loop-came.steps first c.loop-came.rack c.rebuild_step.new.rack c.args.array.now c.loop-came.array c.rebuild_step.new.self
@@ -42,12 +31,7 @@ overflow_add-steps g c =
 
 pub loop-came-preserved : goal.loop-came-preserved
 loop-came-preserved g c =
-    let view = device_view (rack_view g.R.Rack.is_honest g.R.Rack.history g.R.Rack.bads g.R.Rack.gones)
-    (watcher_view
-    (λ b. (goal.Watcher-dyn g (b.vtable, b.value)).told b.value)
-    (λ b. (goal.Watcher-dyn g (b.vtable, b.value)).count b.value)
-    (λ b. (goal.Watcher-dyn g (b.vtable, b.value)).left b.value)
-    (λ b. (goal.Watcher-dyn g (b.vtable, b.value)).patience b.value)) in
+    let view = device_view (rack_view g.R.Rack) (λ b. (goal.Watcher-dyn g (b.vtable, b.value)).hears b.value) in
     let of = c.args.array.now.member.array.geometry in
     let first = devices c.args.rack.now (Opened c.args.array.now) c.args.watchers.now.items in
     one_rebuilt view of c.loop-came.steps first c.loop-came.rack c.rebuild_step.new.rack c.args.array.now c.loop-came.array c.rebuild_step.new.self

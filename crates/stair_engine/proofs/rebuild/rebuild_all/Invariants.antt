@@ -1,6 +1,5 @@
 -- So many steps were made.
 use Rattle.stair_array.specs.Promise.{Opened}
-use Rattle.stair_rack.specs.Watching.{watcher_view}
 use Rattle.stair_story.specs.Devices.{device_view, devices}
 use Rattle.stair_story.specs.Rack.{rack_view}
 use Rattle.stair_story.specs.Rebuilt.{steps_left}
@@ -13,11 +12,6 @@ decreases-loop-came g l = steps_left l.array
 abbrev pub invariant-loop-came : goal.invariant-loop-came
 invariant-loop-came g l =
     RebuiltSoFar
-    (device_view (rack_view g.R.Rack.is_honest g.R.Rack.history g.R.Rack.bads g.R.Rack.gones)
-    (watcher_view
-    (λ b. (goal.Watcher-dyn g (b.vtable, b.value)).told b.value)
-    (λ b. (goal.Watcher-dyn g (b.vtable, b.value)).count b.value)
-    (λ b. (goal.Watcher-dyn g (b.vtable, b.value)).left b.value)
-    (λ b. (goal.Watcher-dyn g (b.vtable, b.value)).patience b.value)))
+    (device_view (rack_view g.R.Rack) (λ b. (goal.Watcher-dyn g (b.vtable, b.value)).hears b.value))
     l.fn.array.member.array.geometry l.steps (devices l.fn.rack (Opened l.fn.array) l.fn.watchers.items)
     (devices l.rack (Opened l.array) l.watchers.items) l.fn.array l.array

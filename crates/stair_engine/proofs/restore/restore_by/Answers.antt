@@ -5,7 +5,7 @@ use Rattle.std.specs.List.{concat}
 use Rattle.stair_model.specs.CellSet.{IsInStripe}
 use Rattle.stair_model.specs.Geometry.{Geometry}
 use Rattle.stair_model.specs.Stripe.{IsStripeOf}
-use Rattle.stair_story.specs.declared.status.Status.TheVariants.{Lost, NoCodeword}
+use Rattle.stair_status.specs.declared.status.Status.TheVariants.{Lost, NoCodeword}
 use Rattle.stair_story.specs.Outside.{views}
 use Rattle.stair_conf.specs.declared.job.StripeCommand.TheVariants.{Restore}
 use Rattle.stair_engine.proofs.AnswerLaws.{at_ok, judged_lost, judged_none, judged_restored}
@@ -18,13 +18,13 @@ restore-requires-clause-cells g c =
 
 pub returns-in_err-erased : goal.returns-in_err-erased
 returns-in_err-erased g c counter =
-    let view = views g.S.Source.left g.S.Source.ended g.S.Source.faults g.K.Sink.held g.K.Sink.faults in
+    let view = views g.S.Source g.K.Sink in
     input_refused view Restore c.geometry-geometry.result _ _ _ _ c.args.input.now c.take_input.new.input c.args.output.now counter
     c.geometry-geometry.ensures c.in_err-erased.ensures.takes c.from_residual.ensures.1
 
 pub returns-then-is_err : goal.returns-then-is_err
 returns-then-is_err g c counter =
-    let view = views g.S.Source.left g.S.Source.ended g.S.Source.faults g.K.Sink.held g.K.Sink.faults in
+    let view = views g.S.Source g.K.Sink in
     let whole = c.in_ok-erased.ensures.takes in
     let refused : IsErr c.restore.result = sym c.if-is_err.ensures.value in
     let long : length c.counts.result ≡ 32 = search rules in
@@ -36,7 +36,7 @@ returns-then-is_err g c counter =
 
 pub returns-then-is_some : goal.returns-then-is_some
 returns-then-is_some g c counter =
-    let view = views g.S.Source.left g.S.Source.ended g.S.Source.faults g.K.Sink.held g.K.Sink.faults in
+    let view = views g.S.Source g.K.Sink in
     let whole = c.in_ok-erased.ensures.takes in
     let ok : IsOk c.restore.result = c.if-is_err.ensures.negation in
     let some : IsSome c.first_broken.result = sym c.if-is_some.ensures in
@@ -48,7 +48,7 @@ returns-then-is_some g c counter =
 
 pub returns-in_err-put_stripe : goal.returns-in_err-put_stripe
 returns-in_err-put_stripe g c counter =
-    let view = views g.S.Source.left g.S.Source.ended g.S.Source.faults g.K.Sink.held g.K.Sink.faults in
+    let view = views g.S.Source g.K.Sink in
     let whole = c.in_ok-erased.ensures.takes in
     let ok : IsOk c.restore.result = c.if-is_err.ensures.negation in
     let none : IsNone c.first_broken.result = sym c.if-is_some.ensures in
@@ -62,7 +62,7 @@ returns-in_err-put_stripe g c counter =
 
 pub returns : goal.returns
 returns g c counter =
-    let view = views g.S.Source.left g.S.Source.ended g.S.Source.faults g.K.Sink.held g.K.Sink.faults in
+    let view = views g.S.Source g.K.Sink in
     let whole = c.in_ok-erased.ensures.takes in
     let ok : IsOk c.restore.result = c.if-is_err.ensures.negation in
     let none : IsNone c.first_broken.result = sym c.if-is_some.ensures in

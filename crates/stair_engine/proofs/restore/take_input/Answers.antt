@@ -27,7 +27,7 @@ returns-in_err-erased-clause-takes g c =
     let first : c.new-intake.result ≡ intake_of (bytes_needed Restore of) =
     c.new-intake.ensures ∙ ap intake_of (needs of _ _ _ _ _ c.from.ensures c.from-2.ensures c.r.ensures.value c.n.ensures.value c.cell_bytes.ensures.value)
     in
-    whole_handed_on (source_view g.S.Source.left g.S.Source.ended g.S.Source.faults) _ _ _ _ _ _ c.from_residual.ensures.1 (whole_cut (source_view g.S.Source.left g.S.Source.ended g.S.Source.faults) _ _ _ _ _ (rw first at c.in_err-erased.ensures.cut))
+    whole_handed_on (source_view g.S.Source) _ _ _ _ _ _ c.from_residual.ensures.1 (whole_cut (source_view g.S.Source) _ _ _ _ _ (rw first at c.in_err-erased.ensures.cut))
 
 pub returns-in_err-take_stripe-clause-takes : goal.returns-in_err-take_stripe-clause-takes
 returns-in_err-take_stripe-clause-takes g c =
@@ -36,8 +36,8 @@ returns-in_err-take_stripe-clause-takes g c =
     c.new-intake.ensures ∙ ap intake_of (needs of _ _ _ _ _ c.from.ensures c.from-2.ensures c.r.ensures.value c.n.ensures.value c.cell_bytes.ensures.value)
     in
     let mapped = c.in_ok-erased.ensures.ok in
-    whole_handed_on (source_view g.S.Source.left g.S.Source.ended g.S.Source.faults) _ _ _ _ _ _ c.from_residual-in_err-take_stripe.ensures.1
-    (whole_cut (source_view g.S.Source.left g.S.Source.ended g.S.Source.faults) _ _ _ _ _ (rw first at (CutsShort-later (source_view g.S.Source.left g.S.Source.ended g.S.Source.faults) _ _ _ _ _ _ _ mapped.3 c.in_err-take_stripe.ensures.cut)))
+    whole_handed_on (source_view g.S.Source) _ _ _ _ _ _ c.from_residual-in_err-take_stripe.ensures.1
+    (whole_cut (source_view g.S.Source) _ _ _ _ _ (rw first at (CutsShort-later (source_view g.S.Source) _ _ _ _ _ _ _ mapped.3 c.in_err-take_stripe.ensures.cut)))
 
 pub end-requires-clause-all : goal.end-requires-clause-all
 end-requires-clause-all g c =
@@ -51,8 +51,8 @@ end-requires-clause-all g c =
     length-append mapped.0 cells
     ∙ ap₂ (λ (a b : ℕ). a + b) mapped.1 (length-cell_bytes of c.take_stripe.new.stripe c.take_stripe.ensures.of c.take_stripe.ensures.well_formed)
     in
-    (all_counted (source_view g.S.Source.left g.S.Source.ended g.S.Source.faults) _ _ (mapped.0 ++ cells) (bytes_needed Restore of) _ _ first long
-    (TakesBytes-more (source_view g.S.Source.left g.S.Source.ended g.S.Source.faults) _ _ _ mapped.0 cells _ _ _ mapped.3 c.in_ok-take_stripe.ensures.ok)).0
+    (all_counted (source_view g.S.Source) _ _ (mapped.0 ++ cells) (bytes_needed Restore of) _ _ first long
+    (TakesBytes-more (source_view g.S.Source) _ _ _ mapped.0 cells _ _ _ mapped.3 c.in_ok-take_stripe.ensures.ok)).0
 
 pub returns-in_err-end-clause-takes : goal.returns-in_err-end-clause-takes
 returns-in_err-end-clause-takes g c =
@@ -62,14 +62,14 @@ returns-in_err-end-clause-takes g c =
     in
     let mapped = c.in_ok-erased.ensures.ok in
     let cells = concat c.take_stripe.new.stripe.cells in
-    let taken = TakesBytes-more (source_view g.S.Source.left g.S.Source.ended g.S.Source.faults) _ _ _ mapped.0 cells _ _ _ mapped.3 c.in_ok-take_stripe.ensures.ok in
+    let taken = TakesBytes-more (source_view g.S.Source) _ _ _ mapped.0 cells _ _ _ mapped.3 c.in_ok-take_stripe.ensures.ok in
     let long : length (mapped.0 ++ cells) ≡ bytes_needed Restore of =
     length-append mapped.0 cells
     ∙ ap₂ (λ (a b : ℕ). a + b) mapped.1 (length-cell_bytes of c.take_stripe.new.stripe c.take_stripe.ensures.of c.take_stripe.ensures.well_formed)
     in
-    let counted = all_counted (source_view g.S.Source.left g.S.Source.ended g.S.Source.faults) _ _ (mapped.0 ++ cells) (bytes_needed Restore of) _ _ first long taken in
-    whole_handed_on (source_view g.S.Source.left g.S.Source.ended g.S.Source.faults) _ _ _ _ _ _ c.from_residual-in_err-end.ensures.1
-    (whole_goes_on (source_view g.S.Source.left g.S.Source.ended g.S.Source.faults) _ _ (mapped.0 ++ cells) _ _ _ _ _ counted.1 (some of c.cell_bytes.ensures.limits) long taken.taken c.in_err-end.ensures.more)
+    let counted = all_counted (source_view g.S.Source) _ _ (mapped.0 ++ cells) (bytes_needed Restore of) _ _ first long taken in
+    whole_handed_on (source_view g.S.Source) _ _ _ _ _ _ c.from_residual-in_err-end.ensures.1
+    (whole_goes_on (source_view g.S.Source) _ _ (mapped.0 ++ cells) _ _ _ _ _ counted.1 (some of c.cell_bytes.ensures.limits) long taken.taken c.in_err-end.ensures.more)
 
 pub returns-clause-takes : goal.returns-clause-takes
 returns-clause-takes g c =
@@ -77,12 +77,12 @@ returns-clause-takes g c =
     let mapped = c.in_ok-erased.ensures.ok in
     let stripe = c.take_stripe.new.stripe in
     let cells = concat stripe.cells in
-    let taken = TakesBytes-more (source_view g.S.Source.left g.S.Source.ended g.S.Source.faults) _ _ _ mapped.0 cells _ _ _ mapped.3 c.in_ok-take_stripe.ensures.ok in
+    let taken = TakesBytes-more (source_view g.S.Source) _ _ _ mapped.0 cells _ _ _ mapped.3 c.in_ok-take_stripe.ensures.ok in
     let long : length (mapped.0 ++ cells) ≡ bytes_needed Restore of =
     length-append mapped.0 cells
     ∙ ap₂ (λ (a b : ℕ). a + b) mapped.1 (length-cell_bytes of stripe c.take_stripe.ensures.of c.take_stripe.ensures.well_formed)
     in
-    whole_ended (source_view g.S.Source.left g.S.Source.ended g.S.Source.faults) _ _ (mapped.0 ++ cells) _ _ _ _ (some of c.cell_bytes.ensures.limits) long taken.taken c.in_ok-end.ensures.ok
+    whole_ended (source_view g.S.Source) _ _ (mapped.0 ++ cells) _ _ _ _ (some of c.cell_bytes.ensures.limits) long taken.taken c.in_ok-end.ensures.ok
     (IsMapAndCells-all of stripe _ mapped.0 mapped.1 mapped.2 c.take_stripe.ensures.of c.take_stripe.ensures.well_formed)
 
 pub take_map-requires : goal.take_map-requires

@@ -1,6 +1,5 @@
 -- So many bytes were taken.
 use Rattle.stair_array.specs.Promise.{Opened}
-use Rattle.stair_rack.specs.Watching.{watcher_view}
 use Rattle.stair_story.specs.Devices.{device_view, devices}
 use Rattle.stair_story.specs.Outside.{sink_view, source_view}
 use Rattle.stair_story.specs.Rack.{rack_view}
@@ -10,12 +9,7 @@ use Rattle.stair_engine.proofs.script.do_lines.Given as goal
 abbrev pub invariant-loop : goal.invariant-loop
 invariant-loop g l =
     DidSoFar
-    (device_view (rack_view g.R.Rack.is_honest g.R.Rack.history g.R.Rack.bads g.R.Rack.gones)
-    (watcher_view
-    (λ b. (goal.Watcher-dyn g (b.vtable, b.value)).told b.value)
-    (λ b. (goal.Watcher-dyn g (b.vtable, b.value)).count b.value)
-    (λ b. (goal.Watcher-dyn g (b.vtable, b.value)).left b.value)
-    (λ b. (goal.Watcher-dyn g (b.vtable, b.value)).patience b.value)))
-    (source_view g.S.Source.left g.S.Source.ended g.S.Source.faults) (sink_view g.K.Sink.held g.K.Sink.faults)
+    (device_view (rack_view g.R.Rack) (λ b. (goal.Watcher-dyn g (b.vtable, b.value)).hears b.value))
+    (source_view g.S.Source) (sink_view g.K.Sink)
     l.fn.guarded l.fn.array.member.array.geometry (devices l.fn.rack (Opened l.fn.array) l.fn.watchers.items) l.fn.input l.fn.output
     l.counter l.number l.line l.rack l.array l.watchers.items l.input l.output

@@ -1,7 +1,6 @@
 -- One stripe after the other.
 use Rattle.std.proofs.Common.{◌+◌, ℕ, rules, subst, sym}
 use Rattle.stair_array.specs.Promise.{Opened}
-use Rattle.stair_rack.specs.Watching.{watcher_view}
 use Rattle.stair_story.specs.Devices.{device_view, devices}
 use Rattle.stair_story.specs.Rack.{rack_view}
 use Rattle.stair_engine.proofs.ScrubLaws.{ScrubbedSoFar, one_scrubbed, scrub_refused}
@@ -9,12 +8,7 @@ use Rattle.stair_engine.proofs.scrub.scrub_all.Goals as goal
 
 pub returns-in-Err-clause-refused : goal.returns-in-Err-clause-refused
 returns-in-Err-clause-refused g c =
-    let view = device_view (rack_view g.R.Rack.is_honest g.R.Rack.history g.R.Rack.bads g.R.Rack.gones)
-    (watcher_view
-    (λ b. (goal.Watcher-dyn g (b.vtable, b.value)).told b.value)
-    (λ b. (goal.Watcher-dyn g (b.vtable, b.value)).count b.value)
-    (λ b. (goal.Watcher-dyn g (b.vtable, b.value)).left b.value)
-    (λ b. (goal.Watcher-dyn g (b.vtable, b.value)).patience b.value)) in
+    let view = device_view (rack_view g.R.Rack) (λ b. (goal.Watcher-dyn g (b.vtable, b.value)).hears b.value) in
     let of = c.args.array.now.member.array.geometry in
     let first = devices c.args.rack.now (Opened c.args.array.now) c.args.watchers.now.items in
     scrub_refused view of c.loop-stripe.stripe c.loop-stripe.cells first c.loop-stripe.rack c.scrub.new.rack c.loop-stripe.array c.scrub.new.self
@@ -22,12 +16,7 @@ returns-in-Err-clause-refused g c =
 
 pub loop-stripe-preserved : goal.loop-stripe-preserved
 loop-stripe-preserved g c =
-    let view = device_view (rack_view g.R.Rack.is_honest g.R.Rack.history g.R.Rack.bads g.R.Rack.gones)
-    (watcher_view
-    (λ b. (goal.Watcher-dyn g (b.vtable, b.value)).told b.value)
-    (λ b. (goal.Watcher-dyn g (b.vtable, b.value)).count b.value)
-    (λ b. (goal.Watcher-dyn g (b.vtable, b.value)).left b.value)
-    (λ b. (goal.Watcher-dyn g (b.vtable, b.value)).patience b.value)) in
+    let view = device_view (rack_view g.R.Rack) (λ b. (goal.Watcher-dyn g (b.vtable, b.value)).hears b.value) in
     let of = c.args.array.now.member.array.geometry in
     let first = devices c.args.rack.now (Opened c.args.array.now) c.args.watchers.now.items in
     subst

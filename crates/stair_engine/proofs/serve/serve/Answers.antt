@@ -2,15 +2,14 @@
 use Rattle.std.proofs.Common.{refl, subst, sym}
 use Rattle.stair_array.specs.Promise.{Begun, Opened}
 use Rattle.stair_nbd.specs.Client.{client_plan}
-use Rattle.stair_rack.specs.Watching.{watcher_view}
 use Rattle.stair_story.specs.Devices.{MeansWith, device_view, devices}
 use Rattle.stair_story.specs.Outside.{outside, views}
 use Rattle.stair_story.specs.Plan.{Over, opens_array}
 use Rattle.stair_story.specs.Rack.{rack_view}
 use Rattle.stair_story.specs.Story.{Grew, RanOut}
 use Rattle.stair_story.specs.declared.fault.Fault.TheVariants.{Memory}
-use Rattle.stair_story.specs.declared.status.Status.{Status}
-use Rattle.stair_story.specs.declared.status.Status.TheVariants.{OutOfMemory}
+use Rattle.stair_status.specs.declared.status.Status.{Status}
+use Rattle.stair_status.specs.declared.status.Status.TheVariants.{OutOfMemory}
 use Rattle.stair_story.proofs.ComesLaws.{with_comes}
 use Rattle.stair_story.proofs.DeviceLaws.{whole_behind, whole_hands_on, with_one, with_then}
 use Rattle.stair_engine.specs.Serving.{serve_plan}
@@ -19,13 +18,8 @@ use Rattle.stair_engine.proofs.serve.serve.Goals as goal
 
 pub returns-in_err-buffer-clause-means : goal.returns-in_err-buffer-clause-means
 returns-in_err-buffer-clause-means g c counter =
-    let view = device_view (rack_view g.R.Rack.is_honest g.R.Rack.history g.R.Rack.bads g.R.Rack.gones)
-    (watcher_view
-    (λ b. (goal.Watcher-dyn g (b.vtable, b.value)).told b.value)
-    (λ b. (goal.Watcher-dyn g (b.vtable, b.value)).count b.value)
-    (λ b. (goal.Watcher-dyn g (b.vtable, b.value)).left b.value)
-    (λ b. (goal.Watcher-dyn g (b.vtable, b.value)).patience b.value)) in
-    let streams = views g.S.Source.left g.S.Source.ended g.S.Source.faults g.K.Sink.held g.K.Sink.faults in
+    let view = device_view (rack_view g.R.Rack) (λ b. (goal.Watcher-dyn g (b.vtable, b.value)).hears b.value) in
+    let streams = views g.S.Source g.K.Sink in
     let a = outside c.args.input.now c.args.output.now counter in
     let x = devices c.args.rack.now Begun c.args.watchers.now.items in
     whole_hands_on view streams serve_plan a a _ _ _ _ c.from_residual.result Memory c.from_residual.ensures.1
@@ -33,13 +27,8 @@ returns-in_err-buffer-clause-means g c counter =
 
 pub returns-in_err-array-clause-means : goal.returns-in_err-array-clause-means
 returns-in_err-array-clause-means g c counter =
-    let view = device_view (rack_view g.R.Rack.is_honest g.R.Rack.history g.R.Rack.bads g.R.Rack.gones)
-    (watcher_view
-    (λ b. (goal.Watcher-dyn g (b.vtable, b.value)).told b.value)
-    (λ b. (goal.Watcher-dyn g (b.vtable, b.value)).count b.value)
-    (λ b. (goal.Watcher-dyn g (b.vtable, b.value)).left b.value)
-    (λ b. (goal.Watcher-dyn g (b.vtable, b.value)).patience b.value)) in
-    let streams = views g.S.Source.left g.S.Source.ended g.S.Source.faults g.K.Sink.held g.K.Sink.faults in
+    let view = device_view (rack_view g.R.Rack) (λ b. (goal.Watcher-dyn g (b.vtable, b.value)).hears b.value) in
+    let streams = views g.S.Source g.K.Sink in
     let a = outside c.args.input.now c.args.output.now counter in
     let x = devices c.args.rack.now Begun c.args.watchers.now.items in
     whole_hands_on view streams serve_plan a a _ _ _ _ c.from_residual-in_err-array.result c.in_err-array.field-0.0 c.from_residual-in_err-array.ensures.1
@@ -50,13 +39,8 @@ returns-in_err-array-clause-means g c counter =
 
 pub returns-clause-means : goal.returns-clause-means
 returns-clause-means g c counter =
-    let view = device_view (rack_view g.R.Rack.is_honest g.R.Rack.history g.R.Rack.bads g.R.Rack.gones)
-    (watcher_view
-    (λ b. (goal.Watcher-dyn g (b.vtable, b.value)).told b.value)
-    (λ b. (goal.Watcher-dyn g (b.vtable, b.value)).count b.value)
-    (λ b. (goal.Watcher-dyn g (b.vtable, b.value)).left b.value)
-    (λ b. (goal.Watcher-dyn g (b.vtable, b.value)).patience b.value)) in
-    let streams = views g.S.Source.left g.S.Source.ended g.S.Source.faults g.K.Sink.held g.K.Sink.faults in
+    let view = device_view (rack_view g.R.Rack) (λ b. (goal.Watcher-dyn g (b.vtable, b.value)).hears b.value) in
+    let streams = views g.S.Source g.K.Sink in
     let a = outside c.args.input.now c.args.output.now counter in
     let x = devices c.args.rack.now Begun c.args.watchers.now.items in
     let array = c.in_ok-array.array in

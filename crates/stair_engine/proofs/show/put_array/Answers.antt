@@ -20,14 +20,14 @@ module _ {K T E : Type 0} (view : SinkView K) (r : Result T E) (bytes line behin
 
 pub returns-in_err-put_all-clause-puts : goal.returns-in_err-put_all-clause-puts
 returns-in_err-put_all-clause-puts g c =
-    let view = sink_view g.K.Sink.held g.K.Sink.faults in
+    let view = sink_view g.K.Sink in
     let array = c.args.member.now.array in
     line_part view c.from_residual.result _ (array_line array.geometry) _ (c.bytes.ensures ∙ c.array_line.ensures ∙ ap array_line c.geometry-geometry.ensures.value) c.args.output.now c.put_all.new.output
     c.from_residual.ensures.0 c.in_err-put_all.ensures.puts
 
 pub returns-in_err-put_all-2-clause-puts : goal.returns-in_err-put_all-2-clause-puts
 returns-in_err-put_all-2-clause-puts g c =
-    let view = sink_view g.K.Sink.held g.K.Sink.faults in
+    let view = sink_view g.K.Sink in
     let array = c.args.member.now.array in
     line_then view c.from_residual-in_err-put_all-2.result _ (array_line array.geometry) _ (c.bytes.ensures ∙ c.array_line.ensures ∙ ap array_line c.geometry-geometry.ensures.value) c.args.output.now c.put_all.new.output c.put_all-2.new.output
     c.in_ok-put_all.ensures.puts
@@ -36,7 +36,7 @@ returns-in_err-put_all-2-clause-puts g c =
 
 pub returns-in_err-put_all-3-clause-puts : goal.returns-in_err-put_all-3-clause-puts
 returns-in_err-put_all-3-clause-puts g c =
-    let view = sink_view g.K.Sink.held g.K.Sink.faults in
+    let view = sink_view g.K.Sink in
     let array = c.args.member.now.array in
     line_then view c.from_residual-in_err-put_all-3.result _ (array_line array.geometry) _ (c.bytes.ensures ∙ c.array_line.ensures ∙ ap array_line c.geometry-geometry.ensures.value) c.args.output.now c.put_all.new.output c.put_all-3.new.output
     c.in_ok-put_all.ensures.puts
@@ -47,7 +47,7 @@ returns-in_err-put_all-3-clause-puts g c =
 
 pub returns-in_err-put_all-4-clause-puts : goal.returns-in_err-put_all-4-clause-puts
 returns-in_err-put_all-4-clause-puts g c =
-    let view = sink_view g.K.Sink.held g.K.Sink.faults in
+    let view = sink_view g.K.Sink in
     let array = c.args.member.now.array in
     line_then view c.from_residual-in_err-put_all-4.result _ (array_line array.geometry) _ (c.bytes.ensures ∙ c.array_line.ensures ∙ ap array_line c.geometry-geometry.ensures.value) c.args.output.now c.put_all.new.output c.put_all-4.new.output
     c.in_ok-put_all.ensures.puts
@@ -60,7 +60,7 @@ returns-in_err-put_all-4-clause-puts g c =
 
 pub returns-clause-puts : goal.returns-clause-puts
 returns-clause-puts g c =
-    let view = sink_view g.K.Sink.held g.K.Sink.faults in
+    let view = sink_view g.K.Sink in
     let array = c.args.member.now.array in
     line_then view c.put_all-5.result _ (array_line array.geometry) _ (c.bytes.ensures ∙ c.array_line.ensures ∙ ap array_line c.geometry-geometry.ensures.value) c.args.output.now c.put_all.new.output c.put_all-5.new.output
     c.in_ok-put_all.ensures.puts

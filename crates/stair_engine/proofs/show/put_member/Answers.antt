@@ -41,13 +41,13 @@ lines_whole m text j n below =
 pub returns-in_err-put_array-clause-puts : goal.returns-in_err-put_array-clause-puts
 returns-in_err-put_array-clause-puts g c =
     let m = c.args.member.now in
-    puts_first (sink_view g.K.Sink.held g.K.Sink.faults) _ (array_text m) (slot_lines m m.array.geometry.n) _ _ c.from_residual.ensures.0
+    puts_first (sink_view g.K.Sink) _ (array_text m) (slot_lines m m.array.geometry.n) _ _ c.from_residual.ensures.0
     c.in_err-put_array.ensures.puts
 
 pub loop-slot-init : goal.loop-slot-init
 loop-slot-init g c =
     let text = array_text c.args.member.now in
-    subst (λ (bytes : List ℕ). Holds (sink_view g.K.Sink.held g.K.Sink.faults) (HasPut bytes) c.args.output.now c.put_array.new.output)
+    subst (λ (bytes : List ℕ). Holds (sink_view g.K.Sink) (HasPut bytes) c.args.output.now c.put_array.new.output)
     (sym (append-nil text)) c.in_ok-put_array.ensures.puts
 
 pub returns-in_err-put_all-clause-puts : goal.returns-in_err-put_all-clause-puts
@@ -57,13 +57,13 @@ returns-in_err-put_all-clause-puts g c =
     let n = m.array.geometry.n in
     let below : slot < n = omega (arith, c.loop-slot-test.true, c.n-slot-end.ensures.value, ap (λ (of : Geometry). of.n) c.geometry.ensures.value) in
     let whole = lines_whole m (array_text m) slot n below in
-    puts_more_part (sink_view g.K.Sink.held g.K.Sink.faults) _ (array_text m ++ slot_lines m slot) (slot_line m slot) whole.0
+    puts_more_part (sink_view g.K.Sink) _ (array_text m ++ slot_lines m slot) (slot_line m slot) whole.0
     (array_text m ++ slot_lines m n) _ _ _ c.from_residual-in_err-put_all.ensures.0 whole.1 c.loop-slot.invariant
     (rw (c.bytes.ensures ∙ c.slot_line.ensures) at c.in_err-put_all.ensures.puts)
 
 pub loop-slot-preserved : goal.loop-slot-preserved
 loop-slot-preserved g c =
-    let view = sink_view g.K.Sink.held g.K.Sink.faults in
+    let view = sink_view g.K.Sink in
     let m = c.args.member.now in
     let slot = c.loop-slot.slot in
     subst (λ (bytes : List ℕ). Holds view (HasPut bytes) c.args.output.now c.put_all.new.output) (lines_more m (array_text m) slot)
@@ -76,5 +76,5 @@ returns-clause-puts g c =
     let all : c.loop-slot.slot ≡ m.array.geometry.n =
     omega (arith, c.loop-slot-test.false, c.loop-slot.auto.slot-end, c.n-slot-end.ensures.value, ap (λ (g : Geometry). g.n) c.geometry.ensures.value)
     in
-    let view = sink_view g.K.Sink.held g.K.Sink.faults in
+    let view = sink_view g.K.Sink in
     subst (λ (slot : ℕ). Holds view (HasPut (array_text m ++ slot_lines m slot)) c.args.output.now c.loop-slot.output) all c.loop-slot.invariant

@@ -8,4 +8,4 @@ use Rattle.stair_engine.proofs.show.put_member.Given as goal
 
 abbrev pub invariant-loop-slot : goal.invariant-loop-slot
 invariant-loop-slot g l =
-    Holds (sink_view g.K.Sink.held g.K.Sink.faults) (HasPut (array_text l.member ++ slot_lines l.member l.slot)) l.fn.output l.output
+    Holds (sink_view g.K.Sink) (HasPut (array_text l.member ++ slot_lines l.member l.slot)) l.fn.output l.output

@@ -15,7 +15,7 @@ pub returns-in_err-put_member : goal.returns-in_err-put_member
 returns-in_err-put_member g c = record {
   found = Ok c.in_ok-member.member;
   surveys = c.in_ok-member.ensures.told;
-  puts = puts_part (sink_view g.K.Sink.held g.K.Sink.faults) c.in_ok-member.member c.in_err-put_member.field-0.0
+  puts = puts_part (sink_view g.K.Sink) c.in_ok-member.member c.in_err-put_member.field-0.0
       c.from_residual-in_err-put_member.result _ _ c.in_err-put_member.ensures.puts c.in_err-put_member.ensures.failed
       c.from_residual-in_err-put_member.ensures.1;
 }

@@ -6,13 +6,12 @@ use Rattle.stair_array.specs.Faults.{refusal_for}
 use Rattle.stair_array.specs.Machine.{SetLabel}
 use Rattle.stair_array.specs.Promise.{Opened}
 use Rattle.stair_array.specs.declared.fault.ArrayFault.{ArrayFault}
-use Rattle.stair_rack.specs.Watching.{watcher_view}
 use Rattle.stair_story.specs.Devices.{device_view, devices}
 use Rattle.stair_story.specs.Outside.{outside, sink_alone}
 use Rattle.stair_story.specs.Rack.{rack_view}
 use Rattle.stair_story.specs.Plan.{Over, Put, take_step}
 use Rattle.stair_story.specs.Steps.{Takes}
-use Rattle.stair_story.specs.declared.status.Status.TheVariants.{Done}
+use Rattle.stair_status.specs.declared.status.Status.TheVariants.{Done}
 use Rattle.stair_story.proofs.DeviceLaws.{whole_hands_on}
 use Rattle.stair_engine.proofs.ReadLaws.{not_refused}
 use Rattle.stair_engine.proofs.SessionLaws.{ended}
@@ -21,26 +20,16 @@ use Rattle.stair_engine.proofs.stamp.label.Goals as goal
 
 pub returns-in_err-array-clause-means : goal.returns-in_err-array-clause-means
 returns-in_err-array-clause-means g c counter =
-    let view = device_view (rack_view g.R.Rack.is_honest g.R.Rack.history g.R.Rack.bads g.R.Rack.gones)
-    (watcher_view
-    (λ b. (goal.Watcher-dyn g (b.vtable, b.value)).told b.value)
-    (λ b. (goal.Watcher-dyn g (b.vtable, b.value)).count b.value)
-    (λ b. (goal.Watcher-dyn g (b.vtable, b.value)).left b.value)
-    (λ b. (goal.Watcher-dyn g (b.vtable, b.value)).patience b.value)) in
-    let streams = sink_alone g.K.Sink.held g.K.Sink.faults in
+    let view = device_view (rack_view g.R.Rack) (λ b. (goal.Watcher-dyn g (b.vtable, b.value)).hears b.value) in
+    let streams = sink_alone g.K.Sink in
     whole_hands_on view streams _ _ _ _ _ _ _ c.from_residual.result c.in_err-array.field-0.0 c.from_residual.ensures.1
     (ended view streams (λ of. take_step of.n (SetLabel c.args.text) (λ done. Put (codes "labelled" ++ 10 ∷ []) (Over Done))) (outside tt c.args.output.now counter) c.args.rack.now c.session.new.rack c.args.watchers.now.items c.session.new.watchers.items
     c.in_err-array.field-0.0 c.in_err-array.ensures.refused)
 
 pub returns-in-Err-clause-means : goal.returns-in-Err-clause-means
 returns-in-Err-clause-means g c counter =
-    let view = device_view (rack_view g.R.Rack.is_honest g.R.Rack.history g.R.Rack.bads g.R.Rack.gones)
-    (watcher_view
-    (λ b. (goal.Watcher-dyn g (b.vtable, b.value)).told b.value)
-    (λ b. (goal.Watcher-dyn g (b.vtable, b.value)).count b.value)
-    (λ b. (goal.Watcher-dyn g (b.vtable, b.value)).left b.value)
-    (λ b. (goal.Watcher-dyn g (b.vtable, b.value)).patience b.value)) in
-    let streams = sink_alone g.K.Sink.held g.K.Sink.faults in
+    let view = device_view (rack_view g.R.Rack) (λ b. (goal.Watcher-dyn g (b.vtable, b.value)).hears b.value) in
+    let streams = sink_alone g.K.Sink in
     stamp_refused view streams (SetLabel c.args.text) (codes "labelled" ++ 10 ∷ []) c.args.rack.now c.session.new.rack c.set_label.new.rack c.args.watchers.now.items c.session.new.watchers.items
     c.set_label.new.watchers.items c.in_ok-array.array c.set_label.new.self c.in_ok-array.ensures.begins (refusal_for c.in-Err.fault) _ (search rules)
     (subst (λ (r : Result (Unit {0}) ArrayFault). Takes view (SetLabel c.args.text) (outcome r) (devices c.session.new.rack (Opened c.in_ok-array.array) c.session.new.watchers.items)
@@ -48,13 +37,8 @@ returns-in-Err-clause-means g c counter =
 
 pub returns-clause-means : goal.returns-clause-means
 returns-clause-means g c =
-    let view = device_view (rack_view g.R.Rack.is_honest g.R.Rack.history g.R.Rack.bads g.R.Rack.gones)
-    (watcher_view
-    (λ b. (goal.Watcher-dyn g (b.vtable, b.value)).told b.value)
-    (λ b. (goal.Watcher-dyn g (b.vtable, b.value)).count b.value)
-    (λ b. (goal.Watcher-dyn g (b.vtable, b.value)).left b.value)
-    (λ b. (goal.Watcher-dyn g (b.vtable, b.value)).patience b.value)) in
-    let streams = sink_alone g.K.Sink.held g.K.Sink.faults in
+    let view = device_view (rack_view g.R.Rack) (λ b. (goal.Watcher-dyn g (b.vtable, b.value)).hears b.value) in
+    let streams = sink_alone g.K.Sink in
     stamped view streams (SetLabel c.args.text) (codes "labelled" ++ 10 ∷ []) c.args.rack.now c.session.new.rack c.set_label.new.rack c.args.watchers.now.items c.session.new.watchers.items
     c.set_label.new.watchers.items c.in_ok-array.array c.set_label.new.self c.in_ok-array.ensures.begins tt
     (subst (λ (r : Result (Unit {0}) ArrayFault). Takes view (SetLabel c.args.text) (outcome r) (devices c.session.new.rack (Opened c.in_ok-array.array) c.session.new.watchers.items)

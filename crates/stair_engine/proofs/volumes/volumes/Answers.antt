@@ -3,14 +3,13 @@ use Rattle.std.proofs.Common.{◌≡◌, ◌∙◌, ℕ, ◌*◌, Ok, replicate,
 use Rattle.stair_model.specs.Geometry.{Geometry, data_cells}
 use Rattle.stair_array.specs.Machine.{Recover}
 use Rattle.stair_array.specs.Promise.{Found, Opened}
-use Rattle.stair_rack.specs.Watching.{watcher_view}
 use Rattle.stair_story.specs.Devices.{MeansWith, device_view, devices}
 use Rattle.stair_story.specs.Outside.{outside, views}
 use Rattle.stair_story.specs.Plan.{Plan, Over}
 use Rattle.stair_story.specs.Rack.{rack_view}
 use Rattle.stair_story.specs.declared.fault.Fault.TheVariants.{Memory, Survey}
-use Rattle.stair_story.specs.declared.status.Status.{Status}
-use Rattle.stair_story.specs.declared.status.Status.TheVariants.{Done}
+use Rattle.stair_status.specs.declared.status.Status.{Status}
+use Rattle.stair_status.specs.declared.status.Status.TheVariants.{Done}
 use Rattle.stair_story.proofs.DeviceLaws.{whole_hands_on, with_then}
 use Rattle.stair_story.proofs.TakenLaws.{taken_geometry}
 use Rattle.stair_volume.specs.Commands.{status_of, status_of_volume, volume_plan}
@@ -21,13 +20,8 @@ use Rattle.stair_engine.proofs.volumes.volumes.Goals as goal
 
 pub returns-in_err-member-clause-means : goal.returns-in_err-member-clause-means
 returns-in_err-member-clause-means g c counter =
-    let view = device_view (rack_view g.R.Rack.is_honest g.R.Rack.history g.R.Rack.bads g.R.Rack.gones)
-    (watcher_view
-    (λ b. (goal.Watcher-dyn g (b.vtable, b.value)).told b.value)
-    (λ b. (goal.Watcher-dyn g (b.vtable, b.value)).count b.value)
-    (λ b. (goal.Watcher-dyn g (b.vtable, b.value)).left b.value)
-    (λ b. (goal.Watcher-dyn g (b.vtable, b.value)).patience b.value)) in
-    let streams = views g.S.Source.left g.S.Source.ended g.S.Source.faults g.K.Sink.held g.K.Sink.faults in
+    let view = device_view (rack_view g.R.Rack) (λ b. (goal.Watcher-dyn g (b.vtable, b.value)).hears b.value) in
+    let streams = views g.S.Source g.K.Sink in
     let k : Geometry → Plan = volume_plan c.args.job.now in
     let a = outside c.args.input.now c.args.output.now counter in
     whole_hands_on view streams _ _ _ _ _ _ _ c.from_residual.result (Survey c.in_err-member.field-0.0) c.from_residual.ensures.1
@@ -35,13 +29,8 @@ returns-in_err-member-clause-means g c counter =
 
 pub returns-in_err-zeros-clause-means : goal.returns-in_err-zeros-clause-means
 returns-in_err-zeros-clause-means g c counter =
-    let view = device_view (rack_view g.R.Rack.is_honest g.R.Rack.history g.R.Rack.bads g.R.Rack.gones)
-    (watcher_view
-    (λ b. (goal.Watcher-dyn g (b.vtable, b.value)).told b.value)
-    (λ b. (goal.Watcher-dyn g (b.vtable, b.value)).count b.value)
-    (λ b. (goal.Watcher-dyn g (b.vtable, b.value)).left b.value)
-    (λ b. (goal.Watcher-dyn g (b.vtable, b.value)).patience b.value)) in
-    let streams = views g.S.Source.left g.S.Source.ended g.S.Source.faults g.K.Sink.held g.K.Sink.faults in
+    let view = device_view (rack_view g.R.Rack) (λ b. (goal.Watcher-dyn g (b.vtable, b.value)).hears b.value) in
+    let streams = views g.S.Source g.K.Sink in
     let k : Geometry → Plan = volume_plan c.args.job.now in
     let a = outside c.args.input.now c.args.output.now counter in
     whole_hands_on view streams _ _ _ _ _ _ _ c.from_residual-in_err-zeros.result Memory c.from_residual-in_err-zeros.ensures.1
@@ -49,13 +38,8 @@ returns-in_err-zeros-clause-means g c counter =
 
 pub returns-in_err-array-clause-means : goal.returns-in_err-array-clause-means
 returns-in_err-array-clause-means g c counter =
-    let view = device_view (rack_view g.R.Rack.is_honest g.R.Rack.history g.R.Rack.bads g.R.Rack.gones)
-    (watcher_view
-    (λ b. (goal.Watcher-dyn g (b.vtable, b.value)).told b.value)
-    (λ b. (goal.Watcher-dyn g (b.vtable, b.value)).count b.value)
-    (λ b. (goal.Watcher-dyn g (b.vtable, b.value)).left b.value)
-    (λ b. (goal.Watcher-dyn g (b.vtable, b.value)).patience b.value)) in
-    let streams = views g.S.Source.left g.S.Source.ended g.S.Source.faults g.K.Sink.held g.K.Sink.faults in
+    let view = device_view (rack_view g.R.Rack) (λ b. (goal.Watcher-dyn g (b.vtable, b.value)).hears b.value) in
+    let streams = views g.S.Source g.K.Sink in
     let k : Geometry → Plan = volume_plan c.args.job.now in
     let a = outside c.args.input.now c.args.output.now counter in
     whole_hands_on view streams _ _ _ _ _ _ _ c.from_residual-in_err-array.result c.in_err-array.field-0.0 c.from_residual-in_err-array.ensures.1
@@ -64,12 +48,7 @@ returns-in_err-array-clause-means g c counter =
 
 pub volume-done-requires-clause-zeros : goal.volume-done-requires-clause-zeros
 volume-done-requires-clause-zeros g c =
-    let view = device_view (rack_view g.R.Rack.is_honest g.R.Rack.history g.R.Rack.bads g.R.Rack.gones)
-    (watcher_view
-    (λ b. (goal.Watcher-dyn g (b.vtable, b.value)).told b.value)
-    (λ b. (goal.Watcher-dyn g (b.vtable, b.value)).count b.value)
-    (λ b. (goal.Watcher-dyn g (b.vtable, b.value)).left b.value)
-    (λ b. (goal.Watcher-dyn g (b.vtable, b.value)).patience b.value)) in
+    let view = device_view (rack_view g.R.Rack) (λ b. (goal.Watcher-dyn g (b.vtable, b.value)).hears b.value) in
     let m = c.in_ok-member.member in
     let same = taken_geometry view Recover (Ok m.array.geometry) (devices c.survey.new.rack (Found m) c.args.watchers.now.items)
     (devices c.open.new.rack (Opened c.in_ok-array.array) c.open.new.watchers.items) m c.in_ok-array.array.member c.in_ok-array.ensures.taken refl refl in
@@ -80,13 +59,8 @@ volume-done-requires-clause-zeros g c =
 
 pub returns-in-Ok-clause-means : goal.returns-in-Ok-clause-means
 returns-in-Ok-clause-means g c counter =
-    let view = device_view (rack_view g.R.Rack.is_honest g.R.Rack.history g.R.Rack.bads g.R.Rack.gones)
-    (watcher_view
-    (λ b. (goal.Watcher-dyn g (b.vtable, b.value)).told b.value)
-    (λ b. (goal.Watcher-dyn g (b.vtable, b.value)).count b.value)
-    (λ b. (goal.Watcher-dyn g (b.vtable, b.value)).left b.value)
-    (λ b. (goal.Watcher-dyn g (b.vtable, b.value)).patience b.value)) in
-    let streams = views g.S.Source.left g.S.Source.ended g.S.Source.faults g.K.Sink.held g.K.Sink.faults in
+    let view = device_view (rack_view g.R.Rack) (λ b. (goal.Watcher-dyn g (b.vtable, b.value)).hears b.value) in
+    let streams = views g.S.Source g.K.Sink in
     let k : Geometry → Plan = volume_plan c.args.job.now in
     let a = outside c.args.input.now c.args.output.now counter in
     let m = c.in_ok-member.member in
@@ -109,13 +83,8 @@ returns-in-Ok-clause-means g c counter =
 
 pub returns-clause-means : goal.returns-clause-means
 returns-clause-means g c counter =
-    let view = device_view (rack_view g.R.Rack.is_honest g.R.Rack.history g.R.Rack.bads g.R.Rack.gones)
-    (watcher_view
-    (λ b. (goal.Watcher-dyn g (b.vtable, b.value)).told b.value)
-    (λ b. (goal.Watcher-dyn g (b.vtable, b.value)).count b.value)
-    (λ b. (goal.Watcher-dyn g (b.vtable, b.value)).left b.value)
-    (λ b. (goal.Watcher-dyn g (b.vtable, b.value)).patience b.value)) in
-    let streams = views g.S.Source.left g.S.Source.ended g.S.Source.faults g.K.Sink.held g.K.Sink.faults in
+    let view = device_view (rack_view g.R.Rack) (λ b. (goal.Watcher-dyn g (b.vtable, b.value)).hears b.value) in
+    let streams = views g.S.Source g.K.Sink in
     let k : Geometry → Plan = volume_plan c.args.job.now in
     let a = outside c.args.input.now c.args.output.now counter in
     let m = c.in_ok-member.member in

@@ -1,7 +1,6 @@
 -- One piece after the other, and the end behind them.
 use Rattle.std.proofs.Common.{◌∙◌, ◌+◌, ◌-◌, ap, arith, refl, rules}
 use Rattle.stair_model.specs.Geometry.{Geometry}
-use Rattle.stair_rack.specs.Watching.{watcher_view}
 use Rattle.stair_story.specs.Devices.{device_view}
 use Rattle.stair_story.specs.Outside.{views}
 use Rattle.stair_story.specs.Rack.{rack_view}
@@ -16,25 +15,15 @@ use Rattle.stair_engine.proofs.write.write_input.Goals as goal
 
 pub loop-done-init : goal.loop-done-init
 loop-done-init g c =
-    let view = device_view (rack_view g.R.Rack.is_honest g.R.Rack.history g.R.Rack.bads g.R.Rack.gones)
-    (watcher_view
-    (λ b. (goal.Watcher-dyn g (b.vtable, b.value)).told b.value)
-    (λ b. (goal.Watcher-dyn g (b.vtable, b.value)).count b.value)
-    (λ b. (goal.Watcher-dyn g (b.vtable, b.value)).left b.value)
-    (λ b. (goal.Watcher-dyn g (b.vtable, b.value)).patience b.value)) in
-    let streams = views g.S.Source.left g.S.Source.ended g.S.Source.faults g.K.Sink.held g.K.Sink.faults in
+    let view = device_view (rack_view g.R.Rack) (λ b. (goal.Watcher-dyn g (b.vtable, b.value)).hears b.value) in
+    let streams = views g.S.Source g.K.Sink in
     let of = c.args.array.now.member.array.geometry in
     none_written view streams of c.args.first c.args.blocks c.args.rack.now c.args.array.now c.args.watchers.now.items c.args.input.now c.args.output.now c.args.piece.now c.new-intake.result refl c.requires.room c.requires.empty c.new-intake.ensures c.requires.stay
 
 pub returns-in_err-take-clause-means : goal.returns-in_err-take-clause-means
 returns-in_err-take-clause-means g c counter =
-    let view = device_view (rack_view g.R.Rack.is_honest g.R.Rack.history g.R.Rack.bads g.R.Rack.gones)
-    (watcher_view
-    (λ b. (goal.Watcher-dyn g (b.vtable, b.value)).told b.value)
-    (λ b. (goal.Watcher-dyn g (b.vtable, b.value)).count b.value)
-    (λ b. (goal.Watcher-dyn g (b.vtable, b.value)).left b.value)
-    (λ b. (goal.Watcher-dyn g (b.vtable, b.value)).patience b.value)) in
-    let streams = views g.S.Source.left g.S.Source.ended g.S.Source.faults g.K.Sink.held g.K.Sink.faults in
+    let view = device_view (rack_view g.R.Rack) (λ b. (goal.Watcher-dyn g (b.vtable, b.value)).hears b.value) in
+    let streams = views g.S.Source g.K.Sink in
     let of = c.args.array.now.member.array.geometry in
     with_hands_on view streams _ _ _ _ _ c.from_residual.result c.in_err-take.field-0.0 c.from_residual.ensures.1
     (piece_cut view streams of c.args.first c.args.blocks c.args.rack.now c.args.array.now c.args.watchers.now.items c.args.input.now c.args.output.now
@@ -42,13 +31,8 @@ returns-in_err-take-clause-means g c counter =
 
 pub returns-in-Err-clause-means : goal.returns-in-Err-clause-means
 returns-in-Err-clause-means g c =
-    let view = device_view (rack_view g.R.Rack.is_honest g.R.Rack.history g.R.Rack.bads g.R.Rack.gones)
-    (watcher_view
-    (λ b. (goal.Watcher-dyn g (b.vtable, b.value)).told b.value)
-    (λ b. (goal.Watcher-dyn g (b.vtable, b.value)).count b.value)
-    (λ b. (goal.Watcher-dyn g (b.vtable, b.value)).left b.value)
-    (λ b. (goal.Watcher-dyn g (b.vtable, b.value)).patience b.value)) in
-    let streams = views g.S.Source.left g.S.Source.ended g.S.Source.faults g.K.Sink.held g.K.Sink.faults in
+    let view = device_view (rack_view g.R.Rack) (λ b. (goal.Watcher-dyn g (b.vtable, b.value)).hears b.value) in
+    let streams = views g.S.Source g.K.Sink in
     let of = c.args.array.now.member.array.geometry in
     write_refused view streams of c.args.first c.args.blocks c.args.rack.now c.args.array.now c.args.watchers.now.items c.args.input.now c.args.output.now
     c.loop-done.done c.loop-done.rack c.loop-done.array c.loop-done.watchers.items c.loop-done.input c.loop-done.piece c.loop-done.intake c.loop-done.invariant c.loop-done-test.true c.take.new.input c.take.new.self c.take.new.intake c.piece_blocks.result
@@ -59,13 +43,8 @@ returns-in-Err-clause-means g c =
 
 pub loop-done-preserved : goal.loop-done-preserved
 loop-done-preserved g c =
-    let view = device_view (rack_view g.R.Rack.is_honest g.R.Rack.history g.R.Rack.bads g.R.Rack.gones)
-    (watcher_view
-    (λ b. (goal.Watcher-dyn g (b.vtable, b.value)).told b.value)
-    (λ b. (goal.Watcher-dyn g (b.vtable, b.value)).count b.value)
-    (λ b. (goal.Watcher-dyn g (b.vtable, b.value)).left b.value)
-    (λ b. (goal.Watcher-dyn g (b.vtable, b.value)).patience b.value)) in
-    let streams = views g.S.Source.left g.S.Source.ended g.S.Source.faults g.K.Sink.held g.K.Sink.faults in
+    let view = device_view (rack_view g.R.Rack) (λ b. (goal.Watcher-dyn g (b.vtable, b.value)).hears b.value) in
+    let streams = views g.S.Source g.K.Sink in
     let of = c.args.array.now.member.array.geometry in
     let within = c.requires.within (omega (arith, c.loop-done-test.true)) in
     let some = piece_some of c.args.first c.args.blocks c.loop-done.done c.loop-done-test.true within in
@@ -85,13 +64,8 @@ end-requires-clause-all g c =
 
 pub returns-in_err-end-clause-means : goal.returns-in_err-end-clause-means
 returns-in_err-end-clause-means g c counter =
-    let view = device_view (rack_view g.R.Rack.is_honest g.R.Rack.history g.R.Rack.bads g.R.Rack.gones)
-    (watcher_view
-    (λ b. (goal.Watcher-dyn g (b.vtable, b.value)).told b.value)
-    (λ b. (goal.Watcher-dyn g (b.vtable, b.value)).count b.value)
-    (λ b. (goal.Watcher-dyn g (b.vtable, b.value)).left b.value)
-    (λ b. (goal.Watcher-dyn g (b.vtable, b.value)).patience b.value)) in
-    let streams = views g.S.Source.left g.S.Source.ended g.S.Source.faults g.K.Sink.held g.K.Sink.faults in
+    let view = device_view (rack_view g.R.Rack) (λ b. (goal.Watcher-dyn g (b.vtable, b.value)).hears b.value) in
+    let streams = views g.S.Source g.K.Sink in
     let of = c.args.array.now.member.array.geometry in
     with_hands_on view streams _ _ _ _ _ c.from_residual-in_err-end.result c.in_err-end.field-0.0 c.from_residual-in_err-end.ensures.1
     (no_end view streams of c.args.first c.args.blocks c.args.rack.now c.args.array.now c.args.watchers.now.items c.args.input.now c.args.output.now
@@ -99,13 +73,8 @@ returns-in_err-end-clause-means g c counter =
 
 pub returns-in_err-put_all-clause-means : goal.returns-in_err-put_all-clause-means
 returns-in_err-put_all-clause-means g c counter =
-    let view = device_view (rack_view g.R.Rack.is_honest g.R.Rack.history g.R.Rack.bads g.R.Rack.gones)
-    (watcher_view
-    (λ b. (goal.Watcher-dyn g (b.vtable, b.value)).told b.value)
-    (λ b. (goal.Watcher-dyn g (b.vtable, b.value)).count b.value)
-    (λ b. (goal.Watcher-dyn g (b.vtable, b.value)).left b.value)
-    (λ b. (goal.Watcher-dyn g (b.vtable, b.value)).patience b.value)) in
-    let streams = views g.S.Source.left g.S.Source.ended g.S.Source.faults g.K.Sink.held g.K.Sink.faults in
+    let view = device_view (rack_view g.R.Rack) (λ b. (goal.Watcher-dyn g (b.vtable, b.value)).hears b.value) in
+    let streams = views g.S.Source g.K.Sink in
     let of = c.args.array.now.member.array.geometry in
     let failed = c.in_err-put_all.ensures.puts in
     with_hands_on view streams _ _ _ _ _ _ Output (rw c.in_err-put_all.ensures.failed at c.from_residual-in_err-put_all.ensures.1)
@@ -114,13 +83,8 @@ returns-in_err-put_all-clause-means g c counter =
 
 pub returns-clause-means : goal.returns-clause-means
 returns-clause-means g c =
-    let view = device_view (rack_view g.R.Rack.is_honest g.R.Rack.history g.R.Rack.bads g.R.Rack.gones)
-    (watcher_view
-    (λ b. (goal.Watcher-dyn g (b.vtable, b.value)).told b.value)
-    (λ b. (goal.Watcher-dyn g (b.vtable, b.value)).count b.value)
-    (λ b. (goal.Watcher-dyn g (b.vtable, b.value)).left b.value)
-    (λ b. (goal.Watcher-dyn g (b.vtable, b.value)).patience b.value)) in
-    let streams = views g.S.Source.left g.S.Source.ended g.S.Source.faults g.K.Sink.held g.K.Sink.faults in
+    let view = device_view (rack_view g.R.Rack) (λ b. (goal.Watcher-dyn g (b.vtable, b.value)).hears b.value) in
+    let streams = views g.S.Source g.K.Sink in
     let of = c.args.array.now.member.array.geometry in
     line_put view streams of c.args.first c.args.blocks c.args.rack.now c.args.array.now c.args.watchers.now.items c.args.input.now c.args.output.now
     c.loop-done.done c.loop-done.rack c.loop-done.array c.loop-done.watchers.items c.loop-done.input c.loop-done.piece c.loop-done.intake c.loop-done.invariant (omega (arith, c.loop-done-test.false)) c.end.new.input c.in_ok-end.ensures.ok c.put_all.new.output _ (search rules) c.in_ok-put_all.ensures.puts

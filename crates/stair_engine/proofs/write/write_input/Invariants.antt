@@ -1,6 +1,5 @@
 -- So many blocks were written.
 use Rattle.std.proofs.Common.{◌-◌}
-use Rattle.stair_rack.specs.Watching.{watcher_view}
 use Rattle.stair_story.specs.Devices.{device_view}
 use Rattle.stair_story.specs.Outside.{views}
 use Rattle.stair_story.specs.Rack.{rack_view}
@@ -13,12 +12,7 @@ decreases-loop-done g l = l.blocks - l.done
 abbrev pub invariant-loop-done : goal.invariant-loop-done
 invariant-loop-done g l =
     WroteSoFar
-    (device_view (rack_view g.R.Rack.is_honest g.R.Rack.history g.R.Rack.bads g.R.Rack.gones)
-    (watcher_view
-    (λ b. (goal.Watcher-dyn g (b.vtable, b.value)).told b.value)
-    (λ b. (goal.Watcher-dyn g (b.vtable, b.value)).count b.value)
-    (λ b. (goal.Watcher-dyn g (b.vtable, b.value)).left b.value)
-    (λ b. (goal.Watcher-dyn g (b.vtable, b.value)).patience b.value)))
-    (views g.S.Source.left g.S.Source.ended g.S.Source.faults g.K.Sink.held g.K.Sink.faults)
+    (device_view (rack_view g.R.Rack) (λ b. (goal.Watcher-dyn g (b.vtable, b.value)).hears b.value))
+    (views g.S.Source g.K.Sink)
     l.fn.array.member.array.geometry l.fn.first l.fn.blocks l.fn.rack l.fn.array l.fn.watchers.items l.fn.input l.fn.output
     l.done l.rack l.array l.watchers.items l.input l.piece l.intake

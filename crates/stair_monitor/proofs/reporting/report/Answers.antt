@@ -6,13 +6,13 @@ use Rattle.stair_monitor.proofs.reporting.report.Goals as goal
 
 pub returns-in_err-seen : goal.returns-in_err-seen
 returns-in_err-seen g c =
-    let streams = views g.S.Source.left g.S.Source.ended g.S.Source.faults g.K.Sink.held g.K.Sink.faults in
+    let streams = views g.S.Source g.K.Sink in
     report_refused streams c.from_residual.result c.in_err-seen.field-0.0 c.from_residual.ensures.1 c.args.input.now c.take_events.new.input
     c.in_err-seen.ensures c.args.output.now
 
 pub returns-then-put_until_fault-bytes : goal.returns-then-put_until_fault-bytes
 returns-then-put_until_fault-bytes g c counter =
-    let streams = views g.S.Source.left g.S.Source.ended g.S.Source.faults g.K.Sink.held g.K.Sink.faults in
+    let streams = views g.S.Source g.K.Sink in
     let same : c.bytes.result.now ≡ c.bytes-2.result.now = c.bytes.ensures ∙ sym c.bytes-2.ensures in
     report_cut streams c.in_ok-seen.seen c.args.input.now c.take_events.new.input c.in_ok-seen.ensures c.bytes.result.now
     (λ events tells. c.bytes.ensures ∙ c.text-text.ensures events tells) c.put_until_fault.result c.args.output.now c.put_until_fault.new.sink
@@ -20,7 +20,7 @@ returns-then-put_until_fault-bytes g c counter =
 
 pub returns : goal.returns
 returns g c counter =
-    let streams = views g.S.Source.left g.S.Source.ended g.S.Source.faults g.K.Sink.held g.K.Sink.faults in
+    let streams = views g.S.Source g.K.Sink in
     let same : c.bytes.result.now ≡ c.bytes-2.result.now = c.bytes.ensures ∙ sym c.bytes-2.ensures in
     report_done streams c.in_ok-seen.seen c.args.input.now c.take_events.new.input c.in_ok-seen.ensures c.bytes.result.now
     (λ events tells. c.bytes.ensures ∙ c.text-text.ensures events tells) c.put_until_fault.result c.args.output.now c.put_until_fault.new.sink

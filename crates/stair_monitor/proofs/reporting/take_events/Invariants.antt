@@ -5,4 +5,4 @@ use Rattle.stair_monitor.proofs.reporting.take_events.Given as goal
 
 abbrev pub invariant-loop : goal.invariant-loop
 invariant-loop g l =
-    SawSoFar (source_view g.S.Source.left g.S.Source.ended g.S.Source.faults) l.fn.input l.counter l.number l.line l.seen l.input
+    SawSoFar (source_view g.S.Source) l.fn.input l.counter l.number l.line l.seen l.input

@@ -1,7 +1,6 @@
 -- What is before the bytes, and what is behind them.
 use Rattle.std.proofs.Common.{◌≡◌, ◌∙◌, ◌+◌, ◌-◌, ◌<◌, arith, drop, length, length-drop, length-take, refl, sym, ap, ℕ, false}
 use Rattle.stair_array.specs.Promise.{Opened}
-use Rattle.stair_rack.specs.Watching.{watcher_view}
 use Rattle.stair_story.specs.Devices.{device_view, devices}
 use Rattle.stair_story.specs.Rack.{rack_view}
 use Rattle.stair_nbd.specs.Client.{end_block, end_within, first_block, skipped, was_read}
@@ -15,12 +14,7 @@ use Rattle.stair_nbd.proofs.blocks.read_around.Goals.{After-end_within-behind, e
 -- before the bytes is what the first block holds there
 front_is : (g : Over) (c : After-end_within-behind g)
     → FrontRead
-    (device_view (rack_view g.R.Rack.is_honest g.R.Rack.history g.R.Rack.bads g.R.Rack.gones)
-    (watcher_view
-    (λ b. (goal.Watcher-dyn g (b.vtable, b.value)).told b.value)
-    (λ b. (goal.Watcher-dyn g (b.vtable, b.value)).count b.value)
-    (λ b. (goal.Watcher-dyn g (b.vtable, b.value)).left b.value)
-    (λ b. (goal.Watcher-dyn g (b.vtable, b.value)).patience b.value)))
+    (device_view (rack_view g.R.Rack) (λ b. (goal.Watcher-dyn g (b.vtable, b.value)).hears b.value))
     c.args.request.now c.args.blocks.now (devices c.args.rack.now (Opened c.args.array.now) c.args.watchers.now.items)
     c.if-before-gt0.block c.if-before-gt0.blocks (devices c.if-before-gt0.rack (Opened c.if-before-gt0.array) c.if-before-gt0.watchers.items)
 front_is g c =

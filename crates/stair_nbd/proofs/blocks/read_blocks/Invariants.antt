@@ -1,7 +1,6 @@
 -- So many blocks were read.
 use Rattle.std.proofs.Common.{◌/◌, length}
 use Rattle.stair_array.specs.Promise.{Opened}
-use Rattle.stair_rack.specs.Watching.{watcher_view}
 use Rattle.stair_story.specs.Devices.{device_view, devices}
 use Rattle.stair_story.specs.Rack.{rack_view}
 use Rattle.stair_nbd.proofs.ReadOnLaws.{ReadSoFar}
@@ -10,11 +9,6 @@ use Rattle.stair_nbd.proofs.blocks.read_blocks.Given as goal
 abbrev pub invariant-loop-i : goal.invariant-loop-i
 invariant-loop-i g l =
     ReadSoFar
-    (device_view (rack_view g.R.Rack.is_honest g.R.Rack.history g.R.Rack.bads g.R.Rack.gones)
-    (watcher_view
-    (λ b. (goal.Watcher-dyn g (b.vtable, b.value)).told b.value)
-    (λ b. (goal.Watcher-dyn g (b.vtable, b.value)).count b.value)
-    (λ b. (goal.Watcher-dyn g (b.vtable, b.value)).left b.value)
-    (λ b. (goal.Watcher-dyn g (b.vtable, b.value)).patience b.value)))
+    (device_view (rack_view g.R.Rack) (λ b. (goal.Watcher-dyn g (b.vtable, b.value)).hears b.value))
     l.fn.first (length l.fn.into / 512) (devices l.fn.rack (Opened l.fn.array) l.fn.watchers.items)
     l.i l.into (devices l.rack (Opened l.array) l.watchers.items)

@@ -1,7 +1,6 @@
 -- So many bytes were written.
 use Rattle.std.proofs.Common.{◌-◌, length}
 use Rattle.stair_array.specs.Promise.{Opened}
-use Rattle.stair_rack.specs.Watching.{watcher_view}
 use Rattle.stair_story.specs.Devices.{device_view, devices}
 use Rattle.stair_story.specs.Rack.{rack_view}
 use Rattle.stair_nbd.proofs.WriteOnLaws.{WroteSoFar}
@@ -13,11 +12,6 @@ decreases-loop-done g l = length l.blocks - l.done
 abbrev pub invariant-loop-done : goal.invariant-loop-done
 invariant-loop-done g l =
     WroteSoFar
-    (device_view (rack_view g.R.Rack.is_honest g.R.Rack.history g.R.Rack.bads g.R.Rack.gones)
-    (watcher_view
-    (λ b. (goal.Watcher-dyn g (b.vtable, b.value)).told b.value)
-    (λ b. (goal.Watcher-dyn g (b.vtable, b.value)).count b.value)
-    (λ b. (goal.Watcher-dyn g (b.vtable, b.value)).left b.value)
-    (λ b. (goal.Watcher-dyn g (b.vtable, b.value)).patience b.value)))
+    (device_view (rack_view g.R.Rack) (λ b. (goal.Watcher-dyn g (b.vtable, b.value)).hears b.value))
     l.fn.array.member.array.geometry l.fn.first l.fn.blocks (devices l.fn.rack (Opened l.fn.array) l.fn.watchers.items)
     l.done (devices l.rack (Opened l.array) l.watchers.items)

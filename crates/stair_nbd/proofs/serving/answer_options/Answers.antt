@@ -3,7 +3,7 @@ use Rattle.std.proofs.Common.{◌≡◌, ◌∙◌, ◌+◌, ◌<◌, ◌≤◌,
 use Rattle.std.proofs.lemmas.List.{length-take-le}
 use Rattle.stair_story.specs.Outside.{views}
 use Rattle.stair_story.specs.Plan.{Over}
-use Rattle.stair_story.specs.declared.status.Status.TheVariants.{Done}
+use Rattle.stair_status.specs.declared.status.Status.TheVariants.{Done}
 use Rattle.stair_nbd.specs.Client.{SESSION_LIMIT, options, status_of_nbd}
 use Rattle.stair_nbd.specs.Wire.{ABORT, EXPORT_NAME, OPTION_LENGTH, read_option}
 use Rattle.stair_nbd.proofs.OptionLaws.{Rest, abort_over, answered_none, data_over, ends_late, export_cut, export_put, handed_on, header_came, header_over, header_passed, no_option, none_read, one_more, option_short, unknown_cut}
@@ -11,12 +11,12 @@ use Rattle.stair_nbd.proofs.serving.answer_options.Goals as goal
 
 pub loop-header-init : goal.loop-header-init
 loop-header-init g c =
-    let view = views g.S.Source.left g.S.Source.ended g.S.Source.faults g.K.Sink.held g.K.Sink.faults in
+    let view = views g.S.Source g.K.Sink in
     answered_none view c.args.export.now SESSION_LIMIT 2 4 c.args.input.now c.args.output.now (omega arith) (omega arith)
 
 pub returns-in_err-take_header-clause-talks : goal.returns-in_err-take_header-clause-talks
 returns-in_err-take_header-clause-talks g c rest =
-    let view = views g.S.Source.left g.S.Source.ended g.S.Source.faults g.K.Sink.held g.K.Sink.faults in
+    let view = views g.S.Source g.K.Sink in
     let from = λ (rest : Rest). options c.args.export.now rest SESSION_LIMIT 2 4 in
     let early : c.loop-header.place.taken < SESSION_LIMIT = c.is_too_late.ensures.early (search rules) in
     handed_on view (from rest) rest _ _ _ _ c.from_residual.result c.in_err-take_header.field-0.0 c.from_residual.ensures.1
@@ -25,7 +25,7 @@ returns-in_err-take_header-clause-talks g c rest =
 
 pub returns-then-not-branch-clause-talks : goal.returns-then-not-branch-clause-talks
 returns-then-not-branch-clause-talks g c rest =
-    let view = views g.S.Source.left g.S.Source.ended g.S.Source.faults g.K.Sink.held g.K.Sink.faults in
+    let view = views g.S.Source g.K.Sink in
     let from = λ (rest : Rest). options c.args.export.now rest SESSION_LIMIT 2 4 in
     let early : c.loop-header.place.taken < SESSION_LIMIT = c.is_too_late.ensures.early (search rules) in
     header_over view c.args.export.now from c.args.input.now c.args.output.now c.loop-header.place.number c.loop-header.place.taken c.loop-header.input
@@ -35,7 +35,7 @@ returns-then-not-branch-clause-talks g c rest =
 
 pub returns-in_default-clause-talks : goal.returns-in_default-clause-talks
 returns-in_default-clause-talks g c rest =
-    let view = views g.S.Source.left g.S.Source.ended g.S.Source.faults g.K.Sink.held g.K.Sink.faults in
+    let view = views g.S.Source g.K.Sink in
     let from = λ (rest : Rest). options c.args.export.now rest SESSION_LIMIT 2 4 in
     let early : c.loop-header.place.taken < SESSION_LIMIT = c.is_too_late.ensures.early (search rules) in
     let came = header_came view.source OPTION_LENGTH c.take_header.new.header c.in_ok-take_header.field-0 c.loop-header.input c.take_header.new.input (search rules)
@@ -46,7 +46,7 @@ returns-in_default-clause-talks g c rest =
 
 pub returns-in_err-take_data-clause-talks : goal.returns-in_err-take_data-clause-talks
 returns-in_err-take_data-clause-talks g c rest =
-    let view = views g.S.Source.left g.S.Source.ended g.S.Source.faults g.K.Sink.held g.K.Sink.faults in
+    let view = views g.S.Source g.K.Sink in
     let from = λ (rest : Rest). options c.args.export.now rest SESSION_LIMIT 2 4 in
     let early : c.loop-header.place.taken < SESSION_LIMIT = c.is_too_late.ensures.early (search rules) in
     let came = header_came view.source OPTION_LENGTH c.take_header.new.header c.in_ok-take_header.field-0 c.loop-header.input c.take_header.new.input (search rules)
@@ -63,7 +63,7 @@ returns-in_err-take_data-clause-talks g c rest =
 
 pub returns-in_err-put-clause-talks : goal.returns-in_err-put-clause-talks
 returns-in_err-put-clause-talks g c rest =
-    let view = views g.S.Source.left g.S.Source.ended g.S.Source.faults g.K.Sink.held g.K.Sink.faults in
+    let view = views g.S.Source g.K.Sink in
     let from = λ (rest : Rest). options c.args.export.now rest SESSION_LIMIT 2 4 in
     let early : c.loop-header.place.taken < SESSION_LIMIT = c.is_too_late.ensures.early (search rules) in
     let came = header_came view.source OPTION_LENGTH c.take_header.new.header c.in_ok-take_header.field-0 c.loop-header.input c.take_header.new.input (search rules)
@@ -82,7 +82,7 @@ returns-in_err-put-clause-talks g c rest =
 
 pub returns-then-option-eq-EXPORT_NAME-clause-talks : goal.returns-then-option-eq-EXPORT_NAME-clause-talks
 returns-then-option-eq-EXPORT_NAME-clause-talks g c rest =
-    let view = views g.S.Source.left g.S.Source.ended g.S.Source.faults g.K.Sink.held g.K.Sink.faults in
+    let view = views g.S.Source g.K.Sink in
     let from = λ (rest : Rest). options c.args.export.now rest SESSION_LIMIT 2 4 in
     let early : c.loop-header.place.taken < SESSION_LIMIT = c.is_too_late.ensures.early (search rules) in
     let came = header_came view.source OPTION_LENGTH c.take_header.new.header c.in_ok-take_header.field-0 c.loop-header.input c.take_header.new.input (search rules)
@@ -102,7 +102,7 @@ returns-then-option-eq-EXPORT_NAME-clause-talks g c rest =
 
 pub returns-in_err-put-2-clause-talks : goal.returns-in_err-put-2-clause-talks
 returns-in_err-put-2-clause-talks g c rest =
-    let view = views g.S.Source.left g.S.Source.ended g.S.Source.faults g.K.Sink.held g.K.Sink.faults in
+    let view = views g.S.Source g.K.Sink in
     let from = λ (rest : Rest). options c.args.export.now rest SESSION_LIMIT 2 4 in
     let early : c.loop-header.place.taken < SESSION_LIMIT = c.is_too_late.ensures.early (search rules) in
     let came = header_came view.source OPTION_LENGTH c.take_header.new.header c.in_ok-take_header.field-0 c.loop-header.input c.take_header.new.input (search rules)
@@ -122,7 +122,7 @@ returns-in_err-put-2-clause-talks g c rest =
 
 pub returns-then-option-eq-ABORT-clause-talks : goal.returns-then-option-eq-ABORT-clause-talks
 returns-then-option-eq-ABORT-clause-talks g c rest =
-    let view = views g.S.Source.left g.S.Source.ended g.S.Source.faults g.K.Sink.held g.K.Sink.faults in
+    let view = views g.S.Source g.K.Sink in
     let from = λ (rest : Rest). options c.args.export.now rest SESSION_LIMIT 2 4 in
     let early : c.loop-header.place.taken < SESSION_LIMIT = c.is_too_late.ensures.early (search rules) in
     let came = header_came view.source OPTION_LENGTH c.take_header.new.header c.in_ok-take_header.field-0 c.loop-header.input c.take_header.new.input (search rules)
@@ -141,7 +141,7 @@ returns-then-option-eq-ABORT-clause-talks g c rest =
 
 pub returns-in_err-put-3-clause-talks : goal.returns-in_err-put-3-clause-talks
 returns-in_err-put-3-clause-talks g c rest =
-    let view = views g.S.Source.left g.S.Source.ended g.S.Source.faults g.K.Sink.held g.K.Sink.faults in
+    let view = views g.S.Source g.K.Sink in
     let from = λ (rest : Rest). options c.args.export.now rest SESSION_LIMIT 2 4 in
     let early : c.loop-header.place.taken < SESSION_LIMIT = c.is_too_late.ensures.early (search rules) in
     let came = header_came view.source OPTION_LENGTH c.take_header.new.header c.in_ok-take_header.field-0 c.loop-header.input c.take_header.new.input (search rules)
@@ -161,7 +161,7 @@ returns-in_err-put-3-clause-talks g c rest =
 
 pub loop-header-preserved : goal.loop-header-preserved
 loop-header-preserved g c =
-    let view = views g.S.Source.left g.S.Source.ended g.S.Source.faults g.K.Sink.held g.K.Sink.faults in
+    let view = views g.S.Source g.K.Sink in
     let from = λ (rest : Rest). options c.args.export.now rest SESSION_LIMIT 2 4 in
     let early : c.loop-header.place.taken < SESSION_LIMIT = c.is_too_late.ensures.early (search rules) in
     let came = header_came view.source OPTION_LENGTH c.take_header.new.header c.in_ok-take_header.field-0 c.loop-header.input c.take_header.new.input (search rules)
@@ -182,7 +182,7 @@ loop-header-preserved g c =
 
 pub returns-in_err-take_end-clause-talks : goal.returns-in_err-take_end-clause-talks
 returns-in_err-take_end-clause-talks g c rest =
-    let view = views g.S.Source.left g.S.Source.ended g.S.Source.faults g.K.Sink.held g.K.Sink.faults in
+    let view = views g.S.Source g.K.Sink in
     let from = λ (rest : Rest). options c.args.export.now rest SESSION_LIMIT 2 4 in
     let late : SESSION_LIMIT ≤ c.loop-header.place.taken = c.is_too_late.ensures.late (search rules) in
     handed_on view (from rest) rest _ _ _ _ c.from_residual-in_err-take_end.result c.in_err-take_end.field-0.0 c.from_residual-in_err-take_end.ensures.1
@@ -191,7 +191,7 @@ returns-in_err-take_end-clause-talks g c rest =
 
 pub returns-clause-talks : goal.returns-clause-talks
 returns-clause-talks g c rest =
-    let view = views g.S.Source.left g.S.Source.ended g.S.Source.faults g.K.Sink.held g.K.Sink.faults in
+    let view = views g.S.Source g.K.Sink in
     let from = λ (rest : Rest). options c.args.export.now rest SESSION_LIMIT 2 4 in
     let late : SESSION_LIMIT ≤ c.loop-header.place.taken = c.is_too_late.ensures.late (search rules) in
     ends_late view c.args.export.now from c.args.input.now c.args.output.now c.loop-header.place.number c.loop-header.place.taken c.loop-header.input

@@ -7,7 +7,7 @@ use Rattle.stair_nbd.proofs.serving.answer_options.Given as goal
 
 abbrev pub invariant-loop-header : goal.invariant-loop-header
 invariant-loop-header g l =
-    AnsweredSoFar (views g.S.Source.left g.S.Source.ended g.S.Source.faults g.K.Sink.held g.K.Sink.faults) l.fn.export
+    AnsweredSoFar (views g.S.Source g.K.Sink) l.fn.export
     (λ rest. options l.fn.export rest SESSION_LIMIT 2 4) l.fn.input l.fn.output l.place.number l.place.taken l.input l.output
 
 abbrev pub decreases-loop-header : goal.decreases-loop-header

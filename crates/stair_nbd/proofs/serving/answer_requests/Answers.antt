@@ -1,11 +1,10 @@
 -- No request came, or none that can be answered; the client goes; or it was answered.
 use Rattle.std.proofs.Common.{false, ◌≡◌, ◌∙◌, ◌+◌, ◌<◌, ◌≤◌, Some, arith, refl, rules, sym}
 use Rattle.stair_array.specs.Promise.{Opened}
-use Rattle.stair_rack.specs.Watching.{watcher_view}
 use Rattle.stair_story.specs.Devices.{device_view, devices}
 use Rattle.stair_story.specs.Outside.{views}
 use Rattle.stair_story.specs.Rack.{rack_view}
-use Rattle.stair_story.specs.declared.status.Status.TheVariants.{Done}
+use Rattle.stair_status.specs.declared.status.Status.TheVariants.{Done}
 use Rattle.stair_nbd.specs.Client.{SESSION_LIMIT, is_disconnect, status_of, status_of_nbd}
 use Rattle.stair_nbd.specs.Wire.{REQUEST_LENGTH, read_request}
 use Rattle.stair_nbd.proofs.OptionLaws.{header_came, header_passed, none_read}
@@ -15,33 +14,23 @@ use Rattle.stair_nbd.proofs.serving.answer_requests.Goals as goal
 pub loop-header-init : goal.loop-header-init
 loop-header-init g c =
     let view =
-    device_view (rack_view g.R.Rack.is_honest g.R.Rack.history g.R.Rack.bads g.R.Rack.gones)
-    (watcher_view
-    (λ b. (goal.Watcher-dyn g (b.vtable, b.value)).told b.value)
-    (λ b. (goal.Watcher-dyn g (b.vtable, b.value)).count b.value)
-    (λ b. (goal.Watcher-dyn g (b.vtable, b.value)).left b.value)
-    (λ b. (goal.Watcher-dyn g (b.vtable, b.value)).patience b.value)) in
-    let streams = views g.S.Source.left g.S.Source.ended g.S.Source.faults g.K.Sink.held g.K.Sink.faults in
+    device_view (rack_view g.R.Rack) (λ b. (goal.Watcher-dyn g (b.vtable, b.value)).hears b.value) in
+    let streams = views g.S.Source g.K.Sink in
     answered_none view streams c.args.place c.args.rack.now c.args.array.now c.args.watchers.now.items c.args.input.now c.args.output.now
     c.requires.place c.requires.stay
 
 pub returns-in_err-take_header-clause-means : goal.returns-in_err-take_header-clause-means
 returns-in_err-take_header-clause-means g c =
     let view =
-    device_view (rack_view g.R.Rack.is_honest g.R.Rack.history g.R.Rack.bads g.R.Rack.gones)
-    (watcher_view
-    (λ b. (goal.Watcher-dyn g (b.vtable, b.value)).told b.value)
-    (λ b. (goal.Watcher-dyn g (b.vtable, b.value)).count b.value)
-    (λ b. (goal.Watcher-dyn g (b.vtable, b.value)).left b.value)
-    (λ b. (goal.Watcher-dyn g (b.vtable, b.value)).patience b.value)) in
-    let streams = views g.S.Source.left g.S.Source.ended g.S.Source.faults g.K.Sink.held g.K.Sink.faults in
+    device_view (rack_view g.R.Rack) (λ b. (goal.Watcher-dyn g (b.vtable, b.value)).hears b.value) in
+    let streams = views g.S.Source g.K.Sink in
     let early : c.loop-header.place.taken < SESSION_LIMIT = c.is_too_late.ensures.early (search rules) in
     did_fail view streams _ _ _ _ c.take_header.new.input c.loop-header.output (devices c.loop-header.rack (Opened c.loop-header.array) c.loop-header.watchers.items) c.from_residual.result c.in_err-take_header.field-0.0 c.from_residual.ensures.1
     (no_header c.loop-header.invariant early c.take_header.new.input (status_of_nbd c.in_err-take_header.field-0.0) c.in_err-take_header.ensures)
 
 pub returns-then-not-branch-clause-means : goal.returns-then-not-branch-clause-means
 returns-then-not-branch-clause-means g c =
-    let streams = views g.S.Source.left g.S.Source.ended g.S.Source.faults g.K.Sink.held g.K.Sink.faults in
+    let streams = views g.S.Source g.K.Sink in
     let early : c.loop-header.place.taken < SESSION_LIMIT = c.is_too_late.ensures.early (search rules) in
     no_header c.loop-header.invariant early c.take_header.new.input Done
     (header_passed streams.source REQUEST_LENGTH c.take_header.new.header c.in_ok-take_header.field-0 c.loop-header.input c.take_header.new.input (search rules)
@@ -49,7 +38,7 @@ returns-then-not-branch-clause-means g c =
 
 pub returns-in_default-clause-means : goal.returns-in_default-clause-means
 returns-in_default-clause-means g c =
-    let streams = views g.S.Source.left g.S.Source.ended g.S.Source.faults g.K.Sink.held g.K.Sink.faults in
+    let streams = views g.S.Source g.K.Sink in
     let early : c.loop-header.place.taken < SESSION_LIMIT = c.is_too_late.ensures.early (search rules) in
     let came = header_came streams.source REQUEST_LENGTH c.take_header.new.header c.in_ok-take_header.field-0 c.loop-header.input c.take_header.new.input
     (search rules) c.in_ok-take_header.ensures in
@@ -57,7 +46,7 @@ returns-in_default-clause-means g c =
 
 pub returns-then-is_disconnect-clause-means : goal.returns-then-is_disconnect-clause-means
 returns-then-is_disconnect-clause-means g c =
-    let streams = views g.S.Source.left g.S.Source.ended g.S.Source.faults g.K.Sink.held g.K.Sink.faults in
+    let streams = views g.S.Source g.K.Sink in
     let early : c.loop-header.place.taken < SESSION_LIMIT = c.is_too_late.ensures.early (search rules) in
     let came = header_came streams.source REQUEST_LENGTH c.take_header.new.header c.in_ok-take_header.field-0 c.loop-header.input c.take_header.new.input
     (search rules) c.in_ok-take_header.ensures in
@@ -67,13 +56,8 @@ returns-then-is_disconnect-clause-means g c =
 pub returns-in_err-take_request_data-clause-means : goal.returns-in_err-take_request_data-clause-means
 returns-in_err-take_request_data-clause-means g c =
     let view =
-    device_view (rack_view g.R.Rack.is_honest g.R.Rack.history g.R.Rack.bads g.R.Rack.gones)
-    (watcher_view
-    (λ b. (goal.Watcher-dyn g (b.vtable, b.value)).told b.value)
-    (λ b. (goal.Watcher-dyn g (b.vtable, b.value)).count b.value)
-    (λ b. (goal.Watcher-dyn g (b.vtable, b.value)).left b.value)
-    (λ b. (goal.Watcher-dyn g (b.vtable, b.value)).patience b.value)) in
-    let streams = views g.S.Source.left g.S.Source.ended g.S.Source.faults g.K.Sink.held g.K.Sink.faults in
+    device_view (rack_view g.R.Rack) (λ b. (goal.Watcher-dyn g (b.vtable, b.value)).hears b.value) in
+    let streams = views g.S.Source g.K.Sink in
     let early : c.loop-header.place.taken < SESSION_LIMIT = c.is_too_late.ensures.early (search rules) in
     let came = header_came streams.source REQUEST_LENGTH c.take_header.new.header c.in_ok-take_header.field-0 c.loop-header.input c.take_header.new.input
     (search rules) c.in_ok-take_header.ensures in
@@ -85,13 +69,8 @@ returns-in_err-take_request_data-clause-means g c =
 pub returns-in_err-put-clause-means : goal.returns-in_err-put-clause-means
 returns-in_err-put-clause-means g c =
     let view =
-    device_view (rack_view g.R.Rack.is_honest g.R.Rack.history g.R.Rack.bads g.R.Rack.gones)
-    (watcher_view
-    (λ b. (goal.Watcher-dyn g (b.vtable, b.value)).told b.value)
-    (λ b. (goal.Watcher-dyn g (b.vtable, b.value)).count b.value)
-    (λ b. (goal.Watcher-dyn g (b.vtable, b.value)).left b.value)
-    (λ b. (goal.Watcher-dyn g (b.vtable, b.value)).patience b.value)) in
-    let streams = views g.S.Source.left g.S.Source.ended g.S.Source.faults g.K.Sink.held g.K.Sink.faults in
+    device_view (rack_view g.R.Rack) (λ b. (goal.Watcher-dyn g (b.vtable, b.value)).hears b.value) in
+    let streams = views g.S.Source g.K.Sink in
     let early : c.loop-header.place.taken < SESSION_LIMIT = c.is_too_late.ensures.early (search rules) in
     let came = header_came streams.source REQUEST_LENGTH c.take_header.new.header c.in_ok-take_header.field-0 c.loop-header.input c.take_header.new.input
     (search rules) c.in_ok-take_header.ensures in
@@ -105,13 +84,8 @@ returns-in_err-put-clause-means g c =
 pub returns-in_err-put-2-clause-means : goal.returns-in_err-put-2-clause-means
 returns-in_err-put-2-clause-means g c =
     let view =
-    device_view (rack_view g.R.Rack.is_honest g.R.Rack.history g.R.Rack.bads g.R.Rack.gones)
-    (watcher_view
-    (λ b. (goal.Watcher-dyn g (b.vtable, b.value)).told b.value)
-    (λ b. (goal.Watcher-dyn g (b.vtable, b.value)).count b.value)
-    (λ b. (goal.Watcher-dyn g (b.vtable, b.value)).left b.value)
-    (λ b. (goal.Watcher-dyn g (b.vtable, b.value)).patience b.value)) in
-    let streams = views g.S.Source.left g.S.Source.ended g.S.Source.faults g.K.Sink.held g.K.Sink.faults in
+    device_view (rack_view g.R.Rack) (λ b. (goal.Watcher-dyn g (b.vtable, b.value)).hears b.value) in
+    let streams = views g.S.Source g.K.Sink in
     let early : c.loop-header.place.taken < SESSION_LIMIT = c.is_too_late.ensures.early (search rules) in
     let came = header_came streams.source REQUEST_LENGTH c.take_header.new.header c.in_ok-take_header.field-0 c.loop-header.input c.take_header.new.input
     (search rules) c.in_ok-take_header.ensures in
@@ -124,7 +98,7 @@ returns-in_err-put-2-clause-means g c =
 
 pub loop-header-preserved : goal.loop-header-preserved
 loop-header-preserved g c =
-    let streams = views g.S.Source.left g.S.Source.ended g.S.Source.faults g.K.Sink.held g.K.Sink.faults in
+    let streams = views g.S.Source g.K.Sink in
     let early : c.loop-header.place.taken < SESSION_LIMIT = c.is_too_late.ensures.early (search rules) in
     let came = header_came streams.source REQUEST_LENGTH c.take_header.new.header c.in_ok-take_header.field-0 c.loop-header.input c.take_header.new.input
     (search rules) c.in_ok-take_header.ensures in

@@ -1,6 +1,5 @@
 -- The requests so far were answered.
 use Rattle.std.proofs.Common.{◌-◌}
-use Rattle.stair_rack.specs.Watching.{watcher_view}
 use Rattle.stair_story.specs.Devices.{device_view}
 use Rattle.stair_story.specs.Outside.{views}
 use Rattle.stair_story.specs.Rack.{rack_view}
@@ -11,12 +10,8 @@ use Rattle.stair_nbd.proofs.serving.answer_requests.Given as goal
 abbrev pub invariant-loop-header : goal.invariant-loop-header
 invariant-loop-header g l =
     Answered
-    (device_view (rack_view g.R.Rack.is_honest g.R.Rack.history g.R.Rack.bads g.R.Rack.gones) (watcher_view
-    (λ b. (goal.Watcher-dyn g (b.vtable, b.value)).told b.value)
-    (λ b. (goal.Watcher-dyn g (b.vtable, b.value)).count b.value)
-    (λ b. (goal.Watcher-dyn g (b.vtable, b.value)).left b.value)
-    (λ b. (goal.Watcher-dyn g (b.vtable, b.value)).patience b.value)))
-    (views g.S.Source.left g.S.Source.ended g.S.Source.faults g.K.Sink.held g.K.Sink.faults)
+    (device_view (rack_view g.R.Rack) (λ b. (goal.Watcher-dyn g (b.vtable, b.value)).hears b.value))
+    (views g.S.Source g.K.Sink)
     l.fn.array.member.array.geometry l.fn.place l.fn.rack l.fn.array l.fn.watchers.items l.fn.input l.fn.output l.place l.rack l.array l.watchers.items l.input l.output
 
 abbrev pub decreases-loop-header : goal.decreases-loop-header

@@ -1,7 +1,7 @@
 -- What is said first wasn't put out; no flags came, or unknown ones; or options come behind them.
 use Rattle.std.proofs.Common.{◌∙◌, rules}
 use Rattle.stair_story.specs.Outside.{views}
-use Rattle.stair_story.specs.declared.status.Status.TheVariants.{Done}
+use Rattle.stair_status.specs.declared.status.Status.TheVariants.{Done}
 use Rattle.stair_nbd.specs.Client.{shakes_hands, status_of_nbd}
 use Rattle.stair_nbd.specs.Wire.{FLAGS_LENGTH}
 use Rattle.stair_nbd.proofs.OptionLaws.{handed_on, header_came, header_passed, none_read}
@@ -10,21 +10,21 @@ use Rattle.stair_nbd.proofs.serving.shake_hands.Goals as goal
 
 pub returns-in_err-put-clause-talks : goal.returns-in_err-put-clause-talks
 returns-in_err-put-clause-talks g c rest =
-    let view = views g.S.Source.left g.S.Source.ended g.S.Source.faults g.K.Sink.held g.K.Sink.faults in
+    let view = views g.S.Source g.K.Sink in
     handed_on view (shakes_hands c.args.size rest) rest _ _ _ _ c.from_residual.result c.in_err-put.field-0.0 c.from_residual.ensures.1
     (unsaid view c.args.size c.args.input.now c.args.output.now c.bytes.result.now (c.bytes.ensures ∙ c.greeting.ensures) c.put.new.output
     (status_of_nbd c.in_err-put.field-0.0) c.in_err-put.ensures rest)
 
 pub returns-in_err-take_header-clause-talks : goal.returns-in_err-take_header-clause-talks
 returns-in_err-take_header-clause-talks g c rest =
-    let view = views g.S.Source.left g.S.Source.ended g.S.Source.faults g.K.Sink.held g.K.Sink.faults in
+    let view = views g.S.Source g.K.Sink in
     handed_on view (shakes_hands c.args.size rest) rest _ _ _ _ c.from_residual-in_err-take_header.result c.in_err-take_header.field-0.0 c.from_residual-in_err-take_header.ensures.1
     (flags_over view c.args.size c.args.input.now c.args.output.now c.bytes.result.now (c.bytes.ensures ∙ c.greeting.ensures) c.put.new.output
     c.in_ok-put.ensures c.take_header.new.input (status_of_nbd c.in_err-take_header.field-0.0) c.in_err-take_header.ensures rest)
 
 pub returns-then-not-branch-clause-talks : goal.returns-then-not-branch-clause-talks
 returns-then-not-branch-clause-talks g c rest =
-    let view = views g.S.Source.left g.S.Source.ended g.S.Source.faults g.K.Sink.held g.K.Sink.faults in
+    let view = views g.S.Source g.K.Sink in
     flags_over view c.args.size c.args.input.now c.args.output.now c.bytes.result.now (c.bytes.ensures ∙ c.greeting.ensures) c.put.new.output
     c.in_ok-put.ensures c.take_header.new.input Done
     (header_passed view.source FLAGS_LENGTH c.take_header.new.header c.in_ok-take_header.field-0 c.args.input.now c.take_header.new.input (search rules)
@@ -32,7 +32,7 @@ returns-then-not-branch-clause-talks g c rest =
 
 pub returns-in_default-clause-talks : goal.returns-in_default-clause-talks
 returns-in_default-clause-talks g c rest =
-    let view = views g.S.Source.left g.S.Source.ended g.S.Source.faults g.K.Sink.held g.K.Sink.faults in
+    let view = views g.S.Source g.K.Sink in
     let came = header_came view.source FLAGS_LENGTH c.take_header.new.header c.in_ok-take_header.field-0 c.args.input.now c.take_header.new.input (search rules)
     c.in_ok-take_header.ensures in
     no_flags view c.args.size c.args.input.now c.args.output.now c.bytes.result.now (c.bytes.ensures ∙ c.greeting.ensures) c.put.new.output
@@ -41,7 +41,7 @@ returns-in_default-clause-talks g c rest =
 
 pub returns-clause-talks : goal.returns-clause-talks
 returns-clause-talks g c rest =
-    let view = views g.S.Source.left g.S.Source.ended g.S.Source.faults g.K.Sink.held g.K.Sink.faults in
+    let view = views g.S.Source g.K.Sink in
     let came = header_came view.source FLAGS_LENGTH c.take_header.new.header c.in_ok-take_header.field-0 c.args.input.now c.take_header.new.input (search rules)
     c.in_ok-take_header.ensures in
     options_come view c.args.size c.args.input.now c.args.output.now c.bytes.result.now (c.bytes.ensures ∙ c.greeting.ensures) c.put.new.output

@@ -8,7 +8,7 @@ use Rattle.stair_nbd.proofs.taking.drop_data.Goals as goal
 pub loop-dropped-init : goal.loop-dropped-init
 loop-dropped-init g c = record {
   within = omega arith;
-  so_far = dropped_none (source_view g.S.Source.left g.S.Source.ended g.S.Source.faults) c.args.input.now;
+  so_far = dropped_none (source_view g.S.Source) c.args.input.now;
 }
 
 pub loop-dropped-preserved : goal.loop-dropped-preserved
@@ -21,7 +21,7 @@ loop-dropped-preserved g c =
     record {
       within = omega (arith, few, left);
       so_far =
-          dropped_more (source_view g.S.Source.left g.S.Source.ended g.S.Source.faults) c.args.input.now c.args.header c.args.count c.loop-dropped.dropped c.loop-dropped.input
+          dropped_more (source_view g.S.Source) c.args.input.now c.args.header c.args.count c.loop-dropped.dropped c.loop-dropped.input
           c.loop-dropped.invariant.so_far most c.take_at_least.new.input c.take_at_least.new.into c.in-Enough.more some c.in-Enough.ensures;
     }
 
@@ -33,7 +33,7 @@ returns-in-Short g c =
     let long : length c.take_at_least.new.into ≡ most = omega (arith, c.take_at_least.auto.into, length-take-le most c.loop-dropped.buffer room) in (
       [],
       λ k.
-          dropped_short (source_view g.S.Source.left g.S.Source.ended g.S.Source.faults) c.args.input.now c.args.header c.args.count c.loop-dropped.dropped c.loop-dropped.input
+          dropped_short (source_view g.S.Source) c.args.input.now c.args.header c.args.count c.loop-dropped.dropped c.loop-dropped.input
           c.loop-dropped.invariant.so_far most c.take_at_least.new.input c.take_at_least.new.into k c.in-Short.more left long c.in-Short.ensures,
     )
 
@@ -43,11 +43,11 @@ returns-in-Failed g c =
     let left : c.loop-dropped.dropped + most ≤ c.args.count = omega (arith, c.min-most.ensures, c.loop-dropped.invariant.within) in (
       [],
       λ k.
-          dropped_failed (source_view g.S.Source.left g.S.Source.ended g.S.Source.faults) c.args.input.now c.args.header c.args.count c.loop-dropped.dropped c.loop-dropped.input
+          dropped_failed (source_view g.S.Source) c.args.input.now c.args.header c.args.count c.loop-dropped.dropped c.loop-dropped.input
           c.loop-dropped.invariant.so_far most c.take_at_least.new.input c.take_at_least.new.into k left c.in-Failed.ensures,
     )
 
 pub returns : goal.returns
 returns g c =
-    dropped_all (source_view g.S.Source.left g.S.Source.ended g.S.Source.faults) c.args.input.now c.args.header c.args.count c.loop-dropped.dropped c.loop-dropped.input
+    dropped_all (source_view g.S.Source) c.args.input.now c.args.header c.args.count c.loop-dropped.dropped c.loop-dropped.input
     c.loop-dropped.invariant.so_far (omega (arith, c.loop-dropped-test.false, c.loop-dropped.invariant.within))

@@ -7,7 +7,7 @@ use Rattle.stair_nbd.proofs.taking.drop_data.Given as goal
 abbrev pub invariant-loop-dropped : goal.invariant-loop-dropped
 invariant-loop-dropped g l = record {
   within : l.dropped ≤ l.needed;
-  so_far : DroppedSoFar (source_view g.S.Source.left g.S.Source.ended g.S.Source.faults) l.dropped l.initial.input l.input;
+  so_far : DroppedSoFar (source_view g.S.Source) l.dropped l.initial.input l.input;
 }
 
 abbrev pub decreases-loop-dropped : goal.decreases-loop-dropped

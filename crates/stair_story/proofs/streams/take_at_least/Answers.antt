@@ -11,7 +11,7 @@ use Rattle.stair_story.proofs.streams.take_at_least.Goals as goal
 
 pub loop-filled-preserved : goal.loop-filled-preserved
 loop-filled-preserved g c =
-    let view = source_view g.S.Source.left g.S.Source.ended g.S.Source.faults in
+    let view = source_view g.S.Source in
     let into = c.loop-filled.into in
     let filled = c.loop-filled.filled in
     let few : c.in-Bytes.count ≤ length c.take.new.into = omega (arith, c.in-Bytes.ensures.within.1, c.take.auto.into) in
@@ -31,12 +31,12 @@ loop-filled-preserved g c =
 pub loop-filled-init : goal.loop-filled-init
 loop-filled-init g c = record {
   within = omega arith;
-  taken = TookSoFar-none (source_view g.S.Source.left g.S.Source.ended g.S.Source.faults) c.args.input.now;
+  taken = TookSoFar-none (source_view g.S.Source) c.args.input.now;
 }
 
 pub returns-in-End : goal.returns-in-End
 returns-in-End g c =
-    let view = source_view g.S.Source.left g.S.Source.ended g.S.Source.faults in
+    let view = source_view g.S.Source in
     let into = c.loop-filled.into in
     let filled = c.loop-filled.filled in (
       c.loop-filled-test.true,
@@ -47,7 +47,7 @@ returns-in-End g c =
 
 pub returns-in-Failed : goal.returns-in-Failed
 returns-in-Failed g c =
-    let view = source_view g.S.Source.left g.S.Source.ended g.S.Source.faults in
+    let view = source_view g.S.Source in
     let into = c.loop-filled.into in
     let filled = c.loop-filled.filled in
     let other : Failed ≡ End → ⊥ = λ same. cc in
@@ -61,7 +61,7 @@ returns-in-Failed g c =
 
 pub returns : goal.returns
 returns g c =
-    let view = source_view g.S.Source.left g.S.Source.ended g.S.Source.faults in
+    let view = source_view g.S.Source in
     let into = c.loop-filled.into in
     let filled = c.loop-filled.filled in
     let some : 0 < length (take filled into) =

@@ -7,7 +7,7 @@ use Rattle.stair_story.proofs.streams.take_at_least.Given as goal
 abbrev pub invariant-loop-filled : goal.invariant-loop-filled
 invariant-loop-filled g l = record {
   within : l.filled ≤ length l.into;
-  taken : TookSoFar (source_view g.S.Source.left g.S.Source.ended g.S.Source.faults) (take l.filled l.into) l.initial.input l.input;
+  taken : TookSoFar (source_view g.S.Source) (take l.filled l.into) l.initial.input l.input;
 }
 
 abbrev pub decreases-loop-filled : goal.decreases-loop-filled

@@ -1,7 +1,6 @@
 -- All blocks before this one are zeros.
 use Rattle.std.proofs.Common.{◌-◌}
 use Rattle.stair_array.specs.Promise.{Opened}
-use Rattle.stair_rack.specs.Watching.{watcher_view}
 use Rattle.stair_story.specs.Devices.{device_view, devices}
 use Rattle.stair_story.specs.Rack.{rack_view}
 use Rattle.stair_volume.proofs.ClearLaws.{ClearedSoFar}
@@ -13,11 +12,6 @@ decreases-loop-block g l = l.end - l.block
 abbrev pub invariant-loop-block : goal.invariant-loop-block
 invariant-loop-block g l =
     ClearedSoFar
-    (device_view (rack_view g.R.Rack.is_honest g.R.Rack.history g.R.Rack.bads g.R.Rack.gones)
-    (watcher_view
-    (λ b. (goal.Watcher-dyn g (b.vtable, b.value)).told b.value)
-    (λ b. (goal.Watcher-dyn g (b.vtable, b.value)).count b.value)
-    (λ b. (goal.Watcher-dyn g (b.vtable, b.value)).left b.value)
-    (λ b. (goal.Watcher-dyn g (b.vtable, b.value)).patience b.value)))
+    (device_view (rack_view g.R.Rack) (λ b. (goal.Watcher-dyn g (b.vtable, b.value)).hears b.value))
     l.fn.array.member.array.geometry l.fn.extent.first l.fn.extent.blocks (devices l.fn.rack (Opened l.fn.array) l.fn.watchers.items)
     l.block (devices l.rack (Opened l.array) l.watchers.items)

@@ -7,4 +7,4 @@ use Rattle.stair_volume.proofs.commands.list.Given as goal
 
 abbrev pub invariant-loop-entry : goal.invariant-loop-entry
 invariant-loop-entry g l =
-    PutsTo (sink_view g.K.Sink.held g.K.Sink.faults) (lists l.table.entries) (lists (drop l.entry-index l.table.entries)) l.fn.output l.output
+    PutsTo (sink_view g.K.Sink) (lists l.table.entries) (lists (drop l.entry-index l.table.entries)) l.fn.output l.output

@@ -4,7 +4,7 @@ use Rattle.stair_conf.specs.declared.job.VolumeJob.{VolumeJob}
 use Rattle.stair_story.specs.Outside.{sink_view, source_view}
 use Rattle.stair_story.specs.Plan.{Over}
 use Rattle.stair_story.specs.Transfers.{reads}
-use Rattle.stair_story.specs.declared.status.Status.TheVariants.{Done, TableThere}
+use Rattle.stair_status.specs.declared.status.Status.TheVariants.{Done, TableThere}
 use Rattle.stair_volume.specs.Commands.{on_table, writes_each}
 use Rattle.stair_volume.proofs.VolumeLaws.{did_as, did_fault, did_line, did_over, did_over_by, did_puts, did_read, range_inside, range_past}
 use Rattle.stair_volume.proofs.commands.with_table.Goals as goal
@@ -60,7 +60,7 @@ returns-in_ok-first-in-Read-clause-means g c =
     (ap (λ (job : VolumeJob). on_table of job (Some c.args.table.now)) c.in-Read.is
     ∙ range_inside c.args.table.now.entries c.in-Read.name c.in-Read.block c.in-Read.count c.in_ok-first-in-Read.first (reads of) (λ a b. refl)
     c.in_ok-first-in-Read.ensures.ok)
-    (did_read _ (source_view g.S.Source.left g.S.Source.ended g.S.Source.faults) (sink_view g.K.Sink.held g.K.Sink.faults) of c.in_ok-first-in-Read.first
+    (did_read _ (source_view g.S.Source) (sink_view g.K.Sink) of c.in_ok-first-in-Read.first
     c.in-Read.count _ c.args.input.now c.put_blocks.ensures.means)
 
 pub returns-in_err-first-in-Write-clause-means : goal.returns-in_err-first-in-Write-clause-means

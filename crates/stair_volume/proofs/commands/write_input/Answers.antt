@@ -1,7 +1,7 @@
 -- One block after the other, and then the end of the input.
 use Rattle.std.proofs.Common.{◌∙◌, Err, arith, refl}
 use Rattle.stair_story.specs.Plan.{Over}
-use Rattle.stair_story.specs.declared.status.Status.TheVariants.{Done}
+use Rattle.stair_status.specs.declared.status.Status.TheVariants.{Done}
 use Rattle.stair_volume.specs.Commands.{status_of_volume}
 use Rattle.stair_volume.specs.Parts.{after_done}
 use Rattle.stair_volume.specs.declared.fault.VolumeFault.TheVariants as fault

@@ -1,6 +1,5 @@
 -- So many blocks were written.
 use Rattle.stair_array.specs.Promise.{Opened}
-use Rattle.stair_rack.specs.Watching.{watcher_view}
 use Rattle.stair_story.specs.Devices.{device_view, devices}
 use Rattle.stair_story.specs.Outside.{views}
 use Rattle.stair_story.specs.Rack.{rack_view}
@@ -10,12 +9,7 @@ use Rattle.stair_volume.proofs.commands.write_input.Given as goal
 abbrev pub invariant-loop-done : goal.invariant-loop-done
 invariant-loop-done g l =
     WroteSoFar
-    (device_view (rack_view g.R.Rack.is_honest g.R.Rack.history g.R.Rack.bads g.R.Rack.gones)
-    (watcher_view
-    (λ b. (goal.Watcher-dyn g (b.vtable, b.value)).told b.value)
-    (λ b. (goal.Watcher-dyn g (b.vtable, b.value)).count b.value)
-    (λ b. (goal.Watcher-dyn g (b.vtable, b.value)).left b.value)
-    (λ b. (goal.Watcher-dyn g (b.vtable, b.value)).patience b.value)))
-    (views g.S.Source.left g.S.Source.ended g.S.Source.faults g.K.Sink.held g.K.Sink.faults)
+    (device_view (rack_view g.R.Rack) (λ b. (goal.Watcher-dyn g (b.vtable, b.value)).hears b.value))
+    (views g.S.Source g.K.Sink)
     l.fn.array.member.array.geometry l.fn.first l.fn.blocks l.fn.input l.fn.output (devices l.fn.rack (Opened l.fn.array) l.fn.watchers.items)
     l.done l.input (devices l.rack (Opened l.array) l.watchers.items)

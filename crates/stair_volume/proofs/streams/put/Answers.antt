@@ -5,9 +5,9 @@ use Rattle.stair_volume.proofs.streams.put.Goals as goal
 
 pub returns-in-Ok : goal.returns-in-Ok
 returns-in-Ok g c slots rest =
-    puts_all (sink_view g.K.Sink.held g.K.Sink.faults) c.args.bytes.now rest c.args.output.now c.put_all.new.output c.in-Ok.ensures.puts
+    puts_all (sink_view g.K.Sink) c.args.bytes.now rest c.args.output.now c.put_all.new.output c.in-Ok.ensures.puts
 
 pub returns-in-Err : goal.returns-in-Err
 returns-in-Err g c slots rest =
     let failed = c.in-Err.ensures.puts in
-    puts_part (sink_view g.K.Sink.held g.K.Sink.faults) c.args.bytes.now failed.0 rest c.args.output.now c.put_all.new.output failed.1 failed.2
+    puts_part (sink_view g.K.Sink) c.args.bytes.now failed.0 rest c.args.output.now c.put_all.new.output failed.1 failed.2

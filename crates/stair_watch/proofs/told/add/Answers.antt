@@ -1,12 +1,7 @@
 -- The new one stands behind the others.
-use Rattle.stair_rack.specs.Watching.{watcher_view}
 use Rattle.stair_watch.proofs.WatchLemmas.{AllStay-more}
 use Rattle.stair_watch.proofs.told.add.Goals as goal
 
 pub returns-clause-stay : goal.returns-clause-stay
-returns-clause-stay g c = rw c.in_ok-push.ensures.items (AllStay-more (watcher_view
-    (λ b. (goal.Watcher-dyn g (b.vtable, b.value)).told b.value)
-    (λ b. (goal.Watcher-dyn g (b.vtable, b.value)).count b.value)
-    (λ b. (goal.Watcher-dyn g (b.vtable, b.value)).left b.value)
-    (λ b. (goal.Watcher-dyn g (b.vtable, b.value)).patience b.value))
+returns-clause-stay g c = rw c.in_ok-push.ensures.items (AllStay-more (λ b. (goal.Watcher-dyn g (b.vtable, b.value)).hears b.value)
     c.args.watchers.now.items c.args.watcher c.requires.others c.requires.stays)

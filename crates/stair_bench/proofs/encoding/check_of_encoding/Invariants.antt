@@ -1,7 +1,0 @@
--- The stripe stays one of the code's geometry.
-use Rattle.std.proofs.Common.{◌≡◌}
-use Rattle.stair_model.specs.Stripe.{IsStripeOf}
-use Rattle.stair_bench.proofs.encoding.check_of_encoding.Given as goal
-
-abbrev pub invariant-loop-round : goal.invariant-loop-round
-invariant-loop-round g l = (l.codec.geometry ≡ l.geometry) × IsStripeOf l.geometry l.stripe

@@ -1,0 +1,2 @@
+-- The number and the line of each status.
+pub mod Status
