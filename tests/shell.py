@@ -144,7 +144,11 @@ def has_loop_devices():
 
 
 # What a session may need, apart from packages.
-CONDITIONS = {"root": lambda: os.getuid() == 0, "loop": has_loop_devices}
+CONDITIONS = {
+    "root": lambda: os.getuid() == 0,
+    "loop": has_loop_devices,
+    "fuse": lambda: os.access("/dev/fuse", os.R_OK | os.W_OK),
+}
 
 
 class Documented(Case):

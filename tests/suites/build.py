@@ -59,7 +59,7 @@ TABLE = [re.split("  +", line) for line in (TOP / "scripts" / "commands").read_t
 # So that no sum is within half a minute below whole minutes.
 LAST_TIME = "low 560", "high 300", "stair_cli 70"
 LOG = "(log: crates/stair_cli/out/build.log)"
-FIRST = "stair: building once: 3 crates to prove, about half an hour on 4 cores " + LOG
+FIRST = "stair: building once: 3 crates to prove, 30 to 40 minutes on 4 cores " + LOG
 AGAIN = "stair: building again: {} crates to prove, about 1 min " + LOG
 ON_WITH = "stair: going on with the build: {} crates to prove " + LOG
 BUILT = "stair: built in TIME"
@@ -515,6 +515,20 @@ class Progress(Build):
             first = f"stair: building once: 3 crates to prove, about {minutes} min {LOG}"
             call = [str(self.repository / "on")]
             self.builds(f"on {jobs} processors", 0, "x86-64-v2", first, BUILT, command=call, JOBS=str(jobs))
+
+    def test_processors_go_by_size(self):
+        """Of two crates that are proved side by side the larger one gets more processors, and the smaller one keeps one."""
+        self.uses("low:", "high:", "stair_cli: low high")
+        for small, large, jobs in (1, 1, (2, 2)), (100, 300, (1, 3)), (1, 10000, (1, 3)):
+            for crate, size in ("low", small), ("high", large):
+                shutil.rmtree(self.repository / "crates" / crate / "out", ignore_errors=True)
+                self.source(crate).write_text("proved\n" * size)
+            (self.out / "stair_cli").unlink(missing_ok=True)
+            with self.subTest(f"{small} and {large} lines"):
+                self.run_command([str(self.repository / "on")], env={**self.env, "JOBS": "4"})
+                log = (self.out / "build.log").read_text()
+                found = tuple(int(re.search(f"^== {crate}, jobs: ([0-9]+)", log, re.M)[1]) for crate in ("low", "high"))
+                self.assertEqual(jobs, found)
 
     def test_no_estimate(self):
         """There is none where a crate has no seconds of a last time."""
