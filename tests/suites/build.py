@@ -8,14 +8,32 @@ import subprocess
 
 from fixture import *
 
-# `rt lib` in a crate's folder leaves a stamp, which has the text of the crate and of those below it; where it finds the same stamp it does
-# nothing. `rt run .. PROCESSOR` writes a program that prints its words, or PROCESSOR for the word `processor`. Each proof adds a line to
-# the file `proofs` beside the kit. A crate whose text has the word `wrong` is not proved. What else happens to a proof is in a file
-# `fault.CRATE` beside the kit: `held` until it is killed, its process being in the file `held`; `slow`; `killed` once it wrote the stamp.
+# `rattle build` writes a library, which is the crate's text over those of the libraries below, or a program that prints its words, and for
+# the word `processor` the one that it was built for. Each proof adds a line to the file `proofs` of the kit. A crate whose text has the
+# word `wrong` is not proved. What else happens to a proof is in a file `fault.CRATE` of the kit: `held` until it is killed, its process
+# being in the file `held`; `slow`; `killed` once it wrote the library; `large`, and then killed if it has more than one job.
 RT = r"""#!/usr/bin/env bash
-if [ "$1" = version ]; then echo "a kit that proves nothing"; exit; fi
-kit=${0%/*} crate=${PWD##*/} text=$(cat ../*/src/lib.rt) fault=
-if [ "$1" = lib ] && [ "$text" = "$(cat out/rlib/stamp 2> /dev/null)" ]; then exit; fi
+case $1 in
+  version) echo "${KIT_VERSION:-a kit that proves nothing}" ;;
+  doc) echo "${0%/*}/START-HERE.md" ;;
+  *) exit 2 ;;
+esac
+"""
+RATTLE = r"""#!/usr/bin/env bash
+kit=${0%/bin/*} below=() fault=
+[ "$1" = build ] || exit 2
+shift
+while [ $# -gt 0 ]; do
+  case $1 in
+    --crate-name) crate=$2 ;;
+    --extern) case $2 in "${2%%=*}=$kit"/rlibs/*) ;; *) below+=("${2#*=}/format") ;; esac ;;
+    --jobs) jobs=$2 ;;
+    --cpu) cpu=$2 ;;
+    -o) to=$2 ;;
+    --statements | src/lib.rt | src/main.rt) shift; continue ;;
+  esac
+  shift 2
+done
 echo "proving $crate"
 echo "$crate" >> "$kit/proofs"
 [ ! -e "$kit/fault.$crate" ] || fault=$(< "$kit/fault.$crate")
@@ -29,29 +47,37 @@ case $fault in
     mv "$kit/new" "$kit/held"
     exec sleep 300
     ;;
+  large) [ "$jobs" = 1 ] || kill -KILL $$ ;;
   slow) sleep 2 ;;
 esac
-if [ "$1" = lib ]; then
-  rm -rf out/rlib
-  mkdir -p out/rlib
-  echo "$text" > out/rlib/stamp
-  [ "$fault" != killed ] || kill -KILL $$
+if [ -n "${cpu-}" ]; then
+  cat "${below[@]}" > /dev/null || exit 2
+  printf '#!/bin/sh\n# %s\n[ "$1" != processor ] || set -- %s\necho "$@"\n' "$(cat src/lib.rt)" "$cpu" > "$to"
 else
-  printf '#!/bin/sh\n[ "$1" != processor ] || set -- %s\necho "$@"\n' "$3" > "out/$crate"
-  chmod +x "out/$crate"
-  echo "rt: running out/$crate; to give it other input, run that file yourself"
-  exit 2
+  text=$(cat src/lib.rt "${below[@]}") || exit 2
+  mkdir -p "$to"
+  echo "$text" > "$to/format"
 fi
+[ "$fault" != killed ] || kill -KILL $$
+"""
+LINK = r"""#!/usr/bin/env bash
+while [ "$1" != -o ]; do shift; done
+if grep -q unlinked "$3"; then
+  echo "error: an unknown symbol"
+  exit 1
+fi
+cp "$3" "$2"
+chmod +x "$2"
 """
 # Builds on a processor with the features that its words name, and runs the program with the word `processor`. JOBS is how many processors
-# there are, and MINUTE how many seconds a minute has.
+# there are, MINUTE how many seconds a minute has, and CRATE the program, if it isn't the usual one.
 ON = """#!/usr/bin/env bash
 top=${0%/*}
 . "$top/scripts/build"
 words=$* minute=${MINUTE:-$minute}
 features() { echo "$words"; }
-[ -z "${JOBS-}" ] || jobs_that_fit() { echo "$JOBS"; }
-build stair stair_cli 'a while'
+[ -z "${JOBS-}" ] || lanes_that_fit() { echo "$JOBS"; }
+build stair "${CRATE:-stair_cli}" 'a while'
 exec "$program" processor
 """
 CRATES = "low", "high", "stair_cli", "other"
@@ -59,7 +85,8 @@ TABLE = [re.split("  +", line) for line in (TOP / "scripts" / "commands").read_t
 # So that no sum is within half a minute below whole minutes.
 LAST_TIME = "low 560", "high 300", "stair_cli 70"
 LOG = "(log: crates/stair_cli/out/build.log)"
-FIRST = "stair: building once: 3 crates to prove, 30 to 40 minutes on 4 cores " + LOG
+FIRST = "stair: building once: 3 crates to prove, 10 to 30 minutes on 4 cores " + LOG
+FIRST_ON = "stair: building once: 3 crates to prove, a while " + LOG
 AGAIN = "stair: building again: {} crates to prove, about 1 min " + LOG
 ON_WITH = "stair: going on with the build: {} crates to prove " + LOG
 BUILT = "stair: built in TIME"
@@ -101,7 +128,9 @@ class Build(Case):
         self.kit, self.repository = self.folder("kit"), self.folder("a repository")
         self.out = self.repository / "crates" / "stair_cli" / "out"
         self.env = {"PATH": f"{self.kit}:{os.environ['PATH']}"}
-        write_script(self.kit / "rt", RT)
+        (self.kit / "bin").mkdir()
+        for path, text in ("rt", RT), ("bin/rattle", RATTLE), ("bin/rattle-link", LINK):
+            write_script(self.kit / path, text)
         write_script(self.repository / "on", ON)
         for name in "stair", "scripts", "VERSION":
             copy(TOP / name, self.repository / name)
@@ -203,9 +232,28 @@ class Script(Build):
         self.change("high")
         self.builds("a change", 0, "word", AGAIN.format("2 of 3"), BUILT, proofs=["high", "stair_cli"])
         self.touch("low")
-        self.builds("a file that is written anew, with the same text", 0, "word", AGAIN.format("3 of 3"), BUILT, proofs=["stair_cli"])
+        self.builds("a file that is written anew, with the same text", 0, "word", AGAIN.format("1 of 3"), BUILT, proofs=["stair_cli"])
         self.change("stair_cli")
         self.builds("a change after it", 0, "word", AGAIN.format("1 of 3"), BUILT, proofs=["stair_cli"])
+        self.uses("low: byteorder", "high: low byteorder", "other: low", "stair_cli: high")
+        self.builds("another library of the kit", 0, "word", AGAIN.format("3 of 3"), BUILT, proofs=["low", "high", "stair_cli"])
+        self.change("stair_cli", "proved once more")
+        every = dict(KIT_VERSION="another kit", proofs=["low", "high", "stair_cli"])
+        self.builds("a change under another kit", 0, "word", AGAIN.format("3 of 3"), BUILT, **every)
+        shutil.rmtree(self.repository / "crates" / "low" / "out")
+        self.builds("a library that is gone, beside a program that is current", 0, "word", proofs=[])
+        (self.out / "stair_cli").unlink()
+        once = f"stair: building once: 3 crates to prove, about 1 min {LOG}"
+        self.builds("a library that is gone", 0, "word", once, BUILT, **every)
+
+    def test_two_programs(self):
+        """A library that was proved over others than stand below it now is proved anew."""
+        self.build_first()
+        self.change("low")
+        call = [str(self.repository / "on")]
+        other = "stair: building once: 2 crates to prove, a while (log: crates/other/out/build.log)"
+        self.builds("another program", 0, "x86-64-v2", other, BUILT, command=call, proofs=["low", "other"], CRATE="other")
+        self.builds("the program", 0, "word", AGAIN.format("2 of 3"), BUILT, proofs=["high", "stair_cli"])
 
     def test_a_failed_build(self):
         self.build_first()
@@ -216,17 +264,26 @@ class Script(Build):
         self.builds("a failed build", 126, "", AGAIN.format("3 of 3"), *log, NOT_BUILT, proofs=["low", "high"])
         with self.subTest("the earlier binary stays"):
             self.assertTrue(os.access(self.out / "stair_cli", os.X_OK))
-            self.assertFalse((self.out / "rooms").exists())
+            self.assertFalse((self.out / "logs").exists())
         self.change("high")
         self.builds("the next build", 0, "word", AGAIN.format("2 of 3"), BUILT, proofs=["high", "stair_cli"])
 
     def test_a_failed_program(self):
         self.change("stair_cli", "wrong")
         log = "== low at TIME", "proving low", "== high at TIME", "proving high"
-        log += "== stair_cli at TIME", "proving stair_cli", "error: stair_cli is wrong"
+        log += "== stair_cli at TIME", "proving stair_cli", "error: stair_cli is wrong", "== stair_cli ended with status 1"
         self.builds("a failed build", 126, "", FIRST, *log, NOT_BUILT)
         self.change("stair_cli")
         self.builds("the next build", 0, "word", ON_WITH.format("1 of 3"), BUILT, proofs=["stair_cli"])
+
+    def test_a_program_that_is_not_linked(self):
+        self.change("stair_cli", "unlinked")
+        log = "== low at TIME", "proving low", "== high at TIME", "proving high", "== stair_cli at TIME", "proving stair_cli"
+        self.builds("a failed build", 126, "", FIRST, *log, "error: an unknown symbol", NOT_BUILT)
+        self.assertFalse((self.out / "stair_cli").exists())
+        self.change("stair_cli")
+        going_on = ON_WITH.replace("prove", "prove, about 1 min").format("1 of 3")
+        self.builds("the next build", 0, "word", going_on, BUILT, proofs=["stair_cli"])
 
     def test_a_failed_build_ends_other_runs(self):
         self.lack_setpriv()
@@ -253,20 +310,31 @@ class Script(Build):
             self.assertEqual((0, b""), self.stair("--help")[::2])
 
     def test_a_kit_that_does_not_run(self):
-        write_script(self.kit / "rt", "#!/bin/sh\necho 'rt: no such toolchain' >&2\nexit 127\n")
-        log = "== low at TIME", "rt: no such toolchain", "== low ended with status 127"
+        write_script(self.kit / "bin/rattle", "#!/bin/sh\necho 'rattle: no such logic' >&2\nexit 2\n")
+        log = "== low at TIME", "rattle: no such logic", "== low ended with status 2"
         self.builds("a build", 126, "", FIRST, *log, NOT_BUILT)
+        write_script(self.kit / "rt", "#!/bin/sh\necho 'rt: no such toolchain' >&2\nexit 127\n")
+        self.builds("a build without its scripts", 126, "", "rt: no such toolchain", "stair: the kit's command rt failed")
         with self.subTest("--version"):
             puts = lines("stair 1.0.0", "kit unknown: rt version failed")
             self.assertEqual((0, puts, b""), self.stair("--version")[:3])
 
     def test_a_kit_that_is_killed(self):
-        """A stamp counts only if the run of the kit that wrote it ended with 0."""
+        """A library counts only if the run of the kit that wrote it ended with 0."""
         self.fault("high", "killed")
         log = "== low at TIME", "proving low", "== high at TIME", "proving high", "== high ended with status 137"
-        self.builds("a build", 126, "", FIRST, *log, NOT_BUILT, proofs=["low", "high"])
+        call = [str(self.repository / "on")]
+        self.builds("a build", 126, "", FIRST_ON, *log, NOT_BUILT, proofs=["low", "high"], command=call, JOBS="1")
         self.fault("high", None)
         self.builds("the next build", 0, "word", ON_WITH.format("2 of 3"), BUILT, proofs=["high", "stair_cli"])
+
+    def test_a_kit_that_lacks_memory(self):
+        """A proof that is killed is begun once more, with one job."""
+        self.fault("high", "large")
+        every = dict(command=[str(self.repository / "on")], JOBS="2", proofs=["low", "high", "high", "stair_cli"])
+        self.builds("a build", 0, "x86-64-v2", FIRST_ON, BUILT, **every)
+        found = re.findall("^== ([a-z_]+), jobs: ([0-9]+)", (self.out / "build.log").read_text(), re.M)
+        self.assertEqual([("low", "2"), ("high", "2"), ("high", "1"), ("stair_cli", "2")], found)
 
 
 class Options(Build):
@@ -357,7 +425,7 @@ class Interrupted(Build):
     """A build that is interrupted leaves what it proved, and the next one goes on."""
 
     def interrupts(self, case, crate, send, number, begun, proved):
-        """A call is ended by a signal while a crate is proved, and leaves neither the run of the kit nor a room."""
+        """A call is ended by a signal while a crate is proved, and leaves neither the run of the kit nor its log."""
         with self.subTest(case):
             with open(self.room / "err", "wb") as err:
                 process, run = self.begin_held(crate, err)
@@ -366,7 +434,7 @@ class Interrupted(Build):
             says = f"stair: interrupted: {proved} crates are proved, and the next build goes on from there"
             self.assertEqual([begun, says], told((self.room / "err").read_text()))
             self.assertFalse(is_running(run))
-            self.assertFalse((self.out / "rooms").exists())
+            self.assertFalse((self.out / "logs").exists())
 
     def test_a_first_build(self):
         self.lack_setpriv()
@@ -394,7 +462,7 @@ class Interrupted(Build):
             process, run = self.begin_held("high", err)
             process.kill()
             process.wait()
-        self.assertTrue((self.out / "rooms" / "high").exists())
+        self.assertTrue((self.out / "logs" / "high").exists())
         self.assertEqual(["low", "high"], self.proofs())
         return run
 
@@ -402,12 +470,12 @@ class Interrupted(Build):
         self.needs("setpriv")
         run = self.kill()
         self.wait_until(lambda: not is_running(run), "the end of the kit's run")
-        # What is in a room that was left counts for nothing, not even a stamp.
-        made = self.out / "rooms" / "high" / "crates" / "high" / "out" / "rlib"
+        # A library that a run left counts for nothing.
+        made = self.repository / "crates" / "high" / "out" / "statements" / "high.rlib"
         made.mkdir()
-        (made / "stamp").write_text("proved\nproved\n")
+        (made / "format").write_text("proved\nproved\n")
         self.builds("the next build", 0, "word", ON_WITH.format("2 of 3"), BUILT, proofs=["high", "stair_cli"])
-        self.assertFalse((self.out / "rooms").exists())
+        self.assertFalse((self.out / "logs").exists())
 
     def test_a_run_that_outlives_the_script(self):
         """The next build waits for it."""
@@ -516,19 +584,29 @@ class Progress(Build):
             call = [str(self.repository / "on")]
             self.builds(f"on {jobs} processors", 0, "x86-64-v2", first, BUILT, command=call, JOBS=str(jobs))
 
-    def test_processors_go_by_size(self):
-        """Of two crates that are proved side by side the larger one gets more processors, and the smaller one keeps one."""
-        self.uses("low:", "high:", "stair_cli: low high")
-        for small, large, jobs in (1, 1, (2, 2)), (100, 300, (1, 3)), (1, 10000, (1, 3)):
-            for crate, size in ("low", small), ("high", large):
+    def test_the_longest_chain_goes_first(self):
+        """The crate with the most code of its own and above it is begun first, with a job for each processor, and others have one."""
+        self.uses("low:", "high:", "other: low", "stair_cli: high other")
+        for case, sizes, begun in (
+            ("by a crate above", (1, 9, 10), [("high", "1"), ("low", "4")]),
+            ("by its own code", (1, 90, 10), [("high", "4"), ("low", "1")]),
+            ("where both are the same", (1, 11, 10), [("high", "4"), ("low", "1")]),
+        ):
+            for crate, size in zip(("low", "high", "other"), sizes):
                 shutil.rmtree(self.repository / "crates" / crate / "out", ignore_errors=True)
                 self.source(crate).write_text("proved\n" * size)
             (self.out / "stair_cli").unlink(missing_ok=True)
-            with self.subTest(f"{small} and {large} lines"):
+            with self.subTest(case):
                 self.run_command([str(self.repository / "on")], env={**self.env, "JOBS": "4"})
-                log = (self.out / "build.log").read_text()
-                found = tuple(int(re.search(f"^== {crate}, jobs: ([0-9]+)", log, re.M)[1]) for crate in ("low", "high"))
-                self.assertEqual(jobs, found)
+                found = re.findall("^== ([a-z_]+), jobs: ([0-9]+)", (self.out / "build.log").read_text(), re.M)
+                self.assertEqual(begun, sorted(it for it in found if it[0] in ("low", "high")))
+                self.assertIn(("stair_cli", "4"), found)
+        with self.subTest("on one processor the order is that of the chains"):
+            self.source("high").write_text("proved\n" * 90)
+            for crate in "low", "other":
+                shutil.rmtree(self.repository / "crates" / crate / "out")
+            self.run_command([str(self.repository / "on")], env={**self.env, "JOBS": "1"})
+            self.assertEqual("high", self.proofs()[-4])
 
     def test_no_estimate(self):
         """There is none where a crate has no seconds of a last time."""
@@ -540,7 +618,6 @@ class Progress(Build):
             ("damaged lines", "", "low", "high 3 0", "high $(false)", "stair_cli 70", "1 1", "a[0] 7"),
         ):
             self.last_time(*texts)
-            self.fault("stair_cli", "killed")
             self.shows(case, [FIRST, BUILT], *parts, last)
             for crate in CRATES[:3]:
                 shutil.rmtree(self.repository / "crates" / crate / "out")
