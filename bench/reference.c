@@ -3,7 +3,8 @@
 // `add` adds a multiple of 512 bytes to others by a table of 256 products. `encode N M R E..` does as many of these as
 // upstairs encoding takes steps for this geometry, each solved symbol of 512 bytes from as many known ones as it has, which
 // all stand in one array; it copies nothing else. `isal` is `add` by ISA-L's kernel, where that is there: the one with AVX2 where
-// this is compiled for it, else the one with SSE. `redo N CELLS..` makes the calls of redos, each of so many cells, over the image files
+// this is compiled for it, else the one with SSE. `dot N M R E..` takes the steps of upstairs encoding by ISA-L's dot products of
+// the same width, up to four symbols at once, in its order and groups; it copies nothing else. `redo N CELLS..` makes the calls of redos, each of so many cells, over the image files
 // of N devices in the current folder: their writes of sealed sectors and their syncs, and no seal.
 #define _GNU_SOURCE
 #include <fcntl.h>
@@ -15,9 +16,9 @@
 #ifdef ISAL
 #include <isa-l.h>
 #ifdef __AVX2__
-#define MAD gf_vect_mad_avx2
+#define KERNEL(name) name##_avx2
 #else
-#define MAD gf_vect_mad_sse
+#define KERNEL(name) name##_sse
 #endif
 #endif
 
@@ -50,6 +51,37 @@ static void encode(uint8_t (*symbols)[SYMBOL], int n, int m, int r, int s, int m
   for (int i = 0; i < m * r + s; i++) solve(symbols, count, i, n - m);
   for (int i = 0; i < (n - m) * most; i++) solve(symbols, count, i % count, r);
 }
+
+#ifdef ISAL
+// The first symbols from `known` others, by tables of 32 bytes each.
+static void dot(uint8_t (*symbols)[SYMBOL], uint8_t (*tables)[32], int wanted, int known) {
+  uint8_t *from[32], *into[32];
+  for (int i = 0; i < known; i++) from[i] = symbols[wanted + i];
+  for (int d = 0; d < wanted; d++) into[d] = symbols[d];
+  for (int d = 0; d < wanted; d += 4) {
+    uint8_t *by = tables[d * known];
+    switch (wanted - d) {
+      case 1: KERNEL(gf_vect_dot_prod)(SYMBOL, known, by, from, into[d]); break;
+      case 2: KERNEL(gf_2vect_dot_prod)(SYMBOL, known, by, from, into + d); break;
+      case 3: KERNEL(gf_3vect_dot_prod)(SYMBOL, known, by, from, into + d); break;
+      default: KERNEL(gf_4vect_dot_prod)(SYMBOL, known, by, from, into + d);
+    }
+  }
+}
+
+// Of the n-m chunks without row parities, from the one with the fewest global parities up, e has how many these are. For each more of
+// them than before a virtual row is solved in the chunks that are left, and then the chunk with as many virtual symbols as the most
+// of them. At last each row is solved in the m chunks of row parities.
+static void encode_by_dots(uint8_t (*symbols)[SYMBOL], uint8_t (*tables)[32], int n, int m, int r, const int *e, int classes) {
+  int solved = 0;
+  for (int left = n - m; left > 0; left--) {
+    int count = left > classes ? 0 : e[classes - left];
+    for (; solved < count; solved++) dot(symbols, tables, left, n - m);
+    dot(symbols, tables, e[classes - 1], r);
+  }
+  for (int i = 0; i < r; i++) dot(symbols, tables, m, n - m);
+}
+#endif
 
 enum { SEALED = 544, GATE = 2, BODY = 3 };
 
@@ -110,7 +142,14 @@ int main(int argc, char **argv) {
   } else if (!strcmp(argv[1], "isal")) {
     unsigned char tables[254][32];
     for (int by = 0; by < 254; by++) gf_vect_mul_init(2 + by, tables[by]);
-    for (long i = 0; i < rounds; i++) MAD(SYMBOL, 1, 0, tables[i % 254], symbols[1], symbols[0]);
+    for (long i = 0; i < rounds; i++) KERNEL(gf_vect_mad)(SYMBOL, 1, 0, tables[i % 254], symbols[1], symbols[0]);
+  } else if (!strcmp(argv[1], "dot") && argc > 6) {
+    static uint8_t tables[1024][32];
+    for (int k = 0; k < 1024; k++) gf_vect_mul_init(2 + k % 254, tables[k]);
+    int e[32], classes = argc - 6;
+    if (classes > 32) return 2;
+    for (int i = 0; i < classes; i++) e[i] = atoi(argv[6 + i]);
+    for (long i = 0; i < rounds; i++) encode_by_dots(symbols, tables, atoi(argv[3]), atoi(argv[4]), atoi(argv[5]), e, classes);
 #endif
   } else {
     return 2;

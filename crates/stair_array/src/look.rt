@@ -17,7 +17,7 @@ ghost use Rattle.stair_rack.specs.Told.{told};
 ghost use Rattle.stair_array.specs.Looking.{AllPassed, IsRefused, IsSettled, Passed};
 
 use crate::fault::CreateFault;
-use stair_base::{FIRST_PLACE, Geometry, SECOND_PLACE};
+use stair_base::{FIRST_PLACE, Geometry, SECOND_PLACE, SECTOR};
 use stair_rack::{Got, Rack, Reply};
 use stair_super::read_super;
 
@@ -146,7 +146,7 @@ fn holds_super<R: Rack>(rack: &mut R, slot: u8, sector: u32) -> Option<bool>
     ensures counts { NoneFalls (R.bads rack.old) (R.bads rack.new) (R.gones rack.old)
         (R.gones rack.new) }
 {
-    let mut bytes = [0; 512];
+    let mut bytes = [0; SECTOR];
     match rack.read(slot, sector, &mut bytes) {
         Got::Good => Some(read_super(&bytes).is_some()),
         Got::Bad => Some(false),

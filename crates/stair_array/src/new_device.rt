@@ -20,7 +20,7 @@ ghost use Rattle.stair_array.specs.Making.{
 };
 
 use crate::fault::CreateFault;
-use stair_base::{BODY_START, FIRST_PLACE, GATE_SECTOR, Geometry, SECOND_PLACE, Slots};
+use stair_base::{BODY_START, FIRST_PLACE, GATE_SECTOR, Geometry, SECOND_PLACE, SECTOR, Slots};
 use stair_journal::closed_gate;
 use stair_rack::{Rack, Reply, sync_all, write_all, write_through};
 use stair_super::{Configuration, Label, Mark, Super, write_super};
@@ -43,7 +43,7 @@ pub(crate) fn lay_out<R: Rack>(rack: &mut R, geometry: &Geometry) -> Result<(), 
 {
     let slots = slots_of(geometry);
     none_gone(&write_all(rack, slots, GATE_SECTOR, &closed_gate()))?;
-    let zeros = [0; 512];
+    let zeros = [0; SECTOR];
     for sector in BODY_START..geometry.need() {
         none_gone(&write_all(rack, slots, sector, &zeros))?;
     }

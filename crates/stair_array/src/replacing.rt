@@ -19,7 +19,7 @@ ghost use Rattle.stair_array.specs.Promise.{Keeps};
 
 use crate::fault::ReplaceFault;
 use crate::session::Session;
-use stair_base::{BODY_START, FIRST_PLACE, GATE_SECTOR, Geometry, SECOND_PLACE, Slots};
+use stair_base::{BODY_START, FIRST_PLACE, GATE_SECTOR, Geometry, SECOND_PLACE, SECTOR, Slots};
 use stair_journal::closed_gate;
 use stair_member::{AdmitFault, FenceFault, admit};
 use stair_rack::{Got, Rack, Reply};
@@ -157,7 +157,7 @@ fn read_place<R: Rack>(rack: &mut R, slot: u8, place: u32) -> Option<Option<Supe
         (R.gones rack.new) }
     ensures reads { RisesAtMost 1 (R.reads rack.old) (R.reads rack.new) }
 {
-    let mut bytes = [0; 512];
+    let mut bytes = [0; SECTOR];
     match rack.read(slot, place, &mut bytes) {
         Got::Good => Some(read_super(&bytes)),
         Got::Bad => Some(None),
@@ -222,7 +222,7 @@ fn clear_body<R: Rack>(rack: &mut R, geometry: &Geometry, slot: u8) -> Reply
 {
     // by whose limits there is a first cell, before which the body ends
     let _ = geometry.stripes();
-    let zeros = [0; 512];
+    let zeros = [0; SECTOR];
     for sector in BODY_START..geometry.cell_sector(0, 0) {
         if rack.write(slot, sector, &zeros) == Reply::Gone {
             return Reply::Gone;

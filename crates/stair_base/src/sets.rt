@@ -91,7 +91,11 @@ impl Slots {
         ensures value { result ≡ slot_count self.now }
         ensures well_formed { IsSlotSet self.now }
     {
-        self.marks.iter().filter(|mark| **mark).count() as u8
+        let mut marked = 0;
+        for slot in 0..32 {
+            marked += u8::from(self.marks[slot]);
+        }
+        marked
     }
 }
 

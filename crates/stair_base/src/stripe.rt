@@ -1,11 +1,12 @@
 ghost use Rattle.std.specs.Prelude.{◌≡◌, ◌<◌, IfOk};
 
 use crate::geometry::Geometry;
+use stair_gf::SYMBOL;
 use std::alloc::{AllocError, Global};
 use std::marker::Model;
 
 /// How many bytes a sector has, and so a cell and a block.
-pub const SECTOR: usize = 512;
+pub const SECTOR: usize = SYMBOL;
 
 /// The cells of a stripe: r rows of n cells of 512 bytes. Cell (i, j) is row i of the chunk in slot j.
 #[derive(Drop)]

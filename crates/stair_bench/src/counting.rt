@@ -1,4 +1,5 @@
 // A rack whose writes and syncs are counted.
+use stair_base::SECTOR;
 use stair_rack::{Got, Rack, Reply};
 use std::fmt;
 
@@ -79,11 +80,11 @@ impl<R: Rack + Drop> Rack for Counting<R> {
         self.rack.sectors(slot)
     }
 
-    fn read(&mut self, slot: u8, sector: u32, into: &mut [u8; 512]) -> Got {
+    fn read(&mut self, slot: u8, sector: u32, into: &mut [u8; SECTOR]) -> Got {
         self.rack.read(slot, sector, into)
     }
 
-    fn write(&mut self, slot: u8, sector: u32, from: &[u8; 512]) -> Reply {
+    fn write(&mut self, slot: u8, sector: u32, from: &[u8; SECTOR]) -> Reply {
         let before = self.last[usize::from(slot)].replace(sector);
         self.calls.add_write(sector, before);
         self.rack.write(slot, sector, from)

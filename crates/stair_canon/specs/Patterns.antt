@@ -3,11 +3,12 @@ use Rattle.std.specs.Prelude.{◌≡◌, ◌<◌, List, [], length, slice_index_
 use Rattle.stair_mds.specs.Solving.{Code, Shape}
 use Rattle.stair_canon.specs.declared.codes.Codes.TheInside.{Inside}
 
+abbrev pub no_code : Code
+no_code = record { shape = record { held = 0; total = 0 }; known = []; wanted = [] }
+
 -- that of the first code
 abbrev pub shape_of : Inside → Shape
-shape_of a =
-    (slice_index_or a.codes.items 0
-    (record { shape = record { held = 0; total = 0 }; known = []; wanted = [] })).shape
+shape_of a = (slice_index_or a.codes.items 0 no_code).shape
 
 -- codes of this shape
 abbrev pub HaveShape : Shape → List Code → Type 0

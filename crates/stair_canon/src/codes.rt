@@ -1,7 +1,8 @@
-ghost use Rattle.std.specs.Prelude.{◌≡◌, ℕ, ◌+◌, ◌-◌, ◌*◌, ◌<◌, ◌≤◌, IfOk, IfSome, All, length};
+ghost use Rattle.std.specs.Prelude.{◌≡◌, ℕ, ◌+◌, ◌-◌, ◌*◌, ◌<◌, ◌≤◌, IfOk, IfSome, All, length, slice_index_or};
 ghost use Rattle.stair_model.specs.CauchyCode.{AreKnownPlaces};
 ghost use Rattle.stair_model.specs.Stripe.{IsSector};
 ghost use Rattle.stair_mds.specs.Solving.{AreWantedPlaces, IsLineOf, SolvesAlong};
+ghost use Rattle.stair_canon.specs.Patterns.{no_code};
 
 use stair_gf::Steps;
 use stair_mds::{Line, Mds, Symbols};
@@ -74,7 +75,7 @@ impl Codes {
         })
     }
 
-    /// Solves the wanted symbols along a line from the first `read` known ones, as [`Mds::solve_along`] does, by a code that
+    /// Solves the wanted symbols along a line from the first `read` known ones, as [`Mds::apply_along`] does, by a code that
     /// has the pattern prepared wherever there is one.
     pub(crate) fn solve_along<L: Ledger>(
         &mut self,
@@ -96,23 +97,29 @@ impl Codes {
     {
         let number = match number_of(&self.codes, self.next[self.last], known, wanted) {
             Some(number) => number,
-            None => (self.last + 1) % PATTERNS,
+            None => {
+                let number = (self.last + 1) % PATTERNS;
+                self.codes[number].prepare(known, wanted);
+                number
+            }
         };
         self.next[self.last] = number;
         self.last = number;
-        let code = &mut self.codes[number];
-        code.solve_along(known, wanted, line, read, work, steps);
+        self.codes[number].apply_along(line, read, work, steps);
     }
 }
 
 /// The number of a code that has this pattern prepared, looked for from number `first` on. None where there is none.
 fn number_of(codes: &[Mds], first: usize, known: &[u16], wanted: &[u16]) -> Option<usize>
-    requires few { length codes.now ≤ 16 }
+    requires all { length codes.now ≡ 16 }
     requires first { first < 16 }
-    ensures { IfSome result (λ number. number < length codes.now) }
+    ensures below { IfSome result (λ number. number < 16) }
+    ensures prepared { IfSome result (λ number.
+        ((slice_index_or codes.now number no_code).known ≡ known.now)
+        × ((slice_index_or codes.now number no_code).wanted ≡ wanted.now)) }
 {
-    for passed in 0..codes.len() {
-        let number = (first + passed) % codes.len();
+    for passed in 0..PATTERNS {
+        let number = (first + passed) % PATTERNS;
         if codes[number].has_prepared(known, wanted) {
             return Some(number);
         }

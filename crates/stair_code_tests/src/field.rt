@@ -1,10 +1,8 @@
 // The products as they are built, beside the plain ones as they are built.
-ghost use Rattle.std.specs.Prelude.{◌≡◌, length};
-ghost use Rattle.stair_gf.specs.AddsMultiples.{AreOtherPlaces};
+ghost use Rattle.std.specs.Prelude.{◌≡◌, ◌<◌, ◌≤◌, length};
 
-use stair_gf::{
-    Factor, SYMBOL, inv, mul, mul_add, mul_add_plain, mul_add_sum, mul_plain, sum, two_sums,
-};
+use stair_gf::{Factor, SYMBOL, inv, mul, mul_add, mul_add_plain, mul_plain, sums};
+use stair_mds::numbers_from;
 use std::process::Abort;
 use std::test::Fail;
 
@@ -37,10 +35,10 @@ fn multiples_of_all_lengths(rt: HostRuntime) {
     }
 }
 
-// 34 symbols of different bytes.
-fn symbols() -> [[u8; SYMBOL]; 34] {
-    let mut symbols = [[0; SYMBOL]; 34];
-    for place in 0..34usize {
+// 39 symbols of different bytes.
+fn symbols() -> [[u8; SYMBOL]; 39] {
+    let mut symbols = [[0; SYMBOL]; 39];
+    for place in 0..39usize {
         for k in 0..SYMBOL {
             symbols[place][k] = ((place * 89 + k * 7) % 256) as u8;
         }
@@ -48,50 +46,52 @@ fn symbols() -> [[u8; SYMBOL]; 34] {
     symbols
 }
 
-// Two sums, one, and one that is added, each beside the plain sums.
-fn compare_sums(
-    rt: &impl Abort,
-    places: &[u16],
-    factors: &[Factor],
-    others: &[Factor],
-    plain: &[[u8; SYMBOL]; 2],
-)
-    requires first { AreOtherPlaces 34 0 places.now }
-    requires last { AreOtherPlaces 34 33 places.now }
-    requires factors { length factors.now ≡ length places.now }
-    requires others { length others.now ≡ length places.now }
+// The factor of symbol `i` in sum `d`.
+fn factor(d: usize, i: usize) -> u8
+    requires sum { d < 7 }
+    requires symbol { i < 32 }
 {
-    let mut lanes = symbols();
-    two_sums(&mut lanes, 33, 0, places, factors, others);
+    ((d * 59 + i * 7 + 3) % 256) as u8
+}
+
+// The first symbols as sums of those from the eighth on, beside the plain sums.
+fn compare_sums(rt: &impl Abort, wanted: usize, known: usize, factors: &[Factor])
+    requires wanted { wanted ≤ 7 }
+    requires known { known ≤ 32 }
+    requires factors { length factors.now ≡ 224 }
+{
+    let (into, from) = (numbers_from(0), numbers_from(7));
+    let before = symbols();
+    let mut after = before;
+    sums(&mut after, &into[..wanted], &from[..known], factors, 32);
+    for d in 0..wanted {
+        let mut plain = [0; SYMBOL];
+        for i in 0..known {
+            mul_add_plain(&mut plain, &before[7 + i], factor(d, i));
+        }
+        assert!(rt;
+            after[d] == plain,
+            "sum {d} of {wanted}, of {known} symbols"
+        );
+    }
     assert!(rt;
-        lanes[33] == plain[0] && lanes[0] == plain[1],
-        "two sums of {places:?}"
+        after[wanted..] == before[wanted..],
+        "beside {wanted} sums of {known} symbols"
     );
-    assert!(rt; lanes[1..33] == symbols()[1..33], "beside {places:?}");
-    let mut lanes = symbols();
-    sum(&mut lanes, 0, places, factors);
-    assert!(rt; lanes[0] == plain[0], "a sum of {places:?}");
-    let mut lanes = symbols();
-    mul_add_sum(&mut lanes, 0, places, factors);
-    let mut added = symbols()[0];
-    mul_add_plain(&mut added, &plain[0], 1);
-    assert!(rt; lanes[0] == added, "added {places:?}");
 }
 
 #[test]
-fn sums_of_up_to_32_multiples(rt: HostRuntime) -> Result<(), Fail> {
-    let mut places = Vec::with_capacity(rt.alloc(), 32)?;
-    let mut factors = Vec::with_capacity(rt.alloc(), 32)?;
-    let mut others = Vec::with_capacity(rt.alloc(), 32)?;
-    let mut plain = [[0; SYMBOL]; 2];
-    for place in 1..33u16 {
-        let by = [(place * 7 % 256) as u8, (place * 201 % 256) as u8];
-        places.push(place)?;
-        factors.push(Factor::new(by[0]))?;
-        others.push(Factor::new(by[1]))?;
-        mul_add_plain(&mut plain[0], &symbols()[usize::from(place)], by[0]);
-        mul_add_plain(&mut plain[1], &symbols()[usize::from(place)], by[1]);
-        compare_sums(&rt, &places, &factors, &others, &plain);
+fn up_to_7_sums_of_up_to_32_multiples(rt: HostRuntime) -> Result<(), Fail> {
+    let mut factors = Vec::with_capacity(rt.alloc(), 224)?;
+    for d in 0..7usize {
+        for i in 0..32usize {
+            factors.push(Factor::new(factor(d, i)))?;
+        }
+    }
+    for wanted in 0..=7usize {
+        for known in 0..=32usize {
+            compare_sums(&rt, wanted, known, &factors);
+        }
     }
     Ok(())
 }

@@ -55,13 +55,6 @@ impl Codec {
         })
     }
 
-    /// The encoder by which it encodes.
-    pub fn encoder(&self) -> Encoder
-        ensures { result ≡ self.now.encoder }
-    {
-        self.encoder
-    }
-
     /// The steps in which it encodes a stripe.
     pub fn cost(&self) -> u64
         ensures value { result ≡ self.now.cost }

@@ -3,6 +3,7 @@
 mod faulty;
 
 use faulty::{Fault, FaultyFiles};
+use stair_base::SECTOR;
 use stair_filerack::{Access, FileRack, Reason};
 use stair_rack::{Got, Rack, Reply};
 use std::io::ErrorKind;
@@ -17,14 +18,14 @@ fn attach(rack: &mut impl Rack) -> (Reply, u32) {
 // What is read of the first four sectors of slot 3: each answer, and the last byte of the buffer.
 fn read_all(rack: &mut impl Rack) -> [(Got, u8); 4] {
     [0, 1, 2, 3].map(|sector| {
-        let mut into = [0; 512];
+        let mut into = [0; SECTOR];
         (rack.read(3, sector, &mut into), into[511])
     })
 }
 
 // What writes of these sectors of slot 3 answer.
 fn write_all(rack: &mut impl Rack, sectors: [u32; 3]) -> [Reply; 3] {
-    sectors.map(|sector| rack.write(3, sector, &[0xA5; 512]))
+    sectors.map(|sector| rack.write(3, sector, &[0xA5; SECTOR]))
 }
 
 // The words of a reason, where there is one.
@@ -57,7 +58,7 @@ fn real_files(rt: HostRuntime) -> Result<(), Fail> {
     let mut second = FileRack::at(&rt, rt.alloc(), folder, Access::Reading)?;
     assert_eq!(rt; attach(&mut second), (done, 3));
     assert_eq!(rt; read_all(&mut second), [good, bad, good, bad]);
-    assert_eq!(rt; second.write(3, 1, &[0xA5; 512]), gone);
+    assert_eq!(rt; second.write(3, 1, &[0xA5; SECTOR]), gone);
     assert_eq!(rt; attach(&mut second), (done, 3));
     assert_eq!(rt; second.sync(3), gone);
     assert_eq!(rt;
@@ -143,10 +144,10 @@ fn files_with_a_fault(rt: HostRuntime) -> Result<(), Fail> {
         let faulty = FaultyFiles { inner: &rt, fault };
         let mut rack = FileRack::at(faulty, rt.alloc(), folder, Access::Writing)?;
         assert_eq!(rt; rack.attach(3), held, "{fault:?}");
-        assert_eq!(rt; rack.read(3, 0, &mut [0; 512]), first, "{fault:?}");
-        assert_eq!(rt; rack.write(3, 0, &[2; 512]), written, "{fault:?}");
+        assert_eq!(rt; rack.read(3, 0, &mut [0; SECTOR]), first, "{fault:?}");
+        assert_eq!(rt; rack.write(3, 0, &[2; SECTOR]), written, "{fault:?}");
         assert_eq!(rt; rack.sync(3), synced, "{fault:?}");
-        assert_eq!(rt; rack.read(3, 0, &mut [0; 512]), second, "{fault:?}");
+        assert_eq!(rt; rack.read(3, 0, &mut [0; SECTOR]), second, "{fault:?}");
         assert_eq!(rt; words_of(&rt, rack.reason(3))?.as_str(), words, "{fault:?}");
     }
     fs::remove_dir_all(&rt, folder)?;

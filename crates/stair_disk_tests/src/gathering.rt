@@ -4,7 +4,7 @@ ghost use Rattle.std.specs.Prelude.{◌≡◌};
 
 use crate::racks::{crashed, new_rack};
 use crate::stripes::{cells, geometry, numbered, redo_of};
-use stair_base::{Geometry, Slots, Stripe};
+use stair_base::{Geometry, SECTOR, Slots, Stripe};
 use stair_memrack::{Act, MemRack, What};
 use stair_rack::{Got, Rack};
 use stair_stripes::{gather, gather_cells, place};
@@ -52,7 +52,7 @@ fn check_placed<R: Abort + AllocGlobal>(
     let redo = redo_of(geometry, placed);
     assert!(rt; place(rack, geometry, live, &redo, &stripe) == Slots::empty());
     for number in 0..8u8 {
-        let got = rack.read(number % 4, 15 + u32::from(number / 4), &mut [0; 512]);
+        let got = rack.read(number % 4, 15 + u32::from(number / 4), &mut [0; SECTOR]);
         let good = placed >> number & 1 == 1 && live.has(number % 4);
         assert!(rt; (got == Got::Good) == good, "{placed} {number}");
     }
@@ -67,7 +67,7 @@ fn check_cells<R: Abort>(rt: &R, into: &Stripe, given: u8, gone: bool)
         let byte = if given >> number & 1 == 1 { 1 } else { 101 } + number;
         let cell = *into.cell(number / 4, number % 4);
         assert!(rt;
-            cell == [byte; 512] || gone && number % 4 == 2,
+            cell == [byte; SECTOR] || gone && number % 4 == 2,
             "{given} {number}"
         );
     }

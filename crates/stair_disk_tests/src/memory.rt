@@ -3,7 +3,7 @@
 ghost use Rattle.std.specs.Prelude.{◌<◌};
 
 use crate::racks::{crashed, new_rack};
-use stair_base::Slots;
+use stair_base::{SECTOR, Slots};
 use stair_memrack::{Act, MemRack, What, WildRack};
 use stair_rack::{Got, Rack, Reply, sync_all, write_all, write_through};
 use std::process::Abort;
@@ -12,7 +12,7 @@ use std::process::Abort;
 fn read(rack: &mut MemRack, slot: u8, sector: u32) -> (Got, u8)
     requires { slot < 32 }
 {
-    let mut into = [0u8; 512];
+    let mut into = [0u8; SECTOR];
     let got = rack.read(slot, sector, &mut into);
     (got, into[511])
 }
@@ -83,7 +83,7 @@ fn check_answers<R: Abort>(
     expected: (Got, u8),
 ) {
     rack.attach(0);
-    rack.write(0, 1, &[7; 512]);
+    rack.write(0, 1, &[7; SECTOR]);
     rack.sync(0);
     let found = (rack.attach(0), read(rack, 0, 1));
     assert_eq!(rt; found, (attached, expected), "{acts:?}");
@@ -114,7 +114,7 @@ fn of_the_slots_of_a_pass_the_one_that_is_pulled_in_it_is_gone(rt: HostRuntime) 
         to.add(slot);
         assert!(rt; rack.attach(slot) == Reply::Done);
     }
-    let unwritten = write_all(&mut rack, to, 2, &[9; 512]);
+    let unwritten = write_all(&mut rack, to, 2, &[9; SECTOR]);
     let unsynced = sync_all(&mut rack, to);
     for (slot, gone, expected) in [
         (0, false, (Got::Good, 9)),
@@ -140,7 +140,7 @@ fn written_through<R: Abort + AllocGlobal>(
 ) -> (Reply, (Got, u8)) {
     let mut rack = new_rack(rt, 1, 4, script, 9);
     assert!(rt; rack.attach(0) == Reply::Done);
-    let answer = write_through(&mut rack, 0, 2, &[8; 512]);
+    let answer = write_through(&mut rack, 0, 2, &[8; SECTOR]);
     let mut left = crashed(rt, rack, &[pick], &[BACK], 9);
     assert!(rt; left.attach(0) == Reply::Done);
     (answer, read(&mut left, 0, 2))
@@ -177,13 +177,13 @@ fn pending_rack<R: Abort + AllocGlobal>(rt: &R, acts: &[What]) -> MemRack {
     let script = script_of(rt, 8, acts);
     let mut rack = new_rack(rt, 2, 4, &script, 20);
     rack.attach(0);
-    rack.write(0, 1, &[1; 512]);
+    rack.write(0, 1, &[1; SECTOR]);
     rack.sync(0);
-    rack.write(0, 1, &[2; 512]);
-    rack.write(0, 2, &[4; 512]);
-    rack.write(0, 1, &[3; 512]);
+    rack.write(0, 1, &[2; SECTOR]);
+    rack.write(0, 2, &[4; SECTOR]);
+    rack.write(0, 1, &[3; SECTOR]);
     rack.attach(1);
-    rack.write(1, 0, &[5; 512]);
+    rack.write(1, 0, &[5; SECTOR]);
     rack.sectors(1);
     rack
 }
@@ -251,7 +251,7 @@ fn torn_rack<R: Abort + AllocGlobal>(rt: &R) -> MemRack {
 fn a_crash_of_a_rack_that_a_crash_made(rt: HostRuntime) {
     for (pick, expected) in [(0, (Got::Bad, 0)), (1, (Got::Good, 6)), (2, (Got::Bad, 0))] {
         let mut rack = torn_rack(&rt);
-        rack.write(1, 0, &[6; 512]);
+        rack.write(1, 0, &[6; SECTOR]);
         let mut left = crashed(&rt, rack, &[pick], &[], 20);
         left.attach(0);
         left.attach(1);
@@ -274,7 +274,7 @@ fn sectors_of_a_spent_record(rt: HostRuntime) {
 
 // Slot 0 of the inner rack holds a medium of 4 sectors that was never written. A byte of 0 is the inner rack's turn.
 fn check_classes<R: Abort>(rt: &R, rack: &mut WildRack) {
-    let mut into = [0u8; 512];
+    let mut into = [0u8; SECTOR];
     assert!(rt; rack.attach(0) == Reply::Done);
     assert!(rt; rack.write(0, 9, &into) == Reply::Done);
     assert!(rt; rack.read(0, 9, &mut into) == Got::Good);

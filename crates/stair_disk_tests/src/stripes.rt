@@ -6,7 +6,7 @@ ghost use Rattle.stair_journal.specs.Redo.{IsRedo};
 ghost use Rattle.stair_model.specs.CellSet.{HasCell, IsCellSet};
 ghost use Rattle.stair_model.specs.Stripe.{IsStripeOf};
 
-use stair_base::{CellSet, Geometry, Stripe};
+use stair_base::{CellSet, Geometry, SECTOR, Stripe};
 use stair_journal::Redo;
 use std::process::Abort;
 
@@ -56,7 +56,7 @@ pub fn numbered<R: Abort + AllocGlobal>(rt: &R, geometry: &Geometry, first: u8) 
     for row in 0..geometry.r() {
         for slot in 0..geometry.n() {
             let number = 4 * (row % 2) + slot % 4;
-            stripe.put(row, slot, &[first.wrapping_add(number); 512]);
+            stripe.put(row, slot, &[first.wrapping_add(number); SECTOR]);
         }
     }
     stripe

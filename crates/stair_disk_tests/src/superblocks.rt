@@ -1,6 +1,6 @@
 //! Superblocks in which one byte is changed.
 
-use stair_base::Geometry;
+use stair_base::{Geometry, SECTOR};
 use stair_super::{Mark, Super, read_super};
 
 // Slot 2 of four devices with one row parity, two rows, one global parity and three stripes, in the first epoch, in
@@ -25,13 +25,13 @@ const FIRST: [u8; 132] = [
 // What version 2 has from byte 384 on where the array is frozen and its label is `shelf 7`, as tests/tools/superblocks says.
 const NOTES: [u8; 9] = [0x01, 0x07, 0x73, 0x68, 0x65, 0x6C, 0x66, 0x20, 0x37];
 
-fn first_bytes() -> [u8; 512] {
-    let mut bytes = [0; 512];
+fn first_bytes() -> [u8; SECTOR] {
+    let mut bytes = [0; SECTOR];
     bytes[..132].copy_from_slice(&FIRST);
     bytes
 }
 
-fn frozen_bytes() -> [u8; 512] {
+fn frozen_bytes() -> [u8; SECTOR] {
     let mut bytes = first_bytes();
     bytes[7] = b'2';
     bytes[384..393].copy_from_slice(&NOTES);
@@ -94,7 +94,7 @@ fn hash_block(hash: u32, block: &Super) -> u32 {
 }
 
 // How many of the sectors in which one byte is one more, or one less, are superblocks, and a hash of what all say.
-fn each_byte_changed(bytes: &[u8; 512]) -> (u32, u32) {
+fn each_byte_changed(bytes: &[u8; SECTOR]) -> (u32, u32) {
     let mut blocks: u32 = 0;
     let mut hash = 0x811C_9DC5;
     for at in 0..512 {

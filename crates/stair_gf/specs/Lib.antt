@@ -1,3 +1,3 @@
 pub mod AddsMultiple
-pub mod AddsMultiples
+pub mod SetsSums
 pub mod Lanes

@@ -12,7 +12,7 @@ mod steps;
 mod tables;
 
 pub use lanes::Factor;
-pub use multiples::{SYMBOL, mul_add, mul_add_sum, sum, two_sums};
+pub use multiples::{SYMBOL, mul_add, sums};
 pub use plain::{mul_add_plain, mul_plain};
 pub use steps::Steps;
 pub use tables::{inv, mul};

@@ -1,11 +1,11 @@
 //! Multiples of one slice added to another.
-ghost use Rattle.std.specs.Prelude.{◌≡◌, ◌≢◌, ◌+◌, ◌<◌, ◌≤◌, All, Contains, length, slice_index, bit_xor};
+ghost use Rattle.std.specs.Prelude.{◌≡◌, ℕ, ◌+◌, ◌*◌, ◌<◌, ◌≤◌, [], All, length, slice_index_or};
 ghost use Rattle.stair_model.specs.Stripe.{SECTOR};
 ghost use Rattle.stair_gf.specs.AddsMultiple.{AddsMultiple, AddsMultipleWithin};
-ghost use Rattle.stair_gf.specs.AddsMultiples.{AddsMultiples, AreOtherPlaces, SetsSum, SetsTwoSums, multiples};
 ghost use Rattle.stair_gf.specs.Lanes.{AreLanes};
+ghost use Rattle.stair_gf.specs.SetsSums.{AreApart, SetsSums, SetsSumsWithin, sum_by};
 
-use crate::lanes::{Factor, halves, load, store};
+use crate::lanes::{BLOCK, Factor, halves, load, store};
 use crate::tables::mul;
 use std::simd::prelude::*;
 
@@ -23,143 +23,154 @@ pub fn mul_add(into: &mut [u8], from: &[u8], by: u8)
     }
 }
 
-/// Does the same to all whole blocks of 32 bytes; the result is where they end.
+/// Does the same to all whole blocks; the result is where they end.
 #[inline(always)]
 fn mul_add_blocks(into: &mut [u8], from: &[u8], by: &Factor) -> usize
     requires { length into.old ≡ length from.now }
     ensures within { result ≤ length into.old }
     ensures added { AddsMultipleWithin into.old into.new from.now by.now 0 result }
 {
-    let blocks = into.len() / 32;
+    let blocks = into.len() / BLOCK;
     for block in 0..blocks {
-        let start = 32 * block;
+        let start = BLOCK * block;
         let sum = load(into, start) ^ by.times(load(from, start));
         store(into, start, sum);
     }
-    32 * blocks
+    BLOCK * blocks
 }
 
-/// Adds multiples of other symbols to the one at place `into`: to each byte of it the sum of theirs,
-/// that of the i-th of the places `from` times factor i of `by`. All other symbols stay.
-pub fn mul_add_sum(symbols: &mut [[u8; SYMBOL]], into: u16, from: &[u16], by: &[Factor])
-    requires factors { length by.now ≡ length from.now }
-    requires into { into < length symbols.old }
-    requires from { AreOtherPlaces (length symbols.old) into from.now }
-    ensures { AddsMultiples symbols.old symbols.new into from.now by.now }
-{
-    for pair in 0..SYMBOL / 64 {
-        let start = 64 * pair;
-        let symbol = &symbols[usize::from(into)];
-        let first = load(symbol, start);
-        let second = load(symbol, start + 32);
-        let sums = sums_at(start, symbols, from, by, first, second);
-        let symbol = &mut symbols[usize::from(into)];
-        store(symbol, start, sums.0);
-        store(symbol, start + 32, sums.1);
-    }
-}
-
-/// Makes the symbol at place `into` the sum of multiples of other symbols, that of the i-th of the
-/// places `from` times factor i of `by`. All other symbols stay.
-pub fn sum(symbols: &mut [[u8; SYMBOL]], into: u16, from: &[u16], by: &[Factor])
-    requires factors { length by.now ≡ length from.now }
-    requires into { into < length symbols.old }
-    requires from { AreOtherPlaces (length symbols.old) into from.now }
-    ensures { SetsSum symbols.old symbols.new into from.now by.now }
-{
-    for pair in 0..SYMBOL / 64 {
-        let start = 64 * pair;
-        let sums = sums_at(start, symbols, from, by, u8x32::splat(0), u8x32::splat(0));
-        let symbol = &mut symbols[usize::from(into)];
-        store(symbol, start, sums.0);
-        store(symbol, start + 32, sums.1);
-    }
-}
-
-/// Two blocks of 32 bytes with the multiples of symbols added that those have from `start` on.
+/// Makes the symbols at the places `into` sums of multiples of those at the places `from`: the d-th by
+/// the factors from number d·width on, one for each of `from`. All other symbols stay.
 ///
-/// Both are summed up at once before they are stored, by the same tables.
+/// Up to four are summed up at once, so that the bytes of a symbol are loaded and split into their
+/// halves once for all of these.
+pub fn sums(symbols: &mut [[u8; SYMBOL]], into: &[u16], from: &[u16], by: &[Factor], width: usize)
+    requires width { length from.now ≤ width }
+    requires factors { length into.now * width ≤ length by.now }
+    requires apart { AreApart (length symbols.old) into.now from.now }
+    ensures { SetsSums symbols.old symbols.new into.now from.now by.now width }
+{
+    let fours = into.len() / 4;
+    for four in 0..fours {
+        sums_of::<4>(symbols, into, 4 * four, from, by, width);
+    }
+    let first = 4 * fours;
+    match into.len() - first {
+        3 => sums_of::<3>(symbols, into, first, from, by, width),
+        2 => sums_of::<2>(symbols, into, first, from, by, width),
+        1 => one_sum(symbols, into, first, from, by, width),
+        _ => {}
+    }
+}
+
+/// Does so for the places from number `first` on, of which it takes `COUNT`, block after block.
 #[inline(always)]
-fn sums_at(
-    start: usize,
-    symbols: &[[u8; SYMBOL]],
+fn sums_of<const COUNT: usize>(
+    symbols: &mut [[u8; SYMBOL]],
+    into: &[u16],
+    first: usize,
     from: &[u16],
     by: &[Factor],
-    first: u8x32,
-    second: u8x32,
-) -> (u8x32, u8x32)
-    requires within { start + 64 ≤ SECTOR }
-    requires factors { length by.now ≡ length from.now }
-    requires from { All (λ p. p < length symbols.now) from.now }
-    ensures first { AreLanes result.0 (λ k. bit_xor (slice_index first k)
-        (multiples symbols.now from.now by.now (start + k) (length from.now))) }
-    ensures second { AreLanes result.1 (λ k. bit_xor (slice_index second k)
-        (multiples symbols.now from.now by.now (start + 32 + k) (length from.now))) }
-{
-    let mut one = first;
-    let mut two = second;
-    for (i, place) in from.iter().enumerate() {
-        let symbol = &symbols[usize::from(*place)];
-        one ^= by[i].times(load(symbol, start));
-        two ^= by[i].times(load(symbol, start + 32));
-    }
-    (one, two)
-}
-
-/// Makes the symbols at the places `one` and `two` sums of multiples of the same other symbols: the
-/// i-th of the places `from` times factor i of `by_one` for the first, and of `by_two` for the second.
-/// All other symbols stay.
-///
-/// The bytes of each symbol are loaded and split into their halves once for both.
-pub fn two_sums(
-    symbols: &mut [[u8; SYMBOL]],
-    one: u16,
-    two: u16,
-    from: &[u16],
-    by_one: &[Factor],
-    by_two: &[Factor],
+    width: usize,
 )
-    requires factors_one { length by_one.now ≡ length from.now }
-    requires factors_two { length by_two.now ≡ length from.now }
-    requires apart { one ≢ two }
-    requires one { one < length symbols.old }
-    requires two { two < length symbols.old }
-    requires from_one { AreOtherPlaces (length symbols.old) one from.now }
-    requires from_two { AreOtherPlaces (length symbols.old) two from.now }
-    ensures { SetsTwoSums symbols.old symbols.new one two from.now by_one.now by_two.now }
+    requires few { COUNT ≤ 4 }
+    requires within { first + COUNT ≤ length into.now }
+    requires width { length from.now ≤ width }
+    requires factors { length into.now * width ≤ length by.now }
+    requires apart { AreApart (length symbols.old) into.now from.now }
+    ensures { SetsSumsWithin symbols.old symbols.new into.now from.now by.now width first
+        (first + COUNT) }
 {
-    for block in 0..SYMBOL / 32 {
-        let start = 32 * block;
-        let sums = two_sums_at(start, symbols, from, by_one, by_two);
-        store(&mut symbols[usize::from(one)], start, sums.0);
-        store(&mut symbols[usize::from(two)], start, sums.1);
+    for block in 0..SYMBOL / BLOCK {
+        let start = BLOCK * block;
+        let sums = sums_at::<COUNT>(symbols, start, from, by, first * width, width);
+        for d in 0..COUNT {
+            store(&mut symbols[usize::from(into[first + d])], start, sums[d]);
+        }
     }
 }
 
-/// The blocks of 32 bytes, from `start` on, of both sums.
+/// The blocks of `COUNT` sums at this place of the symbols: the d-th by the factors from number
+/// factor + d·width on.
 #[inline(always)]
-fn two_sums_at(
-    start: usize,
+fn sums_at<const COUNT: usize>(
     symbols: &[[u8; SYMBOL]],
+    start: usize,
     from: &[u16],
-    by_one: &[Factor],
-    by_two: &[Factor],
-) -> (u8x32, u8x32)
-    requires within { start + 32 ≤ SECTOR }
-    requires factors_one { length by_one.now ≡ length from.now }
-    requires factors_two { length by_two.now ≡ length from.now }
+    by: &[Factor],
+    factor: usize,
+    width: usize,
+) -> [u8x64; COUNT]
+    requires few { COUNT ≤ 4 }
+    requires within { start + 64 ≤ SECTOR }
+    requires width { length from.now ≤ width }
+    requires factors { factor + COUNT * width ≤ length by.now }
     requires from { All (λ p. p < length symbols.now) from.now }
-    ensures first { AreLanes result.0 (λ k. multiples symbols.now from.now by_one.now (start + k)
-        (length from.now)) }
-    ensures second { AreLanes result.1 (λ k. multiples symbols.now from.now by_two.now (start + k)
-        (length from.now)) }
+    ensures { (d : ℕ) → d < COUNT → AreLanes 64 (slice_index_or result d [])
+        (λ k. sum_by symbols.now from.now by.now (factor + d * width) (start + k)) }
 {
-    let mut first = u8x32::splat(0);
-    let mut second = u8x32::splat(0);
+    let mut sums = [u8x64::splat(0); COUNT];
     for (i, place) in from.iter().enumerate() {
         let halves = halves(load(&symbols[usize::from(*place)], start));
-        first ^= by_one[i].times_halves(halves.0, halves.1);
-        second ^= by_two[i].times_halves(halves.0, halves.1);
+        for d in 0..COUNT {
+            sums[d] ^= by[factor + d * width + i].times_halves(halves.0, halves.1);
+        }
+    }
+    sums
+}
+
+/// Makes the symbol at place number `number` such a sum, by two blocks at once, since the loop over few symbols takes about as
+/// long as one block.
+#[inline(always)]
+fn one_sum(
+    symbols: &mut [[u8; SYMBOL]],
+    into: &[u16],
+    number: usize,
+    from: &[u16],
+    by: &[Factor],
+    width: usize,
+)
+    requires within { number < length into.now }
+    requires width { length from.now ≤ width }
+    requires factors { length into.now * width ≤ length by.now }
+    requires apart { AreApart (length symbols.old) into.now from.now }
+    ensures { SetsSumsWithin symbols.old symbols.new into.now from.now by.now width number
+        (number + 1) }
+{
+    for pair in 0..SYMBOL / (2 * BLOCK) {
+        let start = 2 * BLOCK * pair;
+        let sum = two_blocks(symbols, start, from, by, number * width);
+        store(&mut symbols[usize::from(into[number])], start, sum.0);
+        store(
+            &mut symbols[usize::from(into[number])],
+            start + BLOCK,
+            sum.1,
+        );
+    }
+}
+
+/// Two blocks of a sum at this place of the symbols: by the factors from number `factor` on.
+#[inline(always)]
+fn two_blocks(
+    symbols: &[[u8; SYMBOL]],
+    start: usize,
+    from: &[u16],
+    by: &[Factor],
+    factor: usize,
+) -> (u8x64, u8x64)
+    requires within { start + 128 ≤ SECTOR }
+    requires factors { factor + length from.now ≤ length by.now }
+    requires from { All (λ p. p < length symbols.now) from.now }
+    ensures first { AreLanes 64 result.0 (λ k. sum_by symbols.now from.now by.now factor (start + k)) }
+    ensures second { AreLanes 64 result.1
+        (λ k. sum_by symbols.now from.now by.now factor (start + 64 + k)) }
+{
+    let mut first = u8x64::splat(0);
+    let mut second = u8x64::splat(0);
+    for (i, place) in from.iter().enumerate() {
+        let symbol = &symbols[usize::from(*place)];
+        first ^= by[factor + i].times(load(symbol, start));
+        second ^= by[factor + i].times(load(symbol, start + BLOCK));
     }
     (first, second)
 }

@@ -11,7 +11,7 @@ ghost use Rattle.stair_journal.specs.Reads.{AsksInTurn, asking};
 ghost use Rattle.stair_journal.specs.Redo.{IsRedo};
 
 use crate::redo::Redo;
-use stair_base::{Geometry, Slots, Stripe};
+use stair_base::{Geometry, SECTOR, Slots, Stripe};
 use stair_rack::{Got, Rack};
 
 /// What was found of the body of a redo.
@@ -101,7 +101,7 @@ fn read_cell<R: Rack>(
         (R.reads rack.new)) }
 {
     let sector = geometry.body_sector(row, chunk);
-    let mut bytes = [0; 512];
+    let mut bytes = [0; SECTOR];
     match find(rack, live, sector, &mut body.gone, &mut bytes) {
         Found::Here => into.put(row, chunk, &bytes),
         Found::Nowhere => body.unread = Some(body.unread.unwrap_or(sector)),
@@ -121,7 +121,7 @@ fn find<R: Rack>(
     live: Slots,
     sector: u32,
     gone: &mut Slots,
-    bytes: &mut [u8; 512],
+    bytes: &mut [u8; SECTOR],
 ) -> Found
     ensures asks { Asks live (λ k. k ≡ sector) gone.old gone.new (told R.Rack rack.old)
         (told R.Rack rack.new) }
@@ -147,7 +147,7 @@ fn ask<R: Rack>(
     slot: u8,
     sector: u32,
     gone: &mut Slots,
-    bytes: &mut [u8; 512],
+    bytes: &mut [u8; SECTOR],
 ) -> Found
     requires { slot < 32 }
     ensures asks { Asks live (λ k. k ≡ sector) gone.old gone.new (told R.Rack rack.old)

@@ -19,19 +19,19 @@ ghost use Rattle.stair_journal.specs.Redo.{IsRedo};
 
 use crate::redo::Redo;
 use byteorder::{BigEndian, ByteOrder};
-use stair_base::{CellSet, Geometry};
+use stair_base::{CellSet, Geometry, SECTOR};
 
 /// The bytes of a closed gate: `STAIRGT1`, and zeros behind it.
-pub fn closed_gate() -> [u8; 512]
+pub fn closed_gate() -> [u8; SECTOR]
     ensures { result ≡ closed }
 {
-    let mut gate = [0; 512];
+    let mut gate = [0; SECTOR];
     gate[..8].copy_from_slice(b"STAIRGT1");
     gate
 }
 
 /// The bytes of a gate that is open with this redo.
-pub(crate) fn open_gate(geometry: &Geometry, redo: &Redo) -> [u8; 512]
+pub(crate) fn open_gate(geometry: &Geometry, redo: &Redo) -> [u8; SECTOR]
     requires { IsRedo geometry.now redo.now }
     ensures { result ≡ opened geometry.now redo.now }
 {
@@ -79,7 +79,7 @@ fn has_number(geometry: &Geometry, cells: &CellSet, number: u16) -> bool
 }
 
 /// The redo with which a gate of these bytes is open; `None` where it reads as closed.
-pub(crate) fn read_gate(geometry: &Geometry, bytes: &[u8; 512]) -> Option<Redo>
+pub(crate) fn read_gate(geometry: &Geometry, bytes: &[u8; SECTOR]) -> Option<Redo>
     ensures open { IfSome result (λ redo. IsOpenWith geometry.now (Good bytes.now) redo) }
     ensures closed { result ≡ None → ReadsClosed geometry.now (Good bytes.now) }
 {
@@ -92,7 +92,7 @@ pub(crate) fn read_gate(geometry: &Geometry, bytes: &[u8; 512]) -> Option<Redo>
 }
 
 // The only redo that a gate of these bytes can be open with.
-fn marked_redo(geometry: &Geometry, bytes: &[u8; 512]) -> Redo
+fn marked_redo(geometry: &Geometry, bytes: &[u8; SECTOR]) -> Redo
     ensures only { (redo : Redo) → IsOpenWith geometry.now (Good bytes.now) redo → result ≡ redo }
     ensures formed { IsCellSet result.cells }
     ensures inside { IsInStripe geometry.now result.cells }
@@ -104,7 +104,7 @@ fn marked_redo(geometry: &Geometry, bytes: &[u8; 512]) -> Redo
 }
 
 // A gate is what is written for its redo, and nothing else.
-fn is_open_with(geometry: &Geometry, bytes: &[u8; 512], redo: &Redo) -> bool
+fn is_open_with(geometry: &Geometry, bytes: &[u8; SECTOR], redo: &Redo) -> bool
     requires formed { IsCellSet redo.now.cells }
     requires inside { IsInStripe geometry.now redo.now.cells }
     ensures { IsTrue result ↔ IsOpenWith geometry.now (Good bytes.now) redo.now }
@@ -120,14 +120,14 @@ fn is_redo(geometry: &Geometry, redo: &Redo) -> bool
     redo.stripe < geometry.stripes() && redo.cells.count() > 0
 }
 
-fn stripe_in(bytes: &[u8; 512]) -> u32
+fn stripe_in(bytes: &[u8; SECTOR]) -> u32
     ensures { result ≡ from_be_bytes w32 (take 4 (drop 12 bytes.now)) }
 {
     u32::from_be_bytes([bytes[12], bytes[13], bytes[14], bytes[15]])
 }
 
 // The cells of the stripe that are marked in the bitmap.
-fn marked_cells(geometry: &Geometry, bytes: &[u8; 512]) -> CellSet
+fn marked_cells(geometry: &Geometry, bytes: &[u8; SECTOR]) -> CellSet
     ensures members { (i j : ℕ) → HasCell result i j ↔ IsMarkedCell geometry.now bytes.now i j }
     ensures formed { IsCellSet result }
     ensures limits { IsWithinLimits geometry.now }
@@ -140,7 +140,7 @@ fn marked_cells(geometry: &Geometry, bytes: &[u8; 512]) -> CellSet
 }
 
 // Adds the cells of a row that are marked.
-fn mark_row(geometry: &Geometry, bytes: &[u8; 512], row: u8, cells: &mut CellSet)
+fn mark_row(geometry: &Geometry, bytes: &[u8; SECTOR], row: u8, cells: &mut CellSet)
     requires row_in { row < geometry.now.r }
     requires formed { IsCellSet cells.old }
     ensures members { (i j : ℕ) → HasCell cells.new i j ↔
@@ -155,7 +155,7 @@ fn mark_row(geometry: &Geometry, bytes: &[u8; 512], row: u8, cells: &mut CellSet
     }
 }
 
-fn is_marked(bytes: &[u8; 512], number: u16) -> bool
+fn is_marked(bytes: &[u8; SECTOR], number: u16) -> bool
     requires { number < 1024 }
     ensures { IsTrue result ↔ IsMarked bytes.now number }
 {

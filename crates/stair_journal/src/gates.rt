@@ -9,7 +9,7 @@ ghost use Rattle.stair_journal.specs.Reads.{ReadsGatesInTurn};
 
 use crate::gate::read_gate;
 use crate::redo::Redo;
-use stair_base::{GATE_SECTOR, Geometry, Slots};
+use stair_base::{GATE_SECTOR, Geometry, SECTOR, Slots};
 use stair_rack::{Got, Rack};
 
 /// What the live gates were found to say.
@@ -70,7 +70,7 @@ fn look_at<R: Rack>(rack: &mut R, geometry: &Geometry, slot: u8) -> Seen
         (R.gones rack.new) }
     ensures reads { RisesAtMost 1 (R.reads rack.old) (R.reads rack.new) }
 {
-    let mut bytes = [0; 512];
+    let mut bytes = [0; SECTOR];
     match rack.read(slot, GATE_SECTOR, &mut bytes) {
         Got::Good => match read_gate(geometry, &bytes) {
             Some(redo) => Seen::Open(redo),

@@ -16,7 +16,7 @@ ghost use Rattle.stair_journal.specs.Redo.{IsRedo};
 
 use crate::gate::{closed_gate, open_gate};
 use crate::redo::Redo;
-use stair_base::{GATE_SECTOR, Geometry, Slots, Stripe};
+use stair_base::{GATE_SECTOR, Geometry, SECTOR, Slots, Stripe};
 use stair_rack::{Rack, Reply, sync_rest, write_all};
 
 /// Writes the body of this redo, its cells of `stripe`, to every live slot, syncs them, and answers those that were gone.
@@ -138,7 +138,7 @@ pub fn close_gates<R: Rack>(rack: &mut R, live: Slots) -> Slots
     write_gates(rack, live, &closed_gate())
 }
 
-fn write_gates<R: Rack>(rack: &mut R, live: Slots, gate: &[u8; 512]) -> Slots
+fn write_gates<R: Rack>(rack: &mut R, live: Slots, gate: &[u8; SECTOR]) -> Slots
     ensures told { DoesPhase (gate_writes gate.now) live result (told R.Rack rack.old)
         (told R.Rack rack.new) }
     ensures reads { R.reads rack.new ≡ R.reads rack.old }

@@ -69,3 +69,6 @@ module _ (code : Shape) (known wanted : List ℕ) (places : AreKnownPlaces code.
       let one = Contains-from_any {eq = eqb} eqb-true q both any in
       omega (arith, one.2, all_below one.0 q one.1)) in
       omega (arith, most, long, places.count)
+
+  pub wanted_few : (held total : ℕ) → held ≡ code.held → total ≡ code.total → total ≤ held + 32 → length wanted ≤ 32
+  wanted_few held total held_is total_is few = omega (arith, places_few)

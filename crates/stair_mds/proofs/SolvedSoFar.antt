@@ -1,5 +1,5 @@
 -- The wanted places that were solved so far, along a line of symbols.
-use Rattle.std.proofs.Common.{◌≡◌, ◌≢◌, ℕ, zero, suc, ◌+◌, ◌*◌, ◌%◌, ◌<◌, ◌≤◌, List, [], length, slice_index, refl, inl, inr, sym, subst, ap, ◌∙◌, arith}
+use Rattle.std.proofs.Common.{◌≡◌, ◌≢◌, ℕ, zero, suc, ◌+◌, ◌*◌, ◌%◌, ◌<◌, ◌≤◌, List, [], length, slice_index, inl, inr, sym, subst, ap, ◌∙◌, arith}
 use Rattle.std.proofs.Math.Nat.{mul-le-mul_left}
 use Rattle.std.specs.Prelude.{All, Contains, bit_xor, slice_index_or}
 use Rattle.std.specs.Int.Bits.{xor_zero_r}
@@ -63,51 +63,6 @@ pub record HasSolved (code : Shape) (line : Line) (read : ℕ) (known wanted : L
   pub solved :
       (j q : ℕ) → j < k → q < 512 →
       symbol_byte now q (along line (slice_index wanted j)) ≡ solution code line read known old q (slice_index wanted j)
-
-pub HasSolved-none : (code : Shape) (line : Line) (read : ℕ) (known wanted : List ℕ) (old : List (List ℕ)) → HasSolved code line read known wanted old old 0
-HasSolved-none code line read known wanted old = record {
-  count = refl;
-  others = λ p apart. refl;
-  solved = λ j q none in_sector. absurd (omega arith);
-}
-
-module _ (code : Shape) (line : Line) (read : ℕ) (known wanted : List ℕ) (asked : AreWantedPlaces code known wanted)
-    (apart : 1 ≤ line.step) (some : read ≤ length known) (old now : List (List ℕ)) (k : ℕ) where
-  -- a known symbol is as it was
-  known_stays : (i q : ℕ) → i < length known → k ≤ length wanted → HasSolved code line read known wanted old now k
-      → symbol_byte now q (along line (slice_index known i)) ≡ symbol_byte old q (along line (slice_index known i))
-  known_stays i q in_known within before =
-      ap (λ symbol. slice_index symbol q)
-      (before.others (along line (slice_index known i))
-      (λ j below same. asked.unknown j 0 (omega arith)
-      (subst (λ (p : ℕ). Contains known p) (sym (along_once line _ _ apart same)) (Contains-get_or known i 0 in_known))))
-
-  -- and so many more
-  pub HasSolved-more : (count : ℕ) (new : List (List ℕ)) → k + count ≤ length wanted → HasSolved code line read known wanted old now k
-      → length new ≡ length now
-      → ((s : ℕ) → ((j : ℕ) → k ≤ j → j < k + count → along line (slice_index wanted j) ≢ s) → slice_index_or new s [] ≡ slice_index_or now s [])
-      → ((j q : ℕ) → k ≤ j → j < k + count → q < 512
-      → symbol_byte new q (along line (slice_index wanted j)) ≡ solution code line read known now q (slice_index wanted j))
-      → HasSolved code line read known wanted old new (k + count)
-  HasSolved-more count new within before same_count stays is = record {
-    count = same_count ∙ before.count;
-    others = λ s other. stays s (λ j from below. other j below) ∙ before.others s (λ j below. other j (omega arith));
-    solved = λ j q below in_sector.
-        let place = slice_index wanted j in
-        elim (cases_lt j k) [
-          | inl earlier ↦
-              ap (λ s. slice_index s q)
-              (stays (along line place)
-              (λ i from i_below same.
-              let one : i ≡ j = asked.distinct i j (omega arith) (omega arith) (along_once line _ _ apart same) in omega arith))
-              ∙ before.solved j q earlier in_sector
-          | inr later ↦
-              is j q later below in_sector
-              ∙ field_sum_same read (λ i. product (solving code.held known i place) (symbol_byte now q (along line (slice_index known i))))
-              (λ i. product (solving code.held known i place) (symbol_byte old q (along line (slice_index known i))))
-              (λ i in_read. ap (product (solving code.held known i place)) (known_stays i q (omega arith) (omega arith) before))
-        ];
-  }
 
 -- all wanted places are solved
 module _ (code : Shape) (line : Line) (read : ℕ) (known wanted : List ℕ) (old new : List (List ℕ)) (within : code.held ≤ code.total)

@@ -1,6 +1,6 @@
 -- What a code keeps of its places and of the pattern that is prepared, and the room for any pattern; and what
 -- symbols keep.
-use Rattle.std.specs.Prelude.{ℕ, ◌-◌, ◌*◌, ◌<◌, ◌≤◌, List, All, length, vec_len}
+use Rattle.std.specs.Prelude.{ℕ, ◌+◌, ◌-◌, ◌*◌, ◌<◌, ◌≤◌, List, All, length, vec_len}
 use Rattle.std.specs.Vec.{vec_capacity}
 use Rattle.stair_model.specs.CauchyCode.{AreKnownPlaces}
 use Rattle.stair_model.specs.Stripe.{IsSector}
@@ -31,6 +31,7 @@ pub record HasRoom (a : Inside) : Type 0 where
 pub record IsKept (a : Inside) : Type 0 where
   pub weights : HasWeights a.held a.weights.items
   pub few : a.held ≤ 32
+  pub few_wanted : vec_len a.weights ≤ a.held + 32
   pub room : HasRoom a
   pub pattern : IsPrepared (shown a) → HasPattern (shown a) a.coefficients.items
 

@@ -2,7 +2,6 @@ ghost use Rattle.std.specs.Prelude.{◌≡◌, ℕ, ◌+◌, ◌-◌, ◌*◌, �
 ghost use Rattle.std.specs.Vec.{vec_capacity};
 ghost use Rattle.stair_model.specs.CauchyCode.{AreKnownPlaces};
 ghost use Rattle.stair_model.specs.Stripe.{IsSector};
-ghost use Rattle.stair_mds.specs.Lagrange.{solving};
 ghost use Rattle.stair_mds.specs.Solving.{AreWantedPlaces, IsLineOf, IsPrepared, Solves, SolvesAlong};
 
 use crate::coefficients::{known_parts, push_coefficients, wanted_part};
@@ -76,6 +75,7 @@ impl Mds {
         requires some { 1 ≤ held }
         requires within { held ≤ total }
         requires few { held ≤ 32 }
+        requires few_wanted { total ≤ held + 32 }
         ensures { IfOk result (λ code. code ≡ record {
           shape = record { held = held; total = total };
           known = [];
@@ -188,39 +188,13 @@ impl Mds {
         let _ = &self.weights;
         let _ = &work.symbols;
         let held = usize::from(self.held);
-        let wanted = self.wanted.as_slice();
+        let wanted = self.wanted.len();
         let from = line.symbols(&self.known);
-        let pairs = wanted.len() / 2;
-        for pair in 0..pairs {
-            let (first, second) = (2 * pair, 2 * pair + 1);
-            let one = line.symbol(wanted[first]);
-            let two = line.symbol(wanted[second]);
-            let by_one = self.factors(first, read);
-            let by_two = self.factors(second, read);
-            work.sum_up_two(one, two, &from[..read], by_one, by_two);
-            take_steps(steps, 2 * held);
-        }
-        for number in 2 * pairs..wanted.len() {
-            let place = line.symbol(wanted[number]);
-            work.sum_up(place, &from[..read], self.factors(number, read));
-            take_steps(steps, held);
-        }
+        let into = line.symbols(&self.wanted);
+        work.sum_up(&into[..wanted], &from[..read], &self.coefficients, held);
+        take_steps(steps, held * wanted);
         // And what the symbols keep is known again.
         let _ = &work.symbols;
-    }
-
-    /// What the first known places contribute to wanted place number `number`.
-    #[inline(always)]
-    fn factors(&self, number: usize, read: usize) -> &[Factor]
-        requires prepared { IsPrepared self.now }
-        requires number { number < length self.now.wanted }
-        requires read { read ≤ length self.now.known }
-        ensures count { length result.now ≡ read }
-        ensures each { (i : ℕ) → i < read → slice_index result.now i
-            ≡ solving self.now.shape.held self.now.known i (slice_index self.now.wanted number) }
-    {
-        let start = number * usize::from(self.held);
-        &self.coefficients[start..start + read]
     }
 
     /// Sets the wanted symbols to those of the one codeword that has the known ones, and leaves all others.
@@ -249,34 +223,6 @@ impl Mds {
     {
         self.prepare_once(known, wanted);
         self.apply(work, steps);
-    }
-
-    /// Does the same where the places of the code lie along this line of `work`, as [`Mds::apply_along`] does.
-    pub fn solve_along<L: Ledger>(
-        &mut self,
-        known: &[u16],
-        wanted: &[u16],
-        line: Line,
-        read: usize,
-        work: &mut Symbols,
-        steps: &mut Steps<L>,
-    )
-        requires known { AreKnownPlaces self.old.shape.held self.old.shape.total known.now }
-        requires wanted { AreWantedPlaces self.old.shape known.now wanted.now }
-        requires line { IsLineOf self.old.shape (length work.old) line }
-        requires read { read ≤ length known.now }
-        ensures solved { SolvesAlong self.old.shape line read known.now wanted.now
-            work.old work.new }
-        ensures sectors { All IsSector work.new }
-        ensures cost { steps.new ≡ steps.old + length known.now * length wanted.now }
-        ensures code { self.new ≡ record {
-          shape = self.old.shape;
-          known = known.now;
-          wanted = wanted.now;
-        } }
-    {
-        self.prepare_once(known, wanted);
-        self.apply_along(line, read, work, steps);
     }
 }
 

@@ -1,8 +1,8 @@
-ghost use Rattle.std.specs.Prelude.{◌≡◌, ◌≢◌, ◌<◌, IfOk, length, replicate, slice_index_or, slice_set, []};
+ghost use Rattle.std.specs.Prelude.{◌≡◌, ◌*◌, ◌<◌, ◌≤◌, IfOk, length, replicate, slice_index_or, slice_set, []};
 ghost use Rattle.stair_model.specs.Stripe.{IsSector, SECTOR};
-ghost use Rattle.stair_gf.specs.AddsMultiples.{AreOtherPlaces, SetsSum, SetsTwoSums};
+ghost use Rattle.stair_gf.specs.SetsSums.{AreApart, SetsSums};
 
-use stair_gf::{Factor, SYMBOL, sum, two_sums};
+use stair_gf::{Factor, SYMBOL, sums};
 use std::alloc::{AllocError, Global};
 use std::marker::Model;
 
@@ -52,36 +52,14 @@ impl Symbols {
         self.symbols[usize::from(place)] = *bytes;
     }
 
-    /// Makes the symbol at this place the sum of those at other places, each times its factor.
-    ///
-    /// All other symbols stay.
-    pub(crate) fn sum_up(&mut self, place: u16, from: &[u16], by: &[Factor])
-        requires place { place < length self.old }
-        requires from { AreOtherPlaces (length self.old) place from.now }
-        requires factors { length by.now ≡ length from.now }
-        ensures { SetsSum self.old self.new place from.now by.now }
+    /// Makes the symbols at the places `into` sums of those at other places, each times its factor: the d-th by the factors
+    /// from number d·width on. All other symbols stay.
+    pub(crate) fn sum_up(&mut self, into: &[u16], from: &[u16], by: &[Factor], width: usize)
+        requires width { length from.now ≤ width }
+        requires factors { length into.now * width ≤ length by.now }
+        requires apart { AreApart (length self.old) into.now from.now }
+        ensures { SetsSums self.old self.new into.now from.now by.now width }
     {
-        sum(&mut self.symbols, place, from, by);
-    }
-
-    /// Does so for two places, from the same symbols, by factors of their own.
-    pub(crate) fn sum_up_two(
-        &mut self,
-        one: u16,
-        two: u16,
-        from: &[u16],
-        by_one: &[Factor],
-        by_two: &[Factor],
-    )
-        requires factors_one { length by_one.now ≡ length from.now }
-        requires factors_two { length by_two.now ≡ length from.now }
-        requires apart { one ≢ two }
-        requires one { one < length self.old }
-        requires two { two < length self.old }
-        requires from_one { AreOtherPlaces (length self.old) one from.now }
-        requires from_two { AreOtherPlaces (length self.old) two from.now }
-        ensures { SetsTwoSums self.old self.new one two from.now by_one.now by_two.now }
-    {
-        two_sums(&mut self.symbols, one, two, from, by_one, by_two);
+        sums(&mut self.symbols, into, from, by, width);
     }
 }

@@ -12,7 +12,7 @@ ghost use Rattle.stair_member.specs.Superblocks.{HoldsThis};
 ghost use Rattle.stair_member.specs.Survey.{IsNextPlace};
 ghost use Rattle.stair_rack.specs.Told.{told};
 
-use stair_base::{FIRST_PLACE, SECOND_PLACE};
+use stair_base::{FIRST_PLACE, SECOND_PLACE, SECTOR};
 use stair_rack::{Got, Rack, Reply};
 use stair_super::{Super, is_older, newer_of, read_super};
 
@@ -68,7 +68,7 @@ fn read_place<R: Rack>(rack: &mut R, slot: u8, place: u32) -> Seen
         (R.gones rack.new) }
     ensures reads { RisesAtMost 1 (R.reads rack.old) (R.reads rack.new) }
 {
-    let mut bytes = [0; 512];
+    let mut bytes = [0; SECTOR];
     match rack.read(slot, place, &mut bytes) {
         Got::Good => match read_super(&bytes) {
             Some(block) => Seen::Block(block),

@@ -7,12 +7,12 @@ ghost use Rattle.stair_rack.specs.Answers.{Calls};
 ghost use Rattle.stair_rack.specs.Passes.{Turns, call_of};
 
 use crate::rack::{Rack, Reply};
-use stair_base::Slots;
+use stair_base::{SECTOR, Slots};
 
 // What a pass does on each slot.
 #[derive(Clone, Copy, Debug, Drop)]
 pub(crate) enum Pass {
-    Write(u32, [u8; 512]),
+    Write(u32, [u8; SECTOR]),
     Sync,
 }
 

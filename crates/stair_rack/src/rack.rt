@@ -6,6 +6,8 @@ ghost use Rattle.stair_rack.specs.History.{Happening, Attach, Sectors, Read, Wri
 ghost use Rattle.stair_rack.specs.Answers.{Calls, IsHistory};
 ghost use Rattle.stair_rack.specs.RackCounts.{NoneFalls, CountsRead};
 
+use stair_base::SECTOR;
+
 /// What a slot answers to a call that gives nothing back.
 #[derive(Clone, Copy, Debug, PartialEq, Eq, Drop)]
 pub enum Reply {
@@ -83,7 +85,7 @@ pub trait Rack {
     /// - `Good`: `into` has its bytes.
     /// - `Bad`: the sector can't be read, or lies at or past the end of the medium. `into` is unchanged.
     /// - `Gone`: the slot isn't attached, its medium was pulled since, or the rack was stopped. `into` is unchanged.
-    fn read(&mut self, slot: u8, sector: u32, into: &mut [u8; 512]) -> Got
+    fn read(&mut self, slot: u8, sector: u32, into: &mut [u8; SECTOR]) -> Got
         requires { slot < 32 }
         ensures began { IsTrue is_honest → IsHistory (history self.old) }
         ensures told { IsTrue is_honest →
@@ -103,7 +105,7 @@ pub trait Rack {
     ///   what was there at the last sync, any bytes written since, or a sector that reads as bad.
     /// - `Gone`: the slot isn't attached, its medium was pulled since, or the rack was stopped; or the sector lies at
     ///   or past the end of the medium, and then the slot stays attached. Nothing was written.
-    fn write(&mut self, slot: u8, sector: u32, from: &[u8; 512]) -> Reply
+    fn write(&mut self, slot: u8, sector: u32, from: &[u8; SECTOR]) -> Reply
         requires { slot < 32 }
         ensures began { IsTrue is_honest → IsHistory (history self.old) }
         ensures told { IsTrue is_honest →

@@ -6,13 +6,14 @@ ghost use Rattle.stair_rack.specs.RackCounts.{NoneFalls};
 ghost use Rattle.stair_rack.specs.Placed.{Placed, IsSlot, IsGoneSlot, one_write};
 
 use crate::rack::{Rack, Reply};
+use stair_base::SECTOR;
 
 /// Writes a sector of a slot and syncs the slot.
 ///
 /// - `Done`: a crash leaves `from` there.
 /// - `Gone`: the write was gone, and there was no sync; or the sync was gone, and the sector may be left as it was, as
 ///   `from` or torn.
-pub fn write_through<R: Rack>(rack: &mut R, slot: u8, sector: u32, from: &[u8; 512]) -> Reply
+pub fn write_through<R: Rack>(rack: &mut R, slot: u8, sector: u32, from: &[u8; SECTOR]) -> Reply
     requires { slot < 32 }
     ensures began { IsTrue R.is_honest → IsHistory (R.history rack.old) }
     ensures told { IsTrue R.is_honest →

@@ -7,13 +7,13 @@ ghost use Rattle.stair_rack.specs.Passes.{Wrote};
 
 use crate::pass::{Pass, pass_over};
 use crate::rack::Rack;
-use stair_base::Slots;
+use stair_base::{SECTOR, Slots};
 
 /// Writes a sector on each slot of `to`, in rising order, and answers those that were gone.
 ///
 /// A slot that is gone doesn't end the pass. On a slot that isn't answered the sector reads as `from`; it is safe from
 /// a crash once the slot was synced. On one that is answered nothing was written.
-pub fn write_all<R: Rack>(rack: &mut R, to: Slots, sector: u32, from: &[u8; 512]) -> Slots
+pub fn write_all<R: Rack>(rack: &mut R, to: Slots, sector: u32, from: &[u8; SECTOR]) -> Slots
     ensures told { IsTrue R.is_honest →
         Wrote to result sector from.now (R.history rack.old) (R.history rack.new) }
     ensures gone { (j : ℕ) → HasSlot result j →

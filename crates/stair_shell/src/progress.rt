@@ -1,5 +1,5 @@
 // How far a command is, on a terminal: one line on standard error, which is written over as it goes on and cleared at the end.
-use stair_base::{FIRST_PLACE, Geometry, SECOND_PLACE};
+use stair_base::{FIRST_PLACE, Geometry, SECOND_PLACE, SECTOR};
 use stair_rack::{FromWrite, Got, Rack, Reply};
 use stair_super::read_super;
 use stair_watch::{Line, put_until_fault};
@@ -150,7 +150,7 @@ impl Progress<'_> {
         self.saw_call();
     }
 
-    fn saw_write(&mut self, sector: u32, from: &[u8; 512], reply: Reply) {
+    fn saw_write(&mut self, sector: u32, from: &[u8; SECTOR], reply: Reply) {
         if reply == Reply::Done {
             self.written = self.written.saturating_add(1);
         }
@@ -164,7 +164,7 @@ impl Progress<'_> {
     }
 
     // Superblocks are written of the array alone that is open, and may be read of others too.
-    fn learn(&mut self, place: &[u8; 512]) {
+    fn learn(&mut self, place: &[u8; SECTOR]) {
         if let Some(block) = read_super(place) {
             self.geometry.set(Some(block.geometry()));
         }
@@ -276,7 +276,7 @@ impl<R: Rack + Drop> Rack for Showing<'_, R> {
         self.rack.sectors(slot)
     }
 
-    fn read(&mut self, slot: u8, sector: u32, into: &mut [u8; 512]) -> Got {
+    fn read(&mut self, slot: u8, sector: u32, into: &mut [u8; SECTOR]) -> Got {
         let got = self.rack.read(slot, sector, into);
         if let Some(progress) = &mut self.progress {
             progress.saw_read(sector, got);
@@ -284,7 +284,7 @@ impl<R: Rack + Drop> Rack for Showing<'_, R> {
         got
     }
 
-    fn write(&mut self, slot: u8, sector: u32, from: &[u8; 512]) -> Reply {
+    fn write(&mut self, slot: u8, sector: u32, from: &[u8; SECTOR]) -> Reply {
         let reply = self.rack.write(slot, sector, from);
         if let Some(progress) = &mut self.progress {
             progress.saw_write(sector, from, reply);

@@ -9,7 +9,7 @@ ghost use Rattle.stair_stripes.specs.Gathering.{Gathers, IsCellOf};
 ghost use Rattle.stair_stripes.specs.Reads.{ReadsInTurn};
 ghost use Rattle.stair_stripes.specs.GatheringSteps.{ErasesChunk, GoesOn};
 
-use stair_base::{CellSet, Geometry, Slots, Stripe};
+use stair_base::{CellSet, Geometry, SECTOR, Slots, Stripe};
 use stair_rack::{Got, Rack};
 
 /// What gathering cells of a stripe found.
@@ -101,7 +101,7 @@ fn gather_chunk<R: Rack>(
     ensures reads { RisesAtMost (count_in_slot wanted.now slot) (R.reads rack.old)
         (R.reads rack.new) }
 {
-    let mut bytes = [0; 512];
+    let mut bytes = [0; SECTOR];
     for row in 0..geometry.r() {
         if wanted.has(row, slot) {
             match rack.read(slot, geometry.cell_sector(stripe, row), &mut bytes) {

@@ -3,11 +3,12 @@ ghost use Rattle.stair_model.specs.Stripe.{SECTOR};
 ghost use Rattle.stair_super.specs.Spelling.{zeros, number32, number64};
 
 use byteorder::{BigEndian, ByteOrder};
+use stair_base::SECTOR;
 use std::marker::Model;
 
 /// 512 bytes that are written from the front. What isn't written is zero.
 pub struct Page {
-    bytes: [u8; 512],
+    bytes: [u8; SECTOR],
     len: usize,
 }
 
@@ -30,7 +31,7 @@ impl Page {
         ensures len { length result ≡ 0 }
     {
         Page {
-            bytes: [0; 512],
+            bytes: [0; SECTOR],
             len: 0,
         }
     }
@@ -80,7 +81,7 @@ impl Page {
     }
 
     /// The 512 bytes of the page.
-    pub fn bytes(self) -> [u8; 512]
+    pub fn bytes(self) -> [u8; SECTOR]
         ensures { result ≡ self ++ zeros (SECTOR - length self) }
     {
         let Page { bytes, len: _ } = self;

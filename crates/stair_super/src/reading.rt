@@ -12,16 +12,16 @@ use crate::label::Label;
 use crate::mark::Mark;
 use crate::version::Version;
 use crate::writing::written;
-use stair_base::Geometry;
+use stair_base::{Geometry, SECTOR};
 
-fn u32_at(bytes: &[u8; 512], at: usize) -> u32
+fn u32_at(bytes: &[u8; SECTOR], at: usize) -> u32
     requires { at + 4 ≤ SECTOR }
     ensures { result ≡ from_be_bytes w32 (take 4 (drop at bytes.now)) }
 {
     u32::from_be_bytes([bytes[at], bytes[at + 1], bytes[at + 2], bytes[at + 3]])
 }
 
-fn u64_at(bytes: &[u8; 512], at: usize) -> u64
+fn u64_at(bytes: &[u8; SECTOR], at: usize) -> u64
     requires { at + 8 ≤ SECTOR }
     ensures { result ≡ from_be_bytes w64 (take 8 (drop at bytes.now)) }
 {
@@ -30,7 +30,7 @@ fn u64_at(bytes: &[u8; 512], at: usize) -> u64
     u64::from_be_bytes(number)
 }
 
-fn id_of(bytes: &[u8; 512]) -> [u8; 16]
+fn id_of(bytes: &[u8; SECTOR]) -> [u8; 16]
     ensures { result ≡ take 16 (drop 8 bytes.now) }
 {
     let mut id = [0; 16];
@@ -39,7 +39,7 @@ fn id_of(bytes: &[u8; 512]) -> [u8; 16]
 }
 
 /// The 32 bytes from byte 28 on.
-fn coverage_of(bytes: &[u8; 512]) -> [u64; 32]
+fn coverage_of(bytes: &[u8; SECTOR]) -> [u64; 32]
     ensures { result ≡ take 32 (drop 28 bytes.now) }
 {
     widened(&bytes[28..60])
@@ -56,7 +56,7 @@ fn widened(bytes: &[u8]) -> [u64; 32]
     e
 }
 
-fn geometry_of(bytes: &[u8; 512]) -> Option<Geometry>
+fn geometry_of(bytes: &[u8; SECTOR]) -> Option<Geometry>
     ensures { (s : Superblock) → SpellsSuperblock bytes.now s → result ≡ Some s.array.geometry }
 {
     let classes = usize::from(bytes[27]);
@@ -86,7 +86,7 @@ fn mark_of(byte: u8) -> Option<Mark>
 }
 
 /// The mark of a slot below 32 in an array of n slots.
-fn mark_in(bytes: &[u8; 512], n: usize, slot: usize) -> Option<Mark>
+fn mark_in(bytes: &[u8; SECTOR], n: usize, slot: usize) -> Option<Mark>
     requires { slot < 32 }
     ensures { (s : Superblock) → SpellsSuperblock bytes.now s → n ≡ s.array.geometry.n →
         result ≡ Some (mark_at s slot) }
@@ -98,7 +98,7 @@ fn mark_in(bytes: &[u8; 512], n: usize, slot: usize) -> Option<Mark>
     }
 }
 
-fn joined_in(bytes: &[u8; 512], n: usize, slot: usize) -> u64
+fn joined_in(bytes: &[u8; SECTOR], n: usize, slot: usize) -> u64
     requires { slot < 32 }
     ensures { (s : Superblock) → SpellsSuperblock bytes.now s → n ≡ s.array.geometry.n →
         result ≡ joined_at s slot }
@@ -110,7 +110,7 @@ fn joined_in(bytes: &[u8; 512], n: usize, slot: usize) -> u64
     }
 }
 
-fn marks_of(bytes: &[u8; 512], n: usize) -> Option<[Mark; 32]>
+fn marks_of(bytes: &[u8; SECTOR], n: usize) -> Option<[Mark; 32]>
     ensures { (s : Superblock) → SpellsSuperblock bytes.now s → n ≡ s.array.geometry.n →
         result ≡ Some s.array.marks }
 {
@@ -121,7 +121,7 @@ fn marks_of(bytes: &[u8; 512], n: usize) -> Option<[Mark; 32]>
     Some(marks)
 }
 
-fn joins_of(bytes: &[u8; 512], n: usize) -> [u64; 32]
+fn joins_of(bytes: &[u8; SECTOR], n: usize) -> [u64; 32]
     ensures { (s : Superblock) → SpellsSuperblock bytes.now s → n ≡ s.array.geometry.n →
         result ≡ s.array.joins }
 {
@@ -164,7 +164,7 @@ fn are_down_from(marks: &[Mark; 32], n: usize) -> bool
     true
 }
 
-fn version_of(bytes: &[u8; 512]) -> Option<Version>
+fn version_of(bytes: &[u8; SECTOR]) -> Option<Version>
     ensures { (s : Superblock) (spells : SpellsSuperblock bytes.now s) →
         result ≡ Some spells.version }
 {
@@ -175,7 +175,7 @@ fn version_of(bytes: &[u8; 512]) -> Option<Version>
     }
 }
 
-fn frozen_in(bytes: &[u8; 512], version: Version) -> bool
+fn frozen_in(bytes: &[u8; SECTOR], version: Version) -> bool
     ensures first { version ≡ One → result ≡ false }
     ensures read { (s : Superblock) (spells : SpellsSuperblock bytes.now s) →
         version ≡ spells.version → result ≡ s.array.frozen }
@@ -186,7 +186,7 @@ fn frozen_in(bytes: &[u8; 512], version: Version) -> bool
     }
 }
 
-fn label_in(bytes: &[u8; 512], version: Version) -> Option<Label>
+fn label_in(bytes: &[u8; SECTOR], version: Version) -> Option<Label>
     ensures first { version ≡ One → result ≡ Some [] }
     ensures read { (s : Superblock) (spells : SpellsSuperblock bytes.now s) →
         version ≡ spells.version → result ≡ Some s.array.label }
@@ -204,7 +204,7 @@ fn label_in(bytes: &[u8; 512], version: Version) -> Option<Label>
 }
 
 /// What the epoch names, where all its fields can be read.
-fn array_of(bytes: &[u8; 512], version: Version) -> Option<Configuration>
+fn array_of(bytes: &[u8; SECTOR], version: Version) -> Option<Configuration>
     ensures said { IfSome result (λ array. CanSay version array) }
     ensures read { (s : Superblock) (spells : SpellsSuperblock bytes.now s) →
         version ≡ spells.version → result ≡ Some s.array }
@@ -243,7 +243,7 @@ fn is_well_formed(array: &Configuration, slot: u8, joined: u64, draw: u64) -> bo
 
 /// The well-formed superblock whose fields stand at their places, where there is one. The bytes between them aren't
 /// looked at.
-fn fields_of(bytes: &[u8; 512], version: Version) -> Option<Super>
+fn fields_of(bytes: &[u8; SECTOR], version: Version) -> Option<Super>
     ensures said { IfSome result (λ s. CanSay version s.array) }
     ensures read { (s : Superblock) (spells : SpellsSuperblock bytes.now s) →
         version ≡ spells.version → result ≡ Some s }
@@ -260,7 +260,7 @@ fn fields_of(bytes: &[u8; 512], version: Version) -> Option<Super>
 }
 
 /// Whether the bytes are those of the superblock in this version, none left unlooked at.
-fn is_spelled(bytes: &[u8; 512], version: Version, block: &Super) -> bool
+fn is_spelled(bytes: &[u8; SECTOR], version: Version, block: &Super) -> bool
     ensures { IsTrue result ↔ (bytes.now ≡ spelled_in version block.now) }
 {
     written(version, block) == *bytes
@@ -270,7 +270,7 @@ fn is_spelled(bytes: &[u8; 512], version: Version, block: &Super) -> bool
 ///
 /// [`write_super`](crate::write_super) gives the table of the bytes, and [`Super`] says when a superblock is well
 /// formed. One of version 1 isn't frozen, and its label is empty.
-pub fn read_super(bytes: &[u8; 512]) -> Option<Super>
+pub fn read_super(bytes: &[u8; SECTOR]) -> Option<Super>
     ensures ok { IfSome result (λ s. SpellsSuperblock bytes.now s) }
     ensures read { (s : Superblock) → SpellsSuperblock bytes.now s → result ≡ Some s }
     ensures none { result ≡ None → (s : Superblock) → ¬ SpellsSuperblock bytes.now s }

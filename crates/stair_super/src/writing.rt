@@ -8,7 +8,7 @@ use crate::label::Label;
 use crate::mark::Mark;
 use crate::page::Page;
 use crate::version::Version;
-use stair_base::Geometry;
+use stair_base::{Geometry, SECTOR};
 
 fn code_of(mark: Mark) -> u8
     ensures { result ≡ code mark }
@@ -121,7 +121,7 @@ fn put_magic(page: &mut Page, version: Version)
 }
 
 /// The bytes of a superblock in this version. Version 1 leaves the frozen mark and the label out.
-pub fn written(version: Version, block: &Super) -> [u8; 512]
+pub fn written(version: Version, block: &Super) -> [u8; SECTOR]
     ensures { result ≡ spelled_in version block.now }
 {
     let mut page = Page::new();
@@ -152,7 +152,7 @@ pub fn written(version: Version, block: &Super) -> [u8; 512]
 /// | from 386 on | the label |
 ///
 /// This is version 2. [`write_super_v1`] writes version 1.
-pub fn write_super(block: &Super) -> [u8; 512]
+pub fn write_super(block: &Super) -> [u8; SECTOR]
     ensures text { result ≡ spelled block.now }
     ensures spells { SpellsSuperblock result block.now }
 {
@@ -163,7 +163,7 @@ pub fn write_super(block: &Super) -> [u8; 512]
 
 /// The bytes of a superblock in version 1 of the format, for arrays that older programs are to read. It begins with
 /// `STAIRSB1` and has nothing from byte 384 on, so the array may be neither frozen nor labelled.
-pub fn write_super_v1(block: &Super) -> [u8; 512]
+pub fn write_super_v1(block: &Super) -> [u8; SECTOR]
     requires { IsPlain block.now.array }
     ensures text { result ≡ spelled_in One block.now }
     ensures spells { SpellsSuperblock result block.now }

@@ -49,10 +49,27 @@ cell_start steps d sum none = rw none (omega arith)
 pub cell_none : (old now d sum next : ℕ) → now ≡ old + d * sum → next ≡ sum + 0 → now ≡ old + d * next
 cell_none old now d sum next before is = rw is (omega (arith, before))
 
-pub cell_more : (old now new d sum next : ℕ) → now ≡ old + d * sum → new ≡ now + d * 1 → next ≡ sum + 1 → new ≡ old + d * next
-cell_more old now new d sum next before step is = rw is (omega (arith, before, step))
+-- a stretch of erased cells, and a cell behind it that isn't erased
+pub stretch_counted : (f : ℕ → ℕ) (start k : ℕ) → ((p : ℕ) → start ≤ p → p < start + k → f p ≡ 1) → sum_below (start + k) f ≡ sum_below start f + k
+stretch_counted f start zero ones =
+    let none : start + 0 ≡ start = omega arith in
+    let same : sum_below (start + 0) f ≡ sum_below start f = ap (λ n. sum_below n f) none in
+    omega (arith, same)
+stretch_counted f start (suc k) ones =
+    let next : start + suc k ≡ suc (start + k) = omega arith in
+    let same : sum_below (start + suc k) f ≡ sum_below (suc (start + k)) f = ap (λ n. sum_below n f) next in
+    let last : f (start + k) ≡ 1 = ones (start + k) (omega arith) (omega arith) in
+    let earlier : sum_below (start + k) f ≡ sum_below start f + k = stretch_counted f start k (λ p above below. ones p above (omega arith)) in
+    let more : sum_below (suc (start + k)) f ≡ sum_below (start + k) f + f (start + k) = sum_below_more (start + k) f in
+    omega (arith, same, last, earlier, more)
 
--- and rows
+-- and between two places
+pub stretch_between : (f : ℕ → ℕ) (from to : ℕ) → from ≤ to → ((p : ℕ) → from ≤ p → p < to → f p ≡ 1) → sum_below to f ≡ sum_below from f + (to - from)
+stretch_between f from to rising ones =
+    let end : from + (to - from) ≡ to = omega arith in
+    sym (ap (λ n. sum_below n f) end) ∙ stretch_counted f from (to - from) (λ p above below. ones p above (omega arith))
+
+-- and the steps for them; and for a row
 pub row_more : (old now new d sum row next : ℕ) → now ≡ old + d * sum → new ≡ now + d * row → next ≡ sum + row → new ≡ old + d * next
 row_more old now new d sum row next before step is = rw is (omega (arith, before, step))
 

@@ -60,6 +60,15 @@ FindsLastChunks erased columns old new =
     ((p i : ℕ) → old.geometry.m ≤ p → p < old.geometry.n → i < old.geometry.r →
     IsFound x new i (slice_index columns p))
 
+-- the cells of a row in the chunks from this place on and before that one are found where they were in those from place m on
+abbrev pub FindsStretch : List ℕ → ℕ → ℕ → ℕ → CanonicalStripe → CanonicalStripe → Type 0
+FindsStretch columns row from to old new =
+    (x : ℕ → Word) → AreCanonical old.geometry x →
+    ((p : ℕ) → old.geometry.m ≤ p → p < old.geometry.n →
+    IsFound x old row (slice_index columns p)) →
+    StaysFound x old new × ((p : ℕ) → from ≤ p → p < to →
+    IsFound x new row (slice_index columns p))
+
 -- all cells of a row are found where they were in the chunks from place m on of the order
 abbrev pub FindsRow : CellSet → List ℕ → ℕ → CanonicalStripe → CanonicalStripe → Type 0
 FindsRow erased columns row old new =

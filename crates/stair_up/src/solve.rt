@@ -1,11 +1,11 @@
 ghost use Rattle.std.specs.Prelude.{◌≡◌, ℕ, ◌+◌, ◌-◌, ◌*◌, ◌<◌, ◌≤◌, List, slice_index};
-ghost use Rattle.stair_model.specs.CellSet.{IsInStripe, cell_count, count_in_slot};
+ghost use Rattle.stair_model.specs.CellSet.{HasCell, IsInStripe, cell_count, count_in_slot};
 ghost use Rattle.stair_model.specs.Coverage.{AreSortedCounts, HasCoveredChunks, IsCovered};
 ghost use Rattle.stair_model.specs.Geometry.{IsWithinLimits, data_chunks, greatest_coverage};
 ghost use Rattle.stair_model.specs.Restoring.{SameHeld};
 ghost use Rattle.stair_model.specs.Stripe.{IsStripeOf, IsWellFormed};
 ghost use Rattle.stair_up.specs.Order.{IsOrderOf, count_at, erased_in_last, erased_in_row};
-ghost use Rattle.stair_up.specs.SolveSteps.{FindsCells, FindsChunk, FindsLastChunks, FindsRow, FindsStripe, FindsVirtualRows, Keeps};
+ghost use Rattle.stair_up.specs.SolveSteps.{FindsCells, FindsChunk, FindsLastChunks, FindsRow, FindsStretch, FindsStripe, FindsVirtualRows, Keeps};
 
 use crate::light_rows::solve_light_rows;
 use crate::order::Order;
@@ -183,7 +183,8 @@ fn solve_chunk<L: Ledger>(
     canon.solve_chunk(u16::from(slot), &rows[..known], &rows[known..end], steps);
 }
 
-/// Solves the erased cells in this row of the first m chunks of the order, from all other chunks.
+/// Solves the erased cells in this row of the first m chunks of the order, from all other chunks: those of chunks that stand
+/// beside each other in the order at once.
 fn solve_first_cells<L: Ledger>(canon: &mut Canon, order: &Order, row: u8, steps: &mut Steps<L>)
     requires order { IsOrderOf canon.old.geometry order.now }
     requires row { row < canon.old.geometry.r }
@@ -194,12 +195,40 @@ fn solve_first_cells<L: Ledger>(canon: &mut Canon, order: &Order, row: u8, steps
 {
     let geometry = canon.geometry();
     let m = usize::from(geometry.m());
-    let n = usize::from(geometry.n());
+    let mut start = 0;
     for place in 0..m {
-        if order.erased.has(row, order.slot_at(&geometry, place)) {
-            let known = &order.columns[m..n];
-            let wanted = &order.columns[place..place + 1];
-            canon.solve_row(u16::from(row), known, wanted, steps);
+        if !order.erased.has(row, order.slot_at(&geometry, place)) {
+            solve_stretch(canon, order, row, start, place, steps);
+            start = place + 1;
         }
     }
+    solve_stretch(canon, order, row, start, m, steps);
+}
+
+/// Solves the cells in this row of the chunks from place `from` of the order up to `to`, which are among the first m and
+/// erased, from all chunks behind the first m.
+fn solve_stretch<L: Ledger>(
+    canon: &mut Canon,
+    order: &Order,
+    row: u8,
+    from: usize,
+    to: usize,
+    steps: &mut Steps<L>,
+)
+    requires order { IsOrderOf canon.old.geometry order.now }
+    requires row { row < canon.old.geometry.r }
+    requires from { from ≤ to }
+    requires to { to ≤ canon.old.geometry.m }
+    requires erased { (p : ℕ) → from ≤ p → p < to →
+        HasCell order.now.erased row (slice_index order.now.columns p) }
+    ensures kept { Keeps order.now.erased canon.old canon.new }
+    ensures found { FindsStretch order.now.columns row from to canon.old canon.new }
+    ensures cost { steps.new ≡ steps.old + data_chunks canon.old.geometry * (to - from) }
+{
+    if from == to {
+        return;
+    }
+    let geometry = canon.geometry();
+    let known = &order.columns[usize::from(geometry.m())..usize::from(geometry.n())];
+    canon.solve_row(u16::from(row), known, &order.columns[from..to], steps);
 }

@@ -6,12 +6,13 @@ ghost use Rattle.stair_volume.specs.Page.{HasTable, HasEntries, HasNoName, entry
 use crate::extent::{Entry, Extent};
 use crate::table::{TABLE_LIMIT, Table, no_entries};
 use crate::writing::write_table;
+use stair_base::SECTOR;
 use stair_conf::{NAME_LIMIT, Name};
 
 /// The table that these bytes are, of an array of so many blocks, or None where they aren't those of a well-formed one.
 ///
 /// [`write_table`] gives the table of the bytes, and [`Table`] says when a table is well formed.
-pub fn read_table(blocks: u64, bytes: &[u8; 512]) -> Option<Table>
+pub fn read_table(blocks: u64, bytes: &[u8; SECTOR]) -> Option<Table>
     requires { blocks ≤ 4194304 }
     ensures value { result ≡ table_of blocks bytes.now }
     ensures exact { (table : Volumes) → (result ≡ Some table) ↔ HasTable blocks bytes.now table }
@@ -30,7 +31,7 @@ pub fn read_table(blocks: u64, bytes: &[u8; 512]) -> Option<Table>
 }
 
 // The first entries, where each has a name. The bytes between their fields aren't looked at.
-fn read_entries(bytes: &[u8; 512], len: usize) -> Option<[Entry; TABLE_LIMIT]>
+fn read_entries(bytes: &[u8; SECTOR], len: usize) -> Option<[Entry; TABLE_LIMIT]>
     requires { len ≤ 15 }
     ensures { MatchOption result (HasNoName bytes.now len)
         (λ entries. HasEntries bytes.now len entries) }
@@ -43,7 +44,7 @@ fn read_entries(bytes: &[u8; 512], len: usize) -> Option<[Entry; TABLE_LIMIT]>
 }
 
 // Entry k, where it has a name.
-fn read_entry(bytes: &[u8; 512], k: usize) -> Option<Entry>
+fn read_entry(bytes: &[u8; SECTOR], k: usize) -> Option<Entry>
     requires { k < 15 }
     ensures { MatchOption result (¬ IsName (entry_in bytes.now k).name)
         (λ entry. entry ≡ entry_in bytes.now k) }
@@ -63,7 +64,7 @@ fn read_entry(bytes: &[u8; 512], k: usize) -> Option<Entry>
     })
 }
 
-fn u32_at(bytes: &[u8; 512], at: usize) -> u32
+fn u32_at(bytes: &[u8; SECTOR], at: usize) -> u32
     requires { at + 4 ≤ 512 }
     ensures { result ≡ number_at at bytes.now }
 {

@@ -3,6 +3,7 @@ ghost use Rattle.stair_volume.specs.Page.{entry_bytes as entry_as_bytes, table_b
 
 use crate::extent::Entry;
 use crate::table::Table;
+use stair_base::SECTOR;
 
 /// The bytes of a table, which are block 0 of its array. Numbers are big-endian.
 ///
@@ -16,11 +17,11 @@ use crate::table::Table;
 /// | 60 + 32·k to 63 + 32·k | how many blocks it has |
 ///
 /// All else is zero.
-pub fn write_table(table: &Table) -> [u8; 512]
+pub fn write_table(table: &Table) -> [u8; SECTOR]
     ensures { result ≡ table_bytes table.now.entries }
 {
     let entries = table.entries();
-    let mut bytes = [0; 512];
+    let mut bytes = [0; SECTOR];
     put(&mut bytes, 0, b"STAIRVT1");
     put(&mut bytes, 8, &[entries.len() as u8]);
     for (k, entry) in entries.iter().enumerate() {

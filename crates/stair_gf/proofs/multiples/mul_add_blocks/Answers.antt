@@ -9,5 +9,5 @@ pub loop-block-preserved : goal.loop-block-preserved
 loop-block-preserved c =
     AddsMultipleWithin-block _ _ _ _ _ _ c.loop-block.block c.loop-block.invariant
     (AreLanes-same (AreLanes-zip2 bit_xor c.load.ensures c.times.ensures)
-    (λ k h. ap (λ byte. bit_xor (slice_index c.loop-block.into (32 * c.loop-block.block + k)) (product c.args.by.now byte)) (c.load-in-loop-block.ensures.lane k h)))
+    (λ k h. ap (λ byte. bit_xor (slice_index c.loop-block.into (64 * c.loop-block.block + k)) (product c.args.by.now byte)) (c.load-in-loop-block.ensures.lane k h)))
     c.store.ensures

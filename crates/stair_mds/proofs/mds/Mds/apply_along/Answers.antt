@@ -1,137 +1,73 @@
--- Two wanted places more, one more, and all of them.
-use Rattle.std.proofs.Common.{◌≡◌, List, ℕ, ◌+◌, ◌*◌, ◌<◌, length, slice_index, subst, sym, ap, ◌∙◌, arith, take}
+-- All wanted places are solved at once, from the known ones that are read.
+use Rattle.std.proofs.Common.{◌≡◌, List, ℕ, ◌≤◌, length, subst, sym, ap, ◌∙◌, arith, take}
 use Rattle.std.specs.Prelude.{All}
+use Rattle.std.proofs.lemmas.List.{length-take-le}
 use Rattle.stair_model.specs.Stripe.{IsSector}
-use Rattle.stair_gf.specs.AddsMultiples.{AreOtherPlaces}
+use Rattle.stair_gf.specs.SetsSums.{SetsSums}
 use Rattle.stair_mds.specs.Kept.{HasPattern}
-use Rattle.stair_mds.specs.Solving.{Code, IsPrepared, along}
-use Rattle.stair_mds.proofs.Pattern.{AreOtherPlaces-along, AreReadSymbols, AreReadSymbols-take, HasSolved-one, HasSolved-two}
-use Rattle.stair_mds.proofs.SolvedSoFar.{HasSolved, SolvesAlong-all, along_once}
+use Rattle.stair_mds.specs.Solving.{Code, IsPrepared}
+use Rattle.stair_mds.proofs.Pattern.{AreApart-along, AreReadSymbols, AreReadSymbols-take, HasSolved-sums}
+use Rattle.stair_mds.proofs.Room.{wanted_few}
+use Rattle.stair_mds.proofs.SolvedSoFar.{SolvesAlong-all}
 use Rattle.stair_mds.proofs.mds.Mds.apply_along.Goals as goal
 
-pub sum_up_two-requires-clause-from_one : goal.sum_up_two-requires-clause-from_one
-sum_up_two-requires-clause-from_one g c =
+pub symbols-into-requires-clause-few : goal.symbols-into-requires-clause-few
+symbols-into-requires-clause-few g c =
     let code = c.args.self.now in
     let items = c.self.inside.coefficients.items in
-    let held : c.self.inside.held ≡ code.shape.held = ap (λ s. s.shape.held) c.self.view_is in
-    let known : c.deref.result.now ≡ code.known = c.deref.ensures.value ∙ ap (λ s. s.known) c.self.view_is in
-    let wanted : c.as_slice-wanted.result.now ≡ code.wanted = c.as_slice-wanted.ensures.value ∙ ap (λ s. s.wanted) c.self.view_is in
     let pattern : HasPattern code items =
     subst (λ (x : Code). IsPrepared x → HasPattern x items) c.self.view_is c.self.invariant.pattern c.requires.prepared in
-    let symbols : AreReadSymbols c.args.line c.args.read code.known (take c.args.read c.symbols-from.result) =
-    AreReadSymbols-take c.args.line c.args.read code.known c.deref.result.now c.symbols-from.result known c.requires.read
-    (omega (arith, c.requires.read, pattern.known.count, held, c.self.invariant.few, c.symbols-from.ensures.count)) c.symbols-from.ensures.each in
-    let others : AreOtherPlaces (length c.args.work.now) c.symbol-one.result (take c.args.read c.symbols-from.result) =
-    AreOtherPlaces-along code.shape c.args.line (length c.args.work.now) c.args.read code.known code.wanted _ (2 * c.loop-pair.pair) c.symbol-one.result
-    pattern.known pattern.wanted c.requires.line c.requires.read (omega (arith, ap length wanted, c.loop-pair-test.true)) symbols
-    (c.symbol-one.ensures ∙ ap (λ (x : List ℕ). along c.args.line (slice_index x (2 * c.loop-pair.pair))) wanted) in
-    rw c.loop-pair.invariant.solved.count others
+    let few : length code.wanted ≤ 32 =
+    wanted_few code.shape code.known code.wanted pattern.known pattern.wanted _ _ (ap (λ s. s.shape.held) c.self.view_is)
+    (ap (λ s. s.shape.total) c.self.view_is) c.self.invariant.few_wanted in
+    omega (arith, few, ap length (c.deref-2.ensures.value ∙ ap (λ s. s.wanted) c.self.view_is))
 
-pub sum_up_two-requires-clause-from_two : goal.sum_up_two-requires-clause-from_two
-sum_up_two-requires-clause-from_two g c =
+pub slice_bounds-into-end : goal.slice_bounds-into-end
+slice_bounds-into-end g c =
     let code = c.args.self.now in
     let items = c.self.inside.coefficients.items in
-    let held : c.self.inside.held ≡ code.shape.held = ap (λ s. s.shape.held) c.self.view_is in
-    let known : c.deref.result.now ≡ code.known = c.deref.ensures.value ∙ ap (λ s. s.known) c.self.view_is in
-    let wanted : c.as_slice-wanted.result.now ≡ code.wanted = c.as_slice-wanted.ensures.value ∙ ap (λ s. s.wanted) c.self.view_is in
     let pattern : HasPattern code items =
     subst (λ (x : Code). IsPrepared x → HasPattern x items) c.self.view_is c.self.invariant.pattern c.requires.prepared in
-    let symbols : AreReadSymbols c.args.line c.args.read code.known (take c.args.read c.symbols-from.result) =
-    AreReadSymbols-take c.args.line c.args.read code.known c.deref.result.now c.symbols-from.result known c.requires.read
-    (omega (arith, c.requires.read, pattern.known.count, held, c.self.invariant.few, c.symbols-from.ensures.count)) c.symbols-from.ensures.each in
-    let others : AreOtherPlaces (length c.args.work.now) c.symbol-two.result (take c.args.read c.symbols-from.result) =
-    AreOtherPlaces-along code.shape c.args.line (length c.args.work.now) c.args.read code.known code.wanted _ (2 * c.loop-pair.pair + 1) c.symbol-two.result
-    pattern.known pattern.wanted c.requires.line c.requires.read (omega (arith, ap length wanted, c.loop-pair-test.true)) symbols
-    (c.symbol-two.ensures ∙ ap (λ (x : List ℕ). along c.args.line (slice_index x (2 * c.loop-pair.pair + 1))) wanted) in
-    rw c.loop-pair.invariant.solved.count others
+    let few : length code.wanted ≤ 32 =
+    wanted_few code.shape code.known code.wanted pattern.known pattern.wanted _ _ (ap (λ s. s.shape.held) c.self.view_is)
+    (ap (λ s. s.shape.total) c.self.view_is) c.self.invariant.few_wanted in
+    let all : c.len-wanted.result ≡ length code.wanted =
+    c.len-wanted.ensures ∙ c.self.inside.wanted.ok.0 ∙ ap (λ s. length s.wanted) c.self.view_is in
+    omega (arith, few, all, c.symbols-into.ensures.count)
 
-pub sum_up_two-requires-clause-apart : goal.sum_up_two-requires-clause-apart
-sum_up_two-requires-clause-apart g c same =
+pub slice_bounds-sum_up-end : goal.slice_bounds-sum_up-end
+slice_bounds-sum_up-end g c =
     let code = c.args.self.now in
     let items = c.self.inside.coefficients.items in
-    let held : c.self.inside.held ≡ code.shape.held = ap (λ s. s.shape.held) c.self.view_is in
-    let known : c.deref.result.now ≡ code.known = c.deref.ensures.value ∙ ap (λ s. s.known) c.self.view_is in
-    let wanted : c.as_slice-wanted.result.now ≡ code.wanted = c.as_slice-wanted.ensures.value ∙ ap (λ s. s.wanted) c.self.view_is in
     let pattern : HasPattern code items =
     subst (λ (x : Code). IsPrepared x → HasPattern x items) c.self.view_is c.self.invariant.pattern c.requires.prepared in
-    let symbols : AreReadSymbols c.args.line c.args.read code.known (take c.args.read c.symbols-from.result) =
-    AreReadSymbols-take c.args.line c.args.read code.known c.deref.result.now c.symbols-from.result known c.requires.read
-    (omega (arith, c.requires.read, pattern.known.count, held, c.self.invariant.few, c.symbols-from.ensures.count)) c.symbols-from.ensures.each in
-    let first = 2 * c.loop-pair.pair in
-    let below : first + 1 < length code.wanted = omega (arith, ap length wanted, c.loop-pair-test.true) in
-    let equal : first ≡ first + 1 =
-    pattern.wanted.distinct first (first + 1) (omega (arith, below)) below
-    (along_once c.args.line _ _ c.requires.line.apart
-    (sym (c.symbol-one.ensures ∙ ap (λ (x : List ℕ). along c.args.line (slice_index x first)) wanted)
-    ∙ same ∙ c.symbol-two.ensures ∙ ap (λ (x : List ℕ). along c.args.line (slice_index x (first + 1))) wanted)) in
-    omega (arith, equal)
+    let few : length code.wanted ≤ 32 =
+    wanted_few code.shape code.known code.wanted pattern.known pattern.wanted _ _ (ap (λ s. s.shape.held) c.self.view_is)
+    (ap (λ s. s.shape.total) c.self.view_is) c.self.invariant.few_wanted in
+    let all : c.len-wanted.result ≡ length code.wanted =
+    c.len-wanted.ensures ∙ c.self.inside.wanted.ok.0 ∙ ap (λ s. length s.wanted) c.self.view_is in
+    sym (length-take-le c.len-wanted.result c.symbols-into.result (omega (arith, few, all, c.symbols-into.ensures.count)))
 
-pub sum_up-requires-clause-from : goal.sum_up-requires-clause-from
-sum_up-requires-clause-from g c =
+pub sum_up-requires-clause-apart : goal.sum_up-requires-clause-apart
+sum_up-requires-clause-apart g c =
     let code = c.args.self.now in
     let items = c.self.inside.coefficients.items in
     let held : c.self.inside.held ≡ code.shape.held = ap (λ s. s.shape.held) c.self.view_is in
     let known : c.deref.result.now ≡ code.known = c.deref.ensures.value ∙ ap (λ s. s.known) c.self.view_is in
-    let wanted : c.as_slice-wanted.result.now ≡ code.wanted = c.as_slice-wanted.ensures.value ∙ ap (λ s. s.wanted) c.self.view_is in
+    let wanted : c.deref-2.result.now ≡ code.wanted = c.deref-2.ensures.value ∙ ap (λ s. s.wanted) c.self.view_is in
+    let all : c.len-wanted.result ≡ length code.wanted =
+    c.len-wanted.ensures ∙ c.self.inside.wanted.ok.0 ∙ ap (λ s. length s.wanted) c.self.view_is in
     let pattern : HasPattern code items =
     subst (λ (x : Code). IsPrepared x → HasPattern x items) c.self.view_is c.self.invariant.pattern c.requires.prepared in
-    let symbols : AreReadSymbols c.args.line c.args.read code.known (take c.args.read c.symbols-from.result) =
-    AreReadSymbols-take c.args.line c.args.read code.known c.deref.result.now c.symbols-from.result known c.requires.read
-    (omega (arith, c.requires.read, pattern.known.count, held, c.self.invariant.few, c.symbols-from.ensures.count)) c.symbols-from.ensures.each in
-    let others : AreOtherPlaces (length c.args.work.now) c.symbol-place.result (take c.args.read c.symbols-from.result) =
-    AreOtherPlaces-along code.shape c.args.line (length c.args.work.now) c.args.read code.known code.wanted _ (c.loop-number.number) c.symbol-place.result
-    pattern.known pattern.wanted c.requires.line c.requires.read (omega (arith, ap length wanted, c.loop-number-test.true)) symbols
-    (c.symbol-place.ensures ∙ ap (λ (x : List ℕ). along c.args.line (slice_index x (c.loop-number.number))) wanted) in
-    rw c.loop-number.invariant.solved.count others
-
-pub loop-pair-preserved : goal.loop-pair-preserved
-loop-pair-preserved g c =
-    let code = c.args.self.now in
-    let items = c.self.inside.coefficients.items in
-    let held : c.self.inside.held ≡ code.shape.held = ap (λ s. s.shape.held) c.self.view_is in
-    let known : c.deref.result.now ≡ code.known = c.deref.ensures.value ∙ ap (λ s. s.known) c.self.view_is in
-    let wanted : c.as_slice-wanted.result.now ≡ code.wanted = c.as_slice-wanted.ensures.value ∙ ap (λ s. s.wanted) c.self.view_is in
-    let pattern : HasPattern code items =
-    subst (λ (x : Code). IsPrepared x → HasPattern x items) c.self.view_is c.self.invariant.pattern c.requires.prepared in
-    let symbols : AreReadSymbols c.args.line c.args.read code.known (take c.args.read c.symbols-from.result) =
-    AreReadSymbols-take c.args.line c.args.read code.known c.deref.result.now c.symbols-from.result known c.requires.read
-    (omega (arith, c.requires.read, pattern.known.count, held, c.self.invariant.few, c.symbols-from.ensures.count)) c.symbols-from.ensures.each in
-    let first = 2 * c.loop-pair.pair in
-    let below : first + 1 < length code.wanted = omega (arith, ap length wanted, c.loop-pair-test.true) in
-    let next : first + 2 ≡ 2 * (c.loop-pair.pair + 1) = omega arith in
-    record {
-      solved =
-          subst (λ (k : ℕ). HasSolved code.shape c.args.line c.args.read code.known code.wanted c.args.work.now c.sum_up_two.new.self k) next
-          (HasSolved-two code.shape c.args.line c.args.read code.known code.wanted _ _ _ c.args.work.now c.loop-pair.work c.sum_up_two.new.self first
-          c.symbol-one.result c.symbol-two.result pattern.wanted c.requires.line.apart c.requires.read symbols below
-          (c.symbol-one.ensures ∙ ap (λ (x : List ℕ). along c.args.line (slice_index x first)) wanted)
-          (c.symbol-two.ensures ∙ ap (λ (x : List ℕ). along c.args.line (slice_index x (first + 1))) wanted)
-          c.factors-by_one.ensures.each c.factors-by_two.ensures.each c.sum_up_two.ensures c.loop-pair.invariant.solved);
-      cost = omega (arith, c.take_steps.ensures, c.loop-pair.invariant.cost, c.from-held.ensures, held, pattern.known.count);
-    }
-
-pub loop-number-preserved : goal.loop-number-preserved
-loop-number-preserved g c =
-    let code = c.args.self.now in
-    let items = c.self.inside.coefficients.items in
-    let held : c.self.inside.held ≡ code.shape.held = ap (λ s. s.shape.held) c.self.view_is in
-    let known : c.deref.result.now ≡ code.known = c.deref.ensures.value ∙ ap (λ s. s.known) c.self.view_is in
-    let wanted : c.as_slice-wanted.result.now ≡ code.wanted = c.as_slice-wanted.ensures.value ∙ ap (λ s. s.wanted) c.self.view_is in
-    let pattern : HasPattern code items =
-    subst (λ (x : Code). IsPrepared x → HasPattern x items) c.self.view_is c.self.invariant.pattern c.requires.prepared in
-    let symbols : AreReadSymbols c.args.line c.args.read code.known (take c.args.read c.symbols-from.result) =
-    AreReadSymbols-take c.args.line c.args.read code.known c.deref.result.now c.symbols-from.result known c.requires.read
-    (omega (arith, c.requires.read, pattern.known.count, held, c.self.invariant.few, c.symbols-from.ensures.count)) c.symbols-from.ensures.each in
-    let number = c.loop-number.number in
-    let below : number < length code.wanted = omega (arith, ap length wanted, c.loop-number-test.true) in
-    record {
-      solved =
-          HasSolved-one code.shape c.args.line c.args.read code.known code.wanted _ _ c.args.work.now c.loop-number.work c.sum_up.new.self number
-          c.symbol-place.result pattern.wanted c.requires.line.apart c.requires.read symbols below
-          (c.symbol-place.ensures ∙ ap (λ (x : List ℕ). along c.args.line (slice_index x number)) wanted)
-          c.factors.ensures.each c.sum_up.ensures c.loop-number.invariant.solved;
-      cost = omega (arith, c.take_steps-in-loop-number.ensures, c.loop-number.invariant.cost, c.from-held.ensures, held, pattern.known.count);
-    }
+    let few : length code.wanted ≤ 32 =
+    wanted_few code.shape code.known code.wanted pattern.known pattern.wanted _ _ (ap (λ s. s.shape.held) c.self.view_is)
+    (ap (λ s. s.shape.total) c.self.view_is) c.self.invariant.few_wanted in
+    AreApart-along code.shape c.args.line (length c.args.work.now) c.args.read code.known code.wanted _ _ pattern.known pattern.wanted c.requires.line c.requires.read
+    (subst (λ (n : ℕ). AreReadSymbols c.args.line n code.wanted (take c.len-wanted.result c.symbols-into.result)) all
+    (AreReadSymbols-take c.args.line c.len-wanted.result code.wanted c.deref-2.result.now c.symbols-into.result wanted (omega (arith, all))
+    (omega (arith, few, all, c.symbols-into.ensures.count)) c.symbols-into.ensures.each))
+    (AreReadSymbols-take c.args.line c.args.read code.known c.deref.result.now c.symbols-from.result known c.requires.read
+    (omega (arith, c.requires.read, pattern.known.count, held, c.self.invariant.few, c.symbols-from.ensures.count)) c.symbols-from.ensures.each)
 
 pub returns-clause-solved : goal.returns-clause-solved
 returns-clause-solved g c =
@@ -139,14 +75,29 @@ returns-clause-solved g c =
     let items = c.self.inside.coefficients.items in
     let held : c.self.inside.held ≡ code.shape.held = ap (λ s. s.shape.held) c.self.view_is in
     let total : length c.self.inside.weights.items ≡ code.shape.total = sym c.self.inside.weights.ok.0 ∙ ap (λ s. s.shape.total) c.self.view_is in
-    let wanted : c.as_slice-wanted.result.now ≡ code.wanted = c.as_slice-wanted.ensures.value ∙ ap (λ s. s.wanted) c.self.view_is in
-    let kept = c.self.invariant.weights in
+    let known : c.deref.result.now ≡ code.known = c.deref.ensures.value ∙ ap (λ s. s.known) c.self.view_is in
+    let wanted : c.deref-2.result.now ≡ code.wanted = c.deref-2.ensures.value ∙ ap (λ s. s.wanted) c.self.view_is in
+    let all : c.len-wanted.result ≡ length code.wanted =
+    c.len-wanted.ensures ∙ c.self.inside.wanted.ok.0 ∙ ap (λ s. length s.wanted) c.self.view_is in
     let pattern : HasPattern code items =
     subst (λ (x : Code). IsPrepared x → HasPattern x items) c.self.view_is c.self.invariant.pattern c.requires.prepared in
+    let few : length code.wanted ≤ 32 =
+    wanted_few code.shape code.known code.wanted pattern.known pattern.wanted _ _ (ap (λ s. s.shape.held) c.self.view_is)
+    (ap (λ s. s.shape.total) c.self.view_is) c.self.invariant.few_wanted in
     let sectors : All IsSector c.args.work.now = subst (λ (symbols : List (List ℕ)). All IsSector symbols) c.work.view_is c.work.invariant.sectors in
-    let all : c.loop-number.number ≡ length code.wanted =
-    omega (arith, ap length wanted, c.loop-number-test.false, c.loop-number.auto.number-end, c.loop-pair-test.false, c.loop-pair.auto.pair-end) in
-    SolvesAlong-all code.shape c.args.line c.args.read code.known code.wanted c.args.work.now c.loop-number.work
+    let into = take c.len-wanted.result c.symbols-into.result in
+    let from = take c.args.read c.symbols-from.result in
+    let sets : SetsSums c.args.work.now c.sum_up.new.self into from items code.shape.held =
+    subst (λ (by : List ℕ). SetsSums c.args.work.now c.sum_up.new.self into from by code.shape.held) c.deref-3.ensures.value
+    (subst (SetsSums c.args.work.now c.sum_up.new.self into from c.deref-3.result.now) (c.from-held.ensures ∙ held) c.sum_up.ensures) in
+    let kept = c.self.invariant.weights in
+    SolvesAlong-all code.shape c.args.line c.args.read code.known code.wanted c.args.work.now c.sum_up.new.self
     (omega (arith, held, total, kept.within)) (omega (arith, total, kept.bytes))
     pattern.known pattern.wanted c.requires.read c.requires.line sectors
-    (subst (λ (k : ℕ). HasSolved code.shape c.args.line c.args.read code.known code.wanted c.args.work.now c.loop-number.work k) all c.loop-number.invariant.solved)
+    (HasSolved-sums code.shape c.args.line c.args.read code.known code.wanted into from items c.args.work.now c.sum_up.new.self
+    (subst (λ (n : ℕ). AreReadSymbols c.args.line n code.wanted into) all
+    (AreReadSymbols-take c.args.line c.len-wanted.result code.wanted c.deref-2.result.now c.symbols-into.result wanted (omega (arith, all))
+    (omega (arith, few, all, c.symbols-into.ensures.count)) c.symbols-into.ensures.each))
+    (AreReadSymbols-take c.args.line c.args.read code.known c.deref.result.now c.symbols-from.result known c.requires.read
+    (omega (arith, c.requires.read, pattern.known.count, held, c.self.invariant.few, c.symbols-from.ensures.count)) c.symbols-from.ensures.each)
+    pattern.coefficients (omega (arith, c.requires.read, pattern.known.count)) sets)

@@ -1,7 +1,0 @@
--- The pairs of blocks below this one are done.
-use Rattle.std.proofs.Common.{◌*◌}
-use Rattle.stair_gf.specs.AddsMultiples.{AddsMultiplesBelow}
-use Rattle.stair_gf.proofs.multiples.mul_add_sum.Given as goal
-
-abbrev pub invariant-loop-pair : goal.invariant-loop-pair
-invariant-loop-pair l = AddsMultiplesBelow l.initial.symbols l.symbols l.into l.from l.by (64 * l.pair)
