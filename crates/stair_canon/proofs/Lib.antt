@@ -7,3 +7,5 @@ pub mod Solved
 pub mod SolvedRows
 pub mod Places
 pub mod ParityCells
+pub mod Columns
+pub mod Ordering

@@ -3,5 +3,6 @@ pub mod Canonical
 pub mod Solving
 pub mod Along
 pub mod Parities
+pub mod Order
 pub mod Kept
 pub mod Patterns

@@ -6,11 +6,13 @@ ghost use Rattle.stair_model.specs.Geometry.{IsWithinLimits, data_chunks, greate
 ghost use Rattle.stair_model.specs.Stripe.{IsStripeOf, IsWellFormed as IsWellFormedStripe, IsSector, SECTOR, cell, with_cell};
 ghost use Rattle.stair_mds.specs.Solving.{AreWantedPlaces, IsLineOf, along};
 ghost use Rattle.stair_canon.specs.Canonical.{IsKnown, IsWellFormed, number, symbol};
+ghost use Rattle.stair_canon.specs.Order.{IsOrderOf};
 ghost use Rattle.stair_canon.specs.Parities.{AreParities};
 ghost use Rattle.stair_canon.specs.Solving.{ExtendsChunk, Loads, SolvesChunk, SolvesRow, SolvesRows, column_shape, row_shape};
 
 use crate::codes::Codes;
 use crate::known::KnownSymbols;
+use crate::order::Order;
 use crate::parities::parities;
 use stair_base::{CellSet, Geometry, Stripe};
 use stair_gf::Steps;
@@ -29,7 +31,8 @@ pub struct Canon {
     geometry: Geometry,
     row_codes: Codes,
     column_codes: Codes,
-    parities: CellSet,
+    // Of the row parities and the global parities.
+    order: Order,
     // Row by row.
     symbols: KnownSymbols,
 }
@@ -68,7 +71,7 @@ impl Canon {
             geometry: *geometry,
             row_codes: Codes::rows(alloc, geometry.n(), geometry.m(), geometry.classes())?,
             column_codes: Codes::columns(alloc, geometry.r(), geometry.e_max())?,
-            parities: parities(geometry),
+            order: Order::new(geometry, parities(geometry)),
             symbols: KnownSymbols::new(alloc, rows * columns)?,
         })
     }
@@ -80,12 +83,22 @@ impl Canon {
         self.geometry
     }
 
-    /// The cells of its stripe's row parities and global parities.
+    /// Returns the order in which upstairs encoding solves the columns. Its erased cells are the row parities and the global
+    /// parities of the stripe.
+    pub fn order(&self) -> &Order
+        ensures cells { AreParities self.now.geometry result.now.erased }
+        ensures order { IsOrderOf self.now.geometry result.now }
+        ensures limits { IsWithinLimits self.now.geometry }
+    {
+        &self.order
+    }
+
+    /// Returns the cells of its stripe's row parities and global parities.
     pub fn parities(&self) -> &CellSet
         ensures cells { AreParities self.now.geometry result.now }
         ensures limits { IsWithinLimits self.now.geometry }
     {
-        &self.parities
+        &self.order.erased
     }
 
     /// The bytes of the symbol in this row, below r+e_max, of this column, below n+m'. None where it isn't known.

@@ -5,9 +5,11 @@
 #![tactic(auto)]
 
 pub use canon::Canon;
+pub use order::{Order, columns_by_count};
 
 mod canon;
 mod codes;
 mod known;
 pub mod laws;
+mod order;
 mod parities;

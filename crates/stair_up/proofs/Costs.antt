@@ -12,9 +12,10 @@ use Rattle.stair_model.proofs.CountLaws.{sum_below_none, sum_below_more, sum_bel
 use Rattle.stair_model.proofs.GridLaws.{sum_below_exchange}
 use Rattle.stair_model.proofs.SetLaws.{unmarked}
 use Rattle.stair_model.proofs.CoverageLaws.{sorted_same}
-use Rattle.stair_up.specs.Order.{AreInOrder, erased_in_row, erased_in_last}
-use Rattle.stair_up.specs.declared.order.Order.{Order}
-use Rattle.stair_up.proofs.Columns.{sorted_counts, counts_of, counts_of_at}
+use Rattle.stair_canon.specs.Order.{AreInOrder}
+use Rattle.stair_up.specs.ErasedAlong.{erased_in_row, erased_in_last}
+use Rattle.stair_canon.specs.declared.order.Order.{Order}
+use Rattle.stair_canon.proofs.Columns.{sorted_counts, counts_of, counts_of_at}
 
 -- ---- steps
 

@@ -10,11 +10,11 @@ use Rattle.stair_model.specs.Codeword.{Word}
 use Rattle.stair_mds.specs.Solving.{AreWantedPlaces}
 use Rattle.stair_canon.specs.Canonical.{CanonicalStripe}
 use Rattle.stair_canon.specs.Solving.{SolvesRow, row_shape}
-use Rattle.stair_up.specs.Order.{AreInOrder}
+use Rattle.stair_canon.specs.Order.{AreInOrder}
 use Rattle.stair_up.specs.SolveSteps.{AreCanonical, IsFound, HasGiven, StaysFound, FindsRow, FindsStretch, Keeps}
 use Rattle.stair_mds.proofs.Stretches.{IsStretch, IsStretch-range, wanted_stretch, place_in_stretch}
 use Rattle.stair_up.proofs.Finds.{row_found, row_stays, Keeps-changes}
-use Rattle.stair_up.proofs.Columns.{columns_once, chunk_at, last_chunks, last_chunks_known}
+use Rattle.stair_canon.proofs.Columns.{columns_once, chunk_at, last_chunks, last_chunks_known}
 
 -- of a row whose cells in the chunks from place m on were found, those before this place are found too
 abbrev pub FindsBefore : CellSet → List ℕ → ℕ → ℕ → CanonicalStripe → CanonicalStripe → Type 0

@@ -1,10 +1,8 @@
 pub mod Finds
-pub mod Columns
 pub mod VirtualRows
 pub mod Chunk
 pub mod FirstCells
 pub mod Exchanging
-pub mod Ordering
 pub mod LightRows
 pub mod LastChunks
 pub mod Costs

@@ -18,9 +18,9 @@ use Rattle.stair_mds.specs.Solving.{AreWantedPlaces}
 use Rattle.stair_canon.specs.Canonical.{CanonicalStripe}
 use Rattle.stair_canon.specs.Solving.{SolvesRow, row_shape}
 use Rattle.stair_model.proofs.SetLaws.{unmarked}
-use Rattle.stair_up.specs.Order.{AreInOrder}
+use Rattle.stair_canon.specs.Order.{AreInOrder}
 use Rattle.stair_up.specs.SolveSteps.{AreCanonical, IsFound, HasGiven, StaysFound, FindsLightRow, FindsLightRows, Keeps}
-use Rattle.stair_up.proofs.Columns.{chunk_at, place_of, columns_once, last_chunks, last_chunks_known}
+use Rattle.stair_canon.proofs.Columns.{chunk_at, place_of, columns_once, last_chunks, last_chunks_known}
 use Rattle.stair_mds.proofs.Stretches.{ArePlacesOnce, IsStretch, IsStretch-take, wanted_stretch, place_in_stretch}
 use Rattle.stair_up.proofs.Finds.{HasGiven-stays, Keeps-changes, row_found, row_stays}
 

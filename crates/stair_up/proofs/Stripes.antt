@@ -11,9 +11,9 @@ use Rattle.stair_model.specs.Stripe.{Stripe, SECTOR, byte_of, cell}
 use Rattle.stair_model.proofs.CanonicalLaws.{coverage_le_greatest}
 use Rattle.stair_canon.specs.Canonical.{CanonicalStripe, symbol}
 use Rattle.stair_canon.specs.Solving.{Loads}
-use Rattle.stair_up.specs.Order.{AreInOrder}
+use Rattle.stair_canon.specs.Order.{AreInOrder}
 use Rattle.stair_up.specs.SolveSteps.{AreCanonical, IsFound, HasGiven, StaysFound, FindsCells, FindsLastChunks, FindsLightRows, FindsRow, FindsStripe}
-use Rattle.stair_up.proofs.Columns.{place_of}
+use Rattle.stair_canon.proofs.Columns.{place_of}
 use Rattle.stair_up.proofs.Finds.{HasGiven-stays}
 
 -- the first rows are found, where the cells of the chunks from place m on were

@@ -12,12 +12,12 @@ use Rattle.stair_model.specs.Coverage.{HasCoveredChunks}
 use Rattle.stair_mds.specs.Solving.{AreWantedPlaces}
 use Rattle.stair_canon.specs.Canonical.{CanonicalStripe}
 use Rattle.stair_canon.specs.Solving.{SolvesRows, row_shape}
-use Rattle.stair_up.specs.Order.{AreInOrder}
+use Rattle.stair_canon.specs.Order.{AreInOrder}
 use Rattle.stair_up.specs.SolveSteps.{IsFound, StaysFound, FindsVirtualRows, Keeps}
 use Rattle.stair_mds.proofs.Stretches.{IsStretch, IsStretch-take, IsStretch-range, Contains-stretch, place_in_stretch, All-stretch, AreDistinct-stretch, known_stretch, wanted_stretch}
 use Rattle.stair_canon.proofs.Grid.{rows_few}
 use Rattle.stair_up.proofs.Finds.{rows_found, rows_stay, Keeps-changes}
-use Rattle.stair_up.proofs.Columns.{columns_once, count_le_greatest, class_covers, intermediate_at}
+use Rattle.stair_canon.proofs.Columns.{columns_once, count_le_greatest, class_covers, intermediate_at}
 
 module _ (old : CanonicalStripe) (erased : CellSet) (columns : List ℕ) (limits : IsWithinLimits old.geometry)
     (order : AreInOrder old.geometry (count_in_slot erased) columns) (covered : HasCoveredChunks old.geometry erased)

@@ -1,4 +1,4 @@
--- The order in which the columns of a canonical stripe are solved, and what is found on the way.
-pub mod Order
+-- The order in which the rows of a chunk are solved, and what is found on the way.
+pub mod ErasedAlong
 pub mod RowsSteps
 pub mod SolveSteps

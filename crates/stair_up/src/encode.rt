@@ -21,6 +21,6 @@ pub fn encode_upstairs<L: Ledger>(canon: &mut Canon, stripe: &mut Stripe, steps:
     ensures cost { steps.new ≡ steps.old + upstairs_cost canon.old.geometry }
     ensures geometry { canon.new.geometry ≡ canon.old.geometry }
 {
-    let parities = *canon.parities();
-    solve_erased(canon, stripe, &parities, steps);
+    let order = *canon.order();
+    solve_erased(canon, stripe, &order, steps);
 }

@@ -9,6 +9,5 @@ pub use encode::encode_upstairs;
 mod decode;
 mod encode;
 mod light_rows;
-mod order;
 mod rows;
 mod solve;

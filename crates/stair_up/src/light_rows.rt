@@ -2,9 +2,8 @@ ghost use Rattle.std.specs.Prelude.{◌≡◌, ℕ, ◌<◌, ◌≤◌, slice_in
 ghost use Rattle.stair_model.specs.CellSet.{IsInStripe, count_in_row, has_cell};
 ghost use Rattle.stair_up.specs.SolveSteps.{FindsLightRow, FindsLightRows, Keeps};
 
-use crate::order::columns_by_count;
 use stair_base::CellSet;
-use stair_canon::Canon;
+use stair_canon::{Canon, columns_by_count};
 use stair_gf::Steps;
 use std::sync::ledger::Ledger;
 

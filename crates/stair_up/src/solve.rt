@@ -4,44 +4,44 @@ ghost use Rattle.stair_model.specs.Coverage.{AreSortedCounts, HasCoveredChunks, 
 ghost use Rattle.stair_model.specs.Geometry.{IsWithinLimits, data_chunks, greatest_coverage};
 ghost use Rattle.stair_model.specs.Restoring.{SameHeld};
 ghost use Rattle.stair_model.specs.Stripe.{IsStripeOf, IsWellFormed};
-ghost use Rattle.stair_up.specs.Order.{IsOrderOf, count_at, erased_in_last, erased_in_row};
+ghost use Rattle.stair_canon.specs.Order.{IsOrderOf, count_at};
+ghost use Rattle.stair_up.specs.ErasedAlong.{erased_in_last, erased_in_row};
 ghost use Rattle.stair_up.specs.SolveSteps.{FindsCells, FindsChunk, FindsLastChunks, FindsRow, FindsStretch, FindsStripe, FindsVirtualRows, Keeps};
 
 use crate::light_rows::solve_light_rows;
-use crate::order::Order;
 use crate::rows::rows_by_need;
 use stair_base::{CellSet, Stripe};
-use stair_canon::Canon;
+use stair_canon::{Canon, Order};
 use stair_gf::Steps;
 use stair_mds::numbers_from;
 use std::sync::ledger::Ledger;
 
-/// Solves the erased cells of a stripe from all others.
+/// Solves the erased cells of an order in a stripe from all others.
 ///
 /// It takes n-m steps for each erased cell, and r(n-m) for each virtual symbol of a chunk: of these each of n-m chunks has
 /// as many as the m+1st chunk by falling numbers has erased cells.
 pub(crate) fn solve_erased<L: Ledger>(
     canon: &mut Canon,
     stripe: &mut Stripe,
-    erased: &CellSet,
+    order: &Order,
     steps: &mut Steps<L>,
 )
     requires stripe { IsStripeOf canon.old.geometry stripe.old }
-    requires cells { IsInStripe canon.old.geometry erased.now }
-    requires covered { HasCoveredChunks canon.old.geometry erased.now }
-    ensures found { FindsStripe canon.old.geometry erased.now stripe.old stripe.new }
-    ensures held { SameHeld canon.old.geometry erased.now stripe.new stripe.old }
+    requires order { IsOrderOf canon.old.geometry order.now }
+    requires covered { HasCoveredChunks canon.old.geometry order.now.erased }
+    ensures found { FindsStripe canon.old.geometry order.now.erased stripe.old stripe.new }
+    ensures held { SameHeld canon.old.geometry order.now.erased stripe.new stripe.old }
     ensures shape { IsStripeOf canon.old.geometry stripe.new }
     ensures well_formed { IsWellFormed stripe.new }
     ensures geometry { canon.new.geometry ≡ canon.old.geometry }
     ensures limits { IsWithinLimits canon.old.geometry }
-    ensures cost { (c : List ℕ) → AreSortedCounts canon.old.geometry erased.now c →
+    ensures cost { (c : List ℕ) → AreSortedCounts canon.old.geometry order.now.erased c →
         steps.new ≡ steps.old + data_chunks canon.old.geometry
-        * (canon.old.geometry.r * slice_index c canon.old.geometry.m + cell_count erased.now) }
+        * (canon.old.geometry.r * slice_index c canon.old.geometry.m + cell_count order.now.erased) }
 {
     canon.load(stripe);
-    solve_loaded(canon, erased, steps);
-    canon.store_cells(erased, stripe);
+    solve_loaded(canon, order, steps);
+    canon.store_cells(&order.erased, stripe);
 }
 
 /// Solves the erased cells of a stripe from all others: first those of each row with at most m of them, by its own
@@ -64,27 +64,27 @@ pub(crate) fn solve_rows_and_rest<L: Ledger>(
 {
     canon.load(stripe);
     solve_light_rows(canon, erased, steps);
-    let rest = erased.rest(&canon.geometry());
-    solve_loaded(canon, &rest, steps);
+    let geometry = canon.geometry();
+    let order = Order::new(&geometry, erased.rest(&geometry));
+    solve_loaded(canon, &order, steps);
     canon.store_cells(erased, stripe);
 }
 
-/// Solves the erased cells of the loaded stripe from all others, by as many steps as `solve_erased` says.
-fn solve_loaded<L: Ledger>(canon: &mut Canon, erased: &CellSet, steps: &mut Steps<L>)
-    requires cells { IsInStripe canon.old.geometry erased.now }
-    requires covered { HasCoveredChunks canon.old.geometry erased.now }
-    ensures kept { Keeps erased.now canon.old canon.new }
-    ensures found { FindsCells erased.now canon.old canon.new }
+/// Solves the erased cells of an order in the loaded stripe from all others, by as many steps as `solve_erased` says.
+fn solve_loaded<L: Ledger>(canon: &mut Canon, order: &Order, steps: &mut Steps<L>)
+    requires order { IsOrderOf canon.old.geometry order.now }
+    requires covered { HasCoveredChunks canon.old.geometry order.now.erased }
+    ensures kept { Keeps order.now.erased canon.old canon.new }
+    ensures found { FindsCells order.now.erased canon.old canon.new }
     ensures limits { IsWithinLimits canon.old.geometry }
-    ensures cost { (c : List ℕ) → AreSortedCounts canon.old.geometry erased.now c →
+    ensures cost { (c : List ℕ) → AreSortedCounts canon.old.geometry order.now.erased c →
         steps.new ≡ steps.old + data_chunks canon.old.geometry
-        * (canon.old.geometry.r * slice_index c canon.old.geometry.m + cell_count erased.now) }
+        * (canon.old.geometry.r * slice_index c canon.old.geometry.m + cell_count order.now.erased) }
 {
     let geometry = canon.geometry();
-    let order = Order::new(&geometry, erased);
-    solve_last_chunks(canon, &order, steps);
+    solve_last_chunks(canon, order, steps);
     for row in 0..geometry.r() {
-        solve_first_cells(canon, &order, row, steps);
+        solve_first_cells(canon, order, row, steps);
     }
 }
 

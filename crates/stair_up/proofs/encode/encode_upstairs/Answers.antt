@@ -8,21 +8,21 @@ use Rattle.stair_up.proofs.encode.encode_upstairs.Goals as goal
 
 pub solve_erased-requires-clause-covered : goal.solve_erased-requires-clause-covered
 solve_erased-requires-clause-covered g c =
-    parities_covered c.args.canon.now.geometry c.parities.result.now c.parities.ensures.limits c.parities.ensures.cells.inside
-    c.parities.ensures.cells.members
+    parities_covered c.args.canon.now.geometry c.order.result.now.erased c.order.ensures.limits c.order.ensures.cells.inside
+    c.order.ensures.cells.members
 
 pub returns-clause-encoded : goal.returns-clause-encoded
 returns-clause-encoded g c =
-    IsEncodedFrom-found c.args.canon.now.geometry c.parities.result.now c.args.stripe.now c.solve_erased.new.stripe
-    c.parities.ensures.limits c.parities.ensures.cells.members c.solve_erased.ensures.shape c.solve_erased.ensures.well_formed
+    IsEncodedFrom-found c.args.canon.now.geometry c.order.result.now.erased c.args.stripe.now c.solve_erased.new.stripe
+    c.order.ensures.limits c.order.ensures.cells.members c.solve_erased.ensures.shape c.solve_erased.ensures.well_formed
     c.solve_erased.ensures.held c.solve_erased.ensures.found
 
 pub returns-clause-cost : goal.returns-clause-cost
 returns-clause-cost g c =
     let x = c.args.canon.now.geometry in
-    let cells = c.parities.result.now in
-    let limits = c.parities.ensures.limits in
-    let are = c.parities.ensures.cells in
+    let cells = c.order.result.now.erased in
+    let limits = c.order.ensures.limits in
+    let are = c.order.ensures.cells in
     let covered = parities_covered x cells limits are.inside are.members in
     c.solve_erased.ensures.cost covered.counts covered.sorted
     ∙ ap (λ (k : ℕ). c.args.steps.now + k)

@@ -2,7 +2,7 @@
 use Rattle.std.proofs.Common.{ℕ, ◌-◌, ◌∙◌, drop, slice_index, subst, take, ap}
 use Rattle.stair_model.specs.Geometry.{Geometry, IsWithinLimits}
 use Rattle.stair_canon.specs.Solving.{SolvesRow}
-use Rattle.stair_up.specs.Order.{AreInOrder}
+use Rattle.stair_canon.specs.Order.{AreInOrder}
 use Rattle.stair_up.proofs.LightRows.{IsLightRow, may_know, may_want, keeps_light_row, finds_light_row}
 use Rattle.stair_up.proofs.light_rows.solve_light_row.Given.{Over}
 use Rattle.stair_up.proofs.light_rows.solve_light_row.Goals as goal

@@ -10,14 +10,14 @@ use Rattle.stair_up.proofs.solve.solve_erased.Goals as goal
 
 pub returns-clause-held : goal.returns-clause-held
 returns-clause-held g c =
-    subst (λ (x : Geometry). SameHeld x c.args.erased.now c.store_cells.new.stripe c.args.stripe.now)
+    subst (λ (x : Geometry). SameHeld x c.args.order.now.erased c.store_cells.new.stripe c.args.stripe.now)
     (c.solve_loaded.ensures.kept.geometry ∙ c.load.ensures.loaded.geometry) c.store_cells.ensures.others
 
 pub returns-clause-found : goal.returns-clause-found
 returns-clause-found g c =
     let loaded = c.load.ensures.loaded in
     let x = c.args.canon.now.geometry in
-    let erased = c.args.erased.now in
+    let erased = c.args.order.now.erased in
     let new = c.solve_loaded.new.canon in
     let same = c.solve_loaded.ensures.kept.geometry ∙ loaded.geometry in
     FindsStripe-stored erased c.args.stripe.now c.store_cells.new.stripe c.args.canon.now c.load.new.self new

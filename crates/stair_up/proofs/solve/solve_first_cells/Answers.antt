@@ -5,7 +5,7 @@ use Rattle.std.proofs.lemmas.Bool.{cases_eq, false≢true}
 use Rattle.stair_model.specs.CellSet.{HasCell, has_cell}
 use Rattle.stair_model.specs.Geometry.{Geometry, IsWithinLimits, data_chunks}
 use Rattle.stair_model.proofs.CountLaws.{sum_below_none, sum_below_more}
-use Rattle.stair_up.specs.Order.{erased_in_row}
+use Rattle.stair_up.specs.ErasedAlong.{erased_in_row}
 use Rattle.stair_model.proofs.SetLaws.{unmarked}
 use Rattle.stair_up.proofs.Costs.{cell_start, one_if, stretch_between, row_more}
 use Rattle.stair_up.proofs.Finds.{Keeps-both, Keeps-none}

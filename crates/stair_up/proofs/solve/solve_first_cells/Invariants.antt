@@ -3,7 +3,7 @@ use Rattle.std.proofs.Common.{◌≡◌, ℕ, ◌+◌, ◌*◌, ◌<◌, ◌≤�
 use Rattle.std.specs.Prelude.{slice_index}
 use Rattle.stair_model.specs.CellSet.{HasCell}
 use Rattle.stair_model.specs.Geometry.{data_chunks}
-use Rattle.stair_up.specs.Order.{erased_in_row}
+use Rattle.stair_up.specs.ErasedAlong.{erased_in_row}
 use Rattle.stair_up.specs.SolveSteps.{Keeps}
 use Rattle.stair_up.proofs.FirstCells.{FindsBefore}
 use Rattle.stair_up.proofs.solve.solve_first_cells.Given as goal

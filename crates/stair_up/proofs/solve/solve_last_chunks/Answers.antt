@@ -3,8 +3,9 @@ use Rattle.std.proofs.Common.{◌≡◌, ℕ, ◌+◌, ◌-◌, ◌*◌, ◌≤�
 use Rattle.stair_model.specs.CellSet.{count_in_slot}
 use Rattle.stair_model.specs.Geometry.{Geometry, IsWithinLimits, data_chunks, greatest_coverage}
 use Rattle.stair_model.proofs.CountLaws.{sum_below_none, sum_below_more}
-use Rattle.stair_up.specs.Order.{count_at, erased_in_last}
-use Rattle.stair_up.proofs.Columns.{count_le_greatest}
+use Rattle.stair_canon.specs.Order.{count_at}
+use Rattle.stair_up.specs.ErasedAlong.{erased_in_last}
+use Rattle.stair_canon.proofs.Columns.{count_le_greatest}
 use Rattle.stair_up.proofs.Costs.{last_none, last_more, last_all}
 use Rattle.stair_up.proofs.Finds.{Keeps-both, Keeps-none}
 use Rattle.stair_up.proofs.LastChunks.{FindsFrom-none, FindsFrom-more, FindsLastChunks-all}

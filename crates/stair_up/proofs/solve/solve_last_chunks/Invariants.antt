@@ -2,7 +2,8 @@
 use Rattle.std.proofs.Common.{◌≡◌, ℕ, ◌+◌, ◌-◌, ◌*◌, ◌<◌, ◌≤◌}
 use Rattle.stair_model.specs.Geometry.{data_chunks}
 use Rattle.stair_up.specs.SolveSteps.{Keeps}
-use Rattle.stair_up.specs.Order.{count_at, erased_in_last}
+use Rattle.stair_canon.specs.Order.{count_at}
+use Rattle.stair_up.specs.ErasedAlong.{erased_in_last}
 use Rattle.stair_up.proofs.LastChunks.{FindsFrom}
 use Rattle.stair_up.proofs.solve.solve_last_chunks.Given as goal
 

@@ -3,7 +3,7 @@ use Rattle.stair_up.specs.SolveSteps.{Keeps}
 use Rattle.std.proofs.Common.{◌≡◌, ◌+◌, ◌*◌}
 use Rattle.stair_model.specs.Geometry.{data_chunks}
 use Rattle.stair_model.specs.Sum.{sum_below}
-use Rattle.stair_up.specs.Order.{erased_in_row}
+use Rattle.stair_up.specs.ErasedAlong.{erased_in_row}
 use Rattle.stair_up.proofs.Stripes.{FindsRowsBefore}
 use Rattle.stair_up.proofs.solve.solve_loaded.Given as goal
 

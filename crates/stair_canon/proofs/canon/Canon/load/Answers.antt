@@ -58,7 +58,7 @@ loop-column-preserved c =
           rw (w.self-inside-is, w.put.ensures)
           (record {
             loaded = now;
-            kept = record { formed = now.formed; row_codes = kept.row_codes; column_codes = kept.column_codes; parities = kept.parities };
+            kept = record { formed = now.formed; row_codes = kept.row_codes; column_codes = kept.column_codes; parities = kept.parities; order = kept.order };
             place = omega (arith, place);
           })
       | else-row-r w ↦
@@ -74,7 +74,7 @@ loop-column-preserved c =
           rw (w.self-inside-is, w.forget.ensures)
           (record {
             loaded = now;
-            kept = record { formed = now.formed; row_codes = kept.row_codes; column_codes = kept.column_codes; parities = kept.parities };
+            kept = record { formed = now.formed; row_codes = kept.row_codes; column_codes = kept.column_codes; parities = kept.parities; order = kept.order };
             place = omega (arith, place);
           })
     ]

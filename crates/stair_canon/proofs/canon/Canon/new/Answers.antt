@@ -1,7 +1,8 @@
--- Zeros are well formed, and both codes are those of the geometry.
-use Rattle.std.proofs.Common.{◌≡◌, ℕ, ◌+◌, ◌-◌, ◌*◌, ap₂, ◌∙◌, arith}
+-- Zeros are well formed, both codes are those of the geometry, and the order is that of its parities.
+use Rattle.std.proofs.Common.{◌≡◌, ℕ, ◌+◌, ◌-◌, ◌*◌, sym, subst, ap₂, ◌∙◌, arith}
 use Rattle.stair_model.specs.Canonical.{canonical_chunks, canonical_rows}
 use Rattle.stair_mds.specs.Solving.{Shape}
+use Rattle.stair_canon.specs.Parities.{AreParities}
 use Rattle.stair_canon.proofs.Grid.{IsWellFormed-zeros, symbol-zeros, unknown-zeros}
 use Rattle.stair_canon.proofs.canon.Canon.new.Goals as goal
 
@@ -26,7 +27,8 @@ invariant_of-result c =
           c.in_ok-columns.ensures
           ∙ shape c.r-2.result g.r (c.r-2.result + c.e_max-2.result) (canonical_rows g)
           c.r-2.ensures.value (omega (arith, c.r-2.ensures.value, c.e_max-2.ensures.value));
-      parities = c.parities.ensures;
+      parities = subst (AreParities g) (sym c.new.ensures.erased) c.parities.ensures;
+      order = c.new.ensures.order;
     }
 
 pub returns-clause-well_formed : goal.returns-clause-well_formed
