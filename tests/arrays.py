@@ -145,6 +145,8 @@ def bytes_differ(wanted, found):
 
 # ARRAYS
 
+LARGE_KEY = lines("large = true")
+
 
 @functools.lru_cache(maxsize=None)
 def shared():
@@ -177,7 +179,9 @@ def empty(folder):
 
 
 class Array:
-    """A geometry, and the folders of image files of an array that has it. The folders are shared: copy them, never change them."""
+    """A geometry, and the folders of image files of an array that has it. The folders are shared: copy them, never change them.
+
+    Its text has the key `large` if it needs it."""
 
     def __init__(self, number, n, m, r, e, stripes):
         self.number, self.n, self.m, self.r, self.e, self.stripes = number, n, m, r, e, stripes
@@ -188,6 +192,8 @@ class Array:
         self.text = lines(
             f"n = {n}", f"m = {m}", f"r = {r}", f"e = {e}", f"stripes = {stripes}", f'id = "{self.identity}"'
         )
+        if tool("fresh").is_large(n, r, stripes):
+            self.text += LARGE_KEY
         self.created = lines(f"created {self.identity} blocks {self.blocks}")
 
     def shown(self, epoch, *rest):
@@ -225,6 +231,16 @@ class Array:
 
         return self.made("fresh", make)
 
+    def superblock(self, slot):
+        """Returns the first superblock of a slot, by tests/tools/fresh."""
+        return tool("fresh").superblock(slot, bytes.fromhex(self.identity), self.n, self.m, self.r, self.e, self.stripes)
+
+    def put_superblocks(self, folder):
+        """Writes the first superblocks to both places of each image file of a folder, and nothing else."""
+        for slot in range(self.n):
+            patch(image(folder, slot), f"0,1 0={self.superblock(slot).hex()}")
+        return folder
+
     @property
     def opened(self):
         """The folder of the new array once it was opened."""
@@ -236,6 +252,11 @@ FOUR = Array(4, 4, 1, 2, [1], 3)
 EIGHT = Array(8, 8, 2, 4, [1, 1, 2], 64)
 MANY = Array(4, 32, 1, 2, [1], 1)
 OTHER = Array(9, 8, 2, 4, [1, 1, 2], 64)
+
+# Two large ones: three devices with a stripe more than they may have without `large = true`, of 107 MB together, and four devices with
+# as many stripes as they may have. The files of these four are 2.34 TB long, so they are made sparse, and never copied or read as a whole.
+LARGE = Array(6, 3, 1, 1, [1], 65537)
+LARGEST = Array(7, 4, 1, 1, [1], 4294967288)
 
 # The blocks 01 00 00 00 00 of FOUR and their stripe, by hand: 1/3 = F4 in the first row parity, and the global parity and its row
 # parity 46.

@@ -23,6 +23,21 @@ def events(fenced=0, repaired=0, admitted=0, promoted=0):
     return f"events: fenced {fenced} repaired {repaired} admitted {admitted} promoted {promoted}"
 
 
+def table(*volumes):
+    """Returns the block that is the table of these volumes, each of which is its name, its first block and how many it has."""
+    block = b"STAIRVT1" + bytes([len(volumes)]) + bytes(23)
+    for volume in volumes:
+        name, first, blocks = volume.split()
+        high, low = divmod(int(blocks), 2**32)
+        block += bytes([len(name)]) + name.encode().ljust(18, b"\0") + bytes([high]) + int(first).to_bytes(8, "big") + low.to_bytes(4, "big")
+    return block.ljust(512, b"\0")
+
+
+def listed(*volumes):
+    """Returns what `vlist` puts out of these volumes."""
+    return lines(*("{} first {} blocks {}".format(*volume.split()) for volume in volumes))
+
+
 class Story(Case):
     """Cases whose steps are on the devices in `self.work`."""
 

@@ -288,7 +288,7 @@ class Case(unittest.TestCase):
         with self.named(case):
             ended = self.run_program(words, folder=self.work, left=left is not None, **how)
             self.check_ended(ended, status, says, puts)
-            strangers = [path for path in contents(self.work) if not pathlib.PurePath(path).match("dev??.img")]
+            strangers = [path for path in self.work.rglob("*") if not path.match("dev??.img")]
             self.assertEqual([], strangers, "the folder has other files")
         self.check_left(ended, left, case)
 

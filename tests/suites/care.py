@@ -2,6 +2,9 @@
 from common import *
 from fixture import *
 
+LAST = LARGE.stripes - 1  # the last stripe of LARGE, which has the last block alone
+LAST_ROW = LARGE.sectors - 1  # its sector on each device
+
 
 class Written(Story):
     """All blocks of FOUR are written."""
@@ -69,3 +72,64 @@ class NotReplaced(Story):
         stranger = copy(image(OTHER.fresh, 2), image(self.work, 2)).read_bytes()
         self.step("replace 2", 12, "array already: slot 2", case="a device of another array")
         self.same(stranger, image(self.work, 2).read_bytes(), "the device of another array is as it was")
+
+
+class Large(Story):
+    """LARGE, whose stripes have a block each, on slot 0. The first block and the last two are written."""
+
+    def setUp(self):
+        super().setUp()
+        self.begin(LARGE.fresh)
+        self.step("write 0 1", puts=wrote(1), input=AA)
+        self.step(f"write {LAST - 1} 2", puts=wrote(2), input=FF + ONE)
+        self.blocks = AA + bytes(512 * (LAST - 2)) + FF + ONE
+
+    def reads_all(self, case, **how):
+        self.step(f"read 0 {LARGE.blocks}", puts=self.blocks, case=case, **how)
+
+    def writes_the_last(self, block, **how):
+        self.blocks = self.blocks[:-512] + block
+        self.step(f"write {LAST} 1", puts=wrote(1), input=block, **how)
+
+    def has_cells(self, case):
+        """A case: the cells of the last stripe are those of its block, by tests/tools/factors."""
+        wanted = b"".join(tool("factors").encoded(LARGE.n, LARGE.m, LARGE.r, LARGE.e, [self.blocks[-512:]]))
+        self.same(wanted, b"".join(sector(image(self.work, slot), LAST_ROW) for slot in range(LARGE.n)), case)
+
+    def test_a_device_that_is_replaced(self):
+        self.has_cells("the last stripe")
+        self.reads_all("all blocks")
+        self.lose(0)
+        self.step(f"read {LAST} 1", says="fenced 0", puts=ONE, case="the last block without a device")
+        self.damage(1, LAST_ROW)
+        self.reads_all("all blocks without it, and a bad sector of another one")
+        said = f"repaired stripe {LAST} cells 1"
+        self.step("scrub", says=said, puts=lines(f"scrubbed {LARGE.stripes} stripes cells 1"), case="a scrub")
+        self.writes_the_last(FF, case="a write without the device")
+        self.insert(0, LARGE.sectors)
+        self.step("replace 0", says=["admitted 0", "promoted 0"], puts=lines("replaced 0"), case="a blank device in its place")
+        # `replace` is the eighth command that opens the array, by epoch 9. Two more epochs admit the device and make it live.
+        self.step("show", puts=LARGE.shown(11, *LARGE.slots(slot0="live 10")), case="it is live")
+        self.has_cells("the last stripe on it")
+        self.lose(2)
+        self.reads_all("all blocks without another device", says="fenced 2")
+        self.step(f"read {LAST} 2", 11, f"out of range: {LARGE.blocks} of {LARGE.blocks}", case="a block more")
+
+    def test_a_device_that_was_cut_short(self):
+        os.truncate(image(self.work, 0), SEALED * LAST_ROW)
+        self.step(f"read {LAST - 1} 2", puts=FF + ONE, case="the last two blocks")
+        self.writes_the_last(AA, says="fenced 0", case="a write past its end")
+        small = f"small device: slot 0 has {LAST_ROW} of {LARGE.sectors} sectors"
+        self.step("replace 0", 13, small, case="it is too small")
+        self.insert(0, LARGE.sectors)
+        # The slot is live with the last stripe, and not before.
+        script = lines("replace 0", f"rebuild {LAST}", f"scrub {LAST}", "rebuild 9", f"scrub {LARGE.stripes}")
+        replies = lines("admitted 0", f"rebuild {LAST} steps", f"scrubbed stripe {LAST} cells 0", "rebuild 1 steps")
+        refused = f"out of range: {LARGE.stripes} of {LARGE.stripes}"
+        said = ["admitted 0", "promoted 0", refused, events(admitted=1, promoted=1)]
+        self.step("run", 11, said, replies, input=script, case="it is replaced and rebuilt by a script")
+        self.has_cells("the last stripe")
+        self.damage(2, LAST_ROW)
+        said = [f"repaired stripe {LAST} cells 1", events(repaired=1)]
+        self.step("run", says=said, puts=lines(f"scrubbed stripe {LAST} cells 1"), input=lines(f"scrub {LAST}"), case="a scrub of it")
+        self.reads_all("all blocks")

@@ -3,6 +3,14 @@ import os
 
 from fixture import *
 
+# What a geometry text with too many stripes is told, with the key `large` and without it.
+LIMIT_8 = ["geometry: with `large = true` limit 8 is 3 + n*r + r*stripes <= 4294967295", "geometry: limit 8"]
+
+
+def of_stripes(stripes, n=4, m=1, r=1, e=(1,)):
+    """Returns a geometry text without the key `large`."""
+    return Array(4, n, m, r, list(e), stripes).text.replace(LARGE_KEY, b"")
+
 
 class Create(Case):
     def test_new_arrays(self):
@@ -21,6 +29,31 @@ class Create(Case):
         text = FOUR.text.replace(b"000004", b"ABCDEF")
         created = lines("created 00000000000000000000000000abcdef blocks 15")
         self.expect_in(used, laid_out, "create", puts=created, input=Pipe(text), at=str)
+
+    def test_a_small_array_whose_text_has_the_key_large(self):
+        # Its superblocks have version 2, as without the key.
+        for case, text in (("last", FOUR.text + LARGE_KEY), ("first", LARGE_KEY + FOUR.text)):
+            self.expect_in(FOUR.blank, FOUR.fresh, "create", puts=FOUR.created, input=text, case=f"the key {case}")
+
+
+class LargeArray(Case):
+    """An array with a stripe more than it may have without the key `large`."""
+
+    def test_without_the_key(self):
+        self.expect_in(LARGE.blank, LARGE.blank, "create", 3, LIMIT_8, input=LARGE.text.replace(LARGE_KEY, b""))
+
+    def test_with_the_key(self):
+        self.expect_in(LARGE.blank, LARGE.fresh, "create", puts=LARGE.created, input=LARGE.text)
+
+    def test_a_device_of_a_sector_too_few(self):
+        small = blank(self.folder("small"), 3, LARGE.sectors)
+        os.truncate(image(small, 2), SEALED * LARGE.sectors - 1)
+        says = "small device: slot 2 has 65542 of 65543 sectors"
+        self.expect_in(small, small, "create", 13, says, input=LARGE.text)
+
+    def test_an_array_again(self):
+        for case, text in (("the same one", LARGE.text), ("a small one", of_stripes(3, n=3))):
+            self.expect_in(LARGE.fresh, LARGE.fresh, "create", 12, "array already: slot 0", input=text, case=case)
 
 
 class Refused(Case):
@@ -103,6 +136,41 @@ class Text(Case):
     def test_nested_arrays(self):
         self.refused(self.nested(81), 3, "geometry: not TOML", case="too deep")
         self.refused(self.nested(80), 15, "gone: slot 0", case="as deep as they may be")
+
+    def test_the_key_large(self):
+        text = of_stripes(65537)
+        self.refused(text, 3, LIMIT_8, case="without the key")
+        self.refused(text + LARGE_KEY, 15, "gone: slot 0", case="with it")
+        for value in "false", "1", '"true"', "[true]", "{ large = true }":
+            self.refused(text + lines(f"large = {value}"), 3, LIMIT_8, case=f"large = {value}")
+        for key in "Large = true", "[x]\nlarge = true":
+            self.refused(text + lines(key), 3, LIMIT_8, case=f"another key: {key!r}")
+
+    def test_limit_8_without_the_key(self):
+        for case, most, shape in (("of all", 65536, {}), ("of many cells", 4096, {"n": 32, "r": 32})):
+            self.refused(of_stripes(most, **shape), 15, "gone: slot 0", case=f"the most stripes {case}")
+            self.refused(of_stripes(most + 1, **shape), 3, LIMIT_8, case=f"a stripe more {case}")
+            self.refused(of_stripes(most + 1, **shape) + LARGE_KEY, 15, "gone: slot 0", case=f"a stripe more {case}, with the key")
+
+    def test_limit_8_with_the_key(self):
+        # With 32 rows the sectors of 2^59 and of 2^63 - 1 stripes are more than 64 bits can count.
+        for n, r, most in (4, 1, 4294967288), (32, 32, 134217695):
+            self.refused(of_stripes(most, n=n, r=r) + LARGE_KEY, 15, "gone: slot 0", case=f"the most stripes of {r} rows")
+            for stripes in most + 1, 2**32, 2**59, 2**63 - 1, 0:
+                self.refused(of_stripes(stripes, n=n, r=r) + LARGE_KEY, 3, LIMIT_8, case=f"{stripes} stripes of {r} rows")
+
+    def test_the_key_large_beside_a_fault(self):
+        def large(old, new):
+            self.assertIn(old, text)
+            return text.replace(old, new) + LARGE_KEY
+
+        text = of_stripes(65537)
+        self.refused(large(b"m = 1\n", b""), 3, "geometry: key m", case="a key that is missing")
+        self.refused(large(b"65537", b"-1"), 3, "geometry: key stripes", case="a number below zero")
+        self.refused(large(b"65537", b"9223372036854775808"), 3, "geometry: not TOML", case="a number of 64 bits without a sign")
+        self.refused(large(b"000004", b"00004"), 3, "geometry: key id", case="an identity of 31 digits")
+        self.refused(large(b"m = 1\n", b"m = 2\n"), 3, "geometry: limit 3", case="a broken limit")
+        self.refused(text + LARGE_KEY + LARGE_KEY, 3, "geometry: not TOML", case="the key twice")
 
     def test_lengths(self):
         text = FOUR.text + b"\n" * 5000

@@ -30,6 +30,10 @@ class Counted(Reports):
     def test_a_folder_that_is_not_there(self):
         self.counted(lines("fenced 1"), events(fenced=1), "slot 1 fenced 1", at="-x")
 
+    def test_stripes_of_large_arrays(self):
+        for stripe in 65535, 65536, 4294967294:
+            self.counted(lines(f"repaired stripe {stripe} cells 1"), events(repaired=1), case=f"stripe {stripe}")
+
     def test_a_million_events(self):
         log = b"".join(b"repaired stripe %d cells 1\n" % (number % 65536) for number in range(1000000))
         self.expect("report", puts=lines(events(repaired=1000000)), input=log)
@@ -46,6 +50,10 @@ class Counted(Reports):
 class Refused(Reports):
     def test_a_slot_past_the_last(self):
         self.refused(lines("fenced 32"), 1)
+
+    def test_a_stripe_past_the_last(self):
+        for stripe in 4294967295, 4294967296, 4295032832, GREATEST:
+            self.refused(lines(f"repaired stripe {stripe} cells 1"), 1, case=f"stripe {stripe}")
 
     def test_empty_lines(self):
         self.refused(lines("fenced 1", "", "fenced 1"), 2, case="an empty line")

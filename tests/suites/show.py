@@ -90,6 +90,49 @@ class Devices(Shown):
         self.slot_2(" gone", says="dev02.img: no file and no block device")
 
 
+class Versions(Shown):
+    """Version 3 of the superblock is of large geometries alone, and versions 1 and 2 are of the others. Anything else is no superblock.
+
+    The devices have two sectors here: `show` reads no others."""
+
+    def marked(self, name, array):
+        return array.put_superblocks(blank(self.folder(name), array.n, 2))
+
+    def test_each_version(self):
+        # The geometries are on both sides of each part of limit 8: stripes, and cells.
+        for n, r, stripes, versions in (
+            (4, 2, 3, "12"),
+            (4, 2, 65536, "12"),
+            (4, 2, 65537, "3"),
+            (32, 32, 4096, "12"),
+            (32, 32, 4097, "3"),
+            (4, 1, 4294967288, "3"),
+        ):
+            array = Array(4, n, 1, r, [1], stripes)
+            for version in "1234":
+                case = f"version {version}, {n} devices, {stripes} stripes"
+                folder = self.marked(case, array)
+                patch(image(folder, 2), f"0,1 7=3{version}")
+                slot_2 = "live 1" if version in versions else "live 1 no superblock"
+                self.shown(folder, 1, *array.slots(slot2=slot_2), array=array, case=case)
+
+    def test_large_arrays_by_hand(self):
+        for array, changes in (
+            (Array(4, 4, 1, 2, [1], 65537), "60=00010001"),
+            (Array(4, 4, 1, 1, [1], 4294967288), "26=01 60=FFFFFFF8"),
+        ):
+            changed = patch(self.folder(f"{array.stripes}", FOUR.fresh), f"0,1 7=33 {changes}")
+            self.shown(changed, 1, *array.slots(), array=array, case=f"{array.stripes} stripes")
+
+    def test_more_stripes_than_there_may_be(self):
+        changed = patch(self.folder("changed", FOUR.fresh), "0,1 7=33 26=01 60=FFFFFFF9")
+        self.not_shown(changed, 7, "no array")
+
+    def test_no_slot_with_a_right_version(self):
+        self.not_shown(patch(self.folder("small", FOUR.fresh), "0,1 7=33"), 7, "no array", case="3 of a small array")
+        self.not_shown(patch(self.marked("large", LARGE), "0,1 7=32"), 7, "no array", case="2 of a large array")
+
+
 class Epochs(Shown):
     """Epoch 2 has slot 2 down, with another device or rebuilding; then a label, a frozen mark, and version 1 of the superblock."""
 

@@ -7,20 +7,6 @@ from fixture import *
 COMMANDS = "vinit", "vmake home 4", "vdrop home", "vlist", "vread home 0 1", "vwrite home 0 1"
 
 
-def table(*volumes):
-    """Returns the block that is the table of these volumes, each of which is its name, its first block and how many it has."""
-    block = b"STAIRVT1" + bytes([len(volumes)]) + bytes(23)
-    for volume in volumes:
-        name, first, blocks = volume.split()
-        block += bytes([len(name)]) + name.encode().ljust(23, b"\0") + int(first).to_bytes(4, "big") + int(blocks).to_bytes(4, "big")
-    return (block + bytes(512))[:512]
-
-
-def listed(*volumes):
-    """Returns what `vlist` puts out of these volumes."""
-    return lines(*("{} first {} blocks {}".format(*volume.split()) for volume in volumes))
-
-
 class Volumes(Story):
     def done(self, words, line, **how):
         """A command says this line alone, on standard output."""

@@ -16,13 +16,6 @@ use Rattle.stair_journal.specs.Redo.{IsRedo}
 use Rattle.stair_state.specs.Blocks.{AreOfOneStripe}
 use Rattle.stair_array.specs.Calls.{AreOfBlocks, ChangesWith}
 
--- there are few blocks, as there are few sectors
-pub block_count_few : (g : Geometry) → IsWithinLimits g → block_count g ≤ 4194304
-block_count_few g limits =
-    let rows : g.r * (g.n - g.m) ≤ g.r * g.n = mul-le-mul_left {m = g.n - g.m} {n = g.n} g.r (omega arith) in
-    let cells : data_cells g ≤ g.n * g.r = omega (arith, rows, mul_comm g.r g.n) in
-    le_trans (mul-le-mul_right {m = data_cells g} {n = g.n * g.r} g.stripes cells) limits.size.2
-
 -- blocks of one stripe, of which the first is in range, are all in range
 pub all_in_range : (g : Geometry) (first count : ℕ) → IsWithinLimits g → first < block_count g → AreOfOneStripe g first count
     → first + count ≤ block_count g

@@ -18,6 +18,7 @@ use Rattle.stair_super.specs.declared.configuration.Configuration.{Configuration
 use Rattle.stair_super.specs.declared.mark.Mark.{Mark}
 use Rattle.stair_super.specs.declared.mark.Mark.TheVariants.{Live, Down}
 use Rattle.stair_super.specs.declared.version.Version.TheVariants.{Two}
+use Rattle.stair_super.proofs.SpellsLaws.{spells}
 use Rattle.stair_member.specs.Reserve.{Bears}
 use Rattle.stair_member.specs.Seats.{Seat, seats_of}
 use Rattle.stair_member.specs.Superblocks.{HoldsSuper}
@@ -135,8 +136,7 @@ first_is_super g j limits id below = record {
 
 pub first_spelled : (g : Geometry) (j : ℕ) → IsWithinLimits g → length g.id ≡ 16 → j < g.n
     → SpellsSuperblock (spelled (first_super g j)) (first_super g j)
-first_spelled g j limits id below =
-    record { block = first_is_super g j limits id below; version = Two; said = tt; text = refl }
+first_spelled g j limits id below = spells (first_super g j) (first_is_super g j limits id below)
 
 -- WHAT EACH SECTOR HOLDS
 

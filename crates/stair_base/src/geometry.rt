@@ -5,13 +5,13 @@ ghost use Rattle.stair_base.specs.Padding.{padded};
 use crate::device::BODY_START;
 use std::marker::Model;
 
-/// What [`Geometry::new`] refuses: the number of the first limit that is broken, 1 to 8.
+/// What [`Geometry::new`] and [`Geometry::large`] refuse: the number of the first limit that is broken, 1 to 8.
 #[derive(Clone, Copy, Debug, PartialEq, Eq)]
 pub struct GeometryFault {
     pub limit: u8,
 }
 
-/// The geometry of an array, within the limits of [`Geometry::new`]. The letters are those of Li and Lee, STAIR Codes
+/// The geometry of an array, within the limits of [`Geometry::large`]. The letters are those of Li and Lee, STAIR Codes
 /// (FAST 2014).
 ///
 /// A stripe has n chunks, one on each device, and a chunk has r sectors of 512 bytes.
@@ -82,9 +82,9 @@ fn padded_coverage(e: &[u64]) -> [u8; 32]
 }
 
 impl Geometry {
-    ghost use Rattle.stair_model.specs.Geometry.{geometry_of, IsWithinLimits, IsFirstBrokenLimit, classes, coverage, global_cells, greatest_coverage, data_cells, block_count, sectors_needed};
+    ghost use Rattle.stair_model.specs.Geometry.{geometry_of, HasSize, IsWithinLimits, IsFirstBrokenLimit, IsFirstBrokenUnder, IsSmall, classes, coverage, global_cells, greatest_coverage, data_cells, block_count, sectors_needed};
 
-    /// The geometry of these numbers: devices, row parities, rows, coverage vector, stripes, and the array's identity.
+    /// The small geometry of these numbers: devices, row parities, rows, coverage vector, stripes, and the array's identity.
     ///
     /// Any numbers may be handed in. Where a limit is broken, the answer is the number of the first one:
     ///
@@ -96,7 +96,35 @@ impl Geometry {
     /// 6. each entry of e is 1 to r, and none is below the one before
     /// 7. a stripe has a block: r(n-m) is above the sum of e
     /// 8. 1 <= stripes <= 65,536, and n·r·stripes <= 4,194,304
+    ///
+    /// [`Geometry::large`] takes more stripes.
     pub fn new(
+        n: u64,
+        m: u64,
+        r: u64,
+        e: &[u64],
+        stripes: u64,
+        id: [u8; 16],
+    ) -> Result<Geometry, GeometryFault>
+        ensures ok { IfOk result (λ geometry. geometry ≡ geometry_of n m r e.now stripes id) }
+        ensures within { IsOk result ↔ (IsWithinLimits (geometry_of n m r e.now stripes id)
+            × IsSmall (geometry_of n m r e.now stripes id)) }
+        ensures err { let g = geometry_of n m r e.now stripes id in
+            IfErr result (λ fault. IsFirstBrokenUnder (HasSize g × IsSmall g) g fault.limit) }
+    {
+        match Self::large(n, m, r, e, stripes, id) {
+            Ok(geometry) if !geometry.is_small() => Err(GeometryFault { limit: 8 }),
+            answer => answer,
+        }
+    }
+
+    /// The geometry of these numbers, small or large.
+    ///
+    /// The limits are those of [`Geometry::new`] but for the last, by which each sector of a device has a number of 32
+    /// bits:
+    ///
+    /// 8. stripes >= 1, and 3 + n·r + stripes·r <= 4,294,967,295
+    pub fn large(
         n: u64,
         m: u64,
         r: u64,
@@ -130,7 +158,7 @@ impl Geometry {
         if r * (n - m) <= total(e) {
             return Err(GeometryFault { limit: 7 });
         }
-        if stripes < 1 || stripes > 65_536 || n * r * stripes > 4_194_304 {
+        if stripes < 1 || stripes > 4_294_967_294 || 3 + n * r + stripes * r > 4_294_967_295 {
             return Err(GeometryFault { limit: 8 });
         }
         Ok(Self::from_numbers(n, m, r, e, stripes, id))
@@ -238,7 +266,16 @@ impl Geometry {
         u16::from(self.r) * u16::from(self.n - self.m) - self.s()
     }
 
-    /// Stripes of the array: 1 to 65,536.
+    /// Whether it is one that [`Geometry::new`] makes: at most 65,536 stripes, and n·r·stripes at most 4,194,304.
+    pub fn is_small(&self) -> bool
+        ensures value { IsTrue result ↔ IsSmall self.now }
+        ensures limits { IsWithinLimits self.now }
+    {
+        let cells = u64::from(self.n) * u64::from(self.r) * u64::from(self.stripes);
+        self.stripes <= 65_536 && cells <= 4_194_304
+    }
+
+    /// Stripes of the array: 1 to 4,294,967,289, which limit 8 allows where n is 3 and r is 1.
     pub fn stripes(&self) -> u32
         ensures value { result ≡ self.now.stripes }
         ensures limits { IsWithinLimits self.now }

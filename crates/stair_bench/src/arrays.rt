@@ -37,7 +37,7 @@ fn check_of_new_array<R: Rack>(rack: &mut R, rounds: u32) -> Result<u64, Fault> 
 
 /// The geometry of an array of so many stripes.
 fn geometry_of(stripes: u64) -> Result<Geometry, Fault> {
-    Geometry::new(8, 2, 4, &[1, 1, 2], stripes, [0; 16]).map_err(|_| Fault::Usage)
+    Geometry::large(8, 2, 4, &[1, 1, 2], stripes, [0; 16]).map_err(|_| Fault::Usage)
 }
 
 /// Creates an array of this geometry on the rack.

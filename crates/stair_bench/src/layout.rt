@@ -37,5 +37,5 @@ impl Layout {
 fn geometry(n: u64, m: u64, r: u64, coverage: &[u64]) -> Geometry
     requires { IsWithinLimits (geometry_of n m r coverage.now 1 (replicate 16 0)) }
 {
-    Geometry::new(n, m, r, coverage, 1, [0; 16]).unwrap()
+    Geometry::large(n, m, r, coverage, 1, [0; 16]).unwrap()
 }

@@ -1,23 +1,23 @@
 -- A geometry text reads as one answer.
 use Rattle.std.proofs.Common.{◌≡◌, ◌∙◌, ◌↔◌, ℕ, List, [], ◌∷◌, Some, Result, Ok, Err, length, map, refl, sym, ap}
-use Rattle.std.specs.Prelude.{IsOk}
+use Rattle.std.specs.Prelude.{◌⊎◌, IsOk}
 use Rattle.std.specs.List.{AllPass}
 use Rattle.std.proofs.lemmas.Option.{same_Some}
 use Rattle.hex.specs.Hex.{decode_sized, is_hex_digit}
 use Rattle.hex.specs.declared.error.FromHexError.{FromHexError}
 use Rattle.hex.proofs.HexLemmas.{IsOk-decode_sized}
 use Rattle.toml.specs.Data.{Members, get_member, string}
-use Rattle.stair_model.specs.Geometry.{Geometry, geometry_of}
+use Rattle.stair_model.specs.Geometry.{Geometry, geometry_of, IsFirstBrokenUnder, IsSmall, IsWithinLimits}
 use Rattle.stair_conf.specs.declared.key.Key.{Key}
 use Rattle.stair_conf.specs.declared.key.Key.TheVariants.{N, M, R, E, Stripes, Id}
 use Rattle.stair_conf.specs.declared.fault.ConfigFault.{ConfigFault}
 use Rattle.stair_conf.specs.declared.fault.ConfigFault.TheVariants as fault
-use Rattle.stair_conf.specs.Config.{HasIdentity, HasKey, HasNumber, HasNumbers, IsFirstFaultyKey, IsToml, Says, TableReadsAs, TextReadsAs, name_of, number, place}
+use Rattle.stair_conf.specs.Config.{HasIdentity, HasKey, HasNumber, HasNumbers, IsFirstFaultyKey, IsToml, Says, SaysLarge, SizeBy, TableReadsAs, TextReadsAs, name_of, number, place}
 use Rattle.stair_conf.specs.Config.TableReadsAs.{key, limit, geometry}
 use Rattle.stair_conf.specs.Config.TextReadsAs.{not_toml, table}
 use Rattle.stair_conf.proofs.ConfigLemmas.{same_array}
 use Rattle.stair_model.proofs.FirstLaws.{one_first}
-use Rattle.stair_model.proofs.LimitLaws.{none_broken, one_limit}
+use Rattle.stair_model.proofs.LimitLaws.{none_under, one_limit}
 use Rattle.stair_conf.proofs.TableLemmas.{HasKeyAt, same_place}
 
 -- ---- a table says one geometry
@@ -73,22 +73,25 @@ one_key t a b first_a first_b =
 
 -- ---- answers
 
+broken_none : (t : Members) (g : Geometry) (k : ℕ) → IsFirstBrokenUnder (SizeBy t g) g k → IsWithinLimits g → ¬ (SaysLarge t ⊎ IsSmall g)
+broken_none t g k broken within size = none_under (SizeBy t g) g k broken within (within.size, size)
+
 one_of_table : (t : Members) (a b : Result Geometry ConfigFault) → TableReadsAs t a → TableReadsAs t b → a ≡ b
 one_of_table t a b (key k first) (key l other) = ap (λ k. Err (fault.Key k)) (one_key t k l first other)
 one_of_table t a b (key k first) (limit h l says broken) = absurd (first.faulty (says_key t h says k))
-one_of_table t a b (key k first) (geometry h says within) = absurd (first.faulty (says_key t h says k))
+one_of_table t a b (key k first) (geometry h says within size) = absurd (first.faulty (says_key t h says k))
 one_of_table t a b (limit g k says broken) (key l other) = absurd (other.faulty (says_key t g says l))
 one_of_table t a b (limit g k says broken) (limit h l also also_broken) =
     let same : g ≡ h = same_geometry t g h says also in
-    ap (λ k. Err (fault.Limit k)) (one_limit g k l broken (rw same also_broken))
-one_of_table t a b (limit g k says broken) (geometry h also within) =
+    ap (λ k. Err (fault.Limit k)) (one_limit (SizeBy t g) g k l broken (rw same also_broken))
+one_of_table t a b (limit g k says broken) (geometry h also within size) =
     let same : g ≡ h = same_geometry t g h says also in
-    absurd (none_broken g k broken (rw same within))
-one_of_table t a b (geometry g says within) (key l other) = absurd (other.faulty (says_key t g says l))
-one_of_table t a b (geometry g says within) (limit h l also broken) =
+    absurd (broken_none t g k broken (rw same within) (rw same size))
+one_of_table t a b (geometry g says within size) (key l other) = absurd (other.faulty (says_key t g says l))
+one_of_table t a b (geometry g says within size) (limit h l also broken) =
     let same : g ≡ h = same_geometry t g h says also in
-    absurd (none_broken h l broken (rw (← same) within))
-one_of_table t a b (geometry g says within) (geometry h also also_within) = ap Ok (same_geometry t g h says also)
+    absurd (broken_none t h l broken (rw (← same) within) (rw (← same) size))
+one_of_table t a b (geometry g says within size) (geometry h also also_within also_size) = ap Ok (same_geometry t g h says also)
 
 same_table : (text : List ℕ) (t u : Members) → IsToml text t → IsToml text u → t ≡ u
 same_table text t u a b = same_Some t u (sym a.document ∙ b.document)

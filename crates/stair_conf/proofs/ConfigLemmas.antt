@@ -1,10 +1,10 @@
 -- What is found in the table of a geometry text.
 use Rattle.std.proofs.Common.{◌≡◌, ◌∙◌, ◌<◌, ◌↔◌, ℕ, zero, suc, List, [], ◌∷◌, ◌++◌, ◌+◌, Option, Some, None, Err, IfOk, IfErr, length, get_or, map, take, refl, sym, ap, ap₂, arith}
-use Rattle.std.specs.Prelude.{option_map}
+use Rattle.std.specs.Prelude.{IsTrue, false, option_map, true, unwrap_or}
 use Rattle.std.specs.Option.{ok_or}
 use Rattle.std.proofs.lemmas.List.{map-append, map_more}
 use Rattle.std.proofs.lemmas.Option.{same_Some}
-use Rattle.toml.specs.Data.{Data, Items, item, no_items, string, integer, float, boolean, datetime, array, table, as_array}
+use Rattle.toml.specs.Data.{Data, Items, item, no_items, string, integer, float, boolean, datetime, array, table, as_array, as_bool}
 use Rattle.toml.specs.View.{items_of, items_view, view}
 use Rattle.toml.specs.declared.value.Value.{Value}
 use Rattle.stair_conf.specs.Config.{number}
@@ -96,3 +96,14 @@ begins_number (w ∷ ws) (suc i) v [] n at_key found within here same is = cc
 begins_number (w ∷ ws) (suc i) v (x ∷ xs) n at_key found within here same is =
     let first : view w ≡ number x = ap (λ ds. get_or ds 0 (number x)) same in
     (x, items_view ws, found ∙ ap (λ d. Some (array (item d (items_view ws)))) first)
+
+-- a value that is true
+pub true_value : (d : Data) → IsTrue (unwrap_or (as_bool d) false) ↔ (d ≡ boolean true)
+true_value (string s) = ((λ is. cc), (λ same. cc))
+true_value (integer n) = ((λ is. cc), (λ same. cc))
+true_value (float x) = ((λ is. cc), (λ same. cc))
+true_value (boolean true) = ((λ is. refl), (λ same. refl))
+true_value (boolean false) = ((λ is. cc), (λ same. cc))
+true_value (datetime d) = ((λ is. cc), (λ same. cc))
+true_value (array items) = ((λ is. cc), (λ same. cc))
+true_value (table t) = ((λ is. cc), (λ same. cc))

@@ -1,16 +1,16 @@
 -- What a table reads as.
 use Rattle.std.proofs.Common.{◌≡◌, ◌∙◌, ℕ, zero, suc, ◌+◌, List, Result, Ok, Err, refl, sym, ap, subst, None, Some}
-use Rattle.std.specs.Prelude.{IsUtf8}
+use Rattle.std.specs.Prelude.{◌⊎◌, IsUtf8}
 use Rattle.std.proofs.lemmas.Option.{same_Some}
 use Rattle.toml.specs.Data.{Members, get_member, no_members}
 use Rattle.toml.specs.Errors.{IsBlank}
 use Rattle.toml.specs.Parse.{lines, parse_document}
-use Rattle.stair_model.specs.Geometry.{Geometry, geometry_of, IsWithinLimits, IsFirstBrokenLimit}
+use Rattle.stair_model.specs.Geometry.{Geometry, geometry_of, IsFirstBrokenUnder, IsSmall, IsWithinLimits}
 use Rattle.stair_conf.specs.declared.key.Key.{Key}
 use Rattle.stair_conf.specs.declared.key.Key.TheVariants.{N, M, R, E, Stripes, Id}
 use Rattle.stair_conf.specs.declared.fault.ConfigFault.{ConfigFault}
 use Rattle.stair_conf.specs.declared.fault.ConfigFault.TheVariants as fault
-use Rattle.stair_conf.specs.Config.{HasIdentity, HasKey, HasNumber, HasNumbers, Says, TableReadsAs, TextReadsAs, name_of, number, place}
+use Rattle.stair_conf.specs.Config.{HasIdentity, HasKey, HasNumber, HasNumbers, Says, SaysLarge, SizeBy, TableReadsAs, TextReadsAs, name_of, number, place}
 use Rattle.stair_model.proofs.FirstLaws.{HoldsBelow, none_below, one_more}
 use Rattle.stair_conf.specs.Config.TableReadsAs.{key, limit, geometry}
 use Rattle.stair_conf.specs.Config.TextReadsAs.{not_toml}
@@ -85,13 +85,14 @@ key_refused table here answer is before faulty =
 
 -- the first broken limit
 pub limit_refused : (table : Members) (g : Geometry) (k : ℕ) (answer : Result Geometry ConfigFault) → answer ≡ Err (fault.Limit k)
-    → Says table g → IsFirstBrokenLimit g k → TableReadsAs table answer
+    → Says table g → IsFirstBrokenUnder (SizeBy table g) g k → TableReadsAs table answer
 limit_refused table g k answer is says broken =
     subst (λ (a : Result Geometry ConfigFault). TableReadsAs table a) (sym is) (limit g k says broken)
 
-pub geometry_read : (table : Members) (g x : Geometry) → x ≡ g → Says table g → IsWithinLimits g → TableReadsAs table (Ok x)
-geometry_read table g x is says within =
-    subst (λ (a : Geometry). TableReadsAs table (Ok a)) (sym is) (geometry g says within)
+pub geometry_read : (table : Members) (g x : Geometry) → x ≡ g → Says table g → IsWithinLimits g → (SaysLarge table ⊎ IsSmall g)
+    → TableReadsAs table (Ok x)
+geometry_read table g x is says within size =
+    subst (λ (a : Geometry). TableReadsAs table (Ok a)) (sym is) (geometry g says within size)
 
 -- ---- texts
 

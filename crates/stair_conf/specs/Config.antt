@@ -1,10 +1,10 @@
--- What a geometry text says: a TOML table with the keys n, m, r, e, stripes and id.
-use Rattle.std.specs.Prelude.{◌≡◌, ℕ, ◌<◌, pos, List, map, codes, Some, Result, Ok, Err, IsUtf8}
+-- What a geometry text says: a TOML table with the keys n, m, r, e, stripes and id, and of a large array the key large.
+use Rattle.std.specs.Prelude.{◌≡◌, ◌⊎◌, ℕ, ◌<◌, true, pos, List, map, codes, Some, Result, Ok, Err, IsUtf8}
 use Rattle.hex.specs.Hex.{decode_sized}
-use Rattle.toml.specs.Data.{Data, Members, Items, item, get_member, string, integer, array}
+use Rattle.toml.specs.Data.{Data, Members, Items, item, get_member, boolean, string, integer, array}
 use Rattle.toml.specs.View.{items_of}
 use Rattle.toml.specs.Parse.{parse_document}
-use Rattle.stair_model.specs.Geometry.{Geometry, IsWithinLimits, IsFirstBrokenLimit}
+use Rattle.stair_model.specs.Geometry.{Geometry, HasSize, IsFirstBrokenUnder, IsSmall, IsWithinLimits}
 use Rattle.stair_conf.specs.declared.key.Key.{Key}
 use Rattle.stair_conf.specs.declared.key.Key.TheVariants.{N, M, R, E, Stripes, Id}
 use Rattle.stair_conf.specs.declared.fault.ConfigFault.{ConfigFault}
@@ -50,6 +50,14 @@ pub record Says (table : Members) (g : Geometry) : Type 0 where
   pub stripes : HasNumber table Stripes g.stripes
   pub id : HasIdentity table Id g.id
 
+-- the text lets the array be a large one; any other value of the key is looked at as little as other keys
+abbrev pub SaysLarge : Members → Type 0
+SaysLarge table = get_member (codes "large") table ≡ Some (boolean true)
+
+-- the eighth limit of a text
+abbrev pub SizeBy : Members → Geometry → Type 0
+SizeBy table g = HasSize g × (SaysLarge table ⊎ IsSmall g)
+
 -- the key is there, with a value of its kind
 abbrev pub HasKey : Members → Key → Type 0
 HasKey table N = (n : ℕ) × HasNumber table N n
@@ -88,9 +96,10 @@ pub record TakesMemory (table : Members) : Type 0 where
 -- what is answered for a table
 pub data TableReadsAs (table : Members) : Result Geometry ConfigFault → Type 0 where
   key : (key : Key) → IsFirstFaultyKey table key → TableReadsAs table (Err (fault.Key key))
-  limit : (g : Geometry) (k : ℕ) → Says table g → IsFirstBrokenLimit g k →
+  limit : (g : Geometry) (k : ℕ) → Says table g → IsFirstBrokenUnder (SizeBy table g) g k →
       TableReadsAs table (Err (fault.Limit k))
-  geometry : (g : Geometry) → Says table g → IsWithinLimits g → TableReadsAs table (Ok g)
+  geometry : (g : Geometry) → Says table g → IsWithinLimits g → (SaysLarge table ⊎ IsSmall g) →
+      TableReadsAs table (Ok g)
 
 -- what is answered for a text
 pub data TextReadsAs (text : List ℕ) : Result Geometry ConfigFault → Type 0 where

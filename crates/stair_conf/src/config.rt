@@ -1,25 +1,27 @@
-ghost use Rattle.std.specs.Prelude.{◌≡◌, ◌≢◌, ℕ, List, ◌↔◌, IfOk, IfErr, IsUtf8, None, Some};
-ghost use Rattle.stair_conf.specs.Config.{BeginsNumbers, HasIdentity, HasNumber, HasNumbers, TableReadsAs, TakesMemory, TextReadsAs, name_of, number};
+ghost use Rattle.std.specs.Prelude.{◌≡◌, ◌≢◌, ◌⊎◌, ℕ, List, ◌↔◌, IfOk, IfErr, IsTrue, IsUtf8, None, Some};
+ghost use Rattle.stair_model.specs.Geometry.{IsFirstBrokenUnder, IsSmall, IsWithinLimits, geometry_of};
+ghost use Rattle.stair_conf.specs.Config.{BeginsNumbers, HasIdentity, HasNumber, HasNumbers, SaysLarge, SizeBy, TableReadsAs, TakesMemory, TextReadsAs, name_of, number};
 ghost use Rattle.toml.specs.Data.{get_member};
 ghost use Rattle.toml.specs.Errors.{IsBlank};
 ghost use Rattle.toml.specs.View.{table_view, view};
 
 use crate::{ConfigFault, Key};
 use hex::FromHex;
-use stair_base::Geometry;
+use stair_base::{Geometry, GeometryFault};
 use std::alloc::Global;
 use toml::{Table, Value};
 
 /// Reads the geometry of an array: a TOML table with the keys `n`, `m`, `r`, `e`, `stripes` and `id`.
 ///
 /// `n`, `m`, `r` and `stripes` are whole numbers and `e` is an array of such; none is negative. `id` is a string of 32
-/// hexadecimal digits, in either case. Other keys are ignored. The faults come in this order, unless memory runs out before
+/// hexadecimal digits, in either case. With `large = true` the geometry may be any of [`Geometry::large`], and else only one
+/// of [`Geometry::new`]. Other keys are ignored, and so is `large` with another value. The faults come in this order, unless memory runs out before
 /// one is known, which is only where the bytes are text in UTF-8, and not of blanks and comments alone:
 ///
 /// 1. `NotToml`: the bytes are no text in UTF-8, or toml refuses the text. It refuses a whole number of 2^63 or more, or below
 ///    -2^63, under whatever key.
 /// 2. `Key`: the first key, in the order above, that is missing or has another kind of value. A negative number is one.
-/// 3. `Limit`: the first limit of [`Geometry::new`] that is broken. An empty array for `e` breaks limit 4.
+/// 3. `Limit`: the first limit of that function that is broken. An empty array for `e` breaks limit 4.
 pub fn read_config(alloc: Global, text: &[u8]) -> Result<Geometry, ConfigFault>
     ensures answer { result ≢ Err ConfigFault.Memory → TextReadsAs text.now result }
     ensures memory { result ≡ Err ConfigFault.Memory → IsUtf8 text.now × ¬ IsBlank text.now }
@@ -53,7 +55,39 @@ fn read_rest(table: &Table, n: u64, m: u64, r: u64, e: &[u64]) -> Result<Geometr
 {
     let stripes = number_at(table, Key::Stripes)?;
     let id = identity_at(table, Key::Id)?;
-    Ok(Geometry::new(n, m, r, e, stripes, id)?)
+    Ok(geometry_by(table, n, m, r, e, stripes, id)?)
+}
+
+// The geometry of these numbers, which is a large one only where the table lets it be one.
+fn geometry_by(
+    table: &Table,
+    n: u64,
+    m: u64,
+    r: u64,
+    e: &[u64],
+    stripes: u64,
+    id: [u8; 16],
+) -> Result<Geometry, GeometryFault>
+    ensures ok { let g = geometry_of n m r e.now stripes id in IfOk result (λ geometry.
+        (geometry ≡ g) × IsWithinLimits g × (SaysLarge (table_view table.now) ⊎ IsSmall g)) }
+    ensures err { let g = geometry_of n m r e.now stripes id in IfErr result (λ fault.
+        IsFirstBrokenUnder (SizeBy (table_view table.now) g) g fault.limit) }
+{
+    if says_large(table) {
+        Geometry::large(n, m, r, e, stripes, id)
+    } else {
+        Geometry::new(n, m, r, e, stripes, id)
+    }
+}
+
+// Whether the array may be a large one.
+fn says_large(table: &Table) -> bool
+    ensures { IsTrue result ↔ SaysLarge (table_view table.now) }
+{
+    match table.get("large") {
+        Some(value) => value.as_bool().unwrap_or(false),
+        None => false,
+    }
 }
 
 // The whole number at a key.

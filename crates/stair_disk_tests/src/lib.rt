@@ -1,4 +1,4 @@
-//! Tests of racks, image files, superblocks and stripes.
+//! Tests of racks, image files, superblocks, stripes and tables of volumes.
 #![tactic(auto)]
 
 #[cfg(test)]
@@ -17,3 +17,5 @@ mod streams;
 mod stripes;
 #[cfg(test)]
 mod superblocks;
+#[cfg(test)]
+mod tables;

@@ -1,7 +1,7 @@
 //! Superblocks in which one byte is changed.
 
 use stair_base::{Geometry, SECTOR};
-use stair_super::{Mark, Super, read_super};
+use stair_super::{Mark, Super, read_super, write_super};
 
 // Slot 2 of four devices with one row parity, two rows, one global parity and three stripes, in the first epoch, in
 // version 1, as tests/tools/superblocks works it out from the table of the format. All bytes after these are zero.
@@ -35,6 +35,15 @@ fn frozen_bytes() -> [u8; SECTOR] {
     let mut bytes = first_bytes();
     bytes[7] = b'2';
     bytes[384..393].copy_from_slice(&NOTES);
+    bytes
+}
+
+// The same slot of an array of so many stripes of so many rows, in this version.
+fn bytes_of(version: u8, rows: u8, stripes: u32) -> [u8; SECTOR] {
+    let mut bytes = first_bytes();
+    bytes[7] = version;
+    bytes[26] = rows;
+    bytes[60..64].copy_from_slice(&stripes.to_be_bytes());
     bytes
 }
 
@@ -118,4 +127,30 @@ fn each_byte_changed(bytes: &[u8; SECTOR]) -> (u32, u32) {
 fn a_changed_byte_is_refused_or_says_what_the_format_says(rt: HostRuntime) {
     assert_eq!(rt; each_byte_changed(&first_bytes()), (61, 0x401B_370F));
     assert_eq!(rt; each_byte_changed(&frozen_bytes()), (74, 0x9DA4_FC5D));
+    let least = bytes_of(b'3', 2, 65_537);
+    assert_eq!(rt; each_byte_changed(&least), (62, 0xA169_D79D));
+    let largest = bytes_of(b'3', 1, 4_294_967_288);
+    assert_eq!(rt; each_byte_changed(&largest), (61, 0xEA74_0A75));
+}
+
+#[test]
+fn a_large_array_has_version_3_and_a_small_one_never(rt: HostRuntime) {
+    for (version, stripes, read) in [
+        (b'1', 65_536, true),
+        (b'2', 65_536, true),
+        (b'3', 65_536, false),
+        (b'1', 65_537, false),
+        (b'2', 65_537, false),
+        (b'3', 65_537, true),
+        (b'4', 65_537, false),
+    ] {
+        let bytes = bytes_of(version, 2, stripes);
+        let block = read_super(&bytes);
+        assert_eq!(rt; block.is_some(), read, "{version} {stripes}");
+        if version > b'1'
+            && let Some(block) = block
+        {
+            assert!(rt; write_super(&block) == bytes);
+        }
+    }
 }

@@ -13,7 +13,7 @@ pub(crate) fn one_stripe(n: u64, m: u64, r: u64, e: &Numbers) -> Result<Geometry
     ensures within { OnOk result (IsWithinLimits (stripe_of n m r e.now)) }
     ensures broken { IfErr result (λ fault. IsFirstBrokenLimit (stripe_of n m r e.now) fault.limit) }
 {
-    Geometry::new(n, m, r, e.as_slice(), 1, [0; 16])
+    Geometry::large(n, m, r, e.as_slice(), 1, [0; 16])
 }
 
 /// How a code encodes by this method.

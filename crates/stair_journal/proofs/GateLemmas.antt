@@ -63,7 +63,7 @@ bitmap_bytes g redo = take_at (bitmap g redo.cells) (replicate 368 0) 128 (lengt
 stripe_fits : (g : Geometry) (redo : Redo) → IsWithinLimits g → IsRedo g redo → redo.stripe < 2 ^ 32
 stripe_fits g redo limits of =
     let below : redo.stripe < g.stripes = of.stripe_in in
-    let few : g.stripes ≤ 65536 = limits.size.1 in
+    let few : g.stripes < 4294967295 = limits.size.1 in
     omega arith
 
 pub stripe_is : (g : Geometry) (redo : Redo) → IsWithinLimits g → IsRedo g redo → from_be_bytes w32 (take 4 (drop 12 (open_gate g redo))) ≡ redo.stripe

@@ -24,6 +24,7 @@ use Rattle.stair_rack.proofs.StretchLemmas.{KeepsWhere, kept_where}
 use Rattle.stair_super.specs.Spelling.{SpellsSuperblock, spelled}
 use Rattle.stair_super.specs.Superblock.{Superblock, IsSuperblock}
 use Rattle.stair_super.specs.declared.version.Version.TheVariants.{Two}
+use Rattle.stair_super.proofs.SpellsLaws.{spells}
 use Rattle.stair_member.specs.Editions.{Edition, copy_of}
 use Rattle.stair_member.specs.Epochs.{IsIssuing, AWrite, ASync}
 use Rattle.stair_member.specs.Fencing.{IsBegun, IsCopy, MayBear}
@@ -146,7 +147,7 @@ places_first {P} h j tidy none holds = at_size (slot_state h j).size refl
 -- ---- editions
 
 pub spells_copy : (e : Edition) (j : ℕ) → IsSuperblock (copy_of e j) → SpellsSuperblock (spelled (copy_of e j)) (copy_of e j)
-spells_copy e j formed = record { block = formed; version = Two; said = tt; text = refl }
+spells_copy e j formed = spells (copy_of e j) formed
 
 pub holds_copy : (cell : Cell) (e : Edition) (j : ℕ) → IsSuperblock (copy_of e j) → cell ≡ Good (spelled (copy_of e j))
     → HoldsSuper cell (copy_of e j)

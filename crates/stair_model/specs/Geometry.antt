@@ -1,5 +1,5 @@
 -- The geometry of an array, in the letters of Li and Lee (STAIR Codes, FAST 2014).
-use Rattle.std.specs.Prelude.{ℕ, ◌+◌, ◌-◌, ◌*◌, ◌<◌, ◌≤◌, List, length, sum, slice_index, All}
+use Rattle.std.specs.Prelude.{ℕ, ◌+◌, ◌-◌, ◌*◌, ◌<◌, ◌≤◌, ◌&&◌, Bool, List, length, nat_le, sum, slice_index, All}
 use Rattle.std.specs.List.Sorted.{IsNonDecreasing}
 
 pub record Geometry : Type 0 where
@@ -78,8 +78,9 @@ HasCoverage g = IsCoverageVector g.e g.r
 abbrev pub HasBlocks : Geometry → Type 0
 HasBlocks g = 1 ≤ data_cells g
 
+-- the sectors of a device are numbered in 32 bits; the second part follows from the third, and has no product in it
 abbrev pub HasSize : Geometry → Type 0
-HasSize g = (1 ≤ g.stripes) × (g.stripes ≤ 65536) × (g.n * g.r * g.stripes ≤ 4194304)
+HasSize g = (1 ≤ g.stripes) × (g.stripes < 4294967295) × (sectors_needed g ≤ 4294967295)
 
 pub record IsWithinLimits (g : Geometry) : Type 0 where
   pub devices : HasDevices g
@@ -91,18 +92,30 @@ pub record IsWithinLimits (g : Geometry) : Type 0 where
   pub blocks : HasBlocks g
   pub size : HasSize g
 
--- limit number k fails, and those before it hold
-pub data IsFirstBrokenLimit (g : Geometry) : ℕ → Type 0 where
-  devices : ¬ HasDevices g → IsFirstBrokenLimit g 1
-  parities : HasDevices g → ¬ HasParity g → IsFirstBrokenLimit g 2
-  majority : HasDevices g → HasParity g → ¬ HasMajority g → IsFirstBrokenLimit g 3
+-- a small array: what the eighth limit was before there were large ones, and still is where no one asks for a large array
+abbrev pub IsSmall : Geometry → Type 0
+IsSmall g = (g.stripes ≤ 65536) × (g.n * g.r * g.stripes ≤ 4194304)
+
+-- the same as a test
+unfoldable pub is_small : Geometry → Bool
+is_small g = nat_le g.stripes 65536 && nat_le (g.n * g.r * g.stripes) 4194304
+
+-- limit number k fails, where this is the eighth, and those before it hold
+pub data IsFirstBrokenUnder (Size : Type 0) (g : Geometry) : ℕ → Type 0 where
+  devices : ¬ HasDevices g → IsFirstBrokenUnder Size g 1
+  parities : HasDevices g → ¬ HasParity g → IsFirstBrokenUnder Size g 2
+  majority : HasDevices g → HasParity g → ¬ HasMajority g → IsFirstBrokenUnder Size g 3
   covered_chunks : HasDevices g → HasParity g → HasMajority g → ¬ HasClasses g →
-      IsFirstBrokenLimit g 4
+      IsFirstBrokenUnder Size g 4
   rows : HasDevices g → HasParity g → HasMajority g → HasClasses g → ¬ HasRows g →
-      IsFirstBrokenLimit g 5
+      IsFirstBrokenUnder Size g 5
   covered_sectors : HasDevices g → HasParity g → HasMajority g → HasClasses g → HasRows g →
-      ¬ HasCoverage g → IsFirstBrokenLimit g 6
+      ¬ HasCoverage g → IsFirstBrokenUnder Size g 6
   blocks : HasDevices g → HasParity g → HasMajority g → HasClasses g → HasRows g → HasCoverage g →
-      ¬ HasBlocks g → IsFirstBrokenLimit g 7
+      ¬ HasBlocks g → IsFirstBrokenUnder Size g 7
   size : HasDevices g → HasParity g → HasMajority g → HasClasses g → HasRows g → HasCoverage g →
-      HasBlocks g → ¬ HasSize g → IsFirstBrokenLimit g 8
+      HasBlocks g → ¬ Size → IsFirstBrokenUnder Size g 8
+
+-- limit number k fails, and those before it hold
+abbrev pub IsFirstBrokenLimit : Geometry → ℕ → Type 0
+IsFirstBrokenLimit g k = IsFirstBrokenUnder (HasSize g) g k

@@ -30,10 +30,10 @@ spells-text bytes (Repaired stripe cells) spells =
 spells-text bytes (Admitted slot) spells = named_text (codes "admitted") bytes slot spells.words
 spells-text bytes (Promoted slot) spells = named_text (codes "promoted") bytes slot spells.words
 
-small_number : (n : ℕ) → n < 65536 → IsNumber (decimal n) n
+small_number : (n : ℕ) → n < 4294967295 → IsNumber (decimal n) n
 small_number n small = record { spelled = refl; fits = omega arith }
 
-text_number : (name : List ℕ) (n : ℕ) → n < 65536 → SpellsNumber name (name ++ 32 ∷ decimal n) n
+text_number : (name : List ℕ) (n : ℕ) → n < 4294967295 → SpellsNumber name (name ++ 32 ∷ decimal n) n
 text_number name n small = record { word = decimal n; spelled = refl; number = small_number n small }
 
 pub text-spells : (said : Event) → IsEvent said → SpellsEvent (event_text said) said
@@ -51,27 +51,27 @@ text-spells (Repaired stripe cells) is = record {
 text-spells (Admitted slot) is = record { words = text_number (codes "admitted") slot (omega arith); range = is }
 text-spells (Promoted slot) is = record { words = text_number (codes "promoted") slot (omega arith); range = is }
 
--- ---- at most 32
+-- ---- at most 37 bytes
 
-short_decimal : (k n : ℕ) → 0 < k → n < 10 ^ k → n < 65536 → length (decimal n) ≤ k
+short_decimal : (k n : ℕ) → 0 < k → n < 10 ^ k → n < 4294967295 → length (decimal n) ≤ k
 short_decimal k n some short small = length-decimal-le k n some short (omega arith)
 
-pub text_length : (said : Event) → IsEvent said → length (event_text said) ≤ 32
+pub text_length : (said : Event) → IsEvent said → length (event_text said) ≤ 37
 text_length (Fenced slot) is = let short = short_decimal 2 slot (lit< tt) (omega arith) (omega arith) in omega arith
 text_length (Repaired stripe cells) is =
     let most = is.1.1 in
-    let first = short_decimal 5 stripe (lit< tt) (let few = is.0 in omega arith) is.0 in
+    let first = short_decimal 10 stripe (lit< tt) (let few = is.0 in omega arith) is.0 in
     let second = short_decimal 4 cells (lit< tt) (omega arith) (omega arith) in
     omega (arith, first, second, length-append (decimal stripe) (codes " cells " ++ decimal cells))
 text_length (Admitted slot) is = let short = short_decimal 2 slot (lit< tt) (omega arith) (omega arith) in omega arith
 text_length (Promoted slot) is = let short = short_decimal 2 slot (lit< tt) (omega arith) (omega arith) in omega arith
 
-pub spells-length : (bytes : List ℕ) (said : Event) → SpellsEvent bytes said → length bytes ≤ 32
+pub spells-length : (bytes : List ℕ) (said : Event) → SpellsEvent bytes said → length bytes ≤ 37
 spells-length bytes said spells = rw (spells-text bytes said spells) (text_length said spells.range)
 
 -- ---- they spell one event at most: the words of the kinds differ in their first letters
 
-same_number : (m n : ℕ) → m < 65536 → n < 65536 → decimal m ≡ decimal n → m ≡ n
+same_number : (m n : ℕ) → m < 4294967295 → n < 4294967295 → decimal m ≡ decimal n → m ≡ n
 same_number m n one two same = decimal_injective m n (omega arith) (omega arith) same
 
 same_slot : (name : List ℕ) (m n : ℕ) → m < 32 → n < 32 → name ++ decimal m ≡ name ++ decimal n → m ≡ n
@@ -116,7 +116,7 @@ known_lt a b =
 
 known_range : (said : Event) → IsKnown (IsEvent said)
 known_range (Fenced slot) = known_lt slot 32
-known_range (Repaired stripe cells) = known_both (known_lt stripe 65536) (known_both (known_le 1 cells) (known_le cells 1024))
+known_range (Repaired stripe cells) = known_both (known_lt stripe 4294967295) (known_both (known_le 1 cells) (known_le cells 1024))
 known_range (Admitted slot) = known_lt slot 32
 known_range (Promoted slot) = known_lt slot 32
 
@@ -157,7 +157,7 @@ known_slot bytes make within =
 
 known_repair : (bytes : List ℕ) → IsKnown ((stripe : ℕ) × ((cells : ℕ) × SpellsEvent bytes (Repaired stripe cells)))
 known_repair bytes =
-    known_some (λ stripe. (cells : ℕ) × SpellsEvent bytes (Repaired stripe cells)) 65536
+    known_some (λ stripe. (cells : ℕ) × SpellsEvent bytes (Repaired stripe cells)) 4294967295
     (λ stripe. known_some (λ cells. SpellsEvent bytes (Repaired stripe cells)) 1025 (λ cells. known_event bytes (Repaired stripe cells))
     (λ cells spells. let most = spells.range.1.1 in omega arith))
     (λ stripe some. some.1.range.0)

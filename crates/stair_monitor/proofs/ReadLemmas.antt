@@ -155,7 +155,7 @@ module _ (values rest first second : List ℕ) (is : values ≡ codes "stripe " 
         range = words.range;
       }
 
-  pub no_stripe_read : ReadsExactly None (λ n. IsNumber first n × IsInRange 0 65535 n) → ReadsEvent (codes "repaired " ++ values) None
+  pub no_stripe_read : ReadsExactly None (λ n. IsNumber first n × IsInRange 0 4294967294 n) → ReadsEvent (codes "repaired " ++ values) None
   no_stripe_read exact =
       none_read (codes "repaired " ++ values)
       (λ said spells.
@@ -178,7 +178,7 @@ module _ (values rest first second : List ℕ) (is : values ≡ codes "stripe " 
       none-some words.cells
       ((exact words.cells).1 (subst (λ text. IsNumber text words.cells) same words.cells_number, words.range.1)))
 
-  pub repair_read : (word : List ℕ) (stripe cells : ℕ) → second ≡ codes "cells " ++ word → IsNumber first stripe × IsInRange 0 65535 stripe
+  pub repair_read : (word : List ℕ) (stripe cells : ℕ) → second ≡ codes "cells " ++ word → IsNumber first stripe × IsInRange 0 4294967294 stripe
       → IsNumber word cells × IsInRange 1 1024 cells → ReadsEvent (codes "repaired " ++ values) (Some (Repaired stripe cells))
   repair_read word stripe cells behind one two =
       let most = one.1.1 in

@@ -4,7 +4,7 @@ ghost use Rattle.stair_script.specs.Events.{IsEvent, SpellsEvent, event_text};
 use stair_rack::Event;
 use stair_watch::Line;
 
-/// Room for the line of an event, which has at most 32 bytes.
+/// Room for the line of an event, which has at most 37 bytes.
 pub const TEXT_LIMIT: usize = 64;
 
 /// Prints the line of an event, without its end, at the front of the room, and tells how many bytes it has. What stands behind

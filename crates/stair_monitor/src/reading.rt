@@ -11,7 +11,7 @@ use std::str;
 /// Reads the line of an event, without its end: `fenced J`, `repaired stripe S cells K`, `admitted J` or `promoted J`.
 ///
 /// Words are divided by exactly one space, and there is no other blank. A number is decimal digits with no sign and no leading
-/// zero. J is a slot, below 32, S a stripe, below 65,536, and K a number of cells, from 1 to 1,024. All other lines are None. It
+/// zero. J is a slot, below 32, S a stripe, at most 4,294,967,294, and K a number of cells, from 1 to 1,024. All other lines are None. It
 /// takes no memory.
 pub fn read_event(line: &[u8]) -> Option<Event>
     ensures { (said : Event) → (result ≡ Some said) ↔ SpellsEvent line.now said }
@@ -46,7 +46,7 @@ fn read_repaired(values: &str) -> Option<Event>
 {
     let (stripe, cells) = values.strip_prefix("stripe ")?.split_once(' ')?;
     Some(Event::Repaired {
-        stripe: read_within(stripe, 0, 65_535)? as u32,
+        stripe: read_within(stripe, 0, 4_294_967_294)? as u32,
         cells: read_within(cells.strip_prefix("cells ")?, 1, 1_024)? as u16,
     })
 }

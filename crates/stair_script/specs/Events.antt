@@ -10,7 +10,7 @@ use Rattle.stair_script.specs.Line.{SpellsNumber, spaced}
 -- the bounds of slots, stripes and cells
 abbrev pub IsEvent : Event → Type 0
 IsEvent (Fenced slot) = slot < 32
-IsEvent (Repaired stripe cells) = (stripe < 65536) × IsInRange 1 1024 cells
+IsEvent (Repaired stripe cells) = (stripe < 4294967295) × IsInRange 1 1024 cells
 IsEvent (Admitted slot) = slot < 32
 IsEvent (Promoted slot) = slot < 32
 

@@ -26,6 +26,7 @@ use Rattle.stair_super.specs.Superblock.{IsConfiguration, IsJoined, IsSuperblock
 use Rattle.stair_super.specs.declared.mark.Mark.{Mark}
 use Rattle.stair_super.specs.declared.mark.Mark.TheVariants.{Down, Live}
 use Rattle.stair_super.specs.declared.version.Version.TheVariants.{Two}
+use Rattle.stair_super.proofs.SpellsLaws.{spells}
 use Rattle.stair_member.specs.Aims.{mark_for}
 use Rattle.stair_member.specs.Membership.{IsMarkedFor, IsMembership, Membership, place_of, why_of}
 use Rattle.stair_member.specs.Superblocks.{HoldsSuper}
@@ -209,7 +210,7 @@ module _ (g : Geometry) (epoch : ℕ) where
     }
 
     pub super_spelled : (j : ℕ) → j < g.n → SpellsSuperblock (spelled (new_super g epoch j)) (new_super g epoch j)
-    super_spelled j below = record { block = super_formed_new j below; version = Two; said = tt; text = refl }
+    super_spelled j below = spells (new_super g epoch j) (super_formed_new j below)
 
     pub member_new : IsMembership (new_member g epoch)
     member_new = record {

@@ -147,5 +147,16 @@ fn run_words<T: TopCall, L: Ledger>(
         blank,
         told,
     );
-    Ok(called.unwrap_or(Status::OutOfMemory))
+    let status = called.unwrap_or(Status::OutOfMemory);
+    if status == Status::Limit(8) && matches!(job, Ok(Job::Create)) {
+        tell_large(rt);
+    }
+    Ok(status)
+}
+
+/// Tells how a geometry text gets an array of more stripes.
+fn tell_large(rt: &HostRuntime) {
+    let _ = eprintln!(rt;
+        "geometry: with `large = true` limit 8 is 3 + n*r + r*stripes <= 4294967295"
+    );
 }

@@ -6,16 +6,16 @@ use Rattle.std.proofs.lemmas.Bool.{cases_lt, cases_eq, lt-ltb, le-ltb}
 use Rattle.std.proofs.lemmas.List.{take_all, take_more, get_or_default}
 use Rattle.stair_model.specs.Geometry.{Geometry, geometry_of, IsWithinLimits}
 use Rattle.stair_model.proofs.FirstLaws.{IsKnown, known_le, known_both, known_below}
-use Rattle.stair_model.proofs.LimitLaws.{within_or_broken, none_broken}
+use Rattle.stair_model.proofs.LimitLaws.{within_or_broken, none_broken, known_small}
 use Rattle.stair_super.specs.declared.configuration.Configuration.{Configuration}
 use Rattle.stair_super.specs.declared.mark.Mark.{Mark}
 use Rattle.stair_super.specs.declared.mark.Mark.TheVariants.{Live, Rebuilding, Down}
 use Rattle.stair_super.specs.declared.version.Version.{Version}
-use Rattle.stair_super.specs.declared.version.Version.TheVariants.{One, Two}
+use Rattle.stair_super.specs.declared.version.Version.TheVariants.{One, Two, Three}
 use Rattle.stair_super.specs.Label.{IsLabel, IsPrintable}
 use Rattle.stair_super.specs.Superblock.{Superblock, superblock_of, IsSuperblock, IsWellFormed, IsConfiguration, HasSizes, IsJoined, mark_in, joined_in, mark_at, joined_at}
-use Rattle.stair_super.specs.Spelling.{SpellsSuperblock, IsPlain, CanSay, spelled_in, code}
-use Rattle.stair_super.proofs.Fields.{laid, n_is, m_is, r_is, classes_is, coverage_is, stripes_is, slot_is, joined_is, draw_is, epoch_is, mark_is, joined_at_is, frozen_is, frozen_back, length_is, label_is, within}
+use Rattle.stair_super.specs.Spelling.{SpellsSuperblock, IsPlain, IsOfVersion, HasNotes, CanSay, spelled_in, code}
+use Rattle.stair_super.proofs.Fields.{laid, n_is, m_is, r_is, classes_is, coverage_is, stripes_is, slot_is, joined_is, draw_is, epoch_is, mark_is, joined_at_is, frozen_is, frozen_back, length_is, label_is, later_has, within}
 use Rattle.stair_super.proofs.Answered.{same_configuration, same_fields}
 use Rattle.stair_super.proofs.Once.{absent_joined}
 
@@ -126,13 +126,26 @@ known_block s =
     (λ is. (is.sizes, is.rules))
     (known_both (known_sizes s) (known_rules s))
 
-known_said : (version : Version) (array : Configuration) → IsKnown (CanSay version array)
-known_said One array =
+known_version : (version : Version) (g : Geometry) → IsKnown (IsOfVersion version g)
+known_version One g = known_small g
+known_version Two g = known_small g
+known_version Three g = known_not (known_small g)
+
+known_notes : (version : Version) (array : Configuration) → IsKnown (HasNotes version array)
+known_notes One array =
     known_if {P = (array.frozen ≡ false) × (array.label ≡ [])}
     (λ p. record { thawed = p.0; unlabelled = p.1 })
     (λ is. (is.thawed, is.unlabelled))
     (known_both (known_false array.frozen) (known_text array.label []))
-known_said Two array = inl tt
+known_notes Two array = inl tt
+known_notes Three array = inl tt
+
+known_said : (version : Version) (array : Configuration) → IsKnown (CanSay version array)
+known_said version array =
+    known_if {P = IsOfVersion version array.geometry × HasNotes version array}
+    (λ p. record { size = p.0; notes = p.1 })
+    (λ can. (can.size, can.notes))
+    (known_both (known_version version array.geometry) (known_notes version array))
 
 -- ---- the superblock that bytes would have to be
 
@@ -167,10 +180,12 @@ joined_from bytes n j = if nat_lt j n then from_be_bytes w64 (take 8 (drop (97 +
 frozen_from : Version → List ℕ → Bool
 frozen_from One bytes = false
 frozen_from Two bytes = nat_eq (get_or bytes 384 0) 1
+frozen_from Three bytes = nat_eq (get_or bytes 384 0) 1
 
 label_from : Version → List ℕ → List ℕ
 label_from One bytes = []
 label_from Two bytes = take (get_or bytes 385 0) (drop 386 bytes)
+label_from Three bytes = take (get_or bytes 385 0) (drop 386 bytes)
 
 array_from : Version → List ℕ → Configuration
 array_from version bytes =
@@ -220,16 +235,18 @@ joined_is_from bytes s n j h same lt =
 frozen_is_from : (version : Version) (bytes : List ℕ) (s : Superblock) (h : SpellsSuperblock bytes s) → version ≡ h.version → frozen_from version bytes ≡ s.array.frozen
 unfolding frozen_from
 frozen_is_from One bytes s h same =
-    let plain : IsPlain s.array = subst (λ (v : Version). CanSay v s.array) (sym same) h.said in
+    let plain : IsPlain s.array = subst (λ (v : Version). HasNotes v s.array) (sym same) h.said.notes in
     sym plain.thawed
-frozen_is_from Two bytes s h same = ap (λ (n : ℕ). nat_eq n 1) (frozen_is bytes s h same) ∙ frozen_back s.array.frozen
+frozen_is_from Two bytes s h same = ap (λ (n : ℕ). nat_eq n 1) (frozen_is bytes s h (later_has Two h.version (inl refl) same)) ∙ frozen_back s.array.frozen
+frozen_is_from Three bytes s h same = ap (λ (n : ℕ). nat_eq n 1) (frozen_is bytes s h (later_has Three h.version (inr refl) same)) ∙ frozen_back s.array.frozen
 
 label_is_from : (version : Version) (bytes : List ℕ) (s : Superblock) (h : SpellsSuperblock bytes s) → version ≡ h.version → label_from version bytes ≡ s.array.label
 unfolding label_from
 label_is_from One bytes s h same =
-    let plain : IsPlain s.array = subst (λ (v : Version). CanSay v s.array) (sym same) h.said in
+    let plain : IsPlain s.array = subst (λ (v : Version). HasNotes v s.array) (sym same) h.said.notes in
     sym plain.unlabelled
-label_is_from Two bytes s h same = label_is bytes s h (get_or bytes 385 0) same (length_is bytes s h same)
+label_is_from Two bytes s h same = label_is bytes s h (get_or bytes 385 0) (later_has Two h.version (inl refl) same) (length_is bytes s h (later_has Two h.version (inl refl) same))
+label_is_from Three bytes s h same = label_is bytes s h (get_or bytes 385 0) (later_has Three h.version (inr refl) same) (length_is bytes s h (later_has Three h.version (inr refl) same))
 
 array_is_from : (bytes : List ℕ) (s : Superblock) (h : SpellsSuperblock bytes s) → array_from h.version bytes ≡ s.array
 unfolding array_from
@@ -275,9 +292,12 @@ as_spelled bytes s h =
     subst (λ (t : Superblock). SpellsAs h.version bytes t) (sym (block_is_from bytes s h))
     (record { block = h.block; said = h.said; text = h.text })
 
-neither : (bytes : List ℕ) → ¬ SpellsAs One bytes (block_from One bytes) → ¬ SpellsAs Two bytes (block_from Two bytes) → (version : Version) → ¬ SpellsAs version bytes (block_from version bytes)
-neither bytes first second One = first
-neither bytes first second Two = second
+-- in no version where in none of the three
+none_of : (bytes : List ℕ) → ¬ SpellsAs One bytes (block_from One bytes) → ¬ SpellsAs Two bytes (block_from Two bytes)
+    → ¬ SpellsAs Three bytes (block_from Three bytes) → (version : Version) → ¬ SpellsAs version bytes (block_from version bytes)
+none_of bytes first second third One = first
+none_of bytes first second third Two = second
+none_of bytes first second third Three = third
 
 pub superblock_or_none : (bytes : List ℕ) → ((s : Superblock) × SpellsSuperblock bytes s) ⊎ ((s : Superblock) → ¬ SpellsSuperblock bytes s)
 superblock_or_none bytes =
@@ -286,6 +306,10 @@ superblock_or_none bytes =
       | inr not_first ↦
           elim (known_as Two bytes (block_from Two bytes)) [
             | inl second ↦ inl (block_from Two bytes, spells_as Two bytes _ second)
-            | inr not_second ↦ inr (λ s h. neither bytes not_first not_second h.version (as_spelled bytes s h))
+            | inr not_second ↦
+                elim (known_as Three bytes (block_from Three bytes)) [
+                  | inl third ↦ inl (block_from Three bytes, spells_as Three bytes _ third)
+                  | inr not_third ↦ inr (λ s h. none_of bytes not_first not_second not_third h.version (as_spelled bytes s h))
+                ]
           ]
     ]

@@ -5,17 +5,19 @@ use Rattle.std.specs.Int.{w32, w64, from_be_bytes}
 use Rattle.std.proofs.lemmas.Nat.{from_be_bytes-to_be_bytes_4, from_be_bytes-to_be_bytes_8}
 use Rattle.std.proofs.lemmas.List.{take_at, drop-drop, drop-take, get_or-drop, get_or-take, get_or-set_same, get_or-set_other, get_or_default, same_lists}
 use Rattle.std.proofs.lemmas.Bool.{cases_eq, lt-ltb, le-ltb}
+use Rattle.stair_super.specs.declared.configuration.Configuration.{Configuration}
 use Rattle.stair_super.specs.declared.mark.Mark.{Mark}
 use Rattle.stair_super.specs.declared.mark.Mark.TheVariants.{Live, Rebuilding, Down}
 use Rattle.stair_super.specs.declared.version.Version.{Version}
-use Rattle.stair_super.specs.declared.version.Version.TheVariants.{One, Two}
+use Rattle.stair_super.specs.declared.version.Version.TheVariants.{One, Two, Three}
 use Rattle.stair_super.specs.Superblock.{Superblock, IsSuperblock, IsJoined, mark_at, joined_at}
-use Rattle.stair_super.specs.Spelling.{SpellsSuperblock, zeros, number32, number64, code, entry, magic, spelled_in, fields, notes_part, frozen_code, label_part, counts}
+use Rattle.stair_super.specs.Spelling.{SpellsSuperblock, zeros, number32, number64, code, entry, magic, spelled_in, fields, notes, notes_part, frozen_code, label_part, counts}
 use Rattle.stair_super.proofs.Parts.{IsLaid, is_laid}
 
 length-magic : (version : Version) → length (magic version) ≡ 8
 length-magic One = refl
 length-magic Two = refl
+length-magic Three = refl
 
 pub laid : (bytes : List ℕ) (s : Superblock) (h : SpellsSuperblock bytes s) → IsLaid bytes (notes_part h.version s.array) s
 unfolding spelled_in
@@ -25,20 +27,28 @@ laid bytes s h = is_laid bytes (magic h.version) (notes_part h.version s.array) 
 abbrev pub digit : Version → ℕ
 digit One = 49
 digit Two = 50
+digit Three = 51
 
-pub one_digit : (version : Version) → (digit version ≡ 49) ⊎ (digit version ≡ 50)
-one_digit One = inl refl
-one_digit Two = inr refl
+pub one_digit : (version : Version) → (49 ≤ digit version) × (digit version ≤ 51)
+one_digit One = (omega arith, omega arith)
+one_digit Two = (omega arith, omega arith)
+one_digit Three = (omega arith, omega arith)
 
 pub digit_at : (version : Version) (rest : List ℕ) → get_or (magic version ++ rest) 7 0 ≡ digit version
 digit_at One rest = refl
 digit_at Two rest = refl
+digit_at Three rest = refl
 
 pub digit_once : (a b : Version) → digit a ≡ digit b → a ≡ b
 digit_once One One e = refl
 digit_once One Two e = absurd (omega arith)
+digit_once One Three e = absurd (omega arith)
 digit_once Two One e = absurd (omega arith)
 digit_once Two Two e = refl
+digit_once Two Three e = absurd (omega arith)
+digit_once Three One e = absurd (omega arith)
+digit_once Three Two e = absurd (omega arith)
+digit_once Three Three e = refl
 
 pub spelled_digit : (version : Version) (s : Superblock) → get_or (spelled_in version s) 7 0 ≡ digit version
 unfolding spelled_in
@@ -136,29 +146,37 @@ joined_at_is bytes s j h lt within =
     ∙ ap (λ (l : List ℕ). drop 1 l) (entry_at bytes s j h lt within) in
     ap (λ (l : List ℕ). from_be_bytes w64 l) part ∙ number64_back (joined_at s j) (joined_fits s j h.block lt)
 
--- what version 2 says besides marks
-second_notes : (bytes : List ℕ) (s : Superblock) (h : SpellsSuperblock bytes s) → Two ≡ h.version → drop 384 bytes ≡ frozen_code s.array.frozen ∷ label_part s.array.label
-second_notes bytes s h second = (laid bytes s h).behind_slots ∙ ap (λ (v : Version). notes_part v s.array) (sym second)
+-- the versions from 2 on have the frozen mark and the label
+abbrev pub HasBoth : Version → Type 0
+HasBoth version = (array : Configuration) → notes_part version array ≡ notes array
 
-pub frozen_is : (bytes : List ℕ) (s : Superblock) (h : SpellsSuperblock bytes s) → Two ≡ h.version → get_or bytes 384 0 ≡ frozen_code s.array.frozen
-frozen_is bytes s h second = sym (get_or-drop 384 bytes 0 0) ∙ ap (λ (l : List ℕ). get_or l 0 0) (second_notes bytes s h second)
+pub later_has : (given version : Version) → (given ≡ Two) ⊎ (given ≡ Three) → given ≡ version → HasBoth version
+later_has given version (inl two) same = λ array. ap (λ (v : Version). notes_part v array) (sym same ∙ two)
+later_has given version (inr three) same = λ array. ap (λ (v : Version). notes_part v array) (sym same ∙ three)
+
+-- what these say besides marks
+later_notes : (bytes : List ℕ) (s : Superblock) (h : SpellsSuperblock bytes s) → HasBoth h.version → drop 384 bytes ≡ notes s.array
+later_notes bytes s h both = (laid bytes s h).behind_slots ∙ both s.array
+
+pub frozen_is : (bytes : List ℕ) (s : Superblock) (h : SpellsSuperblock bytes s) → HasBoth h.version → get_or bytes 384 0 ≡ frozen_code s.array.frozen
+frozen_is bytes s h both = sym (get_or-drop 384 bytes 0 0) ∙ ap (λ (l : List ℕ). get_or l 0 0) (later_notes bytes s h both)
 
 pub frozen_back : (frozen : Bool) → nat_eq (frozen_code frozen) 1 ≡ frozen
 frozen_back true = refl
 frozen_back false = refl
 
-pub length_is : (bytes : List ℕ) (s : Superblock) (h : SpellsSuperblock bytes s) → Two ≡ h.version → get_or bytes 385 0 ≡ length s.array.label
+pub length_is : (bytes : List ℕ) (s : Superblock) (h : SpellsSuperblock bytes s) → HasBoth h.version → get_or bytes 385 0 ≡ length s.array.label
 unfolding label_part
-length_is bytes s h second = sym (get_or-drop 384 bytes 1 0) ∙ ap (λ (l : List ℕ). get_or l 1 0) (second_notes bytes s h second)
+length_is bytes s h both = sym (get_or-drop 384 bytes 1 0) ∙ ap (λ (l : List ℕ). get_or l 1 0) (later_notes bytes s h both)
 
 -- the label stands behind its length
 pub label_among : (frozen : ℕ) (label : List ℕ) (n : ℕ) → n ≡ length label → take n (drop 2 (frozen ∷ label_part label)) ≡ label
 unfolding label_part
 label_among frozen label n sized = take_at label (zeros (126 - length label)) n (sym sized)
 
-pub label_is : (bytes : List ℕ) (s : Superblock) (h : SpellsSuperblock bytes s) (n : ℕ) → Two ≡ h.version → n ≡ length s.array.label → take n (drop 386 bytes) ≡ s.array.label
-label_is bytes s h n second sized =
-    ap (λ (l : List ℕ). take n l) (sym (drop-drop 2 384 bytes) ∙ ap (λ (l : List ℕ). drop 2 l) (second_notes bytes s h second))
+pub label_is : (bytes : List ℕ) (s : Superblock) (h : SpellsSuperblock bytes s) (n : ℕ) → HasBoth h.version → n ≡ length s.array.label → take n (drop 386 bytes) ≡ s.array.label
+label_is bytes s h n both sized =
+    ap (λ (l : List ℕ). take n l) (sym (drop-drop 2 384 bytes) ∙ ap (λ (l : List ℕ). drop 2 l) (later_notes bytes s h both))
     ∙ label_among (frozen_code s.array.frozen) s.array.label n sized
 
 -- one more entry of an array

@@ -4,5 +4,6 @@ pub mod Fields
 pub mod Written
 pub mod Answered
 pub mod Once
+pub mod SpellsLaws
 pub mod Order
 pub mod Decided

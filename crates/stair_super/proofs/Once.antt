@@ -8,8 +8,8 @@ use Rattle.stair_super.specs.declared.mark.Mark.TheVariants.{Live, Rebuilding, D
 use Rattle.stair_super.specs.Superblock.{Superblock, IsSuperblock, IsJoined, mark_at, joined_at}
 use Rattle.stair_super.specs.declared.configuration.Configuration.{Configuration}
 use Rattle.stair_super.specs.declared.version.Version.{Version}
-use Rattle.stair_super.specs.declared.version.Version.TheVariants.{One, Two}
-use Rattle.stair_super.specs.Spelling.{padded, magic, SpellsSuperblock, CanSay, spelled_in, notes_part, label_part, frozen_code, code, zeros, number32, number64, counts, entries, geometry_part, numbers_part, fields}
+use Rattle.stair_super.specs.declared.version.Version.TheVariants.{One, Two, Three}
+use Rattle.stair_super.specs.Spelling.{padded, magic, SpellsSuperblock, HasNotes, spelled_in, notes, notes_part, label_part, frozen_code, code, zeros, number32, number64, counts, entries, geometry_part, numbers_part, fields}
 use Rattle.stair_super.proofs.PageLemmas.{length-zeros}
 use Rattle.stair_super.proofs.Parts.{length-number32, length-number64, length-padded, length-entries}
 use Rattle.stair_super.proofs.Fields.{laid, digit_is, digit_once, spelled_digit, label_among, n_is, m_is, r_is, classes_is, coverage_is, stripes_is, slot_is, joined_is, draw_is, epoch_is, mark_is, joined_at_is, all_stored, within}
@@ -31,15 +31,21 @@ length-numbers_part s =
       length-number64 s.array.epoch,
     )
 
+length-notes : (array : Configuration) → length array.label ≤ 64 → length (notes array) ≡ 128
+unfolding label_part
+length-notes array short =
+    omega (arith, length-append array.label (zeros (126 - length array.label)), length-zeros (126 - length array.label))
+
 length-notes_part : (version : Version) (array : Configuration) → length array.label ≤ 64 → length (notes_part version array) ≡ 128
 unfolding label_part
 length-notes_part One array short = length-zeros 128
-length-notes_part Two array short =
-    omega (arith, length-append array.label (zeros (126 - length array.label)), length-zeros (126 - length array.label))
+length-notes_part Two array short = length-notes array short
+length-notes_part Three array short = length-notes array short
 
 length-magic : (version : Version) → length (magic version) ≡ 8
 length-magic One = refl
 length-magic Two = refl
+length-magic Three = refl
 
 pub sector : (version : Version) (s : Superblock) → IsSuperblock s → length (spelled_in version s) ≡ 512
 unfolding spelled_in
@@ -117,10 +123,9 @@ record SameNotes (a b : Configuration) : Type 0 where
   frozen : a.frozen ≡ b.frozen
   label : a.label ≡ b.label
 
-same_notes : (version : Version) (x y : Configuration) → CanSay version x → CanSay version y → notes_part version x ≡ notes_part version y → SameNotes x y
+both_same : (x y : Configuration) → notes x ≡ notes y → SameNotes x y
 unfolding label_part
-same_notes One x y a b same = record { frozen = a.thawed ∙ sym b.thawed; label = a.unlabelled ∙ sym b.unlabelled }
-same_notes Two x y a b same =
+both_same x y same =
     let sized : length x.label ≡ length y.label = ap (λ (l : List ℕ). get_or l 1 0) same in
     record {
       frozen = frozen_once x.frozen y.frozen (ap (λ (l : List ℕ). get_or l 0 0) same);
@@ -129,6 +134,11 @@ same_notes Two x y a b same =
           ∙ ap (λ (l : List ℕ). take (length x.label) (drop 2 l)) same
           ∙ label_among (frozen_code y.frozen) y.label (length x.label) sized;
     }
+
+same_notes : (version : Version) (x y : Configuration) → HasNotes version x → HasNotes version y → notes_part version x ≡ notes_part version y → SameNotes x y
+same_notes One x y a b same = record { frozen = a.thawed ∙ sym b.thawed; label = a.unlabelled ∙ sym b.unlabelled }
+same_notes Two x y a b same = both_same x y same
+same_notes Three x y a b same = both_same x y same
 
 same_array : (bytes : List ℕ) (s t : Superblock) → SpellsSuperblock bytes s → SpellsSuperblock bytes t → s.array ≡ t.array
 same_array bytes s t a b =
@@ -139,8 +149,8 @@ same_array bytes s t a b =
     let joins = all_stored s.array.joins t.array.joins 0 32 (omega arith) a.block.sizes.joins b.block.sizes.joins (λ j lt. same_joined bytes s t j a b n lt) in
     let version : b.version ≡ a.version = digit_once b.version a.version (sym (digit_is bytes t b) ∙ digit_is bytes s a) in
     let notes =
-    same_notes a.version s.array t.array a.said
-    (subst (λ (v : Version). CanSay v t.array) version b.said)
+    same_notes a.version s.array t.array a.said.notes
+    (subst (λ (v : Version). HasNotes v t.array) version b.said.notes)
     (sym (laid bytes s a).behind_slots ∙ (laid bytes t b).behind_slots ∙ ap (λ (v : Version). notes_part v t.array) version) in
     λ i. record { geometry = geometry i; epoch = epoch i; marks = marks i; joins = joins i; frozen = notes.frozen i; label = notes.label i }
 

@@ -1,12 +1,12 @@
 -- The 512 bytes of a superblock. All numbers are big-endian.
 use Rattle.std.specs.Prelude.{◌≡◌, ℕ, Bool, true, false, zero, suc, List, [], ◌∷◌, ◌++◌, ◌-◌, codes, length, replicate, nat_lt, if◌then◌else◌}
 use Rattle.std.specs.Int.{w32, w64, to_be_bytes}
-use Rattle.stair_model.specs.Geometry.{Geometry, classes}
+use Rattle.stair_model.specs.Geometry.{Geometry, IsSmall, classes, is_small}
 use Rattle.stair_super.specs.declared.configuration.Configuration.{Configuration}
 use Rattle.stair_super.specs.declared.mark.Mark.{Mark}
 use Rattle.stair_super.specs.declared.mark.Mark.TheVariants.{Live, Rebuilding, Down}
 use Rattle.stair_super.specs.declared.version.Version.{Version}
-use Rattle.stair_super.specs.declared.version.Version.TheVariants.{One, Two}
+use Rattle.stair_super.specs.declared.version.Version.TheVariants.{One, Two, Three}
 use Rattle.stair_super.specs.Superblock.{Superblock, IsSuperblock, mark_at, joined_at}
 
 unfoldable pub zeros : ℕ → List ℕ
@@ -41,6 +41,7 @@ entries s (suc j) = entries s j ++ entry s j
 abbrev pub magic : Version → List ℕ
 magic One = codes "STAIRSB1"
 magic Two = codes "STAIRSB2"
+magic Three = codes "STAIRSB3"
 
 -- bytes 8 to 63: the array's identity, n, m, r, the number of coverage classes, the coverage vector, and the stripes
 abbrev pub counts : Geometry → List ℕ
@@ -66,28 +67,49 @@ frozen_code true = 1
 unfoldable pub label_part : List ℕ → List ℕ
 label_part label = length label ∷ (label ++ zeros (126 - length label))
 
+-- whether the array is frozen, and its label
+abbrev pub notes : Configuration → List ℕ
+notes array = frozen_code array.frozen ∷ label_part array.label
+
 -- bytes 384 to 511: version 1 says neither whether the array is frozen nor what its label is
 abbrev pub notes_part : Version → Configuration → List ℕ
 notes_part One array = zeros 128
-notes_part Two array = frozen_code array.frozen ∷ label_part array.label
+notes_part Two array = notes array
+notes_part Three array = notes array
 
 -- the bytes in this version
 unfoldable pub spelled_in : Version → Superblock → List ℕ
 spelled_in version s = magic version ++ (fields s ++ notes_part version s.array)
 
+-- version 2 for a small array, and version 3 for a large one
+unfoldable pub version_for : Geometry → Version
+version_for g = if is_small g then Two else Three
+
 -- the bytes that are written today
 abbrev pub spelled : Superblock → List ℕ
-spelled s = spelled_in Two s
+spelled s = spelled_in (version_for s.array.geometry) s
 
 -- neither frozen nor labelled
 pub record IsPlain (array : Configuration) : Type 0 where
   pub thawed : array.frozen ≡ false
   pub unlabelled : array.label ≡ []
 
+-- a large array has superblocks of version 3, and a small one never has
+abbrev pub IsOfVersion : Version → Geometry → Type 0
+IsOfVersion One g = IsSmall g
+IsOfVersion Two g = IsSmall g
+IsOfVersion Three g = ¬ IsSmall g
+
+-- the version has room for the array's frozen mark and its label
+abbrev pub HasNotes : Version → Configuration → Type 0
+HasNotes One array = IsPlain array
+HasNotes Two array = Unit {0}
+HasNotes Three array = Unit {0}
+
 -- the version can say it all
-abbrev pub CanSay : Version → Configuration → Type 0
-CanSay One array = IsPlain array
-CanSay Two array = Unit {0}
+pub record CanSay (version : Version) (array : Configuration) : Type 0 where
+  pub size : IsOfVersion version array.geometry
+  pub notes : HasNotes version array
 
 -- the bytes are those of this superblock, in one of the versions
 pub record SpellsSuperblock (bytes : List ℕ) (s : Superblock) : Type 0 where

@@ -2,7 +2,7 @@ ghost use Rattle.std.specs.Prelude.{◌≡◌, ℕ, [], false, ◌+◌, ◌<◌,
 ghost use Rattle.std.specs.Int.{w32, w64, from_be_bytes};
 ghost use Rattle.stair_model.specs.Stripe.{SECTOR};
 ghost use Rattle.stair_super.specs.Superblock.{Superblock, superblock_of, IsWellFormed, IsJoined, mark_at, joined_at};
-ghost use Rattle.stair_super.specs.Spelling.{code, CanSay, SpellsSuperblock, spelled_in};
+ghost use Rattle.stair_super.specs.Spelling.{code, CanSay, IsOfVersion, SpellsSuperblock, spelled_in};
 ghost use Rattle.stair_super.specs.declared.version.Version.TheVariants.{One};
 ghost use Rattle.stair_super.specs.declared.mark.Mark.TheVariants.{Down};
 
@@ -63,7 +63,7 @@ fn geometry_of(bytes: &[u8; SECTOR]) -> Option<Geometry>
     if classes > 32 {
         return None;
     }
-    Geometry::new(
+    Geometry::large(
         u64::from(bytes[24]),
         u64::from(bytes[25]),
         u64::from(bytes[26]),
@@ -171,6 +171,7 @@ fn version_of(bytes: &[u8; SECTOR]) -> Option<Version>
     match bytes[7] {
         b'1' => Some(Version::One),
         b'2' => Some(Version::Two),
+        b'3' => Some(Version::Three),
         _ => None,
     }
 }
@@ -182,7 +183,7 @@ fn frozen_in(bytes: &[u8; SECTOR], version: Version) -> bool
 {
     match version {
         Version::One => false,
-        Version::Two => bytes[384] == 1,
+        Version::Two | Version::Three => bytes[384] == 1,
     }
 }
 
@@ -193,7 +194,7 @@ fn label_in(bytes: &[u8; SECTOR], version: Version) -> Option<Label>
 {
     match version {
         Version::One => Some(Label::empty()),
-        Version::Two => {
+        Version::Two | Version::Three => {
             let length = usize::from(bytes[385]);
             if length > 64 {
                 return None;
@@ -203,13 +204,26 @@ fn label_in(bytes: &[u8; SECTOR], version: Version) -> Option<Label>
     }
 }
 
-/// What the epoch names, where all its fields can be read.
+/// Whether arrays of this geometry have superblocks of this version.
+fn is_of(version: Version, geometry: &Geometry) -> bool
+    ensures { IsTrue result ↔ IsOfVersion version geometry.now }
+{
+    match version {
+        Version::One | Version::Two => geometry.is_small(),
+        Version::Three => !geometry.is_small(),
+    }
+}
+
+/// What the epoch names, where all its fields can be read and the version is that of its geometry.
 fn array_of(bytes: &[u8; SECTOR], version: Version) -> Option<Configuration>
     ensures said { IfSome result (λ array. CanSay version array) }
     ensures read { (s : Superblock) (spells : SpellsSuperblock bytes.now s) →
         version ≡ spells.version → result ≡ Some s.array }
 {
     let geometry = geometry_of(bytes)?;
+    if !is_of(version, &geometry) {
+        return None;
+    }
     let n = usize::from(geometry.n());
     let marks = marks_of(bytes, n)?;
     let label = label_in(bytes, version)?;
@@ -266,10 +280,11 @@ fn is_spelled(bytes: &[u8; SECTOR], version: Version, block: &Super) -> bool
     written(version, block) == *bytes
 }
 
-/// The superblock that these bytes are in version 1 or 2, or None where they aren't those of a well-formed one.
+/// The superblock that these bytes are in version 1, 2 or 3, or None where they aren't those of a well-formed one.
 ///
 /// [`write_super`](crate::write_super) gives the table of the bytes, and [`Super`] says when a superblock is well
-/// formed. One of version 1 isn't frozen, and its label is empty.
+/// formed. One of version 1 isn't frozen, and its label is empty. The geometry of one of version 3 is a large one, and
+/// that of the others a small one.
 pub fn read_super(bytes: &[u8; SECTOR]) -> Option<Super>
     ensures ok { IfSome result (λ s. SpellsSuperblock bytes.now s) }
     ensures read { (s : Superblock) → SpellsSuperblock bytes.now s → result ≡ Some s }

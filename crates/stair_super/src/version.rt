@@ -5,4 +5,6 @@ pub enum Version {
     One,
     /// With both.
     Two,
+    /// As version 2, for large arrays alone; the others are for small ones.
+    Three,
 }

@@ -1,7 +1,8 @@
 ghost use Rattle.std.specs.Prelude.{◌≡◌, ◌+◌, ◌≤◌, ◌++◌, length};
 ghost use Rattle.stair_model.specs.Stripe.{SECTOR};
 ghost use Rattle.stair_super.specs.declared.version.Version.TheVariants.{One};
-ghost use Rattle.stair_super.specs.Spelling.{SpellsSuperblock, IsPlain, magic, padded, geometry_part, numbers_part, entries, code, frozen_code, label_part, notes_part, spelled_in, spelled};
+ghost use Rattle.stair_model.specs.Geometry.{IsSmall};
+ghost use Rattle.stair_super.specs.Spelling.{SpellsSuperblock, version_for, IsPlain, magic, padded, geometry_part, numbers_part, entries, code, frozen_code, label_part, notes_part, spelled_in, spelled};
 
 use crate::block::Super;
 use crate::label::Label;
@@ -102,7 +103,7 @@ fn put_notes(page: &mut Page, version: Version, block: &Super)
 {
     match version {
         Version::One => page.skip(128),
-        Version::Two => {
+        Version::Two | Version::Three => {
             page.put(&[frozen_code_of(block.frozen())]);
             put_label(page, &block.label());
         }
@@ -117,6 +118,18 @@ fn put_magic(page: &mut Page, version: Version)
     match version {
         Version::One => page.put(b"STAIRSB1"),
         Version::Two => page.put(b"STAIRSB2"),
+        Version::Three => page.put(b"STAIRSB3"),
+    }
+}
+
+/// The version in which superblocks of such an array are written: 2, or 3 where it is a large one.
+fn version_for(geometry: &Geometry) -> Version
+    ensures { result ≡ version_for geometry.now }
+{
+    if geometry.is_small() {
+        Version::Two
+    } else {
+        Version::Three
     }
 }
 
@@ -137,7 +150,7 @@ pub fn written(version: Version, block: &Super) -> [u8; SECTOR]
 ///
 /// | bytes | field |
 /// |---|---|
-/// | 0 to 7 | `STAIRSB2` |
+/// | 0 to 7 | `STAIRSB2`, and `STAIRSB3` of a large array |
 /// | 8 to 23 | id |
 /// | 24 to 27 | n, m, r and the length of e |
 /// | 28 to 59 | e, one byte each entry, then zeros |
@@ -151,20 +164,20 @@ pub fn written(version: Version, block: &Super) -> [u8; SECTOR]
 /// | 385 | the length of the label |
 /// | from 386 on | the label |
 ///
-/// This is version 2. [`write_super_v1`] writes version 1.
+/// This is version 2, or version 3 where the geometry isn't a small one ([`Geometry::is_small`]).
+/// [`write_super_v1`] writes version 1.
 pub fn write_super(block: &Super) -> [u8; SECTOR]
     ensures text { result ≡ spelled block.now }
     ensures spells { SpellsSuperblock result block.now }
 {
-    // the superblock keeps its rules
-    let _slot = block.slot();
-    written(Version::Two, block)
+    written(version_for(&block.geometry()), block)
 }
 
 /// The bytes of a superblock in version 1 of the format, for arrays that older programs are to read. It begins with
-/// `STAIRSB1` and has nothing from byte 384 on, so the array may be neither frozen nor labelled.
+/// `STAIRSB1` and has nothing from byte 384 on, so the array may be neither frozen nor labelled, and it is a small one.
 pub fn write_super_v1(block: &Super) -> [u8; SECTOR]
-    requires { IsPlain block.now.array }
+    requires plain { IsPlain block.now.array }
+    requires small { IsSmall block.now.array.geometry }
     ensures text { result ≡ spelled_in One block.now }
     ensures spells { SpellsSuperblock result block.now }
 {

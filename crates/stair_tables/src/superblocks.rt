@@ -284,7 +284,7 @@ fn try_place(
     Ok(())
 }
 
-/// Other bytes at each place of both superblocks of slot 2 of a new array, in both versions.
+/// Other bytes at each place of both superblocks of slot 2 of a new array, in versions 1 and 2.
 pub(crate) fn changed(alloc: Global, extent: Extent) -> Result<Part, AllocError> {
     let mut tally = Tally::new();
     for version in [Version::First, Version::Second] {

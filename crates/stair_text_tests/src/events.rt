@@ -2,7 +2,7 @@ use stair_monitor::{TEXT_LIMIT, print_event, read_event};
 use stair_rack::Event;
 
 // Each row is an event, and its line.
-const TEXTS: [(Event, &[u8]); 5] = [
+const TEXTS: [(Event, &[u8]); 7] = [
     (Event::Fenced { slot: 0 }, b"fenced 0"),
     (Event::Admitted { slot: 9 }, b"admitted 9"),
     (Event::Promoted { slot: 31 }, b"promoted 31"),
@@ -19,6 +19,20 @@ const TEXTS: [(Event, &[u8]); 5] = [
             cells: 1_024,
         },
         b"repaired stripe 65535 cells 1024",
+    ),
+    (
+        Event::Repaired {
+            stripe: 65_536,
+            cells: 1,
+        },
+        b"repaired stripe 65536 cells 1",
+    ),
+    (
+        Event::Repaired {
+            stripe: 4_294_967_294,
+            cells: 1_024,
+        },
+        b"repaired stripe 4294967294 cells 1024",
     ),
 ];
 

@@ -46,6 +46,10 @@ pub piece_is : (g h : Geometry) (block end start piece : ℕ) → piece ≡ piec
     → piece ≡ piece_blocks g block (start - block)
 piece_is g h block end start piece is same ends = is ∙ ap₂ (λ (of : Geometry) (n : ℕ). piece_blocks of block (n - block)) same ends
 
+-- it ends where the blocks do
+pub piece_inside : (g : Geometry) (block end piece : ℕ) → block < end → end ≤ block_count g → piece ≡ piece_blocks g block (end - block) → block + piece ≤ end
+piece_inside g block end piece below within is = omega (arith, is, below, piece_left g block (end - block) (omega (arith, below)) (omega (arith, within, below)))
+
 -- one turn more
 clears_next : (g : Geometry) (turns first left : ℕ) (rest : Plan) → 0 < left
     → clears g (suc turns) first left rest

@@ -1,7 +1,7 @@
 -- Fields that are written one after the other.
-use Rattle.std.proofs.Common.{◌≡◌, ℕ, ◌+◌, ◌-◌, ◌*◌, ◌<◌, ◌≤◌, List, [], ◌∷◌, ◌++◌, length, get_or, take, drop, replicate, refl, sym, ap, ◌∙◌, append_assoc, arith}
+use Rattle.std.proofs.Common.{◌≡◌, ℕ, ◌+◌, ◌-◌, ◌*◌, ◌^◌, ◌/◌, ◌%◌, ◌<◌, ◌≤◌, List, [], ◌∷◌, ◌++◌, length, get_or, take, drop, replicate, refl, sym, ap, ◌∙◌, append_assoc, arith}
 use Rattle.std.specs.Prelude.{codes, flat_map}
-use Rattle.std.specs.Int.{w32, to_be_bytes}
+use Rattle.std.specs.Int.{w32, w64, to_be_bytes}
 use Rattle.std.proofs.lemmas.List.{append-nil, drop_at, length-append, length-replicate, replicate-append-replicate, take_at, take_more, take_all}
 use Rattle.std.proofs.lemmas.List.Concat.{flat_map-append}
 use Rattle.stair_conf.specs.Name.{padded}
@@ -30,34 +30,44 @@ over_zeros front field at n m here sized =
     ∙ with_field-at front (zeros (length field)) (zeros m) field at here (sym (length-zeros (length field)))
 
 -- the number and the name of an entry, its numbers behind them
-pub entry_written : (entry : Entry) (s1 s2 s3 s4 : List ℕ) → length entry.name ≤ 16 → s1 ≡ with_field (zeros 32) 0 (length entry.name ∷ []) → s2 ≡ with_field s1 1 entry.name → s3 ≡ with_field s2 24 (to_be_bytes w32 entry.extent.first) → s4 ≡ with_field s3 28 (to_be_bytes w32 entry.extent.blocks) → s4 ≡ entry_bytes entry
+pub entry_written : (entry : Entry) (s1 s2 s3 s4 s5 : List ℕ) → length entry.name ≤ 16 → s1 ≡ with_field (zeros 32) 0 (length entry.name ∷ []) → s2 ≡ with_field s1 1 entry.name → s3 ≡ with_field s2 19 (entry.extent.blocks / 2 ^ 32 ∷ []) → s4 ≡ with_field s3 20 (to_be_bytes w64 entry.extent.first) → s5 ≡ with_field s4 28 (to_be_bytes w32 (entry.extent.blocks % 2 ^ 32)) → s5 ≡ entry_bytes entry
 unfolding entry_bytes
-entry_written entry s1 s2 s3 s4 short e1 e2 e3 e4 =
+entry_written entry s1 s2 s3 s4 s5 short e1 e2 e3 e4 e5 =
     let name = entry.name in
     let count = length name in
-    let first = to_be_bytes w32 entry.extent.first in
-    let blocks = to_be_bytes w32 entry.extent.blocks in
-    let front = count ∷ (padded name ++ zeros 7) in
-    let long : length front ≡ 24 = omega (arith, length-append (padded name) (zeros 7), length-append name (replicate (16 - count) 0), length-replicate {A = ℕ} (16 - count) 0) in
+    let high = entry.extent.blocks / 2 ^ 32 ∷ [] in
+    let first = to_be_bytes w64 entry.extent.first in
+    let low = to_be_bytes w32 (entry.extent.blocks % 2 ^ 32) in
+    let front = count ∷ (padded name ++ zeros 2) in
+    let long : length front ≡ 19 = omega (arith, length-append (padded name) (zeros 2), length-append name (replicate (16 - count) 0), length-replicate {A = ℕ} (16 - count) 0) in
+    let long_high : length (front ++ high) ≡ 20 = length-append front high ∙ ap (λ (n : ℕ). n + 1) long in
+    let long_first : length ((front ++ high) ++ first) ≡ 28 = length-append (front ++ high) first ∙ ap (λ (n : ℕ). n + 8) long_high in
     let is1 : s1 ≡ (count ∷ []) ++ zeros 31 = e1 ∙ over_zeros [] (count ∷ []) 0 32 31 refl refl in
-    let is2 : s2 ≡ front ++ zeros 8 =
+    let is2 : s2 ≡ front ++ zeros 13 =
     e2
     ∙ ap (λ (l : List ℕ). with_field l 1 name) is1
     ∙ over_zeros (count ∷ []) name 1 31 (31 - count) refl (omega arith)
-    ∙ ap (λ (l : List ℕ). count ∷ (name ++ l)) (zeros_split (16 - count) 15 (31 - count) (omega arith) ∙ ap (λ (l : List ℕ). zeros (16 - count) ++ l) (zeros_split 7 8 15 refl))
-    ∙ ap (λ (l : List ℕ). count ∷ l) (sym (append_assoc name (zeros (16 - count)) (zeros 7 ++ zeros 8)) ∙ sym (append_assoc (padded name) (zeros 7) (zeros 8))) in
-    let is3 : s3 ≡ (front ++ first) ++ zeros 4 =
+    ∙ ap (λ (l : List ℕ). count ∷ (name ++ l)) (zeros_split (16 - count) 15 (31 - count) (omega arith) ∙ ap (λ (l : List ℕ). zeros (16 - count) ++ l) (zeros_split 2 13 15 refl))
+    ∙ ap (λ (l : List ℕ). count ∷ l) (sym (append_assoc name (zeros (16 - count)) (zeros 2 ++ zeros 13)) ∙ sym (append_assoc (padded name) (zeros 2) (zeros 13))) in
+    let is3 : s3 ≡ (front ++ high) ++ zeros 12 =
     e3
-    ∙ ap (λ (l : List ℕ). with_field l 24 first) is2
-    ∙ over_zeros front first 24 8 4 long refl
-    ∙ sym (append_assoc front first (zeros 4)) in
-    let is4 : s4 ≡ (front ++ first) ++ (blocks ++ zeros 0) =
+    ∙ ap (λ (l : List ℕ). with_field l 19 high) is2
+    ∙ over_zeros front high 19 13 12 long refl
+    ∙ sym (append_assoc front high (zeros 12)) in
+    let is4 : s4 ≡ ((front ++ high) ++ first) ++ zeros 4 =
     e4
-    ∙ ap (λ (l : List ℕ). with_field l 28 blocks) is3
-    ∙ over_zeros (front ++ first) blocks 28 4 0 (length-append front first ∙ ap (λ (n : ℕ). n + 4) long) refl in
-    is4
-    ∙ ap (λ (l : List ℕ). (front ++ first) ++ l) (append-nil blocks)
-    ∙ ap (λ (l : List ℕ). count ∷ l) (append_assoc (padded name ++ zeros 7) first blocks ∙ append_assoc (padded name) (zeros 7) (first ++ blocks))
+    ∙ ap (λ (l : List ℕ). with_field l 20 first) is3
+    ∙ over_zeros (front ++ high) first 20 12 4 long_high refl
+    ∙ sym (append_assoc (front ++ high) first (zeros 4)) in
+    let is5 : s5 ≡ ((front ++ high) ++ first) ++ (low ++ zeros 0) =
+    e5
+    ∙ ap (λ (l : List ℕ). with_field l 28 low) is4
+    ∙ over_zeros ((front ++ high) ++ first) low 28 4 0 long_first refl in
+    is5
+    ∙ ap (λ (l : List ℕ). ((front ++ high) ++ first) ++ l) (append-nil low)
+    ∙ append_assoc (front ++ high) first low
+    ∙ append_assoc front high (first ++ low)
+    ∙ ap (λ (l : List ℕ). count ∷ l) (append_assoc (padded name) (zeros 2) (high ++ (first ++ low)))
 
 -- the heading, and zeros behind it
 pub heading_written : (entries : List Entry) (s1 s2 : List ℕ) → s1 ≡ with_field (zeros 512) 0 (codes "STAIRVT1") → s2 ≡ with_field s1 8 (length entries ∷ []) → s2 ≡ heading (length entries) ++ (flat_map entry_bytes (take 0 entries) ++ zeros (480 - 32 * 0))

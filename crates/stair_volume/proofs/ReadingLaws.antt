@@ -1,5 +1,5 @@
 -- Bytes are read as the one table that they are, or as none.
-use Rattle.std.proofs.Common.{◌≡◌, ℕ, ◌+◌, ◌-◌, ◌<◌, List, [], ◌∷◌, ◌++◌, Option, None, Some, drop, get_or, length, map, refl, set, sym, take, ap, ◌∙◌, subst, arith, ◌&&◌}
+use Rattle.std.proofs.Common.{◌≡◌, ℕ, ◌+◌, ◌-◌, ◌*◌, ◌^◌, ◌<◌, List, [], ◌∷◌, ◌++◌, Option, None, Some, drop, get_or, length, map, refl, set, sym, take, ap, ◌∙◌, subst, arith, ◌&&◌}
 use Rattle.std.specs.Prelude.{◌↔◌, bytes_eq}
 use Rattle.std.specs.List.{range_with_len}
 use Rattle.std.proofs.lemmas.Bool.{and_parts, and_from, cond-true}
@@ -11,7 +11,7 @@ use Rattle.stair_conf.specs.Name.{IsName}
 use Rattle.stair_volume.specs.declared.extent.Entry.{Entry}
 use Rattle.stair_volume.specs.Table.{Table, IsTable, extent_of, is_table, table_with}
 use Rattle.stair_volume.specs.Changes.{volume_of}
-use Rattle.stair_volume.specs.Page.{HasEntries, HasNoName, HasTable, entry_at, number_at, place_of, table_at, table_bytes, table_of}
+use Rattle.stair_volume.specs.Page.{HasEntries, HasNoName, HasTable, entry_at, long_at, number_at, place_of, table_at, table_bytes, table_of}
 use Rattle.stair_volume.proofs.TestLaws.{Decides-table}
 use Rattle.stair_volume.proofs.PageLaws.{AllHaveRoom-table, count_stands, entry_at-table_bytes, table_at-table_bytes}
 
@@ -127,7 +127,7 @@ name_read bytes k count counted =
     ap (λ (n : ℕ). take n (drop (place_of k + 1) bytes)) same
 
 -- what stands at a place, by its parts
-pub entry_read : (bytes : List ℕ) (k : ℕ) (name : List ℕ) (first blocks : ℕ) → name ≡ (entry_at bytes k).name → first ≡ number_at (place_of k + 24) bytes → blocks ≡ number_at (place_of k + 28) bytes → volume_of name (extent_of first blocks) ≡ entry_at bytes k
+pub entry_read : (bytes : List ℕ) (k : ℕ) (name : List ℕ) (first blocks : ℕ) → name ≡ (entry_at bytes k).name → first ≡ long_at (place_of k + 20) bytes → blocks ≡ get_or bytes (place_of k + 19) 0 * 2 ^ 32 + number_at (place_of k + 28) bytes → volume_of name (extent_of first blocks) ≡ entry_at bytes k
 unfolding entry_at
 entry_read bytes k name first blocks name_is first_is blocks_is =
     λ i. record { name = name_is i; extent = record { first = first_is i; blocks = blocks_is i } }

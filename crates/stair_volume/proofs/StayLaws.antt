@@ -9,10 +9,10 @@ use Rattle.std.proofs.lemmas.List.Folds.{concat-append}
 use Rattle.std.proofs.Math.Seq.{get_or-append_seam}
 use Rattle.stair_model.specs.Geometry.{Geometry, IsWithinLimits, block_count}
 use Rattle.stair_model.specs.Stripe.{SECTOR}
+use Rattle.stair_model.proofs.LimitLaws.{block_count_few}
 use Rattle.stair_state.specs.Blocks.{Blocks, with_blocks, zero_block}
 use Rattle.stair_state.specs.State.{Content}
 use Rattle.stair_array.specs.Machine.{AlreadyArray, EpochsSpent, Frozen, Gone, JournalLost, Lost, OutOfRange, ReadBlock, Refusal, SlotBusy, SmallDevice, Step, TooFew, WriteBlocks, GivenBy}
-use Rattle.stair_array.proofs.ChangingLemmas.{block_count_few}
 use Rattle.stair_conf.specs.Name.{IsName}
 use Rattle.stair_conf.specs.declared.job.VolumeJob.{VolumeJob}
 use Rattle.stair_conf.specs.declared.job.VolumeJob.TheVariants as volume

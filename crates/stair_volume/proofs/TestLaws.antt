@@ -1,5 +1,5 @@
 -- The tests of a table say what its facts say.
-use Rattle.std.proofs.Common.{◌≡◌, ◌≢◌, ℕ, ◌≤◌, Bool, true, false, cond, not, ◌&&◌, List, [], ◌∷◌, Option, Some, length, refl, sym, arith, inl, inr, rules, Decides}
+use Rattle.std.proofs.Common.{◌≡◌, ◌≢◌, ℕ, ◌^◌, ◌<◌, ◌≤◌, Bool, true, false, cond, not, ◌&&◌, List, [], ◌∷◌, Option, Some, length, refl, sym, arith, inl, inr, rules, Decides}
 use Rattle.std.specs.Prelude.{All, AllPairs, is_none, nat_le}
 use Rattle.std.specs.List.{list_all}
 use Rattle.std.specs.Int.{IsInRange, is_in_range}
@@ -157,9 +157,9 @@ Decides-table table =
         record { volumes = h.volumes; named_apart = h.named_apart; apart = h.apart },
       ),
     ))
-    (Decides-and _ _ (Decides-leb table.blocks 4194304) (Decides-and _ _ (Decides-leb (length table.entries) 15) (Decides-volumes table.blocks table.entries)))
+    (Decides-and _ _ (Decides-ltb table.blocks (2 ^ 37)) (Decides-and _ _ (Decides-leb (length table.entries) 15) (Decides-volumes table.blocks table.entries)))
 
-pub IsTable-from_volumes : (blocks : ℕ) (entries : List Entry) → blocks ≤ 4194304 → length entries ≤ 15 → are_volumes blocks entries ≡ true → IsTable (table_with blocks entries)
+pub IsTable-from_volumes : (blocks : ℕ) (entries : List Entry) → blocks < 2 ^ 37 → length entries ≤ 15 → are_volumes blocks entries ≡ true → IsTable (table_with blocks entries)
 IsTable-from_volumes blocks entries size few passes =
     let h = (Decides-volumes blocks entries).0 passes in
     record { size = size; few = few; volumes = h.volumes; named_apart = h.named_apart; apart = h.apart }

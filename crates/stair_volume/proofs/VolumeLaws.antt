@@ -1,6 +1,7 @@
 -- Each command, of its parts.
-use Rattle.std.proofs.Common.{◌≡◌, ◌≢◌, ◌∙◌, ◌+◌, ℕ, zero, suc, List, Ok, Err, Result, None, Option, Bool, ap, ap₂, arith, refl, subst, sym}
+use Rattle.std.proofs.Common.{◌≡◌, ◌≢◌, ◌∙◌, ◌+◌, ◌^◌, ◌<◌, ◌≤◌, ℕ, zero, suc, List, Ok, Err, Result, None, Some, Option, Bool, ap, ap₂, arith, refl, subst, sym}
 use Rattle.std.proofs.lemmas.Bool.{le-leb}
+use Rattle.std.proofs.lemmas.List.Elements.{All-contains}
 use Rattle.std.specs.Result.{IsErrAnd}
 use Rattle.stair_model.specs.Geometry.{Geometry, block_count}
 use Rattle.stair_array.specs.Arrays.{answer_as}
@@ -26,10 +27,12 @@ use Rattle.stair_volume.specs.declared.extent.Extent.{Extent}
 use Rattle.stair_volume.specs.declared.fault.VolumeFault.{VolumeFault}
 use Rattle.stair_volume.specs.declared.fault.VolumeFault.TheVariants as fault
 use Rattle.stair_volume.specs.declared.table_fault.TableFault.TheVariants.{NoVolume}
+use Rattle.stair_volume.specs.Changes.{volume_of}
 use Rattle.stair_volume.specs.Commands.{if_found, on_table, status_of, status_of_volume, volume_plan, within_volume}
 use Rattle.stair_volume.specs.Page.{table_of}
 use Rattle.stair_volume.specs.Parts.{IsFirstBlock, IsNoRange, after_done, after_steps}
-use Rattle.stair_volume.specs.Table.{Table, find_in}
+use Rattle.stair_volume.specs.Table.{IsTable, IsVolume, Table, find_in}
+use Rattle.stair_volume.proofs.ChangeLaws.{find_is_volume}
 use Rattle.stair_volume.proofs.CommandLaws.{Did, did_come, did_end, did_fail, did_none, did_put, did_so}
 use Rattle.stair_volume.proofs.StepLaws.{comes_read}
 
@@ -39,6 +42,14 @@ use Rattle.stair_volume.proofs.StepLaws.{comes_read}
 abbrev pub in_range : List Entry → (name : List ℕ) → (block count : ℕ) → (ℕ → ℕ → Plan) → Plan
 in_range entries name block count k =
     if_found (find_in entries name) (λ extent. within_volume extent block count (k (extent.first + block) count))
+
+-- a range of a volume ends within the array
+pub range_fits : (table : Table) (name : List ℕ) (extent : Extent) (block count : ℕ) → IsTable table → find_in table.entries name ≡ Some extent
+    → block + count ≤ extent.blocks → extent.first + block + count < 2 ^ 37
+range_fits table name extent block count rules found within =
+    let volume : IsVolume table.blocks (volume_of name extent) =
+    All-contains (IsVolume table.blocks) table.entries (volume_of name extent) rules.volumes ((find_is_volume table name extent rules).0 found) in
+    omega (arith, volume.within.inside, rules.size)
 
 -- it hasn't this one
 pub range_past : (slots : ℕ) (entries : List Entry) (name : List ℕ) (block count : ℕ) (k : ℕ → ℕ → Plan) (why : VolumeFault)

@@ -1,6 +1,6 @@
 -- The 512 bytes of a table. All numbers are big-endian.
-use Rattle.std.specs.Prelude.{◌≡◌, ℕ, ◌+◌, ◌-◌, ◌*◌, ◌<◌, ◌&&◌, List, ◌∷◌, ◌++◌, Option, None, Some, bytes_eq, codes, drop, flat_map, length, map, replicate, slice_index, take, if◌then◌else◌}
-use Rattle.std.specs.Int.{w32, from_be_bytes, to_be_bytes}
+use Rattle.std.specs.Prelude.{◌≡◌, ℕ, ◌+◌, ◌-◌, ◌*◌, ◌^◌, ◌/◌, ◌%◌, ◌<◌, ◌&&◌, List, ◌∷◌, ◌++◌, Option, None, Some, bytes_eq, codes, drop, flat_map, length, map, replicate, slice_index, take, if◌then◌else◌}
+use Rattle.std.specs.Int.{w32, w64, from_be_bytes, to_be_bytes}
 use Rattle.std.specs.List.{range_with_len}
 use Rattle.stair_conf.specs.Name.{IsName, padded}
 use Rattle.stair_volume.specs.declared.extent.Entry.{Entry}
@@ -15,15 +15,27 @@ zeros count = replicate count 0
 abbrev pub heading : ℕ → List ℕ
 heading count = codes "STAIRVT1" ++ (count ∷ zeros 23)
 
--- 32 bytes: the length of the name, the name in 16 bytes, seven zeros, the first block and how many there are
+-- 32 bytes: the length of the name, the name in 16 bytes, two zeros, the high byte of how many blocks there are, the first block, and
+-- the four low bytes of how many there are
 unfoldable pub entry_bytes : Entry → List ℕ
 entry_bytes entry = length entry.name ∷ (padded entry.name
-    ++ (zeros 7 ++ (to_be_bytes w32 entry.extent.first ++ to_be_bytes w32 entry.extent.blocks)))
+    ++ (zeros 2 ++ (entry.extent.blocks / 2 ^ 32 ∷ (to_be_bytes w64 entry.extent.first
+    ++ to_be_bytes w32 (entry.extent.blocks % 2 ^ 32)))))
 
 -- the heading, the entries one behind the other, and zeros up to byte 512
 unfoldable pub table_bytes : List Entry → List ℕ
 table_bytes entries = heading (length entries)
     ++ (flat_map entry_bytes entries ++ zeros (480 - 32 * length entries))
+
+-- The same where first block and number of blocks are below 2^32 each: seven zeros, and four bytes for each number.
+abbrev pub small_entry_bytes : Entry → List ℕ
+small_entry_bytes entry = length entry.name ∷ (padded entry.name
+    ++ (zeros 7 ++ (to_be_bytes w32 entry.extent.first ++ to_be_bytes w32 entry.extent.blocks)))
+
+-- and the table of such entries
+abbrev pub small_table_bytes : List Entry → List ℕ
+small_table_bytes entries = heading (length entries)
+    ++ (flat_map small_entry_bytes entries ++ zeros (480 - 32 * length entries))
 
 -- the bytes are those of a table of an array of so many blocks
 pub record HasTable (blocks : ℕ) (bytes : List ℕ) (table : Table) : Type 0 where
@@ -37,9 +49,13 @@ with_field bytes at field = take at bytes ++ (field ++ drop (at + length field) 
 
 -- WHAT BYTES ARE READ AS
 
--- the number at a place
+-- the number in the four bytes at a place
 abbrev pub number_at : (at : ℕ) → List ℕ → ℕ
 number_at at bytes = from_be_bytes w32 (take 4 (drop at bytes))
+
+-- the number in the eight bytes at a place
+abbrev pub long_at : (at : ℕ) → List ℕ → ℕ
+long_at at bytes = from_be_bytes w64 (take 8 (drop at bytes))
 
 -- where entry k stands
 abbrev pub place_of : ℕ → ℕ
@@ -49,7 +65,8 @@ place_of k = 32 + 32 * k
 unfoldable pub entry_at : List ℕ → ℕ → Entry
 entry_at bytes k = let at = place_of k in record {
   name = take (slice_index bytes at) (drop (at + 1) bytes);
-  extent = extent_of (number_at (at + 24) bytes) (number_at (at + 28) bytes);
+  extent = extent_of (long_at (at + 20) bytes)
+      (slice_index bytes (at + 19) * 2 ^ 32 + number_at (at + 28) bytes);
 }
 
 -- of the first so many, some has no name

@@ -1,5 +1,5 @@
 -- The table of the volumes of an array, and when it is well formed.
-use Rattle.std.specs.Prelude.{◌≢◌, ◌⊎◌, ℕ, ◌+◌, ◌≤◌, ◌==◌, ◌&&◌, ◌||◌, Bool, true, not, List, [], ◌∷◌, All, AllPairs, Option, None, Some, bytes_eq, is_none, length, nat_le, nat_lt, if◌then◌else◌}
+use Rattle.std.specs.Prelude.{◌≢◌, ◌⊎◌, ℕ, ◌+◌, ◌^◌, ◌<◌, ◌≤◌, ◌==◌, ◌&&◌, ◌||◌, Bool, true, not, List, [], ◌∷◌, All, AllPairs, Option, None, Some, bytes_eq, is_none, length, nat_le, nat_lt, if◌then◌else◌}
 use Rattle.std.specs.Int.{is_in_range}
 use Rattle.std.specs.List.{list_all}
 use Rattle.stair_conf.specs.Name.{IsName}
@@ -42,10 +42,10 @@ pub record IsVolume (blocks : ℕ) (entry : Entry) : Type 0 where
   pub some : 1 ≤ entry.extent.blocks
   pub within : IsWithin blocks entry.extent
 
--- Well formed: of an array of at most 2^22 blocks there are at most 15 volumes, which have names of their own and blocks of their
+-- Well formed: of an array of less than 2^37 blocks there are at most 15 volumes, which have names of their own and blocks of their
 -- own.
 pub record IsTable (table : Table) : Type 0 where
-  pub size : table.blocks ≤ 4194304
+  pub size : table.blocks < 2 ^ 37
   pub few : length table.entries ≤ 15
   pub volumes : All (IsVolume table.blocks) table.entries
   pub named_apart : AllPairs (λ a b. a.name ≢ b.name) table.entries
@@ -94,5 +94,5 @@ are_volumes blocks (entry ∷ later) =
     is_volume blocks entry && (is_apart later entry && are_volumes blocks later)
 
 unfoldable pub is_table : Table → Bool
-is_table table = nat_le table.blocks 4194304
+is_table table = nat_lt table.blocks (2 ^ 37)
     && (nat_le (length table.entries) 15 && are_volumes table.blocks table.entries)

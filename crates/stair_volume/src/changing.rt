@@ -119,8 +119,10 @@ fn clear<C: StripeCode, R: Rack>(
     ensures stay { AllStay hears watchers.new.items }
 {
     let geometry = array.geometry();
-    let mut block = u64::from(extent.first);
-    let end = block + u64::from(extent.blocks);
+    // by whose limits the number of a block fits
+    let _ = geometry.blocks();
+    let mut block = extent.first;
+    let end = block + extent.blocks;
     while block < end {
         let piece = piece_blocks(&geometry, block, end - block);
         array.write_blocks(rack, block, &zeros[..SECTOR * usize::from(piece)], watchers)?;
@@ -184,7 +186,7 @@ pub(crate) fn push_volume(line: &mut Line, name: &Name, extent: Extent)
     ensures { line.new ≡ line.old ++ volume_line name.now extent }
 {
     line.push(name.bytes());
-    line.push_named(b" first ", u64::from(extent.first));
-    line.push_named(b" blocks ", u64::from(extent.blocks));
+    line.push_named(b" first ", extent.first);
+    line.push_named(b" blocks ", extent.blocks);
     line.push(b"\n");
 }

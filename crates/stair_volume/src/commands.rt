@@ -132,15 +132,17 @@ fn list<K: Sink>(table: &Table, output: &mut K) -> Result<(), VolumeFault>
 fn first_block(table: &Table, name: Name, block: u64, count: u64) -> Result<u64, VolumeFault>
     ensures ok { IfOk result (IsFirstBlock table.now.entries name block count) }
     ensures refused { IfErr result (IsNoRange table.now.entries name block count) }
-    ensures fits { IfOk result (λ first. 0 < count → first + count < 2 ^ 33) }
+    ensures fits { IfOk result (λ first. 0 < count → first + count < 2 ^ 37) }
 {
+    // by whose rules its volumes are within the array
+    let _ = table.entries();
     let extent = table.find(name).ok_or(TableFault::NoVolume)?;
-    let limit = u64::from(extent.blocks);
+    let limit = extent.blocks;
     if count > 0 && (block > limit || count > limit - block) {
         let asked = block.max(limit);
         return Err(VolumeFault::from(ArrayFault::OutOfRange { asked, limit }));
     }
-    Ok(u64::from(extent.first).saturating_add(block))
+    Ok(extent.first.saturating_add(block))
 }
 
 // Puts out so many blocks from this one on. Each is put out before the next is read.
@@ -152,7 +154,7 @@ fn put_blocks<C: StripeCode, R: Rack, K: Sink>(
     output: &mut K,
     watchers: &mut Vec<Box<dyn Watcher>>,
 ) -> Result<(), VolumeFault>
-    requires fits { 0 < blocks → first + blocks < 2 ^ 33 }
+    requires fits { 0 < blocks → first + blocks < 2 ^ 37 }
     requires stay { AllStay hears watchers.old.items }
     ensures means { (counter : ℕ) → MeansWith
         (device_view (rack_view R.Rack) hears)
@@ -182,7 +184,7 @@ fn write_input<C: StripeCode, R: Rack, S: Source, K: Sink>(
     output: &mut K,
     watchers: &mut Vec<Box<dyn Watcher>>,
 ) -> Result<(), VolumeFault>
-    requires fits { 0 < blocks → first + blocks < 2 ^ 33 }
+    requires fits { 0 < blocks → first + blocks < 2 ^ 37 }
     requires stay { AllStay hears watchers.old.items }
     ensures means { (counter : ℕ) → MeansWith
         (device_view (rack_view R.Rack) hears) (views S.Source K.Sink)

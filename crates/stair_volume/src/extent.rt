@@ -4,9 +4,9 @@ use stair_conf::Name;
 #[derive(Clone, Copy, Debug, PartialEq, Eq)]
 pub struct Extent {
     /// The first of them.
-    pub first: u32,
+    pub first: u64,
     /// How many there are.
-    pub blocks: u32,
+    pub blocks: u64,
 }
 
 /// A volume: its name, and its blocks of the array.
@@ -17,27 +17,35 @@ pub struct Entry {
 }
 
 impl Extent {
-    ghost use Rattle.std.specs.Prelude.{◌≡◌};
+    ghost use Rattle.std.specs.Prelude.{◌≡◌, ◌^◌, ◌<◌, nat_lt};
     ghost use Rattle.stair_volume.specs.Table.{end_of, is_within as is_inside, meets as have_common};
 
     /// The block behind the last one.
-    pub fn end(self) -> u64
+    pub(crate) fn end(self) -> u64
+        requires { end_of self < 2 ^ 64 }
         ensures { result ≡ end_of self }
     {
-        u64::from(self.first) + u64::from(self.blocks)
+        self.first + self.blocks
     }
 
     /// Whether it lies within an array of so many blocks, behind block 0.
-    pub(crate) fn is_within(self, blocks: u32) -> bool
+    pub(crate) fn is_within(self, blocks: u64) -> bool
         ensures { result ≡ is_inside blocks self }
     {
-        self.first >= 1 && self.end() <= u64::from(blocks)
+        self.first >= 1 && self.first <= blocks && self.blocks <= blocks - self.first
     }
 
     /// Whether some block is in both.
     pub(crate) fn meets(self, other: Extent) -> bool
         ensures { result ≡ have_common self other }
     {
-        u64::from(self.first) < other.end() && u64::from(other.first) < self.end()
+        self.begins_before_end(other) && other.begins_before_end(self)
+    }
+
+    // Whether its first block lies before the end of the other.
+    fn begins_before_end(self, other: Extent) -> bool
+        ensures { result ≡ nat_lt self.first (end_of other) }
+    {
+        self.first < other.first || self.first - other.first < other.blocks
     }
 }

@@ -1,11 +1,12 @@
 //! Laws of the table of volumes.
 
-ghost use Rattle.std.specs.Prelude.{◌≡◌, ◌↔◌, ◌<◌, ◌≤◌, ℕ, List, All, Contains, None, Ok, Some, length};
+ghost use Rattle.std.specs.Prelude.{◌≡◌, ◌↔◌, ◌^◌, ◌<◌, ◌≤◌, ℕ, List, All, Contains, None, Ok, Some, length};
 ghost use Rattle.stair_model.specs.Stripe.{SECTOR};
 ghost use Rattle.stair_conf.specs.Name.{IsName};
 ghost use Rattle.stair_volume.specs.Table.{IsTable, extent_of, find_in, Table};
-ghost use Rattle.stair_volume.specs.Page.{HasTable, table_bytes, table_of};
+ghost use Rattle.stair_volume.specs.Page.{HasTable, entry_bytes, small_entry_bytes, small_table_bytes, table_bytes, table_of};
 ghost use Rattle.stair_volume.specs.Changes.{Adds, IsFree, IsLeastFree, Removes, room, volume_of, with_volume, without_volume};
+ghost use Rattle.stair_volume.specs.declared.extent.Entry.{Entry};
 ghost use Rattle.stair_volume.specs.declared.extent.Extent.{Extent};
 
 /// A table reads back from the 512 bytes that it is written as, and from no others; room is the least there is; and a table
@@ -21,6 +22,11 @@ pub fn table_laws()
     ensures sector { (table : Table) → IsTable table → length (table_bytes table.entries) ≡ SECTOR }
     ensures bytes { (table : Table) → IsTable table →
         All (λ byte. byte < 256) (table_bytes table.entries) }
+    // numbers below 2^32, and so all of an array of at most 4,194,304 blocks, are written in four bytes each
+    ensures small { (entry : Entry) → entry.extent.first < 2 ^ 32 → entry.extent.blocks < 2 ^ 32 →
+        entry_bytes entry ≡ small_entry_bytes entry }
+    ensures as_before { (table : Table) → IsTable table → table.blocks ≤ 4194304 →
+        table_bytes table.entries ≡ small_table_bytes table.entries }
 
     // which blocks a name has
     ensures found { (table : Table) (name : List ℕ) (extent : Extent) → IsTable table →

@@ -1,11 +1,11 @@
-ghost use Rattle.std.specs.Prelude.{◌≡◌, ◌↔◌, ◌+◌, ◌<◌, ◌≤◌, MatchOption, Some};
+ghost use Rattle.std.specs.Prelude.{◌≡◌, ◌↔◌, ◌+◌, ◌^◌, ◌<◌, ◌≤◌, MatchOption, Some};
 ghost use Rattle.stair_conf.specs.Name.{IsName};
 ghost use Rattle.stair_volume.specs.Table.{Table as Volumes};
-ghost use Rattle.stair_volume.specs.Page.{HasTable, HasEntries, HasNoName, entry_at as entry_in, number_at, table_of};
+ghost use Rattle.stair_volume.specs.Page.{HasTable, HasEntries, HasNoName, entry_at as entry_in, long_at, number_at, table_of};
 
 use crate::extent::{Entry, Extent};
 use crate::table::{TABLE_LIMIT, Table, no_entries};
-use crate::writing::write_table;
+use crate::writing::{HIGH_PART, write_table};
 use stair_base::SECTOR;
 use stair_conf::{NAME_LIMIT, Name};
 
@@ -13,7 +13,7 @@ use stair_conf::{NAME_LIMIT, Name};
 ///
 /// [`write_table`] gives the table of the bytes, and [`Table`] says when a table is well formed.
 pub fn read_table(blocks: u64, bytes: &[u8; SECTOR]) -> Option<Table>
-    requires { blocks ≤ 4194304 }
+    requires { blocks < 2 ^ 37 }
     ensures value { result ≡ table_of blocks bytes.now }
     ensures exact { (table : Volumes) → (result ≡ Some table) ↔ HasTable blocks bytes.now table }
 {
@@ -58,8 +58,8 @@ fn read_entry(bytes: &[u8; SECTOR], k: usize) -> Option<Entry>
     Some(Entry {
         name,
         extent: Extent {
-            first: u32_at(bytes, at + 24),
-            blocks: u32_at(bytes, at + 28),
+            first: u64_at(bytes, at + 20),
+            blocks: u64::from(bytes[at + 19]) * HIGH_PART + u64::from(u32_at(bytes, at + 28)),
         },
     })
 }
@@ -69,4 +69,20 @@ fn u32_at(bytes: &[u8; SECTOR], at: usize) -> u32
     ensures { result ≡ number_at at bytes.now }
 {
     u32::from_be_bytes([bytes[at], bytes[at + 1], bytes[at + 2], bytes[at + 3]])
+}
+
+fn u64_at(bytes: &[u8; SECTOR], at: usize) -> u64
+    requires { at + 8 ≤ 512 }
+    ensures { result ≡ long_at at bytes.now }
+{
+    u64::from_be_bytes([
+        bytes[at],
+        bytes[at + 1],
+        bytes[at + 2],
+        bytes[at + 3],
+        bytes[at + 4],
+        bytes[at + 5],
+        bytes[at + 6],
+        bytes[at + 7],
+    ])
 }

@@ -1,4 +1,4 @@
-ghost use Rattle.std.specs.Prelude.{◌≡◌, ◌↔◌, ◌≤◌, ◌<◌, [], Some, MatchOption, IsTrue, length, option_map, take};
+ghost use Rattle.std.specs.Prelude.{◌≡◌, ◌↔◌, ◌^◌, ◌≤◌, ◌<◌, [], Some, All, MatchOption, IsTrue, length, option_map, take};
 ghost use Rattle.stair_volume.specs.Table.{
   IsTable,
   find_in,
@@ -6,6 +6,7 @@ ghost use Rattle.stair_volume.specs.Table.{
   is_free as all_free,
   is_volume as is_volume_of,
   are_volumes as all_volumes,
+  end_of,
   extent_of,
   table_with,
   Table as Volumes,
@@ -23,7 +24,7 @@ pub const TABLE_LIMIT: usize = 15;
 /// The volumes of an array: at most 15, each with a name of its own and blocks of its own, behind block 0.
 #[derive(Drop)]
 pub struct Table {
-    blocks: u32,
+    blocks: u64,
     len: usize,
     // behind the first len of them anything
     entries: [Entry; TABLE_LIMIT],
@@ -43,11 +44,11 @@ impl Model for Table {
 impl Table {
     /// The table of an array of so many blocks that has no volumes.
     pub fn empty(blocks: u64) -> Table
-        requires { blocks ≤ 4194304 }
+        requires { blocks < 2 ^ 37 }
         ensures { result ≡ table_with blocks [] }
     {
         Table {
-            blocks: blocks as u32,
+            blocks,
             len: 0,
             entries: no_entries(),
         }
@@ -55,12 +56,11 @@ impl Table {
 
     // The table of the first of these entries, exactly where it is well formed.
     pub(crate) fn new(blocks: u64, entries: [Entry; TABLE_LIMIT], len: usize) -> Option<Table>
-        requires size { blocks ≤ 4194304 }
+        requires size { blocks < 2 ^ 37 }
         requires few { len ≤ 15 }
         ensures { (table : Volumes) → (result ≡ Some table)
             ↔ ((table ≡ table_with blocks (take len entries)) × IsTable table) }
     {
-        let blocks = blocks as u32;
         if !are_volumes(blocks, &entries[..len]) {
             return None;
         }
@@ -135,16 +135,13 @@ impl Table {
     fn room(&self, blocks: u64) -> Option<Extent>
         ensures { result ≡ option_map (λ first. extent_of first blocks) (least_room self.now blocks) }
     {
-        if blocks > u64::from(self.blocks) {
+        if blocks > self.blocks {
             return None;
         }
-        let mut extent = Extent {
-            first: 1,
-            blocks: blocks as u32,
-        };
+        let mut extent = Extent { first: 1, blocks };
         // behind each volume that has a block of it, until none has
         while let Some(end) = end_of_met(self.entries(), extent) {
-            extent.first = end as u32;
+            extent.first = end;
         }
         extent.is_within(self.blocks).then_some(extent)
     }
@@ -192,6 +189,7 @@ fn extent_named(entries: &[Entry], name: &Name) -> Option<Extent>
 
 // The block behind some entry that has a block of it.
 fn end_of_met(entries: &[Entry], extent: Extent) -> Option<u64>
+    requires { All (λ entry. end_of entry.extent < 2 ^ 64) entries.now }
     ensures { MatchOption result (IsTrue (all_free entries.now extent))
         (EndsMet entries.now extent) }
 {
@@ -218,7 +216,7 @@ fn is_apart(others: &[Entry], entry: &Entry) -> bool
 }
 
 // Whether it is a volume of an array of so many blocks.
-fn is_volume(blocks: u32, entry: &Entry) -> bool
+fn is_volume(blocks: u64, entry: &Entry) -> bool
     ensures { result ≡ is_volume_of blocks entry.now }
 {
     // the name keeps its rules
@@ -227,7 +225,7 @@ fn is_volume(blocks: u32, entry: &Entry) -> bool
 }
 
 // Whether these are volumes of an array of so many blocks, each apart from those behind it.
-fn are_volumes(blocks: u32, entries: &[Entry]) -> bool
+fn are_volumes(blocks: u64, entries: &[Entry]) -> bool
     ensures { result ≡ all_volumes blocks entries.now }
 {
     for (k, entry) in entries.iter().enumerate() {

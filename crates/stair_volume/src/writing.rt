@@ -1,9 +1,12 @@
-ghost use Rattle.std.specs.Prelude.{◌≡◌, ◌+◌, ◌≤◌, length};
+ghost use Rattle.std.specs.Prelude.{◌≡◌, ◌+◌, ◌^◌, ◌<◌, ◌≤◌, length};
 ghost use Rattle.stair_volume.specs.Page.{entry_bytes as entry_as_bytes, table_bytes, with_field};
 
-use crate::extent::Entry;
+use crate::extent::{Entry, Extent};
 use crate::table::Table;
 use stair_base::SECTOR;
+
+/// The weight of the highest byte of a number of blocks.
+pub(crate) const HIGH_PART: u64 = 1 << 32;
 
 /// The bytes of a table, which are block 0 of its array. Numbers are big-endian.
 ///
@@ -13,8 +16,9 @@ use stair_base::SECTOR;
 /// | 8 | how many entries there are, at most 15 |
 /// | 32 + 32·k | of entry k: the length of its name |
 /// | 33 + 32·k to 48 + 32·k | its name, and zeros |
-/// | 56 + 32·k to 59 + 32·k | its first block |
-/// | 60 + 32·k to 63 + 32·k | how many blocks it has |
+/// | 51 + 32·k | how many blocks it has: the highest of five bytes |
+/// | 52 + 32·k to 59 + 32·k | its first block |
+/// | 60 + 32·k to 63 + 32·k | how many blocks it has: the other four bytes |
 ///
 /// All else is zero.
 pub fn write_table(table: &Table) -> [u8; SECTOR]
@@ -31,14 +35,17 @@ pub fn write_table(table: &Table) -> [u8; SECTOR]
 }
 
 fn entry_bytes(entry: &Entry) -> [u8; 32]
+    requires { entry.now.extent.blocks < 2 ^ 40 }
     ensures { result ≡ entry_as_bytes entry.now }
 {
     let name = entry.name.bytes();
+    let Extent { first, blocks } = entry.extent;
     let mut bytes = [0; 32];
     put(&mut bytes, 0, &[name.len() as u8]);
     put(&mut bytes, 1, name);
-    put(&mut bytes, 24, &entry.extent.first.to_be_bytes());
-    put(&mut bytes, 28, &entry.extent.blocks.to_be_bytes());
+    put(&mut bytes, 19, &[(blocks / HIGH_PART) as u8]);
+    put(&mut bytes, 20, &first.to_be_bytes());
+    put(&mut bytes, 28, &((blocks % HIGH_PART) as u32).to_be_bytes());
     bytes
 }
 

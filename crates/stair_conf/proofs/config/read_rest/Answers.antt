@@ -21,17 +21,18 @@ returns-in_err-id c =
     let before = before_id t (c.args.n, c.requires.n) (c.args.m, c.requires.m) (c.args.r, c.requires.r) (c.args.e.now, c.requires.e) (c.in_ok-stripes.stripes, c.in_ok-stripes.ensures.ok) in
     key_refused t Id _ (fault.1 ∙ ap Err (fault.2 ∙ faulty.0)) before (λ has. faulty.1 has.0 has.1)
 
-pub returns-in_err-new : goal.returns-in_err-new
-returns-in_err-new c =
+pub returns-in_err-geometry_by : goal.returns-in_err-geometry_by
+returns-in_err-geometry_by c =
     let t = table_view c.args.table.now in
-    let fault = err_from_is_err_and c.from_residual-in_err-new.result c.from_residual-in_err-new.ensures.1 in
+    let fault = err_from_is_err_and c.from_residual-in_err-geometry_by.result c.from_residual-in_err-geometry_by.ensures.1 in
     let said = says t _ _ _ _ _ _ _ refl c.requires.n c.requires.m c.requires.r c.requires.e
     c.in_ok-stripes.ensures.ok c.in_ok-id.ensures.ok in
-    limit_refused t _ _ _ (fault.1 ∙ ap Err fault.2) said c.in_err-new.ensures.err
+    limit_refused t _ _ _ (fault.1 ∙ ap Err fault.2) said c.in_err-geometry_by.ensures.err
 
 pub returns : goal.returns
 returns c =
     let t = table_view c.args.table.now in
     let said = says t _ _ _ _ _ _ _ refl c.requires.n c.requires.m c.requires.r c.requires.e
     c.in_ok-stripes.ensures.ok c.in_ok-id.ensures.ok in
-    geometry_read t _ _ c.in_ok-new.ensures.ok said (c.in_ok-new.ensures.within.0 refl)
+    let ok = c.in_ok-geometry_by.ensures.ok in
+    geometry_read t _ _ ok.0 said ok.1 ok.2

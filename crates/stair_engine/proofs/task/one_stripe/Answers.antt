@@ -9,4 +9,4 @@ pub returns-clause-broken : goal.returns-clause-broken
 returns-clause-broken c =
     let a = c.args in
     let same : geometry_of a.n a.m a.r c.as_slice.result.now 1 (replicate 16 0) ≡ one_stripe a.n a.m a.r a.e.now = search rules in
-    subst (λ (of : Geometry). IfErr c.new.result (λ fault. IsFirstBrokenLimit of fault.limit)) same c.new.ensures.err
+    subst (λ (of : Geometry). IfErr c.large.result (λ fault. IsFirstBrokenLimit of fault.limit)) same c.large.ensures.err

@@ -1,6 +1,6 @@
 -- A session, and the blocks that are in range.
-use Rattle.std.proofs.Common.{◌≡◌, [], Ok, refl, subst, sym, true}
-use Rattle.stair_model.specs.Geometry.{Geometry}
+use Rattle.std.proofs.Common.{◌≡◌, ◌∙◌, ◌*◌, ◌≤◌, [], Ok, ap, arith, refl, subst, sym, true}
+use Rattle.stair_model.specs.Geometry.{Geometry, data_cells}
 use Rattle.stair_array.specs.Machine.{Recover}
 use Rattle.stair_array.specs.Promise.{Found, Opened}
 use Rattle.stair_story.specs.Devices.{MeansWith, device_view, devices}
@@ -86,3 +86,13 @@ write_input-requires-clause-within g c =
     subst (λ (of : Geometry). IsInRange of c.args.first c.args.blocks) (sym same)
     (subst (λ (of : Geometry). IsInRange of c.args.first c.args.blocks) c.geometry-geometry.ensures.value
     (in_range_has c.geometry-geometry.result c.args.first c.args.blocks c.in_ok-in_range.ensures.within))
+
+pub write_input-requires-clause-room : goal.write_input-requires-clause-room
+write_input-requires-clause-room g c =
+    let view = device_view (rack_view g.R.Rack) (λ b. (goal.Watcher-dyn g (b.vtable, b.value)).hears b.value) in
+    let m = c.in_ok-member.member in
+    let same = taken_geometry view Recover (Ok m.array.geometry) (devices c.survey.new.rack (Found m) c.args.watchers.now.items)
+    (devices c.open.new.rack (Opened c.in_ok-array.array) c.open.new.watchers.items) m c.in_ok-array.array.member c.in_ok-array.ensures.taken refl refl in
+    let cells : data_cells c.in_ok-array.array.member.array.geometry ≡ data_cells c.geometry-geometry.result =
+    ap data_cells (same ∙ sym c.geometry-geometry.ensures.value) in
+    rw (cells, c.in_ok-piece.ensures) (omega arith)

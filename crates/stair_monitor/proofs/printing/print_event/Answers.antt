@@ -1,4 +1,4 @@
--- The line has at most 32 bytes.
+-- The line has at most 37 bytes.
 use Rattle.std.proofs.Common.{ap, arith, length}
 use Rattle.stair_monitor.proofs.EventLemmas.{text_length}
 use Rattle.stair_monitor.proofs.printing.print_event.Goals as goal

@@ -1,6 +1,8 @@
 -- The fields are those of any superblock that the bytes spell.
-use Rattle.std.proofs.Common.{Some, ap, ◌∙◌}
+use Rattle.std.proofs.Common.{Some, ap, subst, sym, ◌∙◌}
 use Rattle.stair_model.specs.Geometry.{Geometry}
+use Rattle.stair_super.specs.declared.version.Version.{Version}
+use Rattle.stair_super.specs.Spelling.{IsOfVersion}
 use Rattle.stair_super.proofs.Fields.{epoch_is}
 use Rattle.stair_super.proofs.Answered.{some_is, no_none, same_configuration}
 use Rattle.stair_super.proofs.reading.array_of.Goals as goal
@@ -8,6 +10,13 @@ use Rattle.stair_super.proofs.reading.array_of.Goals as goal
 pub returns-in_err-geometry-clause-read : goal.returns-in_err-geometry-clause-read
 returns-in_err-geometry-clause-read c = λ s spells version.
     absurd (no_none s.array.geometry c.geometry_of.result c.in_err-geometry.was (c.geometry_of.ensures s spells))
+
+pub returns-then-not-is_of-clause-read : goal.returns-then-not-is_of-clause-read
+returns-then-not-is_of-clause-read c = λ s spells version.
+    let geometry = some_is c.in_ok-geometry.geometry s.array.geometry c.geometry_of.result c.in_ok-geometry.was (c.geometry_of.ensures s spells) in
+    let is = c.is_of.ensures.1 (subst (λ (g : Geometry). IsOfVersion c.args.version g) (sym geometry) (subst (λ (v : Version). IsOfVersion v s.array.geometry) (sym version) spells.said.size)) in
+    let not = c.if-not-is_of.true in
+    absurd cc
 
 pub returns-in_err-marks-clause-read : goal.returns-in_err-marks-clause-read
 returns-in_err-marks-clause-read c = λ s spells version.

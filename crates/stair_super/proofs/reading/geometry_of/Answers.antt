@@ -38,4 +38,4 @@ returns c = λ s spells.
     (c.from-4.ensures ∙ c.u32_at.ensures ∙ stripes_is bytes s spells)
     (c.id_of.ensures ∙ (laid bytes s spells).id) in
     c.ok.ensures.value
-    ∙ answered _ s.array.geometry c.new.result same spells.block.rules.array.limits c.new.ensures.ok c.new.ensures.within.1
+    ∙ answered _ s.array.geometry c.large.result same spells.block.rules.array.limits c.large.ensures.ok c.large.ensures.within.1

@@ -1,4 +1,6 @@
 -- The table was set, or not.
+use Rattle.std.proofs.Common.{arith}
+use Rattle.stair_model.proofs.LimitLaws.{block_count_few}
 use Rattle.stair_volume.specs.declared.fault.VolumeFault.TheVariants as fault
 use Rattle.stair_volume.proofs.ChangingLaws.{comes_failed, comes_from, comes_line, ready_plan}
 use Rattle.stair_volume.proofs.changing.make_ready.Goals as goal
@@ -16,3 +18,6 @@ returns-clause-comes g c =
     comes_line _ of.n c.ready_line.result _ c.ready_line.ensures
     (comes_from _ (ready_plan of c.geometry.result c.empty-empty.result c.blocks-2.result c.empty-empty.ensures c.blocks-2.ensures.value c.geometry.ensures)
     (c.in_ok-set_table.ensures.comes _))
+
+pub empty-empty-requires : goal.empty-empty-requires
+empty-empty-requires g c = omega (arith, block_count_few c.geometry.result c.blocks-2.ensures.limits, c.blocks-2.ensures.value)

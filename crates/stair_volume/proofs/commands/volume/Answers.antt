@@ -1,7 +1,8 @@
 -- The table was read, or not; and what is done then.
-use Rattle.std.proofs.Common.{◌∙◌, ◌≡◌, Err, None, Some, ap, refl, sym}
+use Rattle.std.proofs.Common.{◌∙◌, ◌≡◌, Err, None, Some, ap, arith, refl, sym}
 use Rattle.stair_conf.specs.declared.job.VolumeJob.{VolumeJob}
 use Rattle.stair_model.specs.Geometry.{block_count}
+use Rattle.stair_model.proofs.LimitLaws.{block_count_few}
 use Rattle.stair_story.specs.Plan.{Over}
 use Rattle.stair_status.specs.declared.status.Status.TheVariants.{Done, NoTable}
 use Rattle.stair_array.specs.Machine.{ReadBlock}
@@ -62,3 +63,6 @@ returns-in_default-job-clause-means g c =
     page_then _ _ c.args.job.now of c.read.new.into c.args.input.now c.args.output.now c.in_ok-read.ensures.taken now kept
     c.blocks-2.result (c.blocks-2.ensures.value ∙ ap block_count c.geometry.ensures) None (sym c.in_default.is ∙ c.read_table.ensures.value)
     (Err fault.NoTable) (did_over _ _ (Over NoTable) (none_ready now c.args.job.now c.in_default-job.not-Ready))
+
+pub read_table-requires : goal.read_table-requires
+read_table-requires g c = omega (arith, block_count_few c.geometry.result c.blocks-2.ensures.limits, c.blocks-2.ensures.value)

@@ -1,4 +1,4 @@
-use Rattle.stair_volume.proofs.PageLaws.{table_is_bytes, table_is_sector}
+use Rattle.stair_volume.proofs.PageLaws.{entry_bytes-small, table_bytes-small, table_is_bytes, table_is_sector}
 use Rattle.stair_volume.proofs.ReadingLaws.{table_of-is, one_table, table_of-table_bytes}
 use Rattle.stair_volume.proofs.RoomLaws.{room_is_least, no_room_is}
 use Rattle.stair_volume.proofs.ChangeLaws.{find_is_volume, added_by_with, IsTable-added, removed_by_without, IsTable-removed}
@@ -18,6 +18,12 @@ returns-clause-sector c = table_is_sector
 
 pub returns-clause-bytes : goal.returns-clause-bytes
 returns-clause-bytes c = table_is_bytes
+
+pub returns-clause-small : goal.returns-clause-small
+returns-clause-small c = λ entry first blocks. entry_bytes-small entry (record { first = first; blocks = blocks })
+
+pub returns-clause-as_before : goal.returns-clause-as_before
+returns-clause-as_before c = table_bytes-small
 
 pub returns-clause-found : goal.returns-clause-found
 returns-clause-found c = find_is_volume

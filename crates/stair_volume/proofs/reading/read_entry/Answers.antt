@@ -1,5 +1,5 @@
 -- The name and the numbers are those that stand there.
-use Rattle.std.proofs.Common.{◌≡◌, Option, refl, sym, ◌∙◌, subst, arith}
+use Rattle.std.proofs.Common.{◌≡◌, ℕ, ◌+◌, ◌*◌, ◌^◌, Option, refl, sym, ap₂, ◌∙◌, subst, arith}
 use Rattle.std.specs.Prelude.{MatchOption}
 use Rattle.std.proofs.lemmas.Option.{none-some}
 use Rattle.stair_conf.specs.Name.{IsName}
@@ -23,7 +23,7 @@ returns-in_err-name c =
 pub returns : goal.returns
 returns c =
     let bytes = c.args.bytes.now in
-    entry_read bytes c.args.k c.in_ok-name.name c.u32_at.result c.u32_at-2.result
+    entry_read bytes c.args.k c.in_ok-name.name c.u64_at.result (c.from.result * 2 ^ 32 + c.from-2.result)
     (((c.in_ok-name.ensures c.in_ok-name.name).0 refl).0 ∙ name_read bytes c.args.k c.from-len.result c.from-len.ensures)
-    c.u32_at.ensures
-    c.u32_at-2.ensures
+    c.u64_at.ensures
+    (ap₂ (λ (high low : ℕ). high * 2 ^ 32 + low) c.from.ensures (c.from-2.ensures ∙ c.u32_at.ensures))

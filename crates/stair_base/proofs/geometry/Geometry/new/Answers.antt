@@ -1,36 +1,15 @@
--- Each refusal names the limit whose test failed, after those that passed.
-use Rattle.std.proofs.Common.{rules, arith}
-use Rattle.stair_model.specs.Geometry.IsFirstBrokenLimit.{devices, parities, majority, covered_chunks, rows, covered_sectors, blocks, size}
+-- What a large geometry breaks a small one breaks too; where it breaks nothing and isn't small, it is the last limit.
+use Rattle.std.proofs.Common.{rules}
+use Rattle.std.proofs.lemmas.Result.{IfErr-weaker}
+use Rattle.stair_model.specs.Geometry.{Geometry, geometry_of}
+use Rattle.stair_model.proofs.LimitLaws.{broken_map, broken_size}
 use Rattle.stair_base.proofs.geometry.Geometry.new.Goals as goal
-use Rattle.stair_base.proofs.geometry.Geometry.new.Goals.{then-stripes-lt1-via-then-stripes-lt1 as few, then-stripes-lt1-via-else-stripes-lt1+then-stripes-gt65536 as many, then-stripes-lt1-via-else-stripes-lt1+else-stripes-gt65536+then-n-r-gt4194304 as large}
 
-pub returns-then-n-lt3-clause-err : goal.returns-then-n-lt3-clause-err
-returns-then-n-lt3-clause-err c = devices (λ h. omega arith)
+pub returns-in-Ok-clause-err : goal.returns-in-Ok-clause-err
+returns-in-Ok-clause-err c =
+    broken_size (geometry_of c.args.n c.args.m c.args.r c.args.e.now c.args.stripes c.args.id) (search rules) (λ both. search rules)
 
-pub returns-then-m-lt1-clause-err : goal.returns-then-m-lt1-clause-err
-returns-then-m-lt1-clause-err c = parities (omega arith) (λ h. omega arith)
-
-pub returns-then-m-n-clause-err : goal.returns-then-m-n-clause-err
-returns-then-m-n-clause-err c = majority (omega arith) (omega arith) (λ h. omega arith)
-
-pub returns-then-is_empty-clause-err : goal.returns-then-is_empty-clause-err
-returns-then-is_empty-clause-err c =
-    covered_chunks (omega arith) (omega arith) (omega arith) (λ h. search rules)
-
-pub returns-then-r-lt1-clause-err : goal.returns-then-r-lt1-clause-err
-returns-then-r-lt1-clause-err c =
-    rows (omega arith) (omega arith) (omega arith) (search rules) (λ h. omega arith)
-
-pub returns-then-not-is_coverage_vector-clause-err :
-    goal.returns-then-not-is_coverage_vector-clause-err
-returns-then-not-is_coverage_vector-clause-err c =
-    covered_sectors (omega arith) (omega arith) (omega arith) (search rules) (omega arith) (search rules)
-
-pub returns-then-r-n-clause-err : goal.returns-then-r-n-clause-err
-returns-then-r-n-clause-err c =
-    blocks (omega arith) (omega arith) (omega arith) (search rules) (omega arith) (search rules) (search rules)
-
-pub returns-then-stripes-lt1-clause-err : goal.returns-then-stripes-lt1-clause-err
-returns-then-stripes-lt1-clause-err c =
-    size (omega arith) (omega arith) (omega arith) (search rules) (omega arith) (search rules) (search rules)
-    (λ h. elim c.then-stripes-lt1.branch [ few w ↦ omega arith | many w ↦ omega arith | large w ↦ omega arith ])
+pub returns-in_default-2-clause-err : goal.returns-in_default-2-clause-err
+returns-in_default-2-clause-err c =
+    let g : Geometry = geometry_of c.args.n c.args.m c.args.r c.args.e.now c.args.stripes c.args.id in
+    IfErr-weaker c.large.result _ _ (λ fault. broken_map g fault.limit (λ both. both.0)) c.large.ensures.err

@@ -8,8 +8,8 @@ use Rattle.stair_volume.specs.Changes.{EndsMet, room}
 use Rattle.stair_volume.proofs.RoomLaws.{NoneBelow, none_below_more, room-too_many, room_found, room_past}
 use Rattle.stair_volume.proofs.table.Table.room.Goals as goal
 
-pub returns-then-blocks-from : goal.returns-then-blocks-from
-returns-then-blocks-from c =
+pub returns-then-blocks-self : goal.returns-then-blocks-self
+returns-then-blocks-self c =
     let many = room-too_many c.args.self.now c.args.blocks (omega (arith, ap (λ (t : Table). t.blocks) c.self.view_is)) in
     ap (option_map (λ first. extent_of first c.args.blocks)) (sym many)
 
