@@ -1,8 +1,6 @@
 //! A rack over image files: over files of the system, and over files with a fault.
 
-mod faulty;
-
-use faulty::{Fault, FaultyFiles};
+use crate::faulty::{Fault, FaultyFiles};
 use stair_base::SECTOR;
 use stair_filerack::{Access, FileRack, Reason};
 use stair_rack::{Got, Rack, Reply};

@@ -2,7 +2,11 @@
 #![tactic(auto)]
 
 #[cfg(test)]
+mod faulty;
+#[cfg(test)]
 mod files;
+#[cfg(test)]
+mod following;
 #[cfg(test)]
 mod gathering;
 #[cfg(test)]

@@ -1,6 +1,7 @@
 //! The tags of sectors of image files.
 
 use stair_image::{PAYLOAD_BYTES, seal, unseal};
+use stair_tags::{are_sealed, seal_all, tags};
 
 // The tags are those of the program sha256sum, over the bytes 00 to FF, twice.
 #[test]
@@ -26,5 +27,33 @@ fn known_tags(rt: HostRuntime) {
             unseal(number, &sector) == Some(payload),
             "unsealed {number}"
         );
+        assert_eq!(rt;
+            tags(&[number; 8], &[payload; 8]),
+            [*tag; 8],
+            "lanes of {number}"
+        );
     }
+}
+
+#[test]
+fn damage_is_found_in_its_lane(rt: HostRuntime) {
+    let numbers = [7, 0, 1, 2, 3, 0xFFFF_FFFF, 0x1_0000_0000, 9];
+    let payloads = [1, 2, 3, 4, 5, 6, 7, 8].map(|byte| [byte; PAYLOAD_BYTES]);
+    let sectors = seal_all(&numbers, &payloads);
+    assert_eq!(rt; are_sealed(&numbers, &sectors), [true; 8]);
+    for (lane, place) in [(0, 0), (3, 511), (5, 512), (7, 543), (2, 56), (4, 504)] {
+        let mut damaged = sectors;
+        damaged[lane][place] ^= 1;
+        let mut sealed = [true; 8];
+        sealed[lane] = false;
+        assert_eq!(rt; are_sealed(&numbers, &damaged), sealed, "{lane} {place}");
+        assert!(rt;
+            unseal(numbers[lane], &damaged[lane]).is_none(),
+            "{lane} {place}"
+        );
+    }
+    assert_eq!(rt;
+        are_sealed(&[7, 0, 1, 2, 3, 4, 0x1_0000_0000, 9], &sectors),
+        [true, true, true, true, true, false, true, true]
+    );
 }

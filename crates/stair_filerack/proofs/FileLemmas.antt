@@ -9,7 +9,7 @@ use Rattle.std.proofs.lemmas.List.{take-append-le}
 use borrow.Rule.Slice.PartMut.{put_mid, post_of}
 use Rattle.stair_image.specs.Seal.{sealed, payload_in, IsSealed}
 use Rattle.stair_image.proofs.SealLemmas.{sealed-payload_in}
-use Rattle.stair_filerack.specs.Files.{IsNoSector, IsCutShort}
+use Rattle.stair_filerack.specs.Files.{IsNoSector, ReadsFewer}
 
 -- what stood in front of a place, and the first bytes that were written from there on
 pub take-put_mid-more : (place room count : ℕ) (bytes new : List ℕ) → place ≤ length bytes → count ≤ length new →
@@ -32,13 +32,13 @@ unseal-read (Some payload) number sector bytes old new is unsealed whole taken =
     sealed-payload_in number bytes unsealed.0 ∙ ap (sealed number) (sym unsealed.1) ∙ ap (λ (n : ℕ). sealed n payload) is in
     subst (λ (bs : List ℕ). Consumes old new bs) its_bytes taken
 
--- the bytes that were read before a read failed are fewer than 544
-pub cut-short : (old mid new : Option (List ℕ)) (filled : ℕ) (bytes : List ℕ) → filled ≤ length bytes → filled < 544 →
-    Consumes old mid (take filled bytes) → Keeps mid new → IsCutShort old new
-cut-short old mid new filled bytes within short taken kept = (
+-- the bytes that were read before a read failed are fewer than there is room for
+pub read-fewer : (old mid new : Option (List ℕ)) (filled count : ℕ) (bytes : List ℕ) → filled ≤ length bytes → filled < count →
+    Consumes old mid (take filled bytes) → Keeps mid new → ReadsFewer count old new
+read-fewer old mid new filled count bytes within short taken kept = (
   take filled bytes,
   Consumes-kept old mid new (take filled bytes) taken kept,
-  subst (λ (n : ℕ). n < 544) (sym (length-take-le filled bytes within)) short,
+  subst (λ (n : ℕ). n < count) (sym (length-take-le filled bytes within)) short,
 )
 
 pub OnErr-of : {T E : Type 0} (result : Result T E) (P : Type 0) → P → OnErr result P

@@ -1,2 +1,4 @@
+mod AheadLemmas
 mod FileLemmas
 mod RackLemmas
+mod ReadLemmas

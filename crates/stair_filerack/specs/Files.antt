@@ -1,5 +1,5 @@
 -- Sectors of an image file: sector T is the 544 bytes from byte 544·T on.
-use Rattle.std.specs.Prelude.{◌≡◌, ◌≢◌, ◌⊎◌, ◌<◌, length, ℕ, pos, ◌+◌, ◌-◌, ◌*◌, ◌/◌, ◌^◌, List, Option, None, Some, Result, Ok, Err, IfSome, min}
+use Rattle.std.specs.Prelude.{◌≡◌, ◌≢◌, ◌⊎◌, ◌≤◌, ◌<◌, length, ℕ, pos, ◌+◌, ◌-◌, ◌*◌, ◌/◌, ◌^◌, List, ◌++◌, Option, None, Some, Result, Ok, Err, IfSome, IsSomeAnd, min}
 use Rattle.std.specs.Io.KnownBytes.{Consumes, Appends, IsAtEnd}
 use Rattle.std.specs.Io.Seek.{StaysAt, SeekMoves}
 use Rattle.std.specs.declared.io.Error.{Error}
@@ -10,7 +10,7 @@ use Rattle.stair_rack.specs.declared.rack.Got.{Got}
 use Rattle.stair_rack.specs.declared.rack.Got.TheVariants as got
 use Rattle.stair_image.specs.Seal.{sealed, IsSealed}
 use Rattle.stair_filerack.specs.Reason.{IsBadSector}
-use Rattle.stair_filerack.specs.Slot.{OpenFile}
+use Rattle.stair_filerack.specs.Slot.{OpenFile, ReadAhead, missed_at, released}
 
 -- the byte at which a sector begins
 abbrev pub offset_of : ℕ → ℕ
@@ -37,14 +37,14 @@ pub record FindsSector {T : Type 0} (place : T → Option ℕ) (sector : ℕ) (o
   pub follows : old.next ≡ Some sector → found ≡ old.file
   pub sought : old.next ≢ Some sector → SeeksSector sector (place old.file) (place found)
 
--- From an open file as it was to the file as it is: it was at the sector, and then this payload, sealed, was read or
--- written, and the next one follows.
-abbrev pub ReadsSector : {T : Type 0} → (T → Option ℕ) → (T → Option (List ℕ)) → ℕ → List ℕ →
+-- From an open file as it was to the file as it is, as all that follow: it was at the sector, and then this payload,
+-- sealed, was read, and the next one follows. What was held was released.
+abbrev pub ReadsAlone : {T : Type 0} → (T → Option ℕ) → (T → Option (List ℕ)) → ℕ → List ℕ →
     OpenFile T → OpenFile T → Type 0
-ReadsSector {T} place left sector payload old new =
+ReadsAlone {T} place left sector payload old new =
     (found : T) × FindsSector place sector old found
     × Consumes (left found) (left new.file) (sealed sector payload)
-    × (new.next ≡ Some (sector + 1))
+    × (new.next ≡ Some (sector + 1)) × (new.ahead ≡ released old.ahead)
 
 -- no sealed sector was read: the file ended before there were 544 bytes, or there are, and they aren't sealed
 abbrev pub IsNoSector : ℕ → Option (List ℕ) → Option (List ℕ) → Type 0
@@ -52,35 +52,115 @@ IsNoSector sector left left' =
     (bytes : List ℕ) × Consumes left left' bytes
     × (((length bytes < 544) × IsAtEnd left') ⊎ ((length bytes ≡ 544) × ¬ IsSealed sector bytes))
 
+-- that was read of a sector, and the next one is sought
 abbrev pub ReadsNoSector : {T : Type 0} → (T → Option ℕ) → (T → Option (List ℕ)) → ℕ →
     OpenFile T → OpenFile T → Type 0
 ReadsNoSector {T} place left sector old new =
     (found : T) × FindsSector place sector old found × IsNoSector sector (left found) (left new.file)
+    × (new.next ≡ None) × (new.ahead ≡ released old.ahead)
 
--- fewer than 544 bytes were read
-abbrev pub IsCutShort : Option (List ℕ) → Option (List ℕ) → Type 0
-IsCutShort left left' = (bytes : List ℕ) × Consumes left left' bytes × (length bytes < 544)
+-- fewer than so many bytes were read
+abbrev pub ReadsFewer : ℕ → Option (List ℕ) → Option (List ℕ) → Type 0
+ReadsFewer count left left' =
+    (bytes : List ℕ) × Consumes left left' bytes × (length bytes < count)
 
 -- as a failed read leaves the file: where it was, by a seek that failed, or at the sector and fewer than 544 bytes on
 abbrev pub FailsToRead : {T : Type 0} → (T → Option ℕ) → (T → Option (List ℕ)) → ℕ →
     OpenFile T → OpenFile T → Type 0
 FailsToRead {T} place left sector old new =
-    ((old.next ≢ Some sector) × StaysAt (place old.file) (place new.file))
-    ⊎ ((found : T) × FindsSector place sector old found × IsCutShort (left found) (left new.file))
+    (((old.next ≢ Some sector) × StaysAt (place old.file) (place new.file))
+    ⊎ ((found : T) × FindsSector place sector old found × ReadsFewer 544 (left found) (left new.file)))
+    × (new.next ≡ None) × (new.ahead ≡ released old.ahead)
 
--- what a bad sector was: none that is sealed, or one whose read failed; and the next one is sought
+-- what a bad sector was that was read alone: none that is sealed, or one whose read failed
+abbrev pub ReadsBadAlone : {T : Type 0} → (T → Option ℕ) → (T → Option (List ℕ)) → ℕ →
+    OpenFile T → OpenFile T → Type 0
+ReadsBadAlone place left sector old new =
+    ReadsNoSector place left sector old new ⊎ FailsToRead place left sector old new
+
+-- this sector is the first of those that are held
+abbrev pub HasFirst : ReadAhead → ℕ → Type 0
+HasFirst ahead sector = (0 < length ahead.bytes) × (ahead.from ≡ sector)
+
+-- the first of the sectors that are held, which has these bytes, was taken
+pub record TakesFirst (bytes : List ℕ) (old new : ReadAhead) : Type 0 where
+  pub whole : length bytes ≡ 544
+  pub first : old.bytes ≡ bytes ++ new.bytes
+  pub from : new.from ≡ old.from + 1
+  pub missed : new.missed ≡ old.missed
+
+-- the sector is one of the eight of which fewer were read
+abbrev pub IsNear : Option ℕ → ℕ → Type 0
+IsNear missed sector = IsSomeAnd missed (λ first. (first ≤ sector) × (sector < first + 8))
+
+-- Eight sectors were read at once from this one on, and are held. The file was at this sector, and this sector isn't one of
+-- the eight of which fewer were read.
+pub record ReadsEight {T : Type 0} (left : T → Option (List ℕ)) (sector : ℕ) (old new : OpenFile T) : Type 0 where
+  pub follows : old.next ≡ Some sector
+  pub far : ¬ IsNear old.ahead.missed sector
+  pub taken : Consumes (left old.file) (left new.file) new.ahead.bytes
+  pub whole : length new.ahead.bytes ≡ 4352
+  pub from : new.ahead.from ≡ sector
+  pub missed : new.ahead.missed ≡ old.ahead.missed
+  pub next : new.next ≡ Some (sector + 8)
+
+-- eight sectors were to be read at once from this one on, and fewer were
+pub record MissesEight {T : Type 0} (left : T → Option (List ℕ)) (sector : ℕ) (old new : OpenFile T) : Type 0 where
+  pub follows : old.next ≡ Some sector
+  pub far : ¬ IsNear old.ahead.missed sector
+  pub fewer : ReadsFewer 4352 (left old.file) (left new.file)
+  pub ahead : new.ahead ≡ missed_at sector old.ahead
+  pub next : new.next ≡ None
+
+-- a sector is held: it was, or it was read with the seven after it
+abbrev pub HoldsSector : {T : Type 0} → (T → Option (List ℕ)) → ℕ → OpenFile T → OpenFile T → Type 0
+HoldsSector left sector old new =
+    (HasFirst old.ahead sector × (new ≡ old)) ⊎ ReadsEight left sector old new
+
+-- a sector isn't held: nothing was read, or eight sectors were to be read from it on and fewer were
+abbrev pub LacksSector : {T : Type 0} → (T → Option (List ℕ)) → ℕ → OpenFile T → OpenFile T → Type 0
+LacksSector left sector old new = (new ≡ old) ⊎ MissesEight left sector old new
+
+-- a sector of these bytes was held, and was taken
+abbrev pub GivesHeld : {T : Type 0} → (T → Option (List ℕ)) → ℕ → List ℕ →
+    OpenFile T → OpenFile T → Type 0
+GivesHeld {T} left sector bytes old new =
+    (held : OpenFile T) × HoldsSector left sector old held
+    × TakesFirst bytes held.ahead new.ahead × (new.file ≡ held.file) × (new.next ≡ held.next)
+
+-- a sector that wasn't held was read so
+abbrev pub GoesAlone : {T : Type 0} → (T → Option (List ℕ)) → ℕ →
+    (OpenFile T → OpenFile T → Type 0) → OpenFile T → OpenFile T → Type 0
+GoesAlone {T} left sector How old new =
+    (alone : OpenFile T) × LacksSector left sector old alone × How alone new
+
+-- a sector with this payload was read, now or ahead: it was sealed as it was read
+abbrev pub ReadsSector : {T : Type 0} → (T → Option ℕ) → (T → Option (List ℕ)) → ℕ → List ℕ →
+    OpenFile T → OpenFile T → Type 0
+ReadsSector place left sector payload old new =
+    GivesHeld left sector (sealed sector payload) old new
+    ⊎ GoesAlone left sector (ReadsAlone place left sector payload) old new
+
+-- a sector that was held wasn't sealed as it was read
+abbrev pub GivesUnsealed : {T : Type 0} → (T → Option (List ℕ)) → ℕ →
+    OpenFile T → OpenFile T → Type 0
+GivesUnsealed left sector old new =
+    (bytes : List ℕ) × GivesHeld left sector bytes old new × (¬ IsSealed sector bytes)
+
+-- what a bad sector was: one that was held and isn't sealed, or one that was read alone
 abbrev pub ReadsBadSector : {T : Type 0} → (T → Option ℕ) → (T → Option (List ℕ)) → ℕ →
     OpenFile T → OpenFile T → Type 0
 ReadsBadSector place left sector old new =
-    (ReadsNoSector place left sector old new ⊎ FailsToRead place left sector old new)
-    × (new.next ≡ None)
+    GivesUnsealed left sector old new
+    ⊎ GoesAlone left sector (ReadsBadAlone place left sector) old new
 
+-- the file was at the sector, and then this payload, sealed, was written. What was held was released.
 abbrev pub WritesSector : {T : Type 0} → (T → Option ℕ) → (T → Option (List ℕ)) → ℕ → List ℕ →
     OpenFile T → OpenFile T → Type 0
 WritesSector {T} place held sector payload old new =
     (found : T) × FindsSector place sector old found
     × Appends (held found) (held new.file) (sealed sector payload)
-    × (new.next ≡ Some (sector + 1))
+    × (new.next ≡ Some (sector + 1)) × (new.ahead ≡ released old.ahead)
 
 -- there was a file, it is there still, and went on so
 abbrev pub GoesOn : {T : Type 0} → (T → T → Type 0) → Option T → Option T → Type 0

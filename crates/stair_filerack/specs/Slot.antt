@@ -1,5 +1,6 @@
 -- A slot of a rack over files, as contracts see it.
-use Rattle.std.specs.Prelude.{ℕ, ◌++◌, ◌/◌, ◌%◌, Bool, List, Option, None, codes, is_some, nat_lt, if◌then◌else◌}
+use Rattle.std.specs.Prelude.{ℕ, ◌++◌, ◌/◌, ◌%◌, Bool, List, [], Option, None, Some, codes, is_some, nat_lt, if◌then◌else◌}
+use Rattle.std.specs.Option.{option_map}
 use Rattle.std.specs.Fmt.{decimal}
 use Rattle.stair_rack.specs.Count.{one_more}
 use Rattle.stair_rack.specs.declared.rack.Reply.{Reply}
@@ -8,11 +9,37 @@ use Rattle.stair_rack.specs.declared.rack.Got.{Got}
 use Rattle.stair_rack.specs.declared.rack.Got.TheVariants as got
 use Rattle.stair_filerack.specs.declared.reason.Reason.{Reason}
 
+-- the sectors of an image file that were read ahead, and that no read was answered by yet
+pub record ReadAhead : Type 0 where
+  -- the number of the first sector that is held
+  pub from : ℕ
+  -- the bytes of all sectors that are held, in order: 544 of each
+  pub bytes : List ℕ
+  -- the sector from which eight were last to be read, and fewer were
+  pub missed : Option ℕ
+
+-- nothing was read ahead
+abbrev pub nothing_read : ReadAhead
+nothing_read = record { from = 0; bytes = []; missed = None }
+
+-- nothing is held any more
+abbrev pub released : ReadAhead → ReadAhead
+released ahead = record ahead { bytes = [] }
+
+-- eight sectors were to be read from this one on, and fewer were: nothing is held
+abbrev pub missed_at : ℕ → ReadAhead → ReadAhead
+missed_at sector ahead = record ahead { bytes = []; missed = Some sector }
+
 -- an image file that is open
 pub record OpenFile (File : Type 0) : Type 0 where
   pub file : File
-  -- the sector behind the one that was read or written last, where nothing came after that
+  -- the sector at whose first byte the file is, where the last call on the file was a read or write that ended there
   pub next : Option ℕ
+  pub ahead : ReadAhead
+
+-- a file of which nothing is held any more
+abbrev pub without_ahead : {File : Type 0} → OpenFile File → OpenFile File
+without_ahead held = record held { ahead = released held.ahead }
 
 pub record FileSlot (File : Type 0) : Type 0 where
   -- the path of its image file
@@ -53,7 +80,7 @@ let_go reason slot = record (gone_once_more slot) { file = None; reason = reason
 
 -- a file that was just opened
 abbrev pub opened : {File : Type 0} → File → OpenFile File
-opened file = record { file = file; next = None }
+opened file = record { file = file; next = None; ahead = nothing_read }
 
 -- a slot that holds a file of so many sectors open
 abbrev pub holding : {File : Type 0} → Option (OpenFile File) → ℕ → FileSlot File → FileSlot File
@@ -88,7 +115,7 @@ written_as sector reply.Gone file reason slot = record (gone_once_more slot) {
   reason = reason;
 }
 
--- a slot after a sync with this answer, which keeps this reason
+-- a slot after a sync with this answer, which keeps this reason: what was read ahead of its file is held no more
 abbrev pub synced_as : {File : Type 0} → Reply → Option Reason → FileSlot File → FileSlot File
-synced_as reply.Done reason slot = slot
+synced_as reply.Done reason slot = record slot { file = option_map without_ahead slot.file }
 synced_as reply.Gone reason slot = let_go reason slot

@@ -1,30 +1,35 @@
 // An image file, which may be open.
-ghost use Rattle.std.specs.Prelude.{◌≡◌, ◌≢◌, ◌≤◌, ◌<◌, true, false, take, IsTrue, IsSome, None, Some, IfOk, IfErr, OnErr, MatchOption, MatchResult, OnOk};
+ghost use Rattle.std.specs.Prelude.{◌≡◌, ◌≢◌, ◌≤◌, ◌<◌, true, false, take, IsTrue, IsSome, None, Some, IfOk, IfErr, OnErr, MatchOption, MatchResult, OnOk, ◌⊎◌};
+ghost use Rattle.std.specs.Option.{option_map};
 ghost use Rattle.std.specs.Fs.{asks_read, asks_write, asks_append, asks_truncate, asks_create, asks_create_new};
-ghost use Rattle.std.specs.Io.KnownBytes.{Consumes, Appends, IsAtEnd};
+ghost use Rattle.std.specs.Io.KnownBytes.{Consumes, Appends};
 ghost use Rattle.std.specs.Io.Seek.{StaysAt};
 ghost use Rattle.stair_image.specs.Seal.{sealed};
 ghost use Rattle.stair_filerack.specs.Reason.{IsBadSector, KeepsReason, first_reason, had_of};
-ghost use Rattle.stair_filerack.specs.Files.{CountsSectors, SeeksSector, FindsSector, ReadsSector, IsNoSector, ReadsNoSector, ReadsBadSector, IsCutShort, FailsToRead, WritesSector, GoesOn, IsGotOf, buffer_after, reply_of, sectors_in};
-ghost use Rattle.stair_filerack.specs.Slot.{opened, file_after_write};
+ghost use Rattle.stair_filerack.specs.Files.{CountsSectors, SeeksSector, FindsSector, ReadsAlone, ReadsSector, IsNoSector, ReadsNoSector, ReadsBadSector, ReadsFewer, FailsToRead, WritesSector, GoesAlone, GivesUnsealed, HasFirst, LacksSector, HoldsSector, IsNear, MissesEight, ReadsEight, GoesOn, IsGotOf, buffer_after, reply_of, sectors_in};
+ghost use Rattle.stair_filerack.specs.Slot.{opened, released, without_ahead, file_after_write};
 
 use crate::access::Access;
+use crate::ahead;
+use crate::ahead::Ahead;
+use crate::full::read_full;
 use crate::lock::{Lock, Locking};
 use crate::reason::{Reason, is_bad_sector, keep_first};
 use stair_image::{SECTOR_BYTES, Seals, unseal};
-use stair_rack::{Got, Reply, read_retrying};
+use stair_rack::{Got, Reply};
 use std::fs::{Files, Metadata, OpenFile, OpenOptions};
 use std::io::{Read, Seek, SeekFrom, Write};
 use std::marker::Model;
 use std::os::unix::fs::FileTypeExt;
 use std::{fs, io};
 
-/// An image file that is open, and the sector behind the one that was read or written last, where nothing came after that:
-/// there the next read or write begins without a seek.
+/// An image file that is open. `next` is the sector at whose first byte the file is, if the last call on it was a read or write
+/// that ended there: a read or write of that sector needs no seek.
 #[derive(Drop)]
 pub(crate) struct Opened<T> {
     file: T,
     next: Option<u64>,
+    ahead: Ahead,
 }
 
 impl<T> Model for Opened<T> {
@@ -32,7 +37,7 @@ impl<T> Model for Opened<T> {
 
     ghost Value = { OpenFile T };
 
-    ghost view = { λ s. record { file = s.file; next = s.next } };
+    ghost view = { λ s. record { file = s.file; next = s.next; ahead = s.ahead } };
 }
 
 impl<T> Opened<T> {
@@ -40,7 +45,11 @@ impl<T> Opened<T> {
     pub(crate) fn new(file: T) -> Opened<T>
         ensures { result ≡ opened file }
     {
-        Opened { file, next: None }
+        Opened {
+            file,
+            next: None,
+            ahead: Ahead::new(),
+        }
     }
 }
 
@@ -145,7 +154,7 @@ pub(crate) fn read<T: Read + Seek + Drop>(
     if sector >= sectors {
         return Got::Bad;
     }
-    let got = got_of(read_sector(image, sector), into, reason);
+    let got = got_of(read_sector(image, sectors, sector), into, reason);
     if got == Got::Gone {
         *file = None;
     }
@@ -214,7 +223,7 @@ pub(crate) fn write<T: Write + Seek + Drop>(
     reply
 }
 
-/// Syncs the data of an open file. A file that fails is closed, and the reason kept.
+/// Syncs the data of an open file, and releases what was read ahead. A file that fails is closed, and the reason kept.
 pub(crate) fn sync<T: OpenFile + Drop>(
     file: &mut Option<Opened<T>>,
     reason: &mut Option<Reason>,
@@ -223,7 +232,8 @@ pub(crate) fn sync<T: OpenFile + Drop>(
     ensures reading { access ≡ Access.Reading → result ≡ Reply.Gone }
     ensures unattached { file.old ≡ None → (result ≡ Reply.Gone) × (reason.new ≡ reason.old) }
     ensures closed { result ≡ Reply.Gone → file.new ≡ None }
-    ensures open { result ≡ Reply.Done → (file.new ≡ file.old) × (reason.new ≡ reason.old) }
+    ensures open { result ≡ Reply.Done → (file.new ≡ option_map without_ahead file.old)
+        × (reason.new ≡ reason.old) }
     ensures kept { KeepsReason reason.old reason.new }
     ensures told { result ≡ Reply.Gone → IsSome file.old → IsSome reason.new }
 {
@@ -231,8 +241,9 @@ pub(crate) fn sync<T: OpenFile + Drop>(
         return Reply::Gone;
     };
     let reply = reply_of(sync_data(image, access), reason);
-    if reply == Reply::Gone {
-        *file = None;
+    match reply {
+        Reply::Done => image.ahead.release(),
+        Reply::Gone => *file = None,
     }
     reply
 }
@@ -265,14 +276,74 @@ fn sync_data<T: OpenFile>(image: &Opened<T>, access: Access) -> Result<(), Reaso
 }
 
 // Reads a sector's payload: `None` where the file ends within the sector, or what is there isn't sealed.
-fn read_sector<T: Read + Seek>(image: &mut Opened<T>, sector: u32) -> io::Result<Option<[u8; 512]>>
+fn read_sector<T: Read + Seek>(
+    image: &mut Opened<T>,
+    sectors: u32,
+    sector: u32,
+) -> io::Result<Option<[u8; 512]>>
     ensures found { IfOk result (λ found. MatchOption found
-        (ReadsNoSector T.stream_position T.remaining sector image.old image.new
-        × (image.new.next ≡ None))
+        (GivesUnsealed T.remaining sector image.old image.new ⊎ GoesAlone T.remaining sector
+        (ReadsNoSector T.stream_position T.remaining sector) image.old image.new)
         (λ payload. ReadsSector T.stream_position T.remaining sector payload image.old image.new)) }
-    ensures failed { OnErr result (
-        FailsToRead T.stream_position T.remaining sector image.old image.new
-        × (image.new.next ≡ None)) }
+    ensures failed { OnErr result (GoesAlone T.remaining sector
+        (FailsToRead T.stream_position T.remaining sector) image.old image.new) }
+{
+    if holds(image, sectors, sector) {
+        return Ok(image.ahead.take());
+    }
+    read_alone(image, sector)
+}
+
+// Returns whether this sector is held: it was, or it is read now with the seven after it.
+fn holds<T: Read>(image: &mut Opened<T>, sectors: u32, sector: u32) -> bool
+    ensures held { result ≡ true → HoldsSector T.remaining sector image.old image.new }
+    ensures first { result ≡ true → HasFirst image.new.ahead sector }
+    ensures none { result ≡ false → LacksSector T.remaining sector image.old image.new }
+{
+    if image.ahead.has_first(u64::from(sector)) {
+        return true;
+    }
+    if !goes_ahead(image, sectors, sector) {
+        return false;
+    }
+    read_ahead(image, sector)
+}
+
+// Returns whether to read eight sectors at once from this one on: the file is at this sector and has seven more, and the last
+// try that read fewer wasn't near.
+fn goes_ahead<T>(image: &Opened<T>, sectors: u32, sector: u32) -> bool
+    ensures next { result ≡ true → image.now.next ≡ Some sector }
+    ensures far { result ≡ true → ¬ IsNear image.now.ahead.missed sector }
+{
+    let number = u64::from(sector);
+    image.next == Some(number)
+        && !image.ahead.is_near_miss(number)
+        && sectors.saturating_sub(sector) >= ahead::SECTORS as u32
+}
+
+// Reads eight sectors at once from this one on, where the file is. Returns whether all eight were read.
+fn read_ahead<T: Read>(image: &mut Opened<T>, sector: u32) -> bool
+    requires next { image.old.next ≡ Some sector }
+    requires far { ¬ IsNear image.old.ahead.missed sector }
+    ensures held { result ≡ true → ReadsEight T.remaining sector image.old image.new }
+    ensures missed { result ≡ false → MissesEight T.remaining sector image.old image.new }
+{
+    let number = u64::from(sector);
+    if !image.ahead.fill(&mut image.file, number) {
+        image.next = None;
+        return false;
+    }
+    image.next = Some(number + ahead::SECTORS as u64);
+    true
+}
+
+// Reads a sector that isn't held.
+fn read_alone<T: Read + Seek>(image: &mut Opened<T>, sector: u32) -> io::Result<Option<[u8; 512]>>
+    ensures found { IfOk result (λ found. MatchOption found
+        (ReadsNoSector T.stream_position T.remaining sector image.old image.new)
+        (λ payload. ReadsAlone T.stream_position T.remaining sector payload image.old image.new)) }
+    ensures failed { OnErr result
+        (FailsToRead T.stream_position T.remaining sector image.old image.new) }
 {
     find_sector(image, sector)?;
     match read_here(&mut image.file, sector)? {
@@ -305,15 +376,17 @@ fn write_sector<T: Write + Seek>(
     Ok(())
 }
 
-// Brings a file to the place of a sector, by a seek unless the last read or write ended there.
+// Brings a file to the place of a sector, by a seek unless the last read or write ended there, and releases what was read ahead.
 fn find_sector<T: Seek>(image: &mut Opened<T>, sector: u32) -> io::Result<()>
     ensures next { image.new.next ≡ None }
+    ensures ahead { image.new.ahead ≡ released image.old.ahead }
     ensures found { OnOk result (FindsSector T.stream_position sector image.old image.new.file) }
     ensures failed { OnErr result ((image.old.next ≢ Some sector)
         × StaysAt (T.stream_position image.old.file) (T.stream_position image.new.file)) }
 {
     let follows = image.next == Some(u64::from(sector));
     image.next = None;
+    image.ahead.release();
     if follows {
         return Ok(());
     }
@@ -336,30 +409,11 @@ fn read_here<T: Read>(file: &mut T, sector: u32) -> io::Result<Option<[u8; 512]>
         (IsNoSector sector (T.remaining file.old) (T.remaining file.new))
         (λ payload. Consumes (T.remaining file.old) (T.remaining file.new)
         (sealed sector payload))) }
-    ensures failed { OnErr result (IsCutShort (T.remaining file.old) (T.remaining file.new)) }
+    ensures failed { OnErr result (ReadsFewer 544 (T.remaining file.old) (T.remaining file.new)) }
 {
     let mut bytes = [0; SECTOR_BYTES];
     if read_full(file, &mut bytes)? < SECTOR_BYTES {
         return Ok(None);
     }
     Ok(unseal(u64::from(sector), &bytes))
-}
-
-// Reads from the file's place on until `into` is full or the file ends: the number of bytes read.
-fn read_full<T: Read>(file: &mut T, into: &mut [u8; 544]) -> io::Result<usize>
-    ensures within { IfOk result (λ count. count ≤ 544) }
-    ensures bytes { IfOk result (λ count.
-        Consumes (T.remaining file.old) (T.remaining file.new) (take count into.new)) }
-    ensures short { IfOk result (λ count. count < 544 → IsAtEnd (T.remaining file.new)) }
-    ensures failed { OnErr result (IsCutShort (T.remaining file.old) (T.remaining file.new)) }
-{
-    let mut filled = 0;
-    while filled < SECTOR_BYTES {
-        let count = read_retrying(file, &mut into[filled..])?;
-        if count == 0 {
-            return Ok(filled);
-        }
-        filled += count;
-    }
-    Ok(filled)
 }

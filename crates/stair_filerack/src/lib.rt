@@ -2,7 +2,9 @@
 #![tactic(auto)]
 
 mod access;
+mod ahead;
 mod file;
+mod full;
 mod lock;
 mod rack;
 mod reason;

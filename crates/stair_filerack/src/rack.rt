@@ -4,7 +4,7 @@ ghost use Rattle.stair_rack.specs.Count.{Rose};
 ghost use Rattle.stair_rack.specs.RackCounts.{IsLaterCount, NoneFalls};
 ghost use Rattle.stair_filerack.specs.Reason.{IsCallers, KeepsReason};
 ghost use Rattle.stair_filerack.specs.Files.{CountsSectors, ReadsSector, ReadsBadSector, WritesSector, GoesOn};
-ghost use Rattle.stair_filerack.specs.Slot.{untouched, detached, path_of, attached_as, gone_once_more, read_as, written_as, synced_as};
+ghost use Rattle.stair_filerack.specs.Slot.{untouched, detached, nothing_read, path_of, attached_as, gone_once_more, read_as, written_as, synced_as};
 ghost use Rattle.stair_filerack.specs.FileRack.{slot_at, gones_of, with_slot, bads_after, IsDetached};
 
 use crate::access::Access;
@@ -174,6 +174,8 @@ where
         // yet, and let go of the earlier one. It has as many sectors as that file has up to its end.
         ensures attached { result ≡ Reply.Done →
             IsSomeAnd (slot_at self.new slot).file (λ held. held.next ≡ None) }
+        ensures unread { result ≡ Reply.Done →
+            IsSomeAnd (slot_at self.new slot).file (λ held. held.ahead ≡ nothing_read) }
         ensures counted { result ≡ Reply.Done →
             IsSomeAnd (slot_at self.new slot).file (λ held. (before : F.File)
             × CountsSectors F.File.stream_position F.File.stream_bytes before held.file

@@ -4,7 +4,7 @@ ghost use Rattle.stair_rack.specs.Count.{Rose};
 ghost use Rattle.stair_rack.specs.RackCounts.{IsLaterCount};
 ghost use Rattle.stair_filerack.specs.Reason.{IsCallers, IsNoFile, KeepsReason, first_reason};
 ghost use Rattle.stair_filerack.specs.Files.{CountsSectors, ReadsSector, ReadsBadSector, WritesSector, GoesOn};
-ghost use Rattle.stair_filerack.specs.Slot.{untouched, detached, opened, holding, attached_as, gone_once_more, read_as, written_as, synced_as};
+ghost use Rattle.stair_filerack.specs.Slot.{untouched, detached, opened, nothing_read, holding, attached_as, gone_once_more, read_as, written_as, synced_as};
 
 use crate::access::Access;
 use crate::file;
@@ -104,6 +104,8 @@ impl<T: Read + Write + Seek + OpenFile + Lock + Drop> Slot<T> {
             attached_as result self.new.file self.new.sectors self.new.reason self.old }
         ensures attached { result ≡ Reply.Done →
             IsSomeAnd self.new.file (λ held. held.next ≡ None) }
+        ensures unread { result ≡ Reply.Done →
+            IsSomeAnd self.new.file (λ held. held.ahead ≡ nothing_read) }
         ensures counted { result ≡ Reply.Done → IsSomeAnd self.new.file (λ held. (before : T)
             × CountsSectors T.stream_position T.stream_bytes before held.file self.new.sectors) }
         ensures kept { KeepsReason self.old.reason self.new.reason }
@@ -205,7 +207,7 @@ impl<T: Read + Write + Seek + OpenFile + Lock + Drop> Slot<T> {
         reply
     }
 
-    /// Syncs the data of the slot's file.
+    /// Syncs the data of the slot's file, and releases what was read ahead of it.
     pub(crate) fn sync(&mut self, access: Access) -> Reply
         ensures reading { access ≡ Access.Reading → result ≡ Reply.Gone }
         ensures unattached { self.old.file ≡ None →

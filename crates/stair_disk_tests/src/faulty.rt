@@ -7,24 +7,26 @@ use std::io;
 use std::io::{ErrorKind, Read, Seek, SeekFrom, Write};
 
 #[derive(Clone, Copy, Debug, Drop)]
-pub(super) enum Fault {
+pub enum Fault {
     // Its end can't be sought.
     End,
     // Its data isn't synced.
     Sync,
     // The first read or write fails so, and then every second one.
     Call(io::Error),
+    // A read of more than one sector fails so.
+    Long(io::Error),
 }
 
 // The files of a runtime, each of which has this fault once it is open.
 #[derive(Drop)]
-pub(super) struct FaultyFiles<'a> {
-    pub(super) inner: &'a HostRuntime,
-    pub(super) fault: Fault,
+pub struct FaultyFiles<'a> {
+    pub inner: &'a HostRuntime,
+    pub fault: Fault,
 }
 
 #[derive(Drop)]
-pub(super) struct FaultyFile {
+pub struct FaultyFile {
     inner: File,
     fault: Fault,
     failed: bool,
@@ -97,7 +99,10 @@ impl FaultyFile {
 impl Read for FaultyFile {
     fn read(&mut self, buf: &mut [u8]) -> io::Result<usize> {
         self.fail()?;
-        self.inner.read(buf)
+        match self.fault {
+            Fault::Long(error) if buf.len() > 544 => Err(error),
+            _ => self.inner.read(buf),
+        }
     }
 }
 

@@ -1,0 +1,160 @@
+// Sectors of an image file that were read ahead.
+ghost use Rattle.std.specs.Prelude.{◌≡◌, ◌↔◌, ◌+◌, ◌*◌, ◌^◌, ◌≤◌, ◌<◌, ℕ, List, [], ◌++◌, Some, IsTrue, true, false, length, take, drop, slice_index, slice_index_or};
+ghost use Rattle.std.specs.Option.{SomeIff};
+ghost use Rattle.std.specs.Io.KnownBytes.{Consumes};
+ghost use Rattle.stair_image.specs.Seal.{payload_in, IsSealed};
+ghost use Rattle.stair_filerack.specs.Files.{HasFirst, IsNear, TakesFirst, ReadsFewer};
+ghost use Rattle.stair_filerack.specs.Slot.{nothing_read, released, missed_at};
+
+use crate::full::read_full;
+use stair_image::{PAYLOAD_BYTES, SECTOR_BYTES};
+use stair_tags::are_sealed;
+use std::io::Read;
+use std::marker::Model;
+
+/// How many sectors are read at once.
+pub(crate) const SECTORS: usize = 8;
+
+const BYTES: usize = SECTORS * SECTOR_BYTES;
+
+/// Eight sectors of an image file that were read at once, and which of them are sealed. Those that no read was answered by yet
+/// are held, and answer the reads that follow.
+#[derive(Drop)]
+pub(crate) struct Ahead {
+    bytes: [u8; 4352],
+    sealed: [bool; 8],
+    answered: usize,
+    // The number of the first sector that is held.
+    from: u64,
+    // The sector from which eight were last to be read, and fewer were. They are read one by one, so that one sector that a
+    // drive can't read costs one slow answer of it and not eight.
+    missed: Option<u64>,
+}
+
+impl Model for Ahead {
+    ghost use Rattle.std.specs.Prelude.{◌↔◌, ◌+◌, ◌-◌, ◌*◌, ◌^◌, ◌≤◌, ◌<◌, ℕ, IsTrue, false, take, drop, slice_index_or};
+    ghost use Rattle.stair_image.specs.Seal.{IsSealed};
+    ghost use Rattle.stair_filerack.specs.Slot.{ReadAhead};
+
+    ghost Value = { ReadAhead };
+
+    ghost view = { λ s. record {
+      from = s.from;
+      bytes = drop (544 * s.answered) s.bytes;
+      missed = s.missed;
+    } };
+
+    ghost invariant = { λ s. (s.answered ≤ 8) × (s.from + 8 < 2 ^ 64 + s.answered)
+        × ((j : ℕ) → s.answered ≤ j → j < 8 → IsTrue (slice_index_or s.sealed j false)
+        ↔ IsSealed (s.from + (j - s.answered)) (take 544 (drop (544 * j) s.bytes))) };
+}
+
+impl Ahead {
+    /// Returns a buffer that holds nothing.
+    pub(crate) fn new() -> Ahead
+        ensures { result ≡ nothing_read }
+    {
+        Ahead {
+            bytes: [0; BYTES],
+            sealed: [false; SECTORS],
+            answered: SECTORS,
+            from: 0,
+            missed: None,
+        }
+    }
+
+    /// Releases all sectors that are held.
+    pub(crate) fn release(&mut self)
+        ensures { self.new ≡ released self.old }
+    {
+        self.answered = SECTORS;
+    }
+
+    /// Returns whether this sector is the first that is held.
+    pub(crate) fn has_first(&self, sector: u64) -> bool
+        ensures { IsTrue result ↔ HasFirst self.now sector }
+    {
+        self.answered < SECTORS && self.from == sector
+    }
+
+    /// Returns whether this sector is one of the eight that were last missed.
+    pub(crate) fn is_near_miss(&self, sector: u64) -> bool
+        ensures { IsTrue result ↔ IsNear self.now.missed sector }
+    {
+        match self.missed {
+            Some(first) => first <= sector && sector - first < SECTORS as u64,
+            None => false,
+        }
+    }
+
+    /// Takes the first sector that is held, and returns its payload, or `None` if it isn't sealed.
+    pub(crate) fn take(&mut self) -> Option<[u8; 512]>
+        requires { 0 < length self.old.bytes }
+        ensures { (bytes : List ℕ) × TakesFirst bytes self.old self.new
+            × SomeIff result (IsSealed self.old.from bytes) (payload_in bytes) }
+    {
+        let place = self.answered;
+        self.answered += 1;
+        self.from += 1;
+        if !self.sealed[place] {
+            return None;
+        }
+        let mut payload = [0; PAYLOAD_BYTES];
+        let start = SECTOR_BYTES * place;
+        payload.copy_from_slice(&self.bytes[start..start + PAYLOAD_BYTES]);
+        Some(payload)
+    }
+
+    /// Reads eight sectors, from the file's place on, and holds them. The first has this number. Returns whether all eight were
+    /// read; if not, nothing is held.
+    pub(crate) fn fill<T: Read>(&mut self, file: &mut T, sector: u64) -> bool
+        requires { sector + 8 < 2 ^ 64 }
+        ensures filled { result ≡ true →
+            Consumes (T.remaining file.old) (T.remaining file.new) self.new.bytes }
+        ensures whole { result ≡ true → length self.new.bytes ≡ 4352 }
+        ensures from { result ≡ true → self.new.from ≡ sector }
+        ensures same { result ≡ true → self.new.missed ≡ self.old.missed }
+        ensures fewer { result ≡ false →
+            ReadsFewer 4352 (T.remaining file.old) (T.remaining file.new) }
+        ensures missed { result ≡ false → self.new ≡ missed_at sector self.old }
+    {
+        self.answered = SECTORS;
+        if !matches!(read_full(file, &mut self.bytes), Ok(BYTES)) {
+            self.missed = Some(sector);
+            return false;
+        }
+        self.sealed = sealed_from(sector, &self.bytes);
+        self.from = sector;
+        self.answered = 0;
+        true
+    }
+}
+
+// Returns, for each of eight sectors, whether it is sealed. The first has this number.
+fn sealed_from(first: u64, bytes: &[u8; 4352]) -> [bool; 8]
+    requires { first + 8 < 2 ^ 64 }
+    ensures { (j : ℕ) → j < 8 → IsTrue (slice_index_or result j false)
+        ↔ IsSealed (first + j) (take 544 (drop (544 * j) bytes.now)) }
+{
+    match bytes.as_chunks().0.first_chunk() {
+        Some(sectors) => are_sealed(&eight_from(first), sectors),
+        None => [false; SECTORS],
+    }
+}
+
+// Returns eight numbers in order, from this one on.
+fn eight_from(first: u64) -> [u64; 8]
+    requires { first + 8 < 2 ^ 64 }
+    ensures { (j : ℕ) → j < 8 → slice_index result j ≡ first + j }
+{
+    [
+        first,
+        first + 1,
+        first + 2,
+        first + 3,
+        first + 4,
+        first + 5,
+        first + 6,
+        first + 7,
+    ]
+}
