@@ -1,9 +1,9 @@
 -- The cells that change with blocks of a stripe.
-use Rattle.std.proofs.Common.{◌≡◌, ◌≢◌, ℕ, ◌+◌, ◌-◌, ◌*◌, ◌/◌, ◌%◌, ◌<◌, ◌≤◌, Bool, true, false, cond, inl, inr, refl, sym, ap, subst, ◌∙◌, arith, div-add-mod', le_trans, mul_comm}
+use Rattle.std.proofs.Common.{◌≡◌, ◌≢◌, ℕ, ◌+◌, ◌*◌, ◌/◌, ◌%◌, ◌<◌, ◌≤◌, Bool, true, false, cond, inl, inr, refl, sym, ap, subst, ◌∙◌, arith, div-add-mod', mul_comm}
 use Rattle.std.specs.Prelude.{◌⊎◌, ◌↔◌, IsTrue}
 use Rattle.std.proofs.lemmas.Bool.{cases_eq}
 use Rattle.std.proofs.lemmas.Nat.{div_below}
-use Rattle.std.proofs.Math.Nat.{mul-le-mul_left, mul-le-mul_right}
+use Rattle.std.proofs.Math.Nat.{mul-le-mul_right}
 use Rattle.stair_model.specs.Cell.{Data, IsPlaceOf}
 use Rattle.stair_model.specs.CellSet.{CellSet, HasCell, IsCellSet, cell_count, count_in_slot, has_cell}
 use Rattle.stair_model.specs.Dependents.{AreDependents, IsDependent}

@@ -1,11 +1,11 @@
 -- Within tolerance the cells of a stripe that couldn't be had are covered, and no epoch is refused for want of slots, whether media
 -- come back or not.
-use Rattle.std.proofs.Common.{◌≡◌, ℕ, ◌<◌, ◌≤◌, List, [], ◌∷◌, inl, inr, refl, sym, ap, ◌∙◌, subst, arith, None, Some, Option, false}
+use Rattle.std.proofs.Common.{◌≡◌, ℕ, ◌<◌, ◌≤◌, List, inl, inr, refl, sym, ap, ◌∙◌, subst, arith, None, Some, Option, false}
 use Rattle.std.specs.Prelude.{◌⊎◌, IsTrue, IsSome, Ok, Err, not}
 use Rattle.std.proofs.lemmas.Bool.{cases_Bool}
 use Rattle.stair_model.specs.CellSet.{HasCell}
 use Rattle.stair_model.specs.Coverage.{IsCovered}
-use Rattle.stair_model.specs.Device.{cell_sector, gate_sector}
+use Rattle.stair_model.specs.Device.{cell_sector}
 use Rattle.stair_model.specs.Geometry.{Geometry}
 use Rattle.stair_model.specs.Slots.{HasSlot, Slots}
 use Rattle.stair_model.specs.Stripe.{Stripe}
@@ -16,7 +16,7 @@ use Rattle.stair_rack.specs.Media.{Image}
 use Rattle.stair_rack.specs.Placed.{IsSlot}
 use Rattle.stair_rack.specs.Offline.{ButForOutside, IsAttached, IsKept, IsOffline}
 use Rattle.stair_rack.specs.Reading.{WasRead}
-use Rattle.stair_rack.specs.Sector.{Cell, Damaged, Sector, content, damaged, newest, settled, synced}
+use Rattle.stair_rack.specs.Sector.{Damaged, content, damaged}
 use Rattle.stair_rack.specs.Stretch.{every_slot}
 use Rattle.stair_rack.proofs.CrashLemmas.{CrashMayLeave-now}
 use Rattle.stair_rack.proofs.MomentLemmas.{at_last, ran_after, ran_any, ran_join, ran_none, ran_weakened}

@@ -17,7 +17,6 @@ use Rattle.stair_super.specs.Spelling.{SpellsSuperblock, spelled}
 use Rattle.stair_super.specs.declared.configuration.Configuration.{Configuration}
 use Rattle.stair_super.specs.declared.mark.Mark.{Mark}
 use Rattle.stair_super.specs.declared.mark.Mark.TheVariants.{Live, Down}
-use Rattle.stair_super.specs.declared.version.Version.TheVariants.{Two}
 use Rattle.stair_super.proofs.SpellsLaws.{spells}
 use Rattle.stair_member.specs.Reserve.{Bears}
 use Rattle.stair_member.specs.Seats.{Seat, seats_of}

@@ -11,7 +11,7 @@ use Rattle.stair_member.specs.declared.why.Why.{Why}
 use Rattle.stair_member.specs.declared.why.Why.TheVariants as why
 use Rattle.stair_session.specs.Courses.{Point, point}
 use Rattle.stair_session.specs.Rebuilding.{Rebuild}
-use Rattle.stair_session.specs.Session.{IsArray, IsRebuiltIn}
+use Rattle.stair_session.specs.Session.{ArrayState, IsArray, IsRebuiltIn, Remembered}
 use Rattle.stair_array.specs.Causes.{MarkGoesOn, MemberGoesOn, WhyGoesOn}
 use Rattle.stair_array.specs.Draws.{Before, DrawsFew, allowance}
 use Rattle.stair_array.specs.Machine.{Step}
@@ -49,27 +49,28 @@ module _ (last : Membership) (rebuild : Rebuild) where
   goes_where why.Rebuilding is kept same = ((let one : kept ≡ rebuild = cc in one), is)
   goes_where w is kept same = absurd (cc)
 
-  keeps_where : (m : Membership) (stopped : Option FenceFault) (w : Why) → why_of last rebuild.slot ≡ w → rebuild.slot < last.array.geometry.n
-      → KeepsProgress (running m (Some rebuild)) (record { member = last; rebuild = rebuild_of w rebuild; stopped = stopped })
-  keeps_where m stopped why.Rebuilding is below =
+  keeps_where : (m : Membership) (known : Option Remembered) (stopped : Option FenceFault) (w : Why) → why_of last rebuild.slot ≡ w → rebuild.slot < last.array.geometry.n
+      → KeepsProgress (running m (Some rebuild) known)
+      (record { member = last; rebuild = rebuild_of w rebuild; stopped = stopped; remembered = None })
+  keeps_where m known stopped why.Rebuilding is below =
       KeepsProgress.Stays refl
       (λ kept same.
       let one : rebuild ≡ kept = cc in
       subst (λ (r : Rebuild). IsRebuiltIn last r.slot) one (record { below = below; why = is }))
-  keeps_where m stopped w is below =
+  keeps_where m known stopped w is below =
       KeepsProgress.Ended rebuild refl (λ rebuilt. let never : w ≡ why.Rebuilding = sym is ∙ rebuilt.why in absurd (cc)) refl
 
 -- of an array that has the same geometry in the end
-module _ (m last : Membership) (rebuild : Option Rebuild) (stopped : Option FenceFault) (array : IsArray (running m rebuild))
+module _ (m last : Membership) (rebuild : Option Rebuild) (known : Option Remembered) (stopped : Option FenceFault) (array : IsArray (running m rebuild known))
     (geometry : last.array.geometry ≡ m.array.geometry) where
   slot_below : (r : Rebuild) → rebuild ≡ Some r → r.slot < last.array.geometry.n
   slot_below r is = subst (λ (g : Geometry). r.slot < g.n) (sym geometry) (array.rebuilds r is).0.below
 
-  keeps : (found : Option Rebuild) → rebuild ≡ found → KeepsProgress (running m found) (left_of last found stopped)
+  keeps : (found : Option Rebuild) → rebuild ≡ found → KeepsProgress (running m found known) (left_of last found stopped)
   keeps None is = KeepsProgress.Stays refl (λ r same. absurd (cc))
-  keeps (Some r) is = keeps_where last r m stopped (why_of last r.slot) refl (slot_below r is)
+  keeps (Some r) is = keeps_where last r m known stopped (why_of last r.slot) refl (slot_below r is)
 
-  pub progress_kept : KeepsProgress (running m rebuild) (left_of last rebuild stopped)
+  pub progress_kept : KeepsProgress (running m rebuild known) (left_of last rebuild stopped)
   progress_kept = keeps rebuild refl
 
   pub without_rebuild : IsArray (unopened m)
@@ -89,9 +90,17 @@ module _ (m last : Membership) (rebuild : Option Rebuild) (stopped : Option Fenc
   pub stands_rebuilt : IsArray (unopened last) → IsArray (left_of last rebuild stopped)
   stands_rebuilt is = record { member = is.member; marks = is.marks; enough = is.enough; rebuilds = rebuilds_on rebuild refl }
 
+-- whatever it remembers then
+pub progress_then : {was is : ArrayState} (after : Option Remembered) → KeepsProgress was is → KeepsProgress was (record is { remembered = after })
+progress_then after (KeepsProgress.Stays same on) = KeepsProgress.Stays same on
+progress_then after (KeepsProgress.Ended rebuild under not_rebuilt none) = KeepsProgress.Ended rebuild under not_rebuilt none
+
+pub array_then : {is : ArrayState} (after : Option Remembered) → IsArray is → IsArray (record is { remembered = after })
+array_then after array = record { member = array.member; marks = array.marks; enough = array.enough; rebuilds = array.rebuilds }
+
 -- In a call that an array took slots may have been gone and dropped.
-module _ {more : ℕ} (m last : Membership) (rebuild : Option Rebuild) (stopped : Option FenceFault) (old new : Telling)
-    (array : IsArray (running m rebuild)) (part : IsPart more (point m old) (point last new)) where
+module _ {more : ℕ} (m last : Membership) (rebuild : Option Rebuild) (known : Option Remembered) (stopped : Option FenceFault) (old new : Telling)
+    (array : IsArray (running m rebuild known)) (part : IsPart more (point m old) (point last new)) where
   pub member_goes_on : (step : Step) → MemberGoesOn step old new m last
   member_goes_on step = record {
     geometry = part.geometry;
@@ -100,11 +109,11 @@ module _ {more : ℕ} (m last : Membership) (rebuild : Option Rebuild) (stopped 
     drawn = part.drawn;
   }
 
-  pub keeps_progress : KeepsProgress (running m rebuild) (left_of last rebuild stopped)
-  keeps_progress = progress_kept m last rebuild stopped array part.geometry
+  pub keeps_progress : KeepsProgress (running m rebuild known) (left_of last rebuild stopped)
+  keeps_progress = progress_kept m last rebuild known stopped array part.geometry
 
   pub bare : IsArray (unopened m)
-  bare = without_rebuild m last rebuild stopped array part.geometry
+  bare = without_rebuild m last rebuild known stopped array part.geometry
 
   pub stands : IsArray (unopened last) → IsArray (left_of last rebuild stopped)
-  stands = stands_rebuilt m last rebuild stopped array part.geometry
+  stands = stands_rebuilt m last rebuild known stopped array part.geometry

@@ -21,14 +21,14 @@ use Rattle.stair_session.specs.Opening.{StaysArray}
 use Rattle.stair_session.specs.Rebuilding.{Rebuild}
 use Rattle.stair_session.specs.Returning.{IsCalm, Returning, StandsFor}
 use Rattle.stair_session.specs.SeatSteps.{EachMayDrop}
-use Rattle.stair_session.specs.Session.{ArrayState, seats_in}
+use Rattle.stair_session.specs.Session.{ArrayState, IsRememberedIn, seats_in}
 use Rattle.stair_session.proofs.Serving.{IsCalmTo, IsServing, LeadsReads, StandsAs}
 use Rattle.stair_array.specs.Calls.{refused}
 use Rattle.stair_array.specs.Machine.{Answer, AreKnown, GivenBy, Gone, HoldsAfter, IsAsItWas, IsFinal, MayBegin, PassesTests, Recover, Refusal, Row, SeatsAfter, Step, WasBegun}
 use Rattle.stair_array.specs.Promise.{BeginsWith, IsInState, IsLed, IsLeftBy, IsOpenFor, Keeps, KeepsProgress, KeepsRebuild, Performs, Seen, is_open}
 use Rattle.stair_array.proofs.LeftServingLemmas.{StandsAt}
 use Rattle.stair_array.proofs.LoadingLemmas.{ServesOn}
-use Rattle.stair_array.proofs.OpenStepLemmas.{goes_on_as, kept_fault, open_first, serves_as, serves_first, stops_as, calm_first}
+use Rattle.stair_array.proofs.OpenStepLemmas.{forgetting, goes_on_as, kept_fault, open_first, serves_as, serves_bare, stops_as, calm_first}
 
 -- WHAT IT COMES TO
 
@@ -63,8 +63,8 @@ module _ (returning : Returning) (laws : LeadsReads returning) (step : Step) (ke
   abbrev pub begins : IsOpenFor returning before s p.was x.told.history
   begins = open_first returning laws step keeping.no_opening answer events x y p before s state
 
-  pub serves : IsServing returning before p.was begins.words s.content x.told.history
-  serves = serves_first returning laws step keeping.no_opening answer events x y p before s state history
+  pub serves : IsServing returning before (forgetting p.was) begins.words s.content x.told.history
+  serves = serves_bare returning laws step keeping.no_opening answer events x y p before s state history
 
   pub calm_begun : (h : List Happening) → IsCalm returning s.geometry (is_open x.session) before h
       → IsCalmTo returning p.was.member.array.geometry before h
@@ -95,8 +95,8 @@ module _ (returning : Returning) (laws : LeadsReads returning) (step : Step) (ke
     went : (given : Answer step) (v : Point) → v ≡ point p.is.member y.told → given ≡ answer
         → ServesOn returning before p.was.rebuild p.was.stopped begins.words s.content (point p.was.member x.told) v → StaysArray p.was.member v.member
         → (WasBegun step given → PassesTests step s (seats_in p.was.member.array)) → ((now : State) → IsAsItWas s now → HoldsAfter step given s now)
-        → IsCalmTo returning p.was.member.array.geometry before y.told.history → IsLed returning p.was.member before s step answer y
-    went given v at is_answer serves_on stays passes_so holds_so calm =
+        → IsRememberedIn begins.words p.is.remembered → IsCalmTo returning p.was.member.array.geometry before y.told.history → IsLed returning p.was.member before s step answer y
+    went given v at is_answer serves_on stays passes_so holds_so known calm =
         let last : Membership = p.is.member in
         let now : State = state_with last s.content None last.array in
         let stays_y : StaysArray p.was.member last = subst (λ (u : Point). StaysArray p.was.member u.member) at stays in
@@ -112,17 +112,17 @@ module _ (returning : Returning) (laws : LeadsReads returning) (step : Step) (ke
           is_in =
               serves_as returning laws step keeping.no_opening answer events x y p before s state begins.words s.content stays_y
               (subst (λ (u : Point). IsServing returning before (led_to p.was u.member) begins.words s.content u.told.history) at serves_on)
-              (keeping.rebuilds answer p.was p.is p.rebuild) calm;
+              (keeping.rebuilds answer p.was p.is p.rebuild) known calm;
         }
 
     pub led : (given : Answer step) (v : Point) → v ≡ point p.is.member y.told → given ≡ answer
         → Outcome returning before p.was.rebuild p.was.stopped begins.words s.content (point p.was.member x.told) (GivenBy step) Inside Right given v
-        → IsCalmTo returning p.was.member.array.geometry before y.told.history → IsLed returning p.was.member before s step answer y
-    led _ _ at is_answer (Gives given v serves_on stays inside right) calm =
-        went (Ok given) v at is_answer serves_on stays (λ begun. passes inside) (λ now was. holds given now right was) calm
-    led _ _ at is_answer (Lacks refusal v serves_on stays not_final) calm =
-        went (Err refusal) v at is_answer serves_on stays (λ begun. absurd (not_final begun)) (λ now was. keeping.refuses refusal s now was) calm
-    led _ _ at is_answer (Stops fault v inside is) calm =
+        → IsRememberedIn begins.words p.is.remembered → IsCalmTo returning p.was.member.array.geometry before y.told.history → IsLed returning p.was.member before s step answer y
+    led _ _ at is_answer (Gives given v serves_on stays inside right) known calm =
+        went (Ok given) v at is_answer serves_on stays (λ begun. passes inside) (λ now was. holds given now right was) known calm
+    led _ _ at is_answer (Lacks refusal v serves_on stays not_final) known calm =
+        went (Err refusal) v at is_answer serves_on stays (λ begun. absurd (not_final begun)) (λ now was. keeping.refuses refusal s now was) known calm
+    led _ _ at is_answer (Stops fault v inside is) known calm =
         let now : State = state_with p.was.member s.content None is.array in
         record {
           state = now;

@@ -88,7 +88,7 @@ led_again before a y z words h first from then stays is =
 
 -- what lasts in the midst of a redo does so of the array without its rebuild
 pub amid_opening : (before : List Happening) (rebuild : Option Rebuild) (stopped : Option FenceFault) (p : Point)
-    → IsOpenAmid before (record { member = p.member; rebuild = rebuild; stopped = stopped }) p.told.history → IsBegun None p.member p.told.history
+    → IsOpenAmid before (record { member = p.member; rebuild = rebuild; stopped = stopped; remembered = None }) p.told.history → IsBegun None p.member p.told.history
     → IsOpening before p
 amid_opening before rebuild stopped p is begun = record {
   amid = record {

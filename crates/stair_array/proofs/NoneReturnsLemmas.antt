@@ -59,7 +59,7 @@ use Rattle.stair_array.specs.Machine.{Step, Recover, Answer}
 use Rattle.stair_array.specs.Promise.{Seen, Performs, IsInState}
 use Rattle.stair_array.proofs.CompleteLemmas.{redo_never}
 use Rattle.stair_array.proofs.LedOnLemmas.{kept_drops, amid_opening, still_of}
-use Rattle.stair_array.proofs.OpenStepLemmas.{open_first}
+use Rattle.stair_array.proofs.OpenStepLemmas.{forgets_open, forgetting, open_first}
 use Rattle.stair_array.proofs.SeatedLemmas.{seated, now_alone}
 use Rattle.stair_array.proofs.ServingLemmas.{goes_on}
 use Rattle.stair_array.proofs.WriteRedoLemmas.{IsAmid, redo_serves, refused_after, refused_steady, way}
@@ -243,7 +243,7 @@ module _ (before : List Happening) (a : ArrayState) (words new : Codewords) (kep
   limits_of = leads.redoing.limits
 
   rest_amid : IsAmid before r leads.redoing stripe leads.cells old.history AtRest a.rebuild a.stopped here
-  rest_amid = record { amid = redo_begins r before a old.history is.is_open refl; begun = is.knows }
+  rest_amid = record { amid = redo_begins r before (forgetting a) old.history (forgets_open before a words old.history is.is_open) refl; begun = is.knows }
 
   redo_done : (z : Point) → Redoes a.member.array.geometry redo stripe AtRest None here z → IsTrue z.told.honest
       → IsGoing NoneReturns a.member.array.geometry before z.told.history

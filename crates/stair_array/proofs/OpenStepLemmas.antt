@@ -13,7 +13,7 @@ use Rattle.stair_session.specs.InSession.{IsOfContent, state_with}
 use Rattle.stair_session.specs.Leading.{led_to}
 use Rattle.stair_session.specs.Opening.{StaysArray}
 use Rattle.stair_session.specs.Returning.{Returning, IsCalm, StandsFor, Knows}
-use Rattle.stair_session.specs.Session.{ArrayState}
+use Rattle.stair_session.specs.Session.{ArrayState, IsOpenWith, IsRememberedIn, Remembered}
 use Rattle.stair_session.proofs.Serving.{IsCalmTo, IsServing, IsGoing, LeadsReads}
 use Rattle.stair_array.specs.Calls.{refused}
 use Rattle.stair_array.specs.Machine.{Answer, Recover, Step}
@@ -61,6 +61,26 @@ starts_open step other was session starts =
       | inr open_at ↦ open_at
     ]
 
+-- an array that has forgotten what it remembered, which is as open as it was
+abbrev pub forgetting : ArrayState → ArrayState
+forgetting a = record a { remembered = None }
+
+pub forgets_open : (before : List Happening) (a : ArrayState) (words : Codewords) (h : List Happening) → IsOpenWith before a words h
+    → IsOpenWith before (forgetting a) words h
+forgets_open before a words h is = record {
+  array = record { member = is.array.member; marks = is.array.marks; enough = is.array.enough; rebuilds = is.array.rebuilds };
+  ran = is.ran;
+  held = is.held;
+  own = is.own;
+  live = is.live;
+  shut = is.shut;
+  rebuilt = is.rebuilt;
+}
+
+-- what is forgotten is of whichever stripes
+pub forgotten_in : (words : Codewords) (known : Option Remembered) → known ≡ None → IsRememberedIn words known
+forgotten_in words known none = subst (IsRememberedIn words) (sym none) tt
+
 -- A step but an opening:
 module _ (returning : Returning) (laws : LeadsReads returning) (step : Step) (other : ¬ (step ≡ Recover)) (answer : Answer step) (events : List Event)
     (x y : Seen) (p : Performs step answer events x y)
@@ -101,6 +121,15 @@ module _ (returning : Returning) (laws : LeadsReads returning) (step : Step) (ot
     knows = subst (λ (r : State). Knows returning r p.was.member x.told.history) same_state open_first.knows;
   }
 
+  -- as it does without what it remembers
+  pub serves_bare : IsHistory x.told.history → IsServing returning before (forgetting p.was) open_first.words s.content x.told.history
+  serves_bare history = record {
+    is_open = forgets_open before p.was open_first.words x.told.history open_first.is_open;
+    history = history;
+    of = of_state;
+    knows = (serves_first history).knows;
+  }
+
   -- what is calm to a state is calm to the array
   pub calm_first : (h : List Happening) → IsCalm returning s.geometry (is_open x.session) before h
       → IsCalmTo returning p.was.member.array.geometry before h
@@ -119,9 +148,9 @@ module _ (returning : Returning) (laws : LeadsReads returning) (step : Step) (ot
   -- IN THE END it serves these stripes, or it was stopped
 
   pub serves_now : (words : Codewords) (content : Content) → p.is.member.array.geometry ≡ p.was.member.array.geometry
-      → IsServing returning before p.is words content y.told.history → IsCalmTo returning p.was.member.array.geometry before y.told.history
+      → IsServing returning before p.is words content y.told.history → IsRememberedIn words p.is.remembered → IsCalmTo returning p.was.member.array.geometry before y.told.history
       → IsInState returning before (state_with p.is.member content None p.is.member.array) y
-  serves_now words content same is calm = record {
+  serves_now words content same is known calm = record {
     stands =
         laws.stands before p.is words content y.told.history is
         (calm_over returning p.is.member.array.geometry p.was.member.array.geometry before y.told.history same calm);
@@ -137,11 +166,13 @@ module _ (returning : Returning) (laws : LeadsReads returning) (step : Step) (ot
           seats = refl;
           certain = refl;
           knows = is.knows;
+          remembered = known;
         }));
   }
 
   pub serves_over : (words : Codewords) (content : Content) → p.is.member.array.geometry ≡ p.was.member.array.geometry
       → IsServing returning before (led_to p.was p.is.member) words content y.told.history → KeepsProgress p.was p.is
+      → IsRememberedIn words p.is.remembered
       → IsCalmTo returning p.was.member.array.geometry before y.told.history
       → IsInState returning before (state_with p.is.member content None p.is.member.array) y
   serves_over words content same is progress =
@@ -155,6 +186,7 @@ module _ (returning : Returning) (laws : LeadsReads returning) (step : Step) (ot
 
   pub serves_as : (words : Codewords) (content : Content) → StaysArray p.was.member p.is.member
       → IsServing returning before (led_to p.was p.is.member) words content y.told.history → KeepsProgress p.was p.is
+      → IsRememberedIn words p.is.remembered
       → IsCalmTo returning p.was.member.array.geometry before y.told.history
       → IsInState returning before (state_with p.is.member content None p.is.member.array) y
   serves_as words content stays = serves_over words content stays.geometry

@@ -1,11 +1,10 @@
 -- By which laws an opening is led on where no medium comes back.
-use Rattle.std.proofs.Common.{◌≡◌, ℕ, List, inl, inr, refl, sym, ap, ◌∙◌, subst, None, Some}
-use Rattle.std.specs.Prelude.{false, IsTrue, Result, Ok, Err}
+use Rattle.std.proofs.Common.{◌≡◌, ℕ, List, inl, inr, sym, ap, ◌∙◌}
+use Rattle.std.specs.Prelude.{IsTrue, Result, Ok, Err}
 use Rattle.stair_model.specs.Geometry.{Geometry}
 use Rattle.stair_rack.specs.Answers.{Ran, any_call}
-use Rattle.stair_rack.specs.Crash.{CrashMayLeave, image_now}
+use Rattle.stair_rack.specs.Crash.{image_now}
 use Rattle.stair_rack.specs.History.{Happening, SlotCall, Attach, Sectors, Read, Write, Sync}
-use Rattle.stair_rack.specs.Media.{Image}
 use Rattle.stair_rack.specs.Moments.{IsMoment}
 use Rattle.stair_rack.specs.Offline.{IsOffline}
 use Rattle.stair_rack.specs.Stretch.{IsNoWrite, every_slot}
@@ -31,7 +30,6 @@ use Rattle.stair_session.specs.Returning.{NoneReturns}
 use Rattle.stair_session.specs.Session.{seats_in}
 use Rattle.stair_array.specs.Calls.{refused}
 use Rattle.stair_array.specs.Machine.{Refusal}
-use Rattle.stair_array.specs.Openings.{Recovers}
 use Rattle.stair_array.specs.Promise.{AreFound}
 use Rattle.stair_array.proofs.CompleteLemmas.{recovers_never}
 use Rattle.stair_array.proofs.RecoverLemmas.{ComesTo, IsSurveyedFor, LeadsOpenings}

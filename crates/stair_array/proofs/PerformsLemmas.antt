@@ -290,6 +290,7 @@ module _ (m last : Membership) (answer : Answer Recover) (x y : Telling) (rules 
     allowed = allowed answer refl;
     array = recovered_array answer (point m x) (point last y) does;
     counted = tt;
+    remembers = refl;
     does = does;
     left_out = recovered_left_out answer (point m x) (point last y) does rules;
     made = λ honest. tt;

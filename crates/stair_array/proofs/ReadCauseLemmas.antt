@@ -9,14 +9,14 @@ use Rattle.stair_member.specs.declared.fault.FenceFault.{FenceFault}
 use Rattle.stair_member.specs.declared.fault.FenceFault.TheVariants as fence
 use Rattle.stair_session.specs.Courses.{Point, point}
 use Rattle.stair_session.specs.Rebuilding.{Rebuild}
-use Rattle.stair_session.specs.Session.{IsArray}
+use Rattle.stair_session.specs.Session.{IsArray, Remembered}
 use Rattle.stair_array.specs.Calls.{LoadsStripe, Reads, refused}
 use Rattle.stair_array.specs.Causes.{HasCause, IsAllowed}
 use Rattle.stair_array.specs.Events.{events_of}
 use Rattle.stair_array.specs.Machine.{Answer, OutOfRange, ReadBlock, Refusal}
 use Rattle.stair_array.specs.Promise.{EndsIn, Keeps, Opened, Performs, Stops, left_of, running, unopened}
 use Rattle.stair_array.proofs.CauseLemmas.{left_array}
-use Rattle.stair_array.proofs.GoesOnLemmas.{bare, draws_few, keeps_progress, member_goes_on, stands}
+use Rattle.stair_array.proofs.GoesOnLemmas.{array_then, bare, draws_few, keeps_progress, member_goes_on, progress_then, stands}
 use Rattle.stair_array.proofs.LoadCauseLemmas.{StopsBy, Unloaded, loaded_refused, unloaded_sooner}
 use Rattle.stair_array.proofs.PartsLemmas.{IsPart}
 use Rattle.stair_array.proofs.PerformsLemmas.{final_refused}
@@ -24,39 +24,41 @@ use Rattle.stair_array.proofs.ReadCourseLemmas.{cannot_part, loaded_part, cannot
 
 -- WHY IT IS REFUSED
 
-unloaded_caused : (rebuild : Option Rebuild) (b t : ℕ) (why : Refusal) (x z : Point) → t ≡ b / data_cells x.member.array.geometry
-    → Unloaded t why x z → HasCause (ReadBlock b) why (running x.member rebuild) z.member x.told z.told
-unloaded_caused rebuild b t why x z at (Unloaded.ByEpoch fault same stops) =
-    subst (λ (r : Refusal). HasCause (ReadBlock b) r (running x.member rebuild) z.member x.told z.told) (sym same) (by fault stops)
+unloaded_caused : (rebuild : Option Rebuild) (known : Option Remembered) (b t : ℕ) (why : Refusal) (x z : Point) → t ≡ b / data_cells x.member.array.geometry
+    → Unloaded t why x z → HasCause (ReadBlock b) why (running x.member rebuild known) z.member x.told z.told
+unloaded_caused rebuild known b t why x z at (Unloaded.ByEpoch fault same stops) =
+    subst (λ (r : Refusal). HasCause (ReadBlock b) r (running x.member rebuild known) z.member x.told z.told) (sym same) (by fault stops)
   where
-    by : (f : FenceFault) → StopsBy f x z → HasCause (ReadBlock b) (refused f) (running x.member rebuild) z.member x.told z.told
+    by : (f : FenceFault) → StopsBy f x z → HasCause (ReadBlock b) (refused f) (running x.member rebuild known) z.member x.told z.told
     by (fence.TooFew whys) is = (is.one, record { whys_are = is.by.0; many = is.by.1 })
     by fence.EpochsSpent is = (is.one, record { spent = is.by.0; enough = is.by.1 })
-unloaded_caused rebuild b t why x z at (Unloaded.ByPattern counts same is) =
-    subst (λ (r : Refusal). HasCause (ReadBlock b) r (running x.member rebuild) z.member x.told z.told) (sym same) (at, is)
+unloaded_caused rebuild known b t why x z at (Unloaded.ByPattern counts same is) =
+    subst (λ (r : Refusal). HasCause (ReadBlock b) r (running x.member rebuild known) z.member x.told z.told) (sym same) (at, is)
 
-read_caused : (rebuild : Option Rebuild) (b : ℕ) (answer : Result (List ℕ) Refusal) (x z : Point) → Reads b answer x z
-    → IsMembership x.member → (why : Refusal) → answer ≡ Err why → HasCause (ReadBlock b) why (running x.member rebuild) z.member x.told z.told
-read_caused rebuild b _ _ _ (Reads.OutOf x past) rules why same =
+read_caused : (rebuild : Option Rebuild) (known : Option Remembered) (b : ℕ) (after : Option Remembered) (answer : Result (List ℕ) Refusal) (x z : Point) → Reads b known after answer x z
+    → IsMembership x.member → (why : Refusal) → answer ≡ Err why → HasCause (ReadBlock b) why (running x.member rebuild known) z.member x.told z.told
+read_caused rebuild known b _ _ _ _ (Reads.OutOf x past) rules why same =
     let by : OutOfRange b (block_count x.member.array.geometry) ≡ why = cc in
-    subst (λ (r : Refusal). HasCause (ReadBlock b) r (running x.member rebuild) x.member x.told x.told) by
+    subst (λ (r : Refusal). HasCause (ReadBlock b) r (running x.member rebuild known) x.member x.told x.told) by
     (record { asked_is = refl; limit_is = refl; above = past; nothing = refl })
-read_caused rebuild b _ _ _ (Reads.Own t i j bytes x y place asks reading) rules why same = absurd (cc)
-read_caused rebuild b _ _ _ (Reads.Restored t i j into x y z place cannot loads) rules why same = absurd (cc)
-read_caused rebuild b _ _ _ (Reads.Refused t i j into refusal x y z place cannot loads) rules why same =
+read_caused rebuild known b _ _ _ _ (Reads.Recalled one i j x is place) rules why same = absurd (cc)
+read_caused rebuild known b _ _ _ _ (Reads.Own t i j bytes x y place asks reading) rules why same = absurd (cc)
+read_caused rebuild known b _ _ _ _ (Reads.Restored t i j into x y z place cannot loads) rules why same = absurd (cc)
+read_caused rebuild known b _ _ _ _ (Reads.Refused t i j into refusal x y z place cannot loads) rules why same =
     let first = cannot_part t i j x y cannot rules in
-    unloaded_caused rebuild b t why x z place.place.in_stripe
+    unloaded_caused rebuild known b t why x z place.place.in_stripe
     (unloaded_sooner x y z first (loaded_part t into (Err refusal) y z loads first.rules) t why
     (loaded_refused t into (Err refusal) y z loads why (ap (λ (r : Refusal). Err r) (let one : refusal ≡ why = cc in one))))
 
 -- WHAT IT ANSWERS
 
-read_below : (b : ℕ) (answer : Result (List ℕ) Refusal) (x z : Point) → Reads b answer x z → (bytes : List ℕ) → answer ≡ Ok bytes
+read_below : (b : ℕ) (known after : Option Remembered) (answer : Result (List ℕ) Refusal) (x z : Point) → Reads b known after answer x z → (bytes : List ℕ) → answer ≡ Ok bytes
     → b < block_count x.member.array.geometry
-read_below b _ _ _ (Reads.OutOf x past) bytes same = absurd (cc)
-read_below b _ _ _ (Reads.Own t i j given x y place asks reading) bytes same = place.below
-read_below b _ _ _ (Reads.Restored t i j into x y z place cannot loads) bytes same = place.below
-read_below b _ _ _ (Reads.Refused t i j into refusal x y z place cannot loads) bytes same = absurd (cc)
+read_below b known _ _ _ _ (Reads.OutOf x past) bytes same = absurd (cc)
+read_below b known _ _ _ _ (Reads.Recalled one i j x is place) bytes same = place.below
+read_below b known _ _ _ _ (Reads.Own t i j given x y place asks reading) bytes same = place.below
+read_below b known _ _ _ _ (Reads.Restored t i j into x y z place cannot loads) bytes same = place.below
+read_below b known _ _ _ _ (Reads.Refused t i j into refusal x y z place cannot loads) bytes same = absurd (cc)
 
 -- WHAT STANDS
 
@@ -69,51 +71,54 @@ loaded_array t into _ _ _ (LoadsStripe.Stops was read gathered fault y z loads) 
 same_array : (m last : Membership) → last ≡ m → IsArray (unopened m) → IsArray (unopened last)
 same_array m last same = subst (λ (k : Membership). IsArray (unopened k)) (sym same)
 
-read_array : (b : ℕ) (answer : Result (List ℕ) Refusal) (x z : Point) → Reads b answer x z → ¬ Stops answer → IsArray (unopened x.member)
+read_array : (b : ℕ) (known after : Option Remembered) (answer : Result (List ℕ) Refusal) (x z : Point) → Reads b known after answer x z → ¬ Stops answer → IsArray (unopened x.member)
     → IsArray (unopened z.member)
-read_array b _ _ _ (Reads.OutOf x past) going array = array
-read_array b _ _ _ (Reads.Own t i j bytes x y place asks reading) going array = same_array x.member y.member asks.member array
-read_array b _ _ _ (Reads.Restored t i j into x y z place cannot loads) going array =
+read_array b known _ _ _ _ (Reads.OutOf x past) going array = array
+read_array b known _ _ _ _ (Reads.Recalled one i j x is place) going array = array
+read_array b known _ _ _ _ (Reads.Own t i j bytes x y place asks reading) going array = same_array x.member y.member asks.member array
+read_array b known _ _ _ _ (Reads.Restored t i j into x y z place cannot loads) going array =
     loaded_array t into (Ok tt) y z loads (λ never. never) (same_array x.member y.member (cannot_member t i j x y cannot) array)
-read_array b _ _ _ (Reads.Refused t i j into refusal x y z place cannot loads) going array =
+read_array b known _ _ _ _ (Reads.Refused t i j into refusal x y z place cannot loads) going array =
     loaded_array t into (Err refusal) y z loads going (same_array x.member y.member (cannot_member t i j x y cannot) array)
 
 -- ALL OF IT
 
-module _ (b : ℕ) (answer : Answer (ReadBlock b)) (m last : Membership) (rebuild : Option Rebuild) (stopped : Option FenceFault) (old new : Telling)
-    (array : IsArray (running m rebuild)) (does : Reads b answer (point m old) (point last new)) (kept : Keeps answer stopped) where
+module _ (b : ℕ) (answer : Answer (ReadBlock b)) (m last : Membership) (rebuild : Option Rebuild) (known after : Option Remembered) (stopped : Option FenceFault) (old new : Telling)
+    (array : IsArray (running m rebuild known)) (does : Reads b known after answer (point m old) (point last new)) (kept : Keeps answer stopped) where
   part : IsPart 0 (point m old) (point last new)
-  part = read_part b answer (point m old) (point last new) does array.member
+  part = read_part b known after answer (point m old) (point last new) does array.member
 
-  caused : (given : Answer (ReadBlock b)) → answer ≡ given → IfErr given (λ why. HasCause (ReadBlock b) why (running m rebuild) last old new)
+  caused : (given : Answer (ReadBlock b)) → answer ≡ given → IfErr given (λ why. HasCause (ReadBlock b) why (running m rebuild known) last old new)
   caused (Ok bytes) same = tt
-  caused (Err why) same = read_caused rebuild b answer (point m old) (point last new) does array.member why same
+  caused (Err why) same = read_caused rebuild known b after answer (point m old) (point last new) does array.member why same
 
-  allowed : (given : Answer (ReadBlock b)) → answer ≡ given → IsAllowed (ReadBlock b) given (running m rebuild)
-  allowed (Ok bytes) same = read_below b answer (point m old) (point last new) does bytes same
+  allowed : (given : Answer (ReadBlock b)) → answer ≡ given → IsAllowed (ReadBlock b) given (running m rebuild known)
+  allowed (Ok bytes) same = read_below b known after answer (point m old) (point last new) does bytes same
   allowed (Err why) same = tt
 
   pub read_performs : Performs (ReadBlock b) answer (events_of (ReadBlock b) answer m.array last.array)
-      (record { told = old; session = Opened (running m rebuild) })
-      (record { told = new; session = Opened (left_of last rebuild stopped) })
+      (record { told = old; session = Opened (running m rebuild known) })
+      (record { told = new; session = Opened (record (left_of last rebuild stopped) { remembered = after }) })
   read_performs = record {
-    was = running m rebuild;
-    is = left_of last rebuild stopped;
+    was = running m rebuild known;
+    is = record (left_of last rebuild stopped) { remembered = after };
     starts = (refl, refl);
     ends = EndsIn.GoesOn (λ never. absurd (cc)) kept refl;
     later = part.after.later;
-    goes_on = member_goes_on m last rebuild stopped old new array part (ReadBlock b);
-    rebuild = keeps_progress m last rebuild stopped old new array part;
+    goes_on = member_goes_on m last rebuild known stopped old new array part (ReadBlock b);
+    rebuild = progress_then after (keeps_progress m last rebuild known stopped old new array part);
     draws_few = draws_few (ReadBlock b) (point m old) (point last new) part;
     events_are = refl;
     caused = caused answer refl;
     allowed = allowed answer refl;
     array = λ going.
-        stands m last rebuild stopped old new array part
-        (read_array b answer (point m old) (point last new) does going (bare m last rebuild stopped old new array part));
+        array_then after
+        (stands m last rebuild known stopped old new array part
+        (read_array b known after answer (point m old) (point last new) does going (bare m last rebuild known stopped old new array part)));
     counted = tt;
+    remembers = tt;
     does = does;
-    left_out = read_left_out b answer (point m old) (point last new) does;
+    left_out = read_left_out b known after answer (point m old) (point last new) does;
     made = λ honest. tt;
     repaired = λ honest. tt;
     looked = λ honest. tt;

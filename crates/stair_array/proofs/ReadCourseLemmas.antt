@@ -27,7 +27,7 @@ use Rattle.stair_journal.proofs.ToldLemmas.{answered_cases}
 use Rattle.stair_stripes.specs.Gathering.{Gathers, IsAway, IsCellOf, IsReadOfCell}
 use Rattle.stair_stripes.specs.declared.gathering.Gathered.{Gathered}
 use Rattle.stair_session.specs.Courses.{Loads, Point, point}
-use Rattle.stair_session.specs.Session.{IsLiveIn}
+use Rattle.stair_session.specs.Session.{IsLiveIn, Remembered}
 use Rattle.stair_array.specs.Calls.{AsksFor, CannotHave, LoadsStripe, NotLive, Reads, WasBad, WasGone}
 use Rattle.stair_array.specs.Machine.{Refusal}
 use Rattle.stair_array.specs.Promise.{IsAnsweredGone}
@@ -88,11 +88,12 @@ stripe_part : (t i j : ℕ) (into : Stripe) (answer : Result (Unit {0}) Refusal)
 stripe_part t i j into answer x y z cannot loads rules =
     let first = cannot_part t i j x y cannot rules in part_join 0 0 x y z first (loaded_part t into answer y z loads first.rules)
 
-pub read_part : (b : ℕ) (answer : Result (List ℕ) Refusal) (x z : Point) → Reads b answer x z → IsMembership x.member → IsPart 0 x z
-read_part b _ _ _ (Reads.OutOf x past) rules = part_none x rules
-read_part b _ _ _ (Reads.Own t i j bytes x y place asks reading) rules = told_part x y asks.member (asked_after t i j got.Good x y asks) rules
-read_part b _ _ _ (Reads.Restored t i j into x y z place cannot loads) rules = stripe_part t i j into _ x y z cannot loads rules
-read_part b _ _ _ (Reads.Refused t i j into refusal x y z place cannot loads) rules = stripe_part t i j into _ x y z cannot loads rules
+pub read_part : (b : ℕ) (old after : Option Remembered) (answer : Result (List ℕ) Refusal) (x z : Point) → Reads b old after answer x z → IsMembership x.member → IsPart 0 x z
+read_part b old _ _ _ _ (Reads.OutOf x past) rules = part_none x rules
+read_part b old _ _ _ _ (Reads.Recalled one i j x known place) rules = part_none x rules
+read_part b old _ _ _ _ (Reads.Own t i j bytes x y place asks reading) rules = told_part x y asks.member (asked_after t i j got.Good x y asks) rules
+read_part b old _ _ _ _ (Reads.Restored t i j into x y z place cannot loads) rules = stripe_part t i j into _ x y z cannot loads rules
+read_part b old _ _ _ _ (Reads.Refused t i j into refusal x y z place cannot loads) rules = stripe_part t i j into _ x y z cannot loads rules
 
 -- A STRIPE
 
@@ -229,10 +230,12 @@ loaded_left_out t i j into _ x _ _ cannot row (LoadsStripe.Loaded was read gathe
 loaded_left_out t i j into _ x _ _ cannot row (LoadsStripe.Stops was read gathered fault y z loads) honest =
     stripe_left_out t i j gathered was read (Some fault) x y z cannot row loads honest
 
-pub read_left_out : (b : ℕ) (answer : Result (List ℕ) Refusal) (x z : Point) → Reads b answer x z → IsTrue z.told.honest → IsLeftOut x z
-read_left_out b _ _ _ (Reads.OutOf x past) honest = λ j call here was gone. absurd (never_answered j call x.told.history was)
-read_left_out b _ _ _ (Reads.Own t i j bytes x y place asks reading) honest = own_left_out t i j x y asks honest
-read_left_out b _ _ _ (Reads.Restored t i j into x y z place cannot loads) honest =
+pub read_left_out : (b : ℕ) (old after : Option Remembered) (answer : Result (List ℕ) Refusal) (x z : Point) → Reads b old after answer x z → IsTrue z.told.honest → IsLeftOut x z
+read_left_out b old _ _ _ _ (Reads.OutOf x past) honest = λ j call here was gone. absurd (never_answered j call x.told.history was)
+read_left_out b old _ _ _ _ (Reads.Recalled one i j x known place) honest =
+    λ s call here was gone. absurd (never_answered s call x.told.history was)
+read_left_out b old _ _ _ _ (Reads.Own t i j bytes x y place asks reading) honest = own_left_out t i j x y asks honest
+read_left_out b old _ _ _ _ (Reads.Restored t i j into x y z place cannot loads) honest =
     loaded_left_out t i j into _ x y z cannot place.place.row_in loads honest
-read_left_out b _ _ _ (Reads.Refused t i j into refusal x y z place cannot loads) honest =
+read_left_out b old _ _ _ _ (Reads.Refused t i j into refusal x y z place cannot loads) honest =
     loaded_left_out t i j into _ x y z cannot place.place.row_in loads honest

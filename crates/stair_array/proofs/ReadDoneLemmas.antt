@@ -16,6 +16,7 @@ use Rattle.stair_state.specs.State.{Content, State}
 use Rattle.stair_session.specs.Courses.{Point, point}
 use Rattle.stair_session.specs.Rebuilding.{Rebuild}
 use Rattle.stair_session.specs.Returning.{IsCalm, Returning}
+use Rattle.stair_session.specs.Session.{Remembered}
 use Rattle.stair_session.proofs.Serving.{IsServing, LeadsReads, IsCalmTo}
 use Rattle.stair_array.specs.Calls.{IsInPlace, IsLoaded, LoadsStripe, Reads, refused}
 use Rattle.stair_array.specs.Machine.{Answer, ReadBlock, Refusal}
@@ -58,15 +59,16 @@ module _ (returning : Returning) (laws : LeadsReads returning) (before : List Ha
       sym one
       ∙ load_refused t gathered read fault z (whole_loaded t gathered was read (Some fault) x u z (subst (HasAsked x) (sym at) asked) loads) honest calm
 
-  pub only_spent : (b : ℕ) (answer : Result (List ℕ) Refusal) (v z : Point) → Reads b answer v z → v ≡ x → IsTrue z.told.honest
+  pub only_spent : (b : ℕ) (old after : Option Remembered) (answer : Result (List ℕ) Refusal) (v z : Point) → Reads b old after answer v z → v ≡ x → IsTrue z.told.honest
       → IsCalmTo returning x.member.array.geometry before z.told.history → b < block_count x.member.array.geometry → (refusal : Refusal)
       → answer ≡ Err refusal → refusal ≡ refused fence.EpochsSpent
-  only_spent b _ _ _ (Reads.OutOf v past) at honest calm inside refusal same =
+  only_spent b old _ _ _ _ (Reads.OutOf v past) at honest calm inside refusal same =
       let out : block_count x.member.array.geometry ≤ b = subst (λ (p : Point). block_count p.member.array.geometry ≤ b) at past in
       absurd (omega (arith, inside, out))
-  only_spent b _ _ _ (Reads.Own t i j bytes v y place asks reading) at honest calm inside refusal same = absurd (cc)
-  only_spent b _ _ _ (Reads.Restored t i j into v y z place cannot loads) at honest calm inside refusal same = absurd (cc)
-  only_spent b _ _ _ (Reads.Refused t i j into lost v y z place cannot loads) at honest calm inside refusal same =
+  only_spent b old _ _ _ _ (Reads.Recalled one i j v known place) at honest calm inside refusal same = absurd (cc)
+  only_spent b old _ _ _ _ (Reads.Own t i j bytes v y place asks reading) at honest calm inside refusal same = absurd (cc)
+  only_spent b old _ _ _ _ (Reads.Restored t i j into v y z place cannot loads) at honest calm inside refusal same = absurd (cc)
+  only_spent b old _ _ _ _ (Reads.Refused t i j into lost v y z place cannot loads) at honest calm inside refusal same =
       let asked : HasAsked x y = subst (λ (p : Point). HasAsked p y) at (has_asked t i j v y cannot) in
       let here = subst (λ (p : Point). IsInPlace p.member.array.geometry b t i j) at place in
       stripe_refused t into y asked (placed_in x.member.array.geometry b t i j is.is_open.array.member.array.limits inside here.place)
@@ -82,7 +84,7 @@ module _ (returning : Returning) (laws : LeadsReads returning) (b : ℕ) (answer
   none_refused below refusal same =
       only_spent returning laws before p.was.rebuild p.was.stopped (begins returning laws b answer events x y p honest before s history state).words
       s.content
-      (point p.was.member x.told) (serves returning laws b answer events x y p honest before s history state) b answer
+      (point p.was.member x.told) (serves returning laws b answer events x y p honest before s history state) b p.was.remembered p.is.remembered answer
       (point p.was.member x.told) (point p.is.member y.told) p.does refl honest
       (calm_begun returning laws b answer events x y p honest before s history state y.told.history calm)
       (subst (λ (g : Geometry). b < block_count g) (sym (begins returning laws b answer events x y p honest before s history state).geometry) below)

@@ -14,6 +14,7 @@ use Rattle.stair_state.proofs.BlockLemmas as blocks
 use Rattle.stair_session.specs.Courses.{Point}
 use Rattle.stair_session.specs.Rebuilding.{Rebuild}
 use Rattle.stair_session.specs.Returning.{Returning}
+use Rattle.stair_session.specs.Session.{IsRememberedIn, Remembered}
 use Rattle.stair_session.proofs.Serving.{any_read, LeadsReads, IsCalmTo}
 use Rattle.stair_session.proofs.Mending.{calm_going}
 use Rattle.stair_array.specs.Calls.{Reads, refused}
@@ -70,27 +71,39 @@ module _ (returning : Returning) (laws : LeadsReads returning) (before : List Ha
 
     -- ALL OF IT
 
-    pub moments : (answer : Result (List ℕ) Refusal) (x z : Point) → Reads b answer x z → ServesAt x x.told.history → IsTrue z.told.honest
+    pub moments : (old after : Option Remembered) (answer : Result (List ℕ) Refusal) (x z : Point) → Reads b old after answer x z → ServesAt x x.told.history → IsTrue z.told.honest
         → AtEveryMoment (StandsAt returning before x.member kept) x.told.history z.told.history
-    moments _ _ _ (Reads.OutOf x past) is honest =
+    moments old _ _ _ _ (Reads.OutOf x past) is honest =
         at_every_none {P = StandsAt returning before x.member kept} x.told.history
         (serving_stands returning laws before (array_with rebuild stopped x) words kept x.told.history (λ calm. is))
-    moments _ _ _ (Reads.Own t i j bytes x y place asks reading) is honest =
+    moments old _ _ _ _ (Reads.Recalled one i j x known place) is honest =
+        at_every_none {P = StandsAt returning before x.member kept} x.told.history
+        (serving_stands returning laws before (array_with rebuild stopped x) words kept x.told.history (λ calm. is))
+    moments old _ _ _ _ (Reads.Own t i j bytes x y place asks reading) is honest =
         reading_stands returning laws before (array_with rebuild stopped x) words kept x.told.history y.told.history is
         ((asked_of t i j x y asks).ran honest)
-    moments _ _ _ (Reads.Restored t i j into x y z place cannot loads) is honest =
+    moments old _ _ _ _ (Reads.Restored t i j into x y z place cannot loads) is honest =
         stripe_moments returning laws before rebuild stopped words kept x is t into y (has_asked t i j x y cannot) (Ok tt) y z loads refl honest
-    moments _ _ _ (Reads.Refused t i j into refusal x y z place cannot loads) is honest =
+    moments old _ _ _ _ (Reads.Refused t i j into refusal x y z place cannot loads) is honest =
         stripe_moments returning laws before rebuild stopped words kept x is t into y (has_asked t i j x y cannot) (Err refusal) y z loads refl honest
 
-    pub outcome : (answer : Result (List ℕ) Refusal) (x z : Point) → Reads b answer x z → ServesAt x x.told.history → IsTrue z.told.honest
+    pub outcome : (old after : Option Remembered) (answer : Result (List ℕ) Refusal) (x z : Point) → Reads b old after answer x z → IsRememberedIn words old → ServesAt x x.told.history → IsTrue z.told.honest
         → CalmAt x z.told.history → ReadOutcome x answer z
-    outcome _ _ _ (Reads.OutOf x past) is honest calm =
+    outcome old _ _ _ _ (Reads.OutOf x past) kept_in is honest calm =
         Lacks _ x
         (same_serves returning laws before rebuild stopped words kept x x refl honest is
         (calm_going returning x.member.array.geometry before x.told.history is.is_open.ran calm))
         (same_stays returning laws before rebuild stopped words kept x x refl is) (λ final. absurd final)
-    outcome _ _ _ (Reads.Own t i j bytes x y place asks reading) is honest calm =
+    outcome old _ _ _ _ (Reads.Recalled one i j x known place) kept_in is honest calm =
+        let limits = is.is_open.array.member.array.limits in
+        let same : one.cells ≡ words one.stripe = subst (IsRememberedIn words) known kept_in in
+        Gives (cell one.cells i j) x
+        (same_serves returning laws before rebuild stopped words kept x x refl honest is
+        (calm_going returning x.member.array.geometry before x.told.history is.is_open.ran calm))
+        (same_stays returning laws before rebuild stopped words kept x x refl is) place.below
+        (ap (λ (s : Stripe). cell s i j) same
+        ∙ blocks.at x.member.array.geometry kept.blocks words b one.stripe i j limits is.of.encodings place.below place.place)
+    outcome old _ _ _ _ (Reads.Own t i j bytes x y place asks reading) kept_in is honest calm =
         let asked = asked_of t i j x y asks in
         let limits = is.is_open.array.member.array.limits in
         let stripe = placed_in x.member.array.geometry b t i j limits place.below place.place in
@@ -104,7 +117,7 @@ module _ (returning : Returning) (laws : LeadsReads returning) (before : List Ha
         (read_good returning laws before (array_with rebuild stopped x) words kept x.told.history y.told.history is (asked.ran honest) on
         t i j asks.live stripe place.place.row_in bytes (reading honest)
         ∙ blocks.at x.member.array.geometry kept.blocks words b t i j limits is.of.encodings place.below place.place)
-    outcome _ _ _ (Reads.Restored t i j into x y z place cannot loads) is honest calm =
+    outcome old _ _ _ _ (Reads.Restored t i j into x y z place cannot loads) kept_in is honest calm =
         let limits = is.is_open.array.member.array.limits in
         let stripe = placed_in x.member.array.geometry b t i j limits place.below place.place in
         let first = cannot_part t i j x y cannot is.is_open.array.member in
@@ -115,7 +128,7 @@ module _ (returning : Returning) (laws : LeadsReads returning) (before : List Ha
         ∙ blocks.at x.member.array.geometry kept.blocks words b t i j limits is.of.encodings place.below place.place) (Ok tt) z
         (stripe_comes returning laws before rebuild stopped words kept x is t into y (has_asked t i j x y cannot) stripe (Ok tt) y z loads refl honest
         (calm_going returning x.member.array.geometry before z.told.history (ran_join {allowed = any_call} is.is_open.ran ran) calm)) refl
-    outcome _ _ _ (Reads.Refused t i j into refusal x y z place cannot loads) is honest calm =
+    outcome old _ _ _ _ (Reads.Refused t i j into refusal x y z place cannot loads) kept_in is honest calm =
         let limits = is.is_open.array.member.array.limits in
         let stripe = placed_in x.member.array.geometry b t i j limits place.below place.place in
         let first = cannot_part t i j x y cannot is.is_open.array.member in
@@ -124,3 +137,25 @@ module _ (returning : Returning) (laws : LeadsReads returning) (before : List Ha
         (stripe_comes returning laws before rebuild stopped words kept x is t into y (has_asked t i j x y cannot) stripe
         (Err refusal) y z loads refl honest
         (calm_going returning x.member.array.geometry before z.told.history (ran_join {allowed = any_call} is.is_open.ran ran) calm)) refl refl
+
+    -- and what is remembered then is of the stripes that it serves, as what was remembered before
+    pub remembers : (old after : Option Remembered) (answer : Result (List ℕ) Refusal) (x z : Point) → Reads b old after answer x z
+        → IsRememberedIn words old → ServesAt x x.told.history → IsTrue z.told.honest → CalmAt x z.told.history → IsRememberedIn words after
+    remembers old _ _ _ _ (Reads.OutOf x past) kept_in is honest calm = kept_in
+    remembers old _ _ _ _ (Reads.Recalled one i j x known place) kept_in is honest calm = kept_in
+    remembers old _ _ _ _ (Reads.Own t i j bytes x y place asks reading) kept_in is honest calm = kept_in
+    remembers old _ _ _ _ (Reads.Restored t i j into x y z place cannot loads) kept_in is honest calm =
+        let limits = is.is_open.array.member.array.limits in
+        let stripe = placed_in x.member.array.geometry b t i j limits place.below place.place in
+        let first = cannot_part t i j x y cannot is.is_open.array.member in
+        let ran = (part_join 0 0 x y z first (loaded_part t into (Ok tt) y z loads first.rules)).after.later.ran honest in
+        was_restored (Ok tt) z
+        (stripe_comes returning laws before rebuild stopped words kept x is t into y (has_asked t i j x y cannot) stripe (Ok tt) y z loads refl honest
+        (calm_going returning x.member.array.geometry before z.told.history (ran_join {allowed = any_call} is.is_open.ran ran) calm)) refl
+      where
+        was_restored : (answer : Result (Unit {0}) Refusal) (u : Point) → Comes returning before rebuild stopped words kept (into ≡ words t) x answer u
+            → answer ≡ Ok tt → into ≡ words t
+        was_restored _ _ (Comes.Has u serves stays live same) fine = same
+        was_restored _ _ (Comes.Lacks refusal u serves stays not_final) fine = absurd (cc)
+        was_restored _ _ (Comes.Stops fault u at) fine = absurd (cc)
+    remembers old _ _ _ _ (Reads.Refused t i j into refusal x y z place cannot loads) kept_in is honest calm = tt

@@ -1,5 +1,5 @@
 -- What a read of a block did: cells were read, and slots that were gone are left out.
-use Rattle.std.proofs.Common.{◌≡◌, ℕ, ◌<◌, List, inl, inr, refl, sym, ap, subst, arith, Option}
+use Rattle.std.proofs.Common.{None, ◌≡◌, ℕ, ◌<◌, List, inl, inr, refl, sym, ap, subst, arith, Option}
 use Rattle.std.specs.Prelude.{◌⊎◌, IsTrue, Ok}
 use Rattle.std.proofs.lemmas.Nat.{div_below}
 use Rattle.stair_model.specs.Cell.{IsPlaceOf}
@@ -140,7 +140,7 @@ none_asked x = record { member = refl; honest = refl; ran = λ honest. ran_none 
 
 -- an array with this member
 abbrev pub array_with : Option Rebuild → Option FenceFault → Point → ArrayState
-array_with rebuild stopped x = record { member = x.member; rebuild = rebuild; stopped = stopped }
+array_with rebuild stopped x = record { member = x.member; rebuild = rebuild; stopped = stopped; remembered = None }
 
 module _ (returning : Returning) (laws : LeadsReads returning) (before : List Happening) (rebuild : Option Rebuild) (stopped : Option FenceFault)
     (words : Codewords) (kept : Content) (x : Point) where

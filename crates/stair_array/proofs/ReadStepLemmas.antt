@@ -16,7 +16,8 @@ use Rattle.stair_array.specs.Machine.{Answer, ReadBlock}
 use Rattle.stair_array.specs.Promise.{IsInState, IsLed, IsLeftBy, IsOpenFor, Performs, Seen, is_open}
 use Rattle.stair_array.proofs.KeptStepLemmas as kept
 use Rattle.stair_array.proofs.KeptStepLemmas.{IsKeeping}
-use Rattle.stair_array.proofs.ReadOutcomeLemmas.{IsBlock, IsInside, moments, outcome}
+use Rattle.stair_array.proofs.OpenStepLemmas.{forgetting}
+use Rattle.stair_array.proofs.ReadOutcomeLemmas.{IsBlock, IsInside, moments, outcome, remembers}
 
 pub keeping : (b : ℕ) → IsKeeping (ReadBlock b)
 keeping b = record {
@@ -36,7 +37,7 @@ module _ (returning : Returning) (laws : LeadsReads returning) (b : ℕ) (answer
   abbrev pub begins : IsOpenFor returning before s p.was x.told.history
   begins = kept.begins returning laws (ReadBlock b) (keeping b) answer events x y p before s history state
 
-  abbrev pub serves : IsServing returning before p.was begins.words s.content x.told.history
+  abbrev pub serves : IsServing returning before (forgetting p.was) begins.words s.content x.told.history
   serves = kept.serves returning laws (ReadBlock b) (keeping b) answer events x y p before s history state
 
   pub calm_begun : (h : List Happening) → IsCalm returning s.geometry (is_open x.session) before h
@@ -49,14 +50,17 @@ module _ (returning : Returning) (laws : LeadsReads returning) (b : ℕ) (answer
       (IsBlock b s.content)
       (λ inside. subst (λ (g : Geometry). b < block_count g) begins.geometry inside) (λ bytes now right was. (right, was)) answer
       (point p.is.member y.told) refl refl
-      (outcome returning laws before p.was.rebuild p.was.stopped begins.words s.content b answer (point p.was.member x.told)
-      (point p.is.member y.told) p.does
-      serves honest (calm_begun y.told.history calm)) (calm_begun y.told.history calm)
+      (outcome returning laws before p.was.rebuild p.was.stopped begins.words s.content b p.was.remembered p.is.remembered answer (point p.was.member x.told)
+      (point p.is.member y.told) p.does begins.remembered
+      serves honest (calm_begun y.told.history calm))
+      (remembers returning laws before p.was.rebuild p.was.stopped begins.words s.content b p.was.remembered p.is.remembered answer
+      (point p.was.member x.told)
+      (point p.is.member y.told) p.does begins.remembered serves honest (calm_begun y.told.history calm)) (calm_begun y.told.history calm)
 
   pub cuts : (c : List Happening) → IsMoment x.told.history c y.told.history → IsCalm returning s.geometry (is_open x.session) before c
       → EachImage (IsLeftBy returning (ReadBlock b) p.was.member before c s) c
   cuts =
       kept.cuts returning laws (ReadBlock b) (keeping b) answer events x y p before s history state
-      (moments returning laws before p.was.rebuild p.was.stopped begins.words s.content b answer (point p.was.member x.told)
+      (moments returning laws before p.was.rebuild p.was.stopped begins.words s.content b p.was.remembered p.is.remembered answer (point p.was.member x.told)
       (point p.is.member y.told) p.does
       serves honest)

@@ -1,6 +1,7 @@
 -- What reading a cell and loading a stripe came to.
 use Rattle.std.proofs.Common.{◌≡◌, ◌<◌, ◌≤◌, ℕ, None, Option, Some, ap, refl, subst, sym, ◌∙◌}
-use Rattle.std.specs.Prelude.{Bool, Err, IsTrue, List, Ok, Result, slice_index}
+use Rattle.std.specs.Prelude.{Bool, true, Err, IsTrue, List, Ok, Result, slice_index}
+use Rattle.std.specs.Option.{option_eq}
 use Rattle.std.specs.Result.{IsErrAnd}
 use Rattle.stair_model.specs.CellSet.{count_in_slot}
 use Rattle.stair_model.specs.Coverage.{IsCovered}
@@ -27,9 +28,10 @@ use Rattle.stair_member.specs.declared.why.Why.TheVariants.{Here}
 use Rattle.stair_stripes.specs.Gathering.{Gathers, IsCellOf}
 use Rattle.stair_stripes.specs.declared.gathering.Gathered.{Gathered}
 use Rattle.stair_session.specs.Courses.{AreLive, Fenced, LeavesOut, Loads, NoneWas, Point, point}
+use Rattle.stair_session.specs.Session.{Remembered}
 use Rattle.stair_session.proofs.HonestLemmas.{left_honest}
 use Rattle.stair_session.proofs.RedoingLemmas.{out_ran}
-use Rattle.stair_array.specs.Arrays.{answer_as, outcome}
+use Rattle.stair_array.specs.Arrays.{answer_as, outcome, remembered_as}
 use Rattle.stair_array.specs.Calls.{AsksFor, CannotHave, IsInPlace, IsLoaded, LoadsStripe, Reads, WasBad, WasGone, refused}
 use Rattle.stair_array.specs.Faults.{array_fault, refusal_for}
 use Rattle.stair_array.specs.Machine.{Lost, Refusal}
@@ -139,32 +141,44 @@ module _ (m : Membership) (g : Geometry) (same : g ≡ m.array.geometry) (live :
 
 -- A BLOCK
 
+-- what is remembered is of the stripe that the array has in its buffer
+pub is_remembered : {E : ℕ → ℕ → Bool} → ((s t : ℕ) → E s t ≡ true → s ≡ t) → (known : Option ℕ) (t : ℕ) (cells : Stripe)
+    → option_eq E known (Some t) ≡ true → remembered_as known cells ≡ Some (record { stripe = t; cells = cells })
+is_remembered same None t cells is = absurd (cc)
+is_remembered same (Some s) t cells is = ap (λ (u : ℕ). Some (record { stripe = u; cells = cells })) (same s t is)
+
 -- block b is cell (i, j) of stripe t
-module _ (b t i j : ℕ) (x : Point) (place : IsInPlace x.member.array.geometry b t i j) where
+module _ (b t i j : ℕ) (old : Option Remembered) (x : Point) (place : IsInPlace x.member.array.geometry b t i j) where
+  -- its stripe is remembered
+  pub read_recalled : (cells : Stripe) (bytes : List ℕ) → old ≡ Some (record { stripe = t; cells = cells }) → bytes ≡ cell cells i j
+      → Reads b old old (Ok bytes) x x
+  read_recalled cells bytes known same =
+      subst (λ (c : List ℕ). Reads b old old (Ok c) x x) (sym same) (Reads.Recalled (record { stripe = t; cells = cells }) i j x known place)
+
   -- its own cell was read
   pub read_own : (bytes : List ℕ) (y : Point) → AsksFor t i j got.Good x y
-      → IsReading j (cell_sector x.member.array.geometry t i) x.told y.told (Good bytes) → Reads b (Ok bytes) x y
+      → IsReading j (cell_sector x.member.array.geometry t i) x.told y.told (Good bytes) → Reads b old old (Ok bytes) x y
   read_own bytes y asks reads = Reads.Own t i j bytes x y place asks reads
 
   -- it couldn't be had, and the stripe was loaded
   pub read_restored : (into : Stripe) (y z : Point) (bytes : List ℕ) → bytes ≡ cell into i j → CannotHave t i j x y
-      → LoadsStripe t into (Ok tt) y z → Reads b (Ok bytes) x z
+      → LoadsStripe t into (Ok tt) y z → Reads b old (Some (record { stripe = t; cells = into })) (Ok bytes) x z
   read_restored into y z bytes same cannot loads =
-      subst (λ (c : List ℕ). Reads b (Ok c) x z) (sym same) (Reads.Restored t i j into x y z place cannot loads)
+      subst (λ (c : List ℕ). Reads b old (Some (record { stripe = t; cells = into })) (Ok c) x z) (sym same) (Reads.Restored t i j into x y z place cannot loads)
 
   -- or refused
   pub read_refused : (into : Stripe) (y z : Point) (fault : ArrayFault) (given : List ℕ) (result : Result (Unit {0}) ArrayFault)
       → IsErrAnd result (λ e. e ≡ fault) → CannotHave t i j x y → LoadsStripe t into (Err (refusal_for fault)) y z
-      → Reads b (answer_as given result) x z
+      → Reads b old None (answer_as given result) x z
   read_refused into y z fault given (Ok done) is cannot loads = absurd is
   read_refused into y z fault given (Err e) same cannot loads =
-      subst (λ (f : ArrayFault). Reads b (Err (refusal_for f)) x z) (sym same)
+      subst (λ (f : ArrayFault). Reads b old None (Err (refusal_for f)) x z) (sym same)
       (Reads.Refused t i j into (refusal_for fault) x y z place cannot loads)
 
 -- there is no such block
-pub read_past : (b : ℕ) (x : Point) (given : List ℕ) (fault : ArrayFault) (result : Result (Unit {0}) ArrayFault)
+pub read_past : (b : ℕ) (old : Option Remembered) (x : Point) (given : List ℕ) (fault : ArrayFault) (result : Result (Unit {0}) ArrayFault)
     → block_count x.member.array.geometry ≤ b → fault ≡ array.OutOfRange b (block_count x.member.array.geometry)
-    → IsErrAnd result (λ e. e ≡ fault) → Reads b (answer_as given result) x x
-read_past b x given fault (Ok done) past is told = absurd told
-read_past b x given fault (Err e) past is same =
-    subst (λ (f : ArrayFault). Reads b (Err (refusal_for f)) x x) (sym (same ∙ is)) (Reads.OutOf x past)
+    → IsErrAnd result (λ e. e ≡ fault) → Reads b old old (answer_as given result) x x
+read_past b old x given fault (Ok done) past is told = absurd told
+read_past b old x given fault (Err e) past is same =
+    subst (λ (f : ArrayFault). Reads b old old (Err (refusal_for f)) x x) (sym (same ∙ is)) (Reads.OutOf x past)

@@ -1,5 +1,5 @@
 -- What a step of a rebuild did is what is promised of a step, on any rack.
-use Rattle.std.proofs.Common.{◌≡◌, ℕ, ◌+◌, ◌<◌, ◌≤◌, inl, inr, refl, sym, subst, Option, Some, arith}
+use Rattle.std.proofs.Common.{◌≡◌, ℕ, ◌+◌, ◌<◌, ◌≤◌, inl, inr, refl, sym, subst, None, Option, Some, arith}
 use Rattle.std.specs.Prelude.{Err, IfErr, IsTrue, Ok}
 use Rattle.stair_model.specs.Device.{cell_sector}
 use Rattle.stair_model.specs.Geometry.{Geometry}
@@ -10,7 +10,7 @@ use Rattle.stair_member.specs.declared.fault.FenceFault.{FenceFault}
 use Rattle.stair_member.specs.declared.fault.FenceFault.TheVariants as fence
 use Rattle.stair_session.specs.Courses.{point}
 use Rattle.stair_session.specs.Rebuilding.{Rebuild}
-use Rattle.stair_session.specs.Session.{ArrayState, IsArray, IsRebuiltIn}
+use Rattle.stair_session.specs.Session.{ArrayState, IsArray, IsRebuiltIn, Remembered}
 use Rattle.stair_array.specs.Calls.{refused}
 use Rattle.stair_array.specs.Causes.{HasCause, HasCounted, IsAllowed, IsEpochDue}
 use Rattle.stair_array.specs.Draws.{Before}
@@ -26,13 +26,13 @@ use Rattle.stair_array.proofs.PromotionLemmas.{IsBeside}
 use Rattle.stair_array.proofs.RebuildCourseLemmas.{Falling, IsStopped, Loading, NextIsRebuilt, Promoting, beside_part, next_rebuilt, rebuilt_array, rebuilt_left_out, rebuilt_part, rebuilt_stopped}
 use Rattle.stair_array.proofs.RebuildMadeLemmas.{WroteChunk, chunk_told, dropped_told, next_once, nothing_told, promoted_told}
 
-module _ (answer : Answer RebuildNext) (m last : Membership) (rebuild : Option Rebuild) (stopped : Option FenceFault) (old new : Telling)
-    (array : IsArray (running m rebuild)) (does : Rebuilds (running m rebuild) answer (point m old) (point last new)) (kept : Keeps answer stopped) where
+module _ (answer : Answer RebuildNext) (m last : Membership) (rebuild : Option Rebuild) (known : Option Remembered) (stopped : Option FenceFault) (old new : Telling)
+    (array : IsArray (running m rebuild known)) (does : Rebuilds (running m rebuild known) answer (point m old) (point last new)) (kept : Keeps answer stopped) where
   abbrev was : ArrayState
-  was = running m rebuild
+  was = running m rebuild known
 
   abbrev ends_as : Answer RebuildNext → ArrayState
-  ends_as given = record { member = last; rebuild = rebuild_then given last rebuild; stopped = stopped }
+  ends_as given = record { member = last; rebuild = rebuild_then given last rebuild; stopped = stopped; remembered = None }
 
   unstopped : IsArray (unopened m)
   unstopped = record { member = array.member; marks = array.marks; enough = array.enough; rebuilds = λ r is. absurd (cc) }
@@ -49,7 +49,7 @@ module _ (answer : Answer RebuildNext) (m last : Membership) (rebuild : Option R
 
   -- how far it has come
   rebuild_kept : (given : Answer RebuildNext) → answer ≡ given → KeepsRebuild RebuildNext given was (ends_as given)
-  rebuild_kept (Ok Nothing) same = keeps_progress m last rebuild stopped old new array (drops_at_most (Ok Nothing) same tt)
+  rebuild_kept (Ok Nothing) same = keeps_progress m last rebuild known stopped old new array (drops_at_most (Ok Nothing) same tt)
   rebuild_kept (Ok (Chunk j t)) same =
       let told = chunk_told was answer (point m old) (point last new) does unstopped j t same in (told.more, told.rebuilt, refl)
   rebuild_kept (Ok (Promoted j)) same =
@@ -62,11 +62,11 @@ module _ (answer : Answer RebuildNext) (m last : Membership) (rebuild : Option R
       let told = dropped_told was answer (point m old) (point last new) does unstopped next j same in (refl, told.away)
   rebuild_kept (Err (TooFew whys)) same = tt
   rebuild_kept (Err EpochsSpent) same = tt
-  rebuild_kept (Err why) same = keeps_progress m last rebuild stopped old new array (drops_at_most (Err why) same (λ is. is))
+  rebuild_kept (Err why) same = keeps_progress m last rebuild known stopped old new array (drops_at_most (Err why) same (λ is. is))
 
   -- what stands
   array_kept : (given : Answer RebuildNext) → answer ≡ given → ¬ Stops given → IsArray (unopened last) → IsArray (ends_as given)
-  array_kept (Ok Nothing) same going is = stands m last rebuild stopped old new array (drops_at_most (Ok Nothing) same tt) is
+  array_kept (Ok Nothing) same going is = stands m last rebuild known stopped old new array (drops_at_most (Ok Nothing) same tt) is
   array_kept (Ok (Chunk j t)) same going is = record { member = is.member; marks = is.marks; enough = is.enough; rebuilds = rebuilds }
     where
       told : WroteChunk was j t (point m old) (point last new)
@@ -85,7 +85,7 @@ module _ (answer : Answer RebuildNext) (m last : Membership) (rebuild : Option R
       record { member = is.member; marks = is.marks; enough = is.enough; rebuilds = λ r at. absurd (cc) }
   array_kept (Err (TooFew whys)) same going is = absurd (going tt)
   array_kept (Err EpochsSpent) same going is = absurd (going tt)
-  array_kept (Err why) same going is = stands m last rebuild stopped old new array (drops_at_most (Err why) same (λ final. final)) is
+  array_kept (Err why) same going is = stands m last rebuild known stopped old new array (drops_at_most (Err why) same (λ final. final)) is
 
   -- why it is refused
   abbrev Caused : Refusal → Type 0
@@ -146,10 +146,10 @@ module _ (answer : Answer RebuildNext) (m last : Membership) (rebuild : Option R
   made (Err why) same honest = tt
 
   pub rebuild_performs : Performs RebuildNext answer (events_of RebuildNext answer m.array last.array)
-      (record { told = old; session = Opened (running m rebuild) })
+      (record { told = old; session = Opened (running m rebuild known) })
       (record {
         told = new;
-        session = Opened (record { member = last; rebuild = rebuild_then answer last rebuild; stopped = stopped });
+        session = Opened (record { member = last; rebuild = rebuild_then answer last rebuild; stopped = stopped; remembered = None });
       })
   rebuild_performs = record {
     was = was;
@@ -166,6 +166,7 @@ module _ (answer : Answer RebuildNext) (m last : Membership) (rebuild : Option R
     array = λ going.
         array_kept answer refl going (rebuilt_array was answer (point m old) (point last new) does unstopped next going);
     counted = counted answer refl;
+    remembers = refl;
     does = does;
     left_out = rebuilt_left_out was answer (point m old) (point last new) does unstopped next;
     made = made answer refl;

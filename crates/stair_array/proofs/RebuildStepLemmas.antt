@@ -22,7 +22,7 @@ use Rattle.stair_session.proofs.Serving.{IsCalmTo, IsServing, LeadsReads}
 use Rattle.stair_array.specs.Machine.{Answer, EpochsSpent, HoldsAfter, Progress, RebuildNext, Recover, Refusal, Row, SeatsAfter, SeatsRebuilt}
 use Rattle.stair_array.specs.Promise.{CanBeDone, IsInState, IsLed, IsLeftBy, IsOpenFor, Keeps, KeepsRebuild, Performs, Seen, is_open, LeadsStep}
 use Rattle.stair_array.proofs.DrawsLemmas.{done_with_room}
-use Rattle.stair_array.proofs.OpenStepLemmas.{calm_first, goes_on_as, kept_fault, open_first, serves_first, serves_now, stops_as}
+use Rattle.stair_array.proofs.OpenStepLemmas.{forgetting, forgotten_in, calm_first, goes_on_as, kept_fault, open_first, serves_bare, serves_now, stops_as}
 use Rattle.stair_array.proofs.RebuildCourseLemmas.{NextIsRebuilt, next_rebuilt}
 use Rattle.stair_array.proofs.RebuildOutcomeLemmas.{moments, outcome}
 use Rattle.stair_array.proofs.RebuildSeatLemmas.{Goes, MayMove, MovesAt, Outcome, Spent}
@@ -42,14 +42,14 @@ module _ (returning : Returning) (laws : LeadsReads returning) (besides : LeadsB
   abbrev pub begins : IsOpenFor returning before s p.was x.told.history
   begins = open_first returning laws RebuildNext no_opening answer events x y p before s state
 
-  pub serves : IsServing returning before p.was begins.words s.content x.told.history
-  serves = serves_first returning laws RebuildNext no_opening answer events x y p before s state history
+  pub serves : IsServing returning before (forgetting p.was) begins.words s.content x.told.history
+  serves = serves_bare returning laws RebuildNext no_opening answer events x y p before s state history
 
   calm_begun : (h : List Happening) → IsCalm returning s.geometry (is_open x.session) before h → IsCalmTo returning m.array.geometry before h
   calm_begun = calm_first returning laws RebuildNext no_opening answer events x y p before s state
 
   next : NextIsRebuilt p.was (point m x.told)
-  next = next_rebuilt p.was x.told serves.is_open.array
+  next = next_rebuilt p.was x.told begins.is_open.array
 
   -- ROWS
 
@@ -107,7 +107,7 @@ module _ (returning : Returning) (laws : LeadsReads returning) (besides : LeadsB
               history = now_serves.history;
               of = now_serves.of;
               knows = now_serves.knows;
-            }) calm;
+            }) (forgotten_in begins.words p.is.remembered p.remembers) calm;
       }
   led _ _ at is_answer (Spent v array stands moved) calm =
       let now : State = state_with m s.content None array in

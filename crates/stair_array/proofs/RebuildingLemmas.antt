@@ -329,7 +329,7 @@ handed_fault (Err e) fault same = ap (λ (a : RebuildFault). Err (rebuild_refusa
 -- THE NEXT CHUNK
 
 -- of a rebuild that is under way
-pub next_under : (m : Membership) (rebuild : Option Rebuild) → IfSome rebuild (λ next. IsNextChunk (running m rebuild) next.slot next.stripe)
+pub next_under : (m : Membership) (rebuild : Option Rebuild) → IfSome rebuild (λ next. IsNextChunk (running m rebuild None) next.slot next.stripe)
 next_under m None = tt
 next_under m (Some one) = IsNextChunk.UnderWay one refl refl refl
 

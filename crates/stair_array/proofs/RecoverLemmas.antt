@@ -1,10 +1,10 @@
 -- An opening is a step of the array's machine, what a crash leaves in the midst of it is what one within the step leaves, and it is
 -- done where it can be, by the laws of what a recovery comes to, whether media come back or not.
-use Rattle.std.proofs.Common.{◌≡◌, ℕ, List, [], ◌∷◌, inl, inr, refl, sym, ap, ◌∙◌, subst, None, Some}
+use Rattle.std.proofs.Common.{◌≡◌, List, [], ◌∷◌, inl, inr, refl, sym, ap, ◌∙◌, subst, None, Some}
 use Rattle.std.specs.Prelude.{Bool, false, IsErr, IsOk, IsTrue, Result, Ok, Err}
 use Rattle.std.proofs.lemmas.Bool.{false≢true}
 use Rattle.stair_model.specs.Geometry.{Geometry}
-use Rattle.stair_rack.specs.Answers.{IsHistory, Ran, any_call}
+use Rattle.stair_rack.specs.Answers.{Ran, any_call}
 use Rattle.stair_rack.specs.Crash.{CrashMayLeave, EachImage}
 use Rattle.stair_rack.specs.History.{Happening, Made}
 use Rattle.stair_rack.specs.Media.{Image}
@@ -131,6 +131,7 @@ module _ (returning : Returning) (s : State) (before : List Happening) (m : Memb
             seats = refl;
             certain = refl;
             knows = is.knows;
+            remembered = tt;
           }));
     };
   }
@@ -228,7 +229,7 @@ module _ (returning : Returning) (laws : LeadsOpenings returning) (answer : Resu
           by (EndsIn.Ends at error session) = absurd (false≢true (subst (λ (r : Result Geometry Refusal). IsErr r) same error))
           by (EndsIn.GoesOn fine keeps session) =
               let kept : p.is.stopped ≡ None = subst (λ (r : Result Geometry Refusal). Keeps r p.is.stopped) same keeps in
-              session ∙ (λ i. Opened (record { member = p.is.member; rebuild = rebuild i; stopped = kept i }))
+              session ∙ (λ i. Opened (record { member = p.is.member; rebuild = rebuild i; stopped = kept i; remembered = p.remembers i }))
 
   -- nothing is refused but an epoch of which no number is left to draw
   pub only_spent : IsCalm returning s.geometry (is_open x.session) before y.told.history → (refusal : Refusal) → answer ≡ Err refusal

@@ -32,7 +32,7 @@ use Rattle.stair_member.specs.declared.fault.FenceFault.TheVariants as fence
 use Rattle.stair_journal.proofs.ToldLemmas.{answered_cases}
 use Rattle.stair_session.specs.Courses.{Point, point}
 use Rattle.stair_session.specs.Rebuilding.{Rebuild}
-use Rattle.stair_session.specs.Session.{IsArray}
+use Rattle.stair_session.specs.Session.{IsArray, Remembered}
 use Rattle.stair_array.specs.Causes.{BearsOther, HasCause, IsAllowed, IsFree, IsSmall, MemberGoesOn, MarkGoesOn, WasGoneTo, WhyGoesOn}
 use Rattle.stair_array.specs.Created.{created_sector}
 use Rattle.stair_array.specs.Draws.{Before, DrawsFew, weights}
@@ -66,11 +66,11 @@ record IsAsBefore (x z : Point) : Type 0 where
   pub later : IsLater x.told z.told
   pub spared : IsTrue z.told.honest → (j : ℕ) (call : SlotCall) → IsHere x.member j → ¬ WasAnswered j call x.told.history z.told.history
 
-data Replaced (slot : ℕ) (rebuild : Option Rebuild) (answer : Result (Unit {0}) Refusal) (x z : Point) : Type 0 where
+data Replaced (slot : ℕ) (rebuild : Option Rebuild) (known : Option Remembered) (answer : Result (Unit {0}) Refusal) (x z : Point) : Type 0 where
   AsBefore : (refusal : Refusal) → answer ≡ Err refusal → IsAsBefore x z
-      → HasCause (ReplaceSlot slot) refusal (running x.member rebuild) z.member x.told z.told → Replaced slot rebuild answer x z
+      → HasCause (ReplaceSlot slot) refusal (running x.member rebuild known) z.member x.told z.told → Replaced slot rebuild known answer x z
   Joined : (joined : Result Slots AdmitFault) (y : Point) → answer ≡ joined_as joined → IsFree x.member slot → IsReady slot x y
-      → Joins (Admit slot) slot y.member z.member joined y.told z.told → Replaced slot rebuild answer x z
+      → Joins (Admit slot) slot y.member z.member joined y.told z.told → Replaced slot rebuild known answer x z
 
 as_before_none : (x : Point) → IsAsBefore x x
 as_before_none x =
@@ -135,40 +135,40 @@ module _ (slot : ℕ) (x z : Point) (away : ¬ IsHere x.member slot) where
       other = is.other;
     }
 
-unprepared : (slot : ℕ) (rebuild : Option Rebuild) (answer : Result (Unit {0}) Refusal) (x z : Point) → PreparesSlot slot answer x z
+unprepared : (slot : ℕ) (rebuild : Option Rebuild) (known : Option Remembered) (answer : Result (Unit {0}) Refusal) (x z : Point) → PreparesSlot slot answer x z
     → IsFree x.member slot → ¬ IsHere x.member slot → (refusal : Refusal) → answer ≡ Err refusal
-    → IsAsBefore x z × HasCause (ReplaceSlot slot) refusal (running x.member rebuild) z.member x.told z.told
-unprepared slot rebuild _ _ _ (PreparesSlot.WasGone x z only gone) free away refusal is =
+    → IsAsBefore x z × HasCause (ReplaceSlot slot) refusal (running x.member rebuild known) z.member x.told z.told
+unprepared slot rebuild known _ _ _ (PreparesSlot.WasGone x z only gone) free away refusal is =
     let one : Gone slot ≡ refusal = cc in (
       before_prepared slot x z away only,
-      subst (λ (r : Refusal). HasCause (ReplaceSlot slot) r (running x.member rebuild) z.member x.told z.told) one (refl, free, gone),
+      subst (λ (r : Refusal). HasCause (ReplaceSlot slot) r (running x.member rebuild known) z.member x.told z.told) one (refl, free, gone),
     )
-unprepared slot rebuild _ _ _ (PreparesSlot.WasSmall has needs mid x z looks small) free away refusal is =
+unprepared slot rebuild known _ _ _ (PreparesSlot.WasSmall has needs mid x z looks small) free away refusal is =
     let one : SmallDevice slot has needs ≡ refusal = cc in (
       before_looks slot x z away mid looks,
-      subst (λ (r : Refusal). HasCause (ReplaceSlot slot) r (running x.member rebuild) z.member x.told z.told) one
+      subst (λ (r : Refusal). HasCause (ReplaceSlot slot) r (running x.member rebuild known) z.member x.told z.told) one
           (refl, free, small_wider slot x z away mid looks x.member.array.geometry has needs small),
     )
-unprepared slot rebuild _ _ _ (PreparesSlot.WasOther mid x z looks other) free away refusal is =
+unprepared slot rebuild known _ _ _ (PreparesSlot.WasOther mid x z looks other) free away refusal is =
     let one : AlreadyArray slot ≡ refusal = cc in (
       before_looks slot x z away mid looks,
-      subst (λ (r : Refusal). HasCause (ReplaceSlot slot) r (running x.member rebuild) z.member x.told z.told) one
+      subst (λ (r : Refusal). HasCause (ReplaceSlot slot) r (running x.member rebuild known) z.member x.told z.told) one
           (refl, free, other_wider slot x z away mid looks x.member.array.geometry other),
     )
-unprepared slot rebuild _ _ _ (PreparesSlot.Prepared first second mid x y z looks fit later placed sees rules) free away refusal is = absurd (cc)
+unprepared slot rebuild known _ _ _ (PreparesSlot.Prepared first second mid x y z looks fit later placed sees rules) free away refusal is = absurd (cc)
 
-replaced : (slot : ℕ) (rebuild : Option Rebuild) (answer : Result (Unit {0}) Refusal) (x z : Point) → Replaces slot answer x z
-    → IsArray (running x.member rebuild) → Replaced slot rebuild answer x z
-replaced slot rebuild _ _ _ (Replaces.OutOf x past) array =
+replaced : (slot : ℕ) (rebuild : Option Rebuild) (known : Option Remembered) (answer : Result (Unit {0}) Refusal) (x z : Point) → Replaces slot answer x z
+    → IsArray (running x.member rebuild known) → Replaced slot rebuild known answer x z
+replaced slot rebuild known _ _ _ (Replaces.OutOf x past) array =
     Replaced.AsBefore (OutOfRange slot x.member.array.geometry.n) refl (as_before_none x)
     (record { asked_is = refl; limit_is = refl; above = past; nothing = refl })
-replaced slot rebuild _ _ _ (Replaces.Busy x below busy) array =
+replaced slot rebuild known _ _ _ (Replaces.Busy x below busy) array =
     Replaced.AsBefore (SlotBusy slot (mark_in x.member.array slot)) refl (as_before_none x) (refl, below, refl, busy, refl)
-replaced slot rebuild _ _ _ (Replaces.Unprepared refusal x z free prepares) array =
+replaced slot rebuild known _ _ _ (Replaces.Unprepared refusal x z free prepares) array =
     let both =
-    unprepared slot rebuild (Err refusal) x z prepares free (down_not_here x.member slot array.marks free.1) refusal refl in
+    unprepared slot rebuild known (Err refusal) x z prepares free (down_not_here x.member slot array.marks free.1) refusal refl in
     Replaced.AsBefore refusal refl both.0 both.1
-replaced slot rebuild _ _ _ (Replaces.Admitted joined x y z free prepares joins) array =
+replaced slot rebuild known _ _ _ (Replaces.Admitted joined x y z free prepares joins) array =
     Replaced.Joined joined y refl free (ready_of slot (Ok tt) x y prepares refl) joins
 
 -- AN ADMISSION
@@ -218,13 +218,13 @@ module _ (slot : ℕ) (x y z : Point) (joined : Result Slots AdmitFault) (free :
 
   -- ITS SLOTS AND DRAWS
 
-  joined_goes_on : (rebuild : Option Rebuild) → IsArray (running x.member rebuild) → MemberGoesOn (ReplaceSlot slot) x.told z.told x.member z.member
-  joined_goes_on rebuild array =
+  joined_goes_on : (rebuild : Option Rebuild) (known : Option Remembered) → IsArray (running x.member rebuild known) → MemberGoesOn (ReplaceSlot slot) x.told z.told x.member z.member
+  joined_goes_on rebuild known array =
       admit_goes_on slot x.member y.member z.member (refusal_in joined) x.told y.told z.told joins.establishes (ready_array slot x y r)
       (ready_whys slot x y r) (ready_later slot x y r) free.0 gone_slot array.marks free.1 (ready_draw slot x y r z.told after.later).1
 
-  joined_draws : (rebuild : Option Rebuild) → IsArray (running x.member rebuild) → DrawsFew (ReplaceSlot slot) x.member z.member x.told z.told
-  joined_draws rebuild array = record {
+  joined_draws : (rebuild : Option Rebuild) (known : Option Remembered) → IsArray (running x.member rebuild known) → DrawsFew (ReplaceSlot slot) x.member z.member x.told z.told
+  joined_draws rebuild known array = record {
     draw = y.member.drawn;
     had_seen = (ready_draw slot x y r z.told after.later).0;
     few =
@@ -276,23 +276,23 @@ module _ (slot : ℕ) (x y z : Point) (joined : Result Slots AdmitFault) (free :
         ]
 
 -- by what is answered of it
-joined_caused : (slot : ℕ) (rebuild : Option Rebuild) (x y z : Point) (joined : Result Slots AdmitFault) → IsFree x.member slot → IsReady slot x y
+joined_caused : (slot : ℕ) (rebuild : Option Rebuild) (known : Option Remembered) (x y z : Point) (joined : Result Slots AdmitFault) → IsFree x.member slot → IsReady slot x y
     → Joins (Admit slot) slot y.member z.member joined y.told z.told → (refusal : Refusal) → joined_as joined ≡ Err refusal
-    → HasCause (ReplaceSlot slot) refusal (running x.member rebuild) z.member x.told z.told
-joined_caused slot rebuild x y z (Ok fallen) free r joins refusal is = absurd (cc)
-joined_caused slot rebuild x y z (Err (admit.TooFew whys)) free r joins refusal is =
+    → HasCause (ReplaceSlot slot) refusal (running x.member rebuild known) z.member x.told z.told
+joined_caused slot rebuild known x y z (Ok fallen) free r joins refusal is = absurd (cc)
+joined_caused slot rebuild known x y z (Err (admit.TooFew whys)) free r joins refusal is =
     let one : TooFew whys ≡ refusal = cc in
     let by = (joins.establishes.refused (fence.TooFew whys) refl).0 in
-    subst (λ (s : Refusal). HasCause (ReplaceSlot slot) s (running x.member rebuild) z.member x.told z.told) one
+    subst (λ (s : Refusal). HasCause (ReplaceSlot slot) s (running x.member rebuild known) z.member x.told z.told) one
     (free, record { whys_are = by.0; many = by.1 })
-joined_caused slot rebuild x y z (Err admit.EpochsSpent) free r joins refusal is =
+joined_caused slot rebuild known x y z (Err admit.EpochsSpent) free r joins refusal is =
     let one : EpochsSpent ≡ refusal = cc in
     let by = (joins.establishes.refused fence.EpochsSpent refl).0 in
-    subst (λ (s : Refusal). HasCause (ReplaceSlot slot) s (running x.member rebuild) z.member x.told z.told) one
+    subst (λ (s : Refusal). HasCause (ReplaceSlot slot) s (running x.member rebuild known) z.member x.told z.told) one
     (free, record { spent = by.0; enough = by.1 })
-joined_caused slot rebuild x y z (Err (admit.Gone told)) free r joins refusal is =
+joined_caused slot rebuild known x y z (Err (admit.Gone told)) free r joins refusal is =
     let one : Gone told ≡ refusal = cc in
-    subst (λ (s : Refusal). HasCause (ReplaceSlot slot) s (running x.member rebuild) z.member x.told z.told) one
+    subst (λ (s : Refusal). HasCause (ReplaceSlot slot) s (running x.member rebuild known) z.member x.told z.told) one
     (joins.told.0, free, found_gone slot x y z (Err (admit.Gone told)) free r joins joins.told.1)
 
 -- where the array doesn't stop an epoch stands
@@ -316,14 +316,14 @@ joined_made slot x y z (Err (admit.Gone told)) free r joins is honest = absurd (
 
 -- WHAT IS PROMISED
 
-module _ (slot : ℕ) (answer : Answer (ReplaceSlot slot)) (m last : Membership) (rebuild : Option Rebuild) (stopped : Option FenceFault)
-    (old new : Telling) (array : IsArray (running m rebuild)) (does : Replaces slot answer (point m old) (point last new))
+module _ (slot : ℕ) (answer : Answer (ReplaceSlot slot)) (m last : Membership) (rebuild : Option Rebuild) (known : Option Remembered) (stopped : Option FenceFault)
+    (old new : Telling) (array : IsArray (running m rebuild known)) (does : Replaces slot answer (point m old) (point last new))
     (kept : Keeps answer stopped) where
   abbrev Came : Type 0
-  Came = Replaced slot rebuild answer (point m old) (point last new)
+  Came = Replaced slot rebuild known answer (point m old) (point last new)
 
   it : Came
-  it = replaced slot rebuild answer (point m old) (point last new) does array
+  it = replaced slot rebuild known answer (point m old) (point last new) does array
 
   -- a slot that may be admitted doesn't take part
   not_here : IsFree m slot → ¬ IsHere m slot
@@ -344,7 +344,7 @@ module _ (slot : ℕ) (answer : Answer (ReplaceSlot slot)) (m last : Membership)
     marks = λ j below. MarkGoesOn.Stays (ap (λ (n : Membership). mark_in n.array j) is.member);
     drawn = let alike : last.drawn ≡ m.drawn = ap (λ (n : Membership). n.drawn) is.member in omega (arith, alike);
   }
-  goes_on (Replaced.Joined joined y same free r joins) = joined_goes_on slot (point m old) y (point last new) joined free r joins rebuild array
+  goes_on (Replaced.Joined joined y same free r joins) = joined_goes_on slot (point m old) y (point last new) joined free r joins rebuild known array
 
   draws : Came → DrawsFew (ReplaceSlot slot) m last old new
   draws (Replaced.AsBefore refusal same is cause) = record {
@@ -355,17 +355,17 @@ module _ (slot : ℕ) (answer : Answer (ReplaceSlot slot)) (m last : Membership)
         let weigh : weights last ≡ weights m = ap weights is.member in
         omega (arith, drawn, weigh);
   }
-  draws (Replaced.Joined joined y same free r joins) = joined_draws slot (point m old) y (point last new) joined free r joins rebuild array
+  draws (Replaced.Joined joined y same free r joins) = joined_draws slot (point m old) y (point last new) joined free r joins rebuild known array
 
   caused : Came → (given : Answer (ReplaceSlot slot)) → answer ≡ given
-      → IfErr given (λ why. HasCause (ReplaceSlot slot) why (running m rebuild) last old new)
+      → IfErr given (λ why. HasCause (ReplaceSlot slot) why (running m rebuild known) last old new)
   caused came (Ok done) is = tt
   caused (Replaced.AsBefore refusal same before cause) (Err why) is =
       let both : ◌≡◌ {A = Result (Unit {0}) Refusal} (Err refusal) (Err why) = sym same ∙ is in
       let one : refusal ≡ why = cc in
-      subst (λ (s : Refusal). HasCause (ReplaceSlot slot) s (running m rebuild) last old new) one cause
+      subst (λ (s : Refusal). HasCause (ReplaceSlot slot) s (running m rebuild known) last old new) one cause
   caused (Replaced.Joined joined y same free r joins) (Err why) is =
-      joined_caused slot rebuild (point m old) y (point last new) joined free r joins why (sym same ∙ is)
+      joined_caused slot rebuild known (point m old) y (point last new) joined free r joins why (sym same ∙ is)
 
   -- what is done was begun
   done_free : Came → answer ≡ Ok tt → IsFree m slot
@@ -373,13 +373,13 @@ module _ (slot : ℕ) (answer : Answer (ReplaceSlot slot)) (m last : Membership)
       let never : ◌≡◌ {A = Result (Unit {0}) Refusal} (Err refusal) (Ok tt) = sym same ∙ is in absurd (cc)
   done_free (Replaced.Joined joined y same free r joins) is = free
 
-  allowed : (given : Answer (ReplaceSlot slot)) → answer ≡ given → IsAllowed (ReplaceSlot slot) given (running m rebuild)
+  allowed : (given : Answer (ReplaceSlot slot)) → answer ≡ given → IsAllowed (ReplaceSlot slot) given (running m rebuild known)
   allowed (Ok done) is = done_free it is
   allowed (Err why) is = tt
 
   stands : Came → ¬ Stops answer → IsArray (unopened last)
   stands (Replaced.AsBefore refusal same is cause) going =
-      subst (λ (n : Membership). IsArray (unopened n)) (sym is.member) (without_rebuild m m rebuild stopped array refl)
+      subst (λ (n : Membership). IsArray (unopened n)) (sym is.member) (without_rebuild m m rebuild known stopped array refl)
   stands (Replaced.Joined joined y same free r joins) going =
       epoch_array (Admit slot) y.member last (refusal_in joined) y.told new joins.establishes
       (joined_stands joined (subst (λ (a : Result (Unit {0}) Refusal). ¬ Stops a) same going))
@@ -389,7 +389,7 @@ module _ (slot : ℕ) (answer : Answer (ReplaceSlot slot)) (m last : Membership)
   left_out (Replaced.Joined joined y same free r joins) honest =
       joined_left_out slot (point m old) y (point last new) joined free r joins (not_here free) honest
 
-  made : (given : Answer (ReplaceSlot slot)) → answer ≡ given → IsTrue new.honest → HasMade (ReplaceSlot slot) given (running m rebuild) last old new
+  made : (given : Answer (ReplaceSlot slot)) → answer ≡ given → IsTrue new.honest → HasMade (ReplaceSlot slot) given (running m rebuild known) last old new
   made (Err why) is honest = tt
   made (Ok done) is honest = by it
     where
@@ -409,22 +409,23 @@ module _ (slot : ℕ) (answer : Answer (ReplaceSlot slot)) (m last : Membership)
       by (Replaced.Joined joined y same free r joins) = joined_fit slot (point m old) y (point last new) joined free r joins honest
 
   pub replace_performs : Performs (ReplaceSlot slot) answer (events_of (ReplaceSlot slot) answer m.array last.array)
-      (record { told = old; session = Opened (running m rebuild) })
+      (record { told = old; session = Opened (running m rebuild known) })
       (record { told = new; session = Opened (left_of last rebuild stopped) })
   replace_performs = record {
-    was = running m rebuild;
+    was = running m rebuild known;
     is = left_of last rebuild stopped;
     starts = (refl, refl);
     ends = EndsIn.GoesOn (λ never. absurd (cc)) kept refl;
     later = later it;
     goes_on = goes_on it;
-    rebuild = progress_kept m last rebuild stopped array (geometry it);
+    rebuild = progress_kept m last rebuild known stopped array (geometry it);
     draws_few = draws it;
     events_are = refl;
     caused = caused it answer refl;
     allowed = allowed answer refl;
-    array = λ going. stands_rebuilt m last rebuild stopped array (geometry it) (stands it going);
+    array = λ going. stands_rebuilt m last rebuild known stopped array (geometry it) (stands it going);
     counted = tt;
+    remembers = refl;
     does = does;
     left_out = left_out it;
     made = made answer refl;

@@ -39,7 +39,7 @@ use Rattle.stair_array.specs.Mends.{Admitted, Busy, IsPreparing, OutOf, Prepares
 use Rattle.stair_array.specs.Promise.{IsInState, IsLed, IsLeftBy, IsOpenFor, Keeps, Performs, Seen, is_open}
 use Rattle.stair_array.proofs.BesideServingLemmas.{beside_moments}
 use Rattle.stair_array.proofs.LeftServingLemmas.{StandsAt}
-use Rattle.stair_array.proofs.OpenStepLemmas.{calm_first, goes_on_as, kept_fault, open_first, serves_first, serves_over, stops_as}
+use Rattle.stair_array.proofs.OpenStepLemmas.{forgotten_in, calm_first, goes_on_as, kept_fault, open_first, serves_first, serves_over, stops_as}
 use Rattle.stair_array.proofs.PartsLemmas.{epoch_after}
 use Rattle.stair_array.proofs.PreparedLemmas.{down_out, prepared_looked, prepares_ran, preparing_beside, unprepared_member}
 use Rattle.stair_array.proofs.PreparedSlotLemmas.{IsReady, ready_of}
@@ -143,7 +143,7 @@ module _ (returning : Returning) (laws : LeadsReads returning) (besides : LeadsB
               history = then.history;
               of = then.of;
               knows = then.knows;
-            })) p.rebuild calm;
+            })) p.rebuild (forgotten_in begins.words p.is.remembered p.remembers) calm;
       }
     where
       same_last : last ≡ m
@@ -291,7 +291,7 @@ module _ (returning : Returning) (laws : LeadsReads returning) (besides : LeadsB
       in_state =
           serves_over returning laws (ReplaceSlot slot) no_opening answer events x y p before s state begins.words s.content last_geometry
           (admissions.serves before p.was begins.words s.content slot z.member last x.told.history z.told y.told serves looked e honest on_y)
-          p.rebuild calm
+          p.rebuild (forgotten_in begins.words p.is.remembered p.remembers) calm
 
       -- the slot is marked as one that is rebuilt, or Down where it was gone
       marked : mark_in last.array slot ≡ mark_for (why_of last slot)

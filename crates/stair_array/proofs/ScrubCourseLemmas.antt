@@ -16,7 +16,7 @@ use Rattle.stair_stripes.specs.declared.gathering.Gathered.{Gathered}
 use Rattle.stair_state.specs.Redoing.{AtRest}
 use Rattle.stair_session.specs.Courses.{Loads, Point, Redoes, point}
 use Rattle.stair_session.specs.Rebuilding.{Rebuild}
-use Rattle.stair_session.specs.Session.{IsArray, IsLiveIn}
+use Rattle.stair_session.specs.Session.{IsArray, IsLiveIn, Remembered}
 use Rattle.stair_array.specs.Calls.{LoadsStripe, answer_of, refused}
 use Rattle.stair_array.specs.Causes.{HasCause, IsErasedFor}
 use Rattle.stair_array.specs.Machine.{OutOfRange, Refusal, ScrubStripe}
@@ -67,9 +67,9 @@ scrubbed_left_out t _ _ _ (Scrubs.Rewrote was read into gathered redo refusal x 
 
 -- WHY IT IS REFUSED
 
-module _ (rebuild : Option Rebuild) (t : ℕ) (x z : Point) where
+module _ (rebuild : Option Rebuild) (known : Option Remembered) (t : ℕ) (x z : Point) where
   abbrev Caused : Refusal → Type 0
-  Caused why = HasCause (ScrubStripe t) why (running x.member rebuild) z.member x.told z.told
+  Caused why = HasCause (ScrubStripe t) why (running x.member rebuild known) z.member x.told z.told
 
   stops_caused : (fault : FenceFault) → StopsBy fault x z → Caused (refused fault)
   stops_caused (fence.TooFew whys) is = (is.one, record { whys_are = is.by.0; many = is.by.1 })
@@ -79,22 +79,22 @@ module _ (rebuild : Option Rebuild) (t : ℕ) (x z : Point) where
   unloaded_caused why (Unloaded.ByEpoch fault same stops) = subst Caused (sym same) (stops_caused fault stops)
   unloaded_caused why (Unloaded.ByPattern counts same is) = subst Caused (sym same) (refl, is)
 
-pub scrubbed_caused : (rebuild : Option Rebuild) (t : ℕ) (answer : Result ℕ Refusal) (x z : Point) → Scrubs t answer x z → IsMembership x.member
-    → (why : Refusal) → answer ≡ Err why → HasCause (ScrubStripe t) why (running x.member rebuild) z.member x.told z.told
-scrubbed_caused rebuild t _ _ _ (Scrubs.OutOf x past) rules why same =
+pub scrubbed_caused : (rebuild : Option Rebuild) (known : Option Remembered) (t : ℕ) (answer : Result ℕ Refusal) (x z : Point) → Scrubs t answer x z → IsMembership x.member
+    → (why : Refusal) → answer ≡ Err why → HasCause (ScrubStripe t) why (running x.member rebuild known) z.member x.told z.told
+scrubbed_caused rebuild known t _ _ _ (Scrubs.OutOf x past) rules why same =
     let by : OutOfRange t x.member.array.geometry.stripes ≡ why = cc in
-    subst (λ (r : Refusal). HasCause (ScrubStripe t) r (running x.member rebuild) x.member x.told x.told) by
+    subst (λ (r : Refusal). HasCause (ScrubStripe t) r (running x.member rebuild known) x.member x.told x.told) by
     (record { asked_is = refl; limit_is = refl; above = past; nothing = refl })
-scrubbed_caused rebuild t _ _ _ (Scrubs.Stops was read gathered fault x y below loads) rules why same =
+scrubbed_caused rebuild known t _ _ _ (Scrubs.Stops was read gathered fault x y below loads) rules why same =
     let one : ◌≡◌ {A = Result (Unit {0}) Refusal} (Err (refused fault)) (Err why) = cc in
-    unloaded_caused rebuild t x y why
+    unloaded_caused rebuild known t x y why
     (loaded_refused t read (Err (refused fault)) x y (LoadsStripe.Stops was read gathered fault x y loads) why one)
-scrubbed_caused rebuild t _ _ _ (Scrubs.Sound was read gathered x y below loads sound) rules why same = absurd (cc)
-scrubbed_caused rebuild t _ _ _ (Scrubs.Unrestored was read into gathered refusal x y below loads is) rules why same =
+scrubbed_caused rebuild known t _ _ _ (Scrubs.Sound was read gathered x y below loads sound) rules why same = absurd (cc)
+scrubbed_caused rebuild known t _ _ _ (Scrubs.Unrestored was read into gathered refusal x y below loads is) rules why same =
     let one : ◌≡◌ {A = Result (Unit {0}) Refusal} (Err refusal) (Err why) = cc in
-    unloaded_caused rebuild t x y why
+    unloaded_caused rebuild known t x y why
     (loaded_refused t into (Err refusal) x y (LoadsStripe.Loaded was read gathered (Err refusal) x y loads is) why one)
-scrubbed_caused rebuild t _ _ _ (Scrubs.Rewrote was read into gathered redo refusal x y z below loads is of_stripe formed on_live run) rules why
+scrubbed_caused rebuild known t _ _ _ (Scrubs.Rewrote was read into gathered redo refusal x y z below loads is of_stripe formed on_live run) rules why
     same =
     by refusal run same
   where
@@ -102,12 +102,12 @@ scrubbed_caused rebuild t _ _ _ (Scrubs.Rewrote was read into gathered redo refu
     sooner = load_part t (IsCellOf x.member.array.geometry) gathered was read None x y loads rules
 
     by : (found : Option FenceFault) → Redoes x.member.array.geometry redo into AtRest found y z → answer_of (cell_count redo.cells) found ≡ Err why
-        → HasCause (ScrubStripe t) why (running x.member rebuild) z.member x.told z.told
+        → HasCause (ScrubStripe t) why (running x.member rebuild known) z.member x.told z.told
     by None run is = absurd (cc)
     by (Some fault) run is =
         let one : refused fault ≡ why = cc in
-        subst (λ (r : Refusal). HasCause (ScrubStripe t) r (running x.member rebuild) z.member x.told z.told) one
-        (stops_caused rebuild t x z fault
+        subst (λ (r : Refusal). HasCause (ScrubStripe t) r (running x.member rebuild known) z.member x.told z.told) one
+        (stops_caused rebuild known t x z fault
         (stops_sooner x y z sooner (redo_part x.member.array.geometry redo into AtRest (Some fault) y z run sooner.rules (sym sooner.geometry) formed)
         fault (redo_stops x.member.array.geometry redo into AtRest (Some fault) y z run sooner.rules (sym sooner.geometry) formed fault refl)))
 

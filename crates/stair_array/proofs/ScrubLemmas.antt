@@ -6,7 +6,7 @@ use Rattle.stair_member.specs.Membership.{Membership}
 use Rattle.stair_member.specs.declared.fault.FenceFault.{FenceFault}
 use Rattle.stair_session.specs.Courses.{point}
 use Rattle.stair_session.specs.Rebuilding.{Rebuild}
-use Rattle.stair_session.specs.Session.{IsArray}
+use Rattle.stair_session.specs.Session.{IsArray, Remembered}
 use Rattle.stair_array.specs.Causes.{HasCause, HasCounted, IsAllowed}
 use Rattle.stair_array.specs.Events.{events_of}
 use Rattle.stair_array.specs.Machine.{Answer, ScrubStripe}
@@ -18,16 +18,16 @@ use Rattle.stair_array.proofs.RepairedLemmas.{scrubbed_repaired}
 use Rattle.stair_array.proofs.ScrubCourseLemmas.{scrubbed_array, scrubbed_below, scrubbed_caused, scrubbed_counted, scrubbed_left_out, scrubbed_part}
 use Rattle.stair_array.proofs.ScrubMadeLemmas.{scrubbed_made}
 
-module _ (t : ℕ) (answer : Answer (ScrubStripe t)) (m last : Membership) (rebuild : Option Rebuild) (stopped : Option FenceFault) (old new : Telling)
-    (array : IsArray (running m rebuild)) (does : Scrubs t answer (point m old) (point last new)) (kept : Keeps answer stopped) where
+module _ (t : ℕ) (answer : Answer (ScrubStripe t)) (m last : Membership) (rebuild : Option Rebuild) (known : Option Remembered) (stopped : Option FenceFault) (old new : Telling)
+    (array : IsArray (running m rebuild known)) (does : Scrubs t answer (point m old) (point last new)) (kept : Keeps answer stopped) where
   part : IsPart 0 (point m old) (point last new)
   part = scrubbed_part t answer (point m old) (point last new) does array.member
 
-  caused : (given : Answer (ScrubStripe t)) → answer ≡ given → IfErr given (λ why. HasCause (ScrubStripe t) why (running m rebuild) last old new)
+  caused : (given : Answer (ScrubStripe t)) → answer ≡ given → IfErr given (λ why. HasCause (ScrubStripe t) why (running m rebuild known) last old new)
   caused (Ok count) same = tt
-  caused (Err why) same = scrubbed_caused rebuild t answer (point m old) (point last new) does array.member why same
+  caused (Err why) same = scrubbed_caused rebuild known t answer (point m old) (point last new) does array.member why same
 
-  allowed : (given : Answer (ScrubStripe t)) → answer ≡ given → IsAllowed (ScrubStripe t) given (running m rebuild)
+  allowed : (given : Answer (ScrubStripe t)) → answer ≡ given → IsAllowed (ScrubStripe t) given (running m rebuild known)
   allowed (Ok count) same = scrubbed_below t answer (point m old) (point last new) does count same
   allowed (Err why) same = tt
 
@@ -35,7 +35,7 @@ module _ (t : ℕ) (answer : Answer (ScrubStripe t)) (m last : Membership) (rebu
   counted (Ok count) same = scrubbed_counted t answer (point m old) (point last new) does array.member count same
   counted (Err why) same = tt
 
-  made : (given : Answer (ScrubStripe t)) → answer ≡ given → IsTrue new.honest → HasMade (ScrubStripe t) given (running m rebuild) last old new
+  made : (given : Answer (ScrubStripe t)) → answer ≡ given → IsTrue new.honest → HasMade (ScrubStripe t) given (running m rebuild known) last old new
   made (Ok count) same honest = scrubbed_made t answer (point m old) (point last new) does array.member count same honest
   made (Err why) same honest = tt
 
@@ -44,24 +44,25 @@ module _ (t : ℕ) (answer : Answer (ScrubStripe t)) (m last : Membership) (rebu
   repaired (Err why) same honest = tt
 
   pub scrub_performs : Performs (ScrubStripe t) answer (events_of (ScrubStripe t) answer m.array last.array)
-      (record { told = old; session = Opened (running m rebuild) })
+      (record { told = old; session = Opened (running m rebuild known) })
       (record { told = new; session = Opened (left_of last rebuild stopped) })
   scrub_performs = record {
-    was = running m rebuild;
+    was = running m rebuild known;
     is = left_of last rebuild stopped;
     starts = (refl, refl);
     ends = EndsIn.GoesOn (λ never. absurd (cc)) kept refl;
     later = part.after.later;
-    goes_on = member_goes_on m last rebuild stopped old new array part (ScrubStripe t);
-    rebuild = keeps_progress m last rebuild stopped old new array part;
+    goes_on = member_goes_on m last rebuild known stopped old new array part (ScrubStripe t);
+    rebuild = keeps_progress m last rebuild known stopped old new array part;
     draws_few = draws_few (ScrubStripe t) (point m old) (point last new) part;
     events_are = refl;
     caused = caused answer refl;
     allowed = allowed answer refl;
     array = λ going.
-        stands m last rebuild stopped old new array part
-        (scrubbed_array t answer (point m old) (point last new) does going (bare m last rebuild stopped old new array part));
+        stands m last rebuild known stopped old new array part
+        (scrubbed_array t answer (point m old) (point last new) does going (bare m last rebuild known stopped old new array part));
     counted = counted answer refl;
+    remembers = refl;
     does = does;
     left_out = scrubbed_left_out t answer (point m old) (point last new) does array.member;
     made = made answer refl;

@@ -16,6 +16,7 @@ use Rattle.stair_array.specs.Machine.{Answer, ScrubStripe}
 use Rattle.stair_array.specs.Promise.{IsInState, IsLed, IsLeftBy, IsOpenFor, Performs, Seen, is_open}
 use Rattle.stair_array.proofs.KeptStepLemmas as kept
 use Rattle.stair_array.proofs.KeptStepLemmas.{IsKeeping}
+use Rattle.stair_array.proofs.OpenStepLemmas.{forgetting, forgotten_in}
 use Rattle.stair_array.proofs.ScrubPartLemmas.{AnyCount, IsInside, moments, outcome}
 
 pub keeping : (t : ℕ) → IsKeeping (ScrubStripe t)
@@ -36,7 +37,7 @@ module _ (returning : Returning) (laws : LeadsReads returning) (redos : LeadsRed
   abbrev pub begins : IsOpenFor returning before s p.was x.told.history
   begins = kept.begins returning laws (ScrubStripe t) (keeping t) answer events x y p before s history state
 
-  abbrev pub serves : IsServing returning before p.was begins.words s.content x.told.history
+  abbrev pub serves : IsServing returning before (forgetting p.was) begins.words s.content x.told.history
   serves = kept.serves returning laws (ScrubStripe t) (keeping t) answer events x y p before s history state
 
   pub calm_begun : (h : List Happening) → IsCalm returning s.geometry (is_open x.session) before h
@@ -50,7 +51,7 @@ module _ (returning : Returning) (laws : LeadsReads returning) (redos : LeadsRed
       (λ count now so was. record { content = was.content; in_doubt = was.in_doubt ∙ begins.certain }) answer (point p.is.member y.told) refl refl
       (outcome returning laws before p.was.rebuild p.was.stopped begins.words s.content t redos answer (point p.was.member x.told)
       (point p.is.member y.told) p.does
-      serves honest (calm_begun y.told.history calm)) (calm_begun y.told.history calm)
+      serves honest (calm_begun y.told.history calm)) (forgotten_in begins.words p.is.remembered p.remembers) (calm_begun y.told.history calm)
 
   pub cuts : (c : List Happening) → IsMoment x.told.history c y.told.history → IsCalm returning s.geometry (is_open x.session) before c
       → EachImage (IsLeftBy returning (ScrubStripe t) p.was.member before c s) c

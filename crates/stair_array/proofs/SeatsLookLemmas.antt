@@ -17,7 +17,7 @@ use Rattle.stair_session.specs.InSession.{state_with}
 use Rattle.stair_session.specs.Leading.{led_to}
 use Rattle.stair_session.specs.Rebuilding.{Rebuild}
 use Rattle.stair_session.specs.Returning.{IsCalm, Returning}
-use Rattle.stair_session.specs.Session.{IsArray, seats_in}
+use Rattle.stair_session.specs.Session.{IsArray, IsRememberedIn, Remembered, seats_in}
 use Rattle.stair_session.proofs.Serving.{IsCalmTo, IsServing, LeadsReads}
 use Rattle.stair_session.proofs.Mending.{calm_going}
 use Rattle.stair_array.specs.Causes.{IsAllowed}
@@ -27,26 +27,26 @@ use Rattle.stair_array.specs.Promise.{EndsIn, IsInState, IsLed, IsLeftBy, IsOpen
 use Rattle.stair_array.proofs.AnsweredLemmas.{never_answered}
 use Rattle.stair_array.proofs.GoesOnLemmas.{draws_few, member_goes_on}
 use Rattle.stair_array.proofs.LoadingLemmas.{same_serves}
-use Rattle.stair_array.proofs.OpenStepLemmas.{open_first, serves_first, serves_over, calm_first}
+use Rattle.stair_array.proofs.OpenStepLemmas.{forgetting, open_first, serves_bare, serves_over, calm_first}
 use Rattle.stair_array.proofs.PartsLemmas.{IsPart, part_none}
 
 -- ON ANY RACK
 
-module _ (m : Membership) (rebuild : Option Rebuild) (x : Telling) (array : IsArray (running m rebuild)) where
+module _ (m : Membership) (rebuild : Option Rebuild) (known : Option Remembered) (x : Telling) (array : IsArray (running m rebuild known)) where
   none : IsPart 0 (point m x) (point m x)
   none = part_none (point m x) array.member
 
   abbrev seen : Seen
-  seen = record { told = x; session = Opened (running m rebuild) }
+  seen = record { told = x; session = Opened (running m rebuild known) }
 
   pub look_performs : Performs LookAtSeats (Ok (seats_in m.array)) (events_of LookAtSeats (Ok (seats_in m.array)) m.array m.array) seen seen
   look_performs = record {
-    was = running m rebuild;
-    is = running m rebuild;
+    was = running m rebuild known;
+    is = running m rebuild known;
     starts = (refl, refl);
     ends = EndsIn.GoesOn (λ never. absurd (cc)) refl refl;
     later = later_none x;
-    goes_on = member_goes_on m m rebuild None x x array none LookAtSeats;
+    goes_on = member_goes_on m m rebuild known None x x array none LookAtSeats;
     rebuild = KeepsProgress.Stays refl (λ r is. (array.rebuilds r is).0);
     draws_few = draws_few LookAtSeats (point m x) (point m x) none;
     events_are = refl;
@@ -54,6 +54,7 @@ module _ (m : Membership) (rebuild : Option Rebuild) (x : Telling) (array : IsAr
     allowed = refl;
     array = λ going. array;
     counted = tt;
+    remembers = refl;
     does = refl;
     left_out = λ honest j call here was gone. absurd (never_answered j call x.history was);
     made = λ honest. tt;
@@ -78,8 +79,8 @@ module _ (returning : Returning) (laws : LeadsReads returning) (answer : Answer 
   abbrev begins : IsOpenFor returning before s p.was x.told.history
   begins = open_first returning laws LookAtSeats no_opening answer events x y p before s state
 
-  serves : IsServing returning before p.was begins.words s.content x.told.history
-  serves = serves_first returning laws LookAtSeats no_opening answer events x y p before s state history
+  serves : IsServing returning before (forgetting p.was) begins.words s.content x.told.history
+  serves = serves_bare returning laws LookAtSeats no_opening answer events x y p before s state history
 
   calm_begun : (h : List Happening) → IsCalm returning s.geometry (is_open x.session) before h → IsCalmTo returning m.array.geometry before h
   calm_begun = calm_first returning laws LookAtSeats no_opening answer events x y p before s state
@@ -126,13 +127,14 @@ module _ (returning : Returning) (laws : LeadsReads returning) (answer : Answer 
         serves_over returning laws LookAtSeats no_opening answer events x y p before s state begins.words s.content
         (ap (λ (k : Membership). k.array.geometry) same_member)
         (subst (λ (k : Membership). IsServing returning before (led_to p.was k) begins.words s.content y.told.history) (sym same_member) here) p.rebuild
+        (subst (IsRememberedIn begins.words) (sym p.remembers) begins.remembered)
         (calm_begun y.told.history calm);
   }
     where
       here : IsServing returning before (led_to p.was m) begins.words s.content y.told.history
       here =
           same_serves returning laws before p.was.rebuild p.was.stopped begins.words s.content (point m y.told) (point m y.told) refl honest
-          (subst (λ (t : Telling). IsServing returning before p.was begins.words s.content t.history) (sym same_told) serves)
+          (subst (λ (t : Telling). IsServing returning before (forgetting p.was) begins.words s.content t.history) (sym same_told) serves)
           (calm_going returning m.array.geometry before y.told.history
           (subst (λ (t : Telling). Ran any_call before t.history) (sym same_told) serves.is_open.ran) (calm_begun y.told.history calm))
 
@@ -150,7 +152,7 @@ module _ (returning : Returning) (laws : LeadsReads returning) (answer : Answer 
         };
         stands =
             laws.alone (state_with m s.content None m.array) x.told.history image serves.history
-            (laws.stands before p.was begins.words s.content x.told.history serves calm) left;
+            (laws.stands before (forgetting p.was) begins.words s.content x.told.history serves calm) left;
       }
 
   cuts : (c : List Happening) → IsMoment x.told.history c y.told.history → IsCalm returning s.geometry (is_open x.session) before c

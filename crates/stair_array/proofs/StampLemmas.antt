@@ -10,7 +10,7 @@ use Rattle.stair_member.specs.declared.fault.FenceFault.{FenceFault}
 use Rattle.stair_member.specs.declared.fault.FenceFault.TheVariants as fence
 use Rattle.stair_session.specs.Courses.{Point, point}
 use Rattle.stair_session.specs.Rebuilding.{Rebuild}
-use Rattle.stair_session.specs.Session.{IsArray}
+use Rattle.stair_session.specs.Session.{IsArray, Remembered}
 use Rattle.stair_array.specs.Calls.{refused}
 use Rattle.stair_array.specs.Causes.{HasCause, IsAllowed}
 use Rattle.stair_array.specs.Events.{events_of}
@@ -44,41 +44,42 @@ module _ (frozen : Bool) (label : List ℕ) where
       (by.0, by.2, (does.establishes.refused by.0 by.1).0)
 
 -- THE FROZEN MARK
-module _ (frozen : Bool) (answer : Answer (SetFrozen frozen)) (m last : Membership) (rebuild : Option Rebuild) (stopped : Option FenceFault)
-    (old new : Telling) (array : IsArray (running m rebuild)) (does : StampsAs frozen m.array.label answer (point m old) (point last new))
+module _ (frozen : Bool) (answer : Answer (SetFrozen frozen)) (m last : Membership) (rebuild : Option Rebuild) (known : Option Remembered) (stopped : Option FenceFault)
+    (old new : Telling) (array : IsArray (running m rebuild known)) (does : StampsAs frozen m.array.label answer (point m old) (point last new))
     (kept : Keeps answer stopped) where
   frozen_part : IsPart 1 (point m old) (point last new)
   frozen_part = stamped_part frozen m.array.label answer (point m old) (point last new) does array.member
 
   frozen_caused : (given : Answer (SetFrozen frozen)) → answer ≡ given
-      → IfErr given (λ why. HasCause (SetFrozen frozen) why (running m rebuild) last old new)
+      → IfErr given (λ why. HasCause (SetFrozen frozen) why (running m rebuild known) last old new)
   frozen_caused (Ok done) same = tt
   frozen_caused (Err why) same =
       let by = stamped_refused frozen m.array.label answer (point m old) (point last new) does why same in
-      subst (λ (r : Refusal). HasCause (SetFrozen frozen) r (running m rebuild) last old new) (sym by.1) (cause by.0 by.2)
+      subst (λ (r : Refusal). HasCause (SetFrozen frozen) r (running m rebuild known) last old new) (sym by.1) (cause by.0 by.2)
     where
-      cause : (fault : FenceFault) → IsRefusedBy last fault → HasCause (SetFrozen frozen) (refused fault) (running m rebuild) last old new
+      cause : (fault : FenceFault) → IsRefusedBy last fault → HasCause (SetFrozen frozen) (refused fault) (running m rebuild known) last old new
       cause (fence.TooFew whys) is = (tt, record { whys_are = is.0; many = is.1 })
       cause fence.EpochsSpent is = (tt, record { spent = is.0; enough = is.1 })
 
   pub frozen_performs : Performs (SetFrozen frozen) answer (events_of (SetFrozen frozen) answer m.array last.array)
-      (record { told = old; session = Opened (running m rebuild) })
+      (record { told = old; session = Opened (running m rebuild known) })
       (record { told = new; session = Opened (left_of last rebuild stopped) })
   frozen_performs = record {
-    was = running m rebuild;
+    was = running m rebuild known;
     is = left_of last rebuild stopped;
     starts = (refl, refl);
     ends = EndsIn.GoesOn (λ never. absurd (cc)) kept refl;
     later = frozen_part.after.later;
-    goes_on = member_goes_on m last rebuild stopped old new array frozen_part (SetFrozen frozen);
-    rebuild = keeps_progress m last rebuild stopped old new array frozen_part;
+    goes_on = member_goes_on m last rebuild known stopped old new array frozen_part (SetFrozen frozen);
+    rebuild = keeps_progress m last rebuild known stopped old new array frozen_part;
     draws_few = draws_few (SetFrozen frozen) (point m old) (point last new) frozen_part;
     events_are = refl;
     caused = frozen_caused answer refl;
     allowed = frozen_allowed answer;
     array = λ going.
-        stands m last rebuild stopped old new array frozen_part (stamped_array frozen m.array.label answer (point m old) (point last new) does going);
+        stands m last rebuild known stopped old new array frozen_part (stamped_array frozen m.array.label answer (point m old) (point last new) does going);
     counted = tt;
+    remembers = refl;
     does = does;
     left_out = stamped_left_out frozen m.array.label answer (point m old) (point last new) does;
     made = λ honest. tt;
@@ -86,46 +87,47 @@ module _ (frozen : Bool) (answer : Answer (SetFrozen frozen)) (m last : Membersh
     looked = λ honest. tt;
   }
     where
-      frozen_allowed : (given : Answer (SetFrozen frozen)) → IsAllowed (SetFrozen frozen) given (running m rebuild)
+      frozen_allowed : (given : Answer (SetFrozen frozen)) → IsAllowed (SetFrozen frozen) given (running m rebuild known)
       frozen_allowed (Ok done) = tt
       frozen_allowed (Err why) = tt
 
 -- THE LABEL
-module _ (label : List ℕ) (answer : Answer (SetLabel label)) (m last : Membership) (rebuild : Option Rebuild) (stopped : Option FenceFault)
-    (old new : Telling) (array : IsArray (running m rebuild)) (does : StampsAs m.array.frozen label answer (point m old) (point last new))
+module _ (label : List ℕ) (answer : Answer (SetLabel label)) (m last : Membership) (rebuild : Option Rebuild) (known : Option Remembered) (stopped : Option FenceFault)
+    (old new : Telling) (array : IsArray (running m rebuild known)) (does : StampsAs m.array.frozen label answer (point m old) (point last new))
     (kept : Keeps answer stopped) where
   label_part : IsPart 1 (point m old) (point last new)
   label_part = stamped_part m.array.frozen label answer (point m old) (point last new) does array.member
 
   label_caused : (given : Answer (SetLabel label)) → answer ≡ given
-      → IfErr given (λ why. HasCause (SetLabel label) why (running m rebuild) last old new)
+      → IfErr given (λ why. HasCause (SetLabel label) why (running m rebuild known) last old new)
   label_caused (Ok done) same = tt
   label_caused (Err why) same =
       let by = stamped_refused m.array.frozen label answer (point m old) (point last new) does why same in
-      subst (λ (r : Refusal). HasCause (SetLabel label) r (running m rebuild) last old new) (sym by.1) (cause by.0 by.2)
+      subst (λ (r : Refusal). HasCause (SetLabel label) r (running m rebuild known) last old new) (sym by.1) (cause by.0 by.2)
     where
-      cause : (fault : FenceFault) → IsRefusedBy last fault → HasCause (SetLabel label) (refused fault) (running m rebuild) last old new
+      cause : (fault : FenceFault) → IsRefusedBy last fault → HasCause (SetLabel label) (refused fault) (running m rebuild known) last old new
       cause (fence.TooFew whys) is = (tt, record { whys_are = is.0; many = is.1 })
       cause fence.EpochsSpent is = (tt, record { spent = is.0; enough = is.1 })
 
   pub label_performs : Performs (SetLabel label) answer (events_of (SetLabel label) answer m.array last.array)
-      (record { told = old; session = Opened (running m rebuild) })
+      (record { told = old; session = Opened (running m rebuild known) })
       (record { told = new; session = Opened (left_of last rebuild stopped) })
   label_performs = record {
-    was = running m rebuild;
+    was = running m rebuild known;
     is = left_of last rebuild stopped;
     starts = (refl, refl);
     ends = EndsIn.GoesOn (λ never. absurd (cc)) kept refl;
     later = label_part.after.later;
-    goes_on = member_goes_on m last rebuild stopped old new array label_part (SetLabel label);
-    rebuild = keeps_progress m last rebuild stopped old new array label_part;
+    goes_on = member_goes_on m last rebuild known stopped old new array label_part (SetLabel label);
+    rebuild = keeps_progress m last rebuild known stopped old new array label_part;
     draws_few = draws_few (SetLabel label) (point m old) (point last new) label_part;
     events_are = refl;
     caused = label_caused answer refl;
     allowed = label_allowed answer;
     array = λ going.
-        stands m last rebuild stopped old new array label_part (stamped_array m.array.frozen label answer (point m old) (point last new) does going);
+        stands m last rebuild known stopped old new array label_part (stamped_array m.array.frozen label answer (point m old) (point last new) does going);
     counted = tt;
+    remembers = refl;
     does = does;
     left_out = stamped_left_out m.array.frozen label answer (point m old) (point last new) does;
     made = λ honest. tt;
@@ -133,6 +135,6 @@ module _ (label : List ℕ) (answer : Answer (SetLabel label)) (m last : Members
     looked = λ honest. tt;
   }
     where
-      label_allowed : (given : Answer (SetLabel label)) → IsAllowed (SetLabel label) given (running m rebuild)
+      label_allowed : (given : Answer (SetLabel label)) → IsAllowed (SetLabel label) given (running m rebuild known)
       label_allowed (Ok done) = tt
       label_allowed (Err why) = tt

@@ -26,7 +26,7 @@ use Rattle.stair_session.specs.Courses.{Point, point}
 use Rattle.stair_session.specs.InSession.{IsOfContent, state_with}
 use Rattle.stair_session.specs.Returning.{IsCalm, Returning}
 use Rattle.stair_session.specs.SeatSteps.{EachMayDrop}
-use Rattle.stair_session.specs.Session.{ArrayState, seats_in}
+use Rattle.stair_session.specs.Session.{ArrayState, Remembered, seats_in}
 use Rattle.stair_session.proofs.SeatLemmas.{listed_member}
 use Rattle.stair_session.proofs.Serving.{IsCalmTo, IsGoing, IsServing, LeadsReads}
 use Rattle.stair_session.proofs.Stamping.{IsPlain, LeadsStamps, plain_drops}
@@ -36,9 +36,9 @@ use Rattle.stair_array.specs.Causes.{AreSpent, HasCause}
 use Rattle.stair_array.specs.Draws.{most_drawn}
 use Rattle.stair_array.specs.Machine.{Answer, AreKnown, EpochsSpent, GivenBy, HoldsAfter, InDoubt, IsChanged, IsFinal, IsInDoubt, MayBegin, PassesTests, Recover, Refusal, ReplaceSlot, Row, SeatsAfter, SetFrozen, SetLabel, Step}
 use Rattle.stair_array.specs.Mends.{Stamped, StampsAs}
-use Rattle.stair_array.specs.Promise.{BeginsWith, CanBeDone, Does, IsInState, IsLed, IsLeftBy, IsOpenFor, Keeps, KeepsProgress, KeepsRebuild, LeadsStep, Performs, Seen, is_open}
+use Rattle.stair_array.specs.Promise.{BeginsWith, CanBeDone, Does, IsInState, IsLed, IsLeftBy, IsOpenFor, Keeps, KeepsProgress, KeepsRebuild, LeadsStep, Performs, Remembers, Seen, is_open}
 use Rattle.stair_array.proofs.DrawsLemmas.{draws_on, never_spent}
-use Rattle.stair_array.proofs.OpenStepLemmas.{calm_first, goes_on_as, kept_fault, open_first, serves_first, serves_over, stops_as}
+use Rattle.stair_array.proofs.OpenStepLemmas.{forgotten_in, calm_first, goes_on_as, kept_fault, open_first, serves_first, serves_over, stops_as}
 use Rattle.stair_array.proofs.PerformsLemmas.{final_refused}
 
 -- an epoch for this stands, or was refused
@@ -50,7 +50,7 @@ pub data IsStamped {T : Type 0} (aim : Aim) (x y : Point) : Result T Refusal →
 pub record Stamping (step : Step) (change : Change) (aim : Membership → Aim) : Type 0 where
   pub no_opening : ¬ (step ≡ Recover)
   pub no_replacement : (j : ℕ) → ¬ (step ≡ ReplaceSlot j)
-  pub does : (was : ArrayState) (answer : Answer step) (x y : Point) → Does step was answer x y → IsStamped (aim x.member) x y answer
+  pub does : (was : ArrayState) (after : Option Remembered) (answer : Answer step) (x y : Point) → Does step was after answer x y → IsStamped (aim x.member) x y answer
   pub plain : (m : Membership) (words : Codewords) (kept : Content) → IsOfContent m words kept → IsPlain (aim m) m words kept (Some change)
   pub leaves : (m last : Membership) (words : Codewords) (kept : Content) → IsOfContent m words kept → last.array.geometry ≡ m.array.geometry
       → last.array.frozen ≡ frozen_then (aim m) m.array → last.array.label ≡ label_then (aim m) m.array
@@ -64,6 +64,7 @@ pub record Stamping (step : Step) (change : Change) (aim : Membership → Aim) :
   pub known : (answer : Answer step) (found : Option Seats) (seats : Seats) → found ≡ Some seats → AreKnown step answer found seats
   pub marks : (answer : Answer step) (old new : Seats) → EachMayDrop old new → SeatsAfter step answer old new
   pub keeps : (answer : Answer step) (was is : ArrayState) → KeepsRebuild step answer was is → KeepsProgress was is
+  pub forgets : (was is : ArrayState) → Remembers step was is → is.remembered ≡ None
   pub spent : (was : ArrayState) (last : Membership) (old new : Telling) → HasCause step EpochsSpent was last old new → AreSpent last
 
 module _ (returning : Returning) (laws : LeadsReads returning) (stamps : LeadsStamps returning) (step : Step) (change : Change)
@@ -150,7 +151,8 @@ module _ (returning : Returning) (laws : LeadsReads returning) (stamps : LeadsSt
     is_in =
         serves_over returning laws step of_step.no_opening answer events x y p before s state begins.words (changed change s.content) e.geometry
         (stamps.serves before p.was begins.words s.content (Some change) (aim m) last x.told y.told serves plain e honest of_last on)
-        (of_step.keeps answer p.was p.is p.rebuild) calm;
+        (of_step.keeps answer p.was p.is p.rebuild)
+        (forgotten_in begins.words p.is.remembered (of_step.forgets p.was p.is p.remembers)) calm;
   }
     where
       now : State
@@ -190,7 +192,7 @@ module _ (returning : Returning) (laws : LeadsReads returning) (stamps : LeadsSt
   -- WHAT IT DID
 
   did : IsStamped (aim m) (point m x.told) (point last y.told) answer
-  did = of_step.does p.was answer (point m x.told) (point last y.told) p.does
+  did = of_step.does p.was p.is.remembered answer (point m x.told) (point last y.told) p.does
 
   leads : IsCalm returning s.geometry (is_open x.session) before y.told.history → IsLed returning m before s step answer y
   leads calm = by answer refl did
@@ -270,7 +272,7 @@ pub freezing : (frozen : Bool) → Stamping (SetFrozen frozen) (FrozenIs frozen)
 freezing frozen = record {
   no_opening = λ same. cc;
   no_replacement = λ j same. cc;
-  does = λ was answer x y did. stamped frozen x.member.array.label answer x y did;
+  does = λ was after answer x y did. stamped frozen x.member.array.label answer x y did;
   plain = λ m words kept of. record {
     admits = refl;
     promotes = λ j same. cc;
@@ -290,6 +292,7 @@ freezing frozen = record {
   known = λ answer found seats is. is;
   marks = λ answer old new dropped. dropped;
   keeps = λ answer was is kept. kept;
+  forgets = λ was is none. none;
   spent = λ was last old new cause. cause.1;
 }
   where
@@ -302,7 +305,7 @@ pub labelling : (label : List ℕ) → Stamping (SetLabel label) (LabelIs label)
 labelling label = record {
   no_opening = λ same. cc;
   no_replacement = λ j same. cc;
-  does = λ was answer x y did. stamped x.member.array.frozen label answer x y did;
+  does = λ was after answer x y did. stamped x.member.array.frozen label answer x y did;
   plain = λ m words kept of. record {
     admits = refl;
     promotes = λ j same. cc;
@@ -322,6 +325,7 @@ labelling label = record {
   known = λ answer found seats is. is;
   marks = λ answer old new dropped. dropped;
   keeps = λ answer was is kept. kept;
+  forgets = λ was is none. none;
   spent = λ was last old new cause. cause.1;
 }
   where

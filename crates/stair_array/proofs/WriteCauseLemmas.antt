@@ -14,7 +14,7 @@ use Rattle.stair_journal.specs.declared.redo.Redo.{Redo}
 use Rattle.stair_state.specs.Redoing.{AtRest, Stage, next}
 use Rattle.stair_session.specs.Courses.{DoesStage, Fenced, IsOver, LeavesOut, NoneWas, Point, Redoes, point, stage_writes}
 use Rattle.stair_session.specs.Rebuilding.{Rebuild}
-use Rattle.stair_session.specs.Session.{IsArray}
+use Rattle.stair_session.specs.Session.{IsArray, Remembered}
 use Rattle.stair_session.proofs.RedoingLemmas.{over_here}
 use Rattle.stair_array.specs.Calls.{Prepares, WritesBlocks, answer_of, refused}
 use Rattle.stair_array.specs.Causes.{HasCause, IsAllowed, LostOne}
@@ -88,9 +88,9 @@ unprepared t count cells loaded _ _ _ (Prepares.AfterCells gathered was into i j
 unprepared t count cells loaded _ _ _ (Prepares.ByStripe i j answer x y few has away whole) rules why same =
     loaded_refused t loaded answer x y whole why same
 
-module _ (rebuild : Option Rebuild) (first : ℕ) (contents : List (List ℕ)) (x z : Point) (thawed : x.member.array.frozen ≡ false) where
+module _ (rebuild : Option Rebuild) (known : Option Remembered) (first : ℕ) (contents : List (List ℕ)) (x z : Point) (thawed : x.member.array.frozen ≡ false) where
   abbrev Caused : Refusal → Type 0
-  Caused why = HasCause (WriteBlocks first contents) why (running x.member rebuild) z.member x.told z.told
+  Caused why = HasCause (WriteBlocks first contents) why (running x.member rebuild known) z.member x.told z.told
 
   stops_caused : (fault : FenceFault) → StopsBy fault x z → Caused (refused fault)
   stops_caused (fence.TooFew whys) is = ((thawed, is.one), record { whys_are = is.by.0; many = is.by.1 })
@@ -100,32 +100,32 @@ module _ (rebuild : Option Rebuild) (first : ℕ) (contents : List (List ℕ)) (
   unloaded_caused t why at (Unloaded.ByEpoch fault same stops) = subst Caused (sym same) (stops_caused fault stops)
   unloaded_caused t why at (Unloaded.ByPattern counts same is) = subst Caused (sym same) (at, thawed, is)
 
-written_caused : (rebuild : Option Rebuild) (first : ℕ) (contents : List (List ℕ)) (answer : Result (Unit {0}) Refusal) (x z : Point)
+written_caused : (rebuild : Option Rebuild) (known : Option Remembered) (first : ℕ) (contents : List (List ℕ)) (answer : Result (Unit {0}) Refusal) (x z : Point)
     → WritesBlocks first contents answer x z → IsMembership x.member → (why : Refusal) → answer ≡ Err why
-    → HasCause (WriteBlocks first contents) why (running x.member rebuild) z.member x.told z.told
-written_caused rebuild first contents _ _ _ (WritesBlocks.OutOf x past) rules why same =
+    → HasCause (WriteBlocks first contents) why (running x.member rebuild known) z.member x.told z.told
+written_caused rebuild known first contents _ _ _ (WritesBlocks.OutOf x past) rules why same =
     let by : OutOfRange first (block_count x.member.array.geometry) ≡ why = cc in
-    subst (λ (r : Refusal). HasCause (WriteBlocks first contents) r (running x.member rebuild) x.member x.told x.told) by
+    subst (λ (r : Refusal). HasCause (WriteBlocks first contents) r (running x.member rebuild known) x.member x.told x.told) by
     (record { asked_is = refl; limit_is = refl; above = past; nothing = refl })
-written_caused rebuild first contents _ _ _ (WritesBlocks.IsFrozen x below frozen) rules why same =
+written_caused rebuild known first contents _ _ _ (WritesBlocks.IsFrozen x below frozen) rules why same =
     let by : Frozen ≡ why = cc in
-    subst (λ (r : Refusal). HasCause (WriteBlocks first contents) r (running x.member rebuild) x.member x.told x.told) by (below, frozen, refl)
-written_caused rebuild first contents _ _ _ (WritesBlocks.Unready t cells loaded refusal x y place ready) rules why same =
-    unloaded_caused rebuild first contents x y place.thawed t why place.stripe
+    subst (λ (r : Refusal). HasCause (WriteBlocks first contents) r (running x.member rebuild known) x.member x.told x.told) by (below, frozen, refl)
+written_caused rebuild known first contents _ _ _ (WritesBlocks.Unready t cells loaded refusal x y place ready) rules why same =
+    unloaded_caused rebuild known first contents x y place.thawed t why place.stripe
     (unprepared t _ cells loaded (Err refusal) x y ready rules why (ap (λ (r : Refusal). Err r) (let one : refusal ≡ why = cc in one)))
-written_caused rebuild first contents _ _ _ (WritesBlocks.Wrote redo loaded stripe refusal x y z place formed ready set run) rules why same =
+written_caused rebuild known first contents _ _ _ (WritesBlocks.Wrote redo loaded stripe refusal x y z place formed ready set run) rules why same =
     by refusal run same
   where
     sooner : IsPart 0 x y
     sooner = prepared_part redo.stripe _ redo.cells loaded (Ok (tt {0})) x y ready rules
 
     by : (found : Option FenceFault) → Redoes x.member.array.geometry redo stripe AtRest found y z → answer_of (tt {0}) found ≡ Err why
-        → HasCause (WriteBlocks first contents) why (running x.member rebuild) z.member x.told z.told
+        → HasCause (WriteBlocks first contents) why (running x.member rebuild known) z.member x.told z.told
     by None run is = absurd (cc)
     by (Some fault) run is =
         let one : refused fault ≡ why = cc in
-        subst (λ (r : Refusal). HasCause (WriteBlocks first contents) r (running x.member rebuild) z.member x.told z.told) one
-        (stops_caused rebuild first contents x z place.thawed fault
+        subst (λ (r : Refusal). HasCause (WriteBlocks first contents) r (running x.member rebuild known) z.member x.told z.told) one
+        (stops_caused rebuild known first contents x z place.thawed fault
         (stops_sooner x y z sooner (redo_part x.member.array.geometry redo stripe AtRest (Some fault) y z run sooner.rules (sym sooner.geometry) formed)
         fault (redo_stops x.member.array.geometry redo stripe AtRest (Some fault) y z run sooner.rules (sym sooner.geometry) formed fault refl)))
 
@@ -163,40 +163,41 @@ written_array first contents _ _ _ (WritesBlocks.Wrote redo loaded stripe refusa
 
 -- ALL OF IT
 
-module _ (first : ℕ) (contents : List (List ℕ)) (answer : Answer (WriteBlocks first contents)) (m last : Membership) (rebuild : Option Rebuild)
-    (stopped : Option FenceFault) (old new : Telling) (array : IsArray (running m rebuild))
+module _ (first : ℕ) (contents : List (List ℕ)) (answer : Answer (WriteBlocks first contents)) (m last : Membership) (rebuild : Option Rebuild) (known : Option Remembered)
+    (stopped : Option FenceFault) (old new : Telling) (array : IsArray (running m rebuild known))
     (does : WritesBlocks first contents answer (point m old) (point last new)) (kept : Keeps answer stopped) where
   part : IsPart 0 (point m old) (point last new)
   part = written_part first contents answer (point m old) (point last new) does array.member
 
   caused : (given : Answer (WriteBlocks first contents)) → answer ≡ given
-      → IfErr given (λ why. HasCause (WriteBlocks first contents) why (running m rebuild) last old new)
+      → IfErr given (λ why. HasCause (WriteBlocks first contents) why (running m rebuild known) last old new)
   caused (Ok done) same = tt
-  caused (Err why) same = written_caused rebuild first contents answer (point m old) (point last new) does array.member why same
+  caused (Err why) same = written_caused rebuild known first contents answer (point m old) (point last new) does array.member why same
 
-  allowed : (given : Answer (WriteBlocks first contents)) → answer ≡ given → IsAllowed (WriteBlocks first contents) given (running m rebuild)
+  allowed : (given : Answer (WriteBlocks first contents)) → answer ≡ given → IsAllowed (WriteBlocks first contents) given (running m rebuild known)
   allowed (Ok done) same = written_allowed first contents answer (point m old) (point last new) does same
   allowed (Err why) same = tt
 
   pub write_performs : Performs (WriteBlocks first contents) answer (events_of (WriteBlocks first contents) answer m.array last.array)
-      (record { told = old; session = Opened (running m rebuild) })
+      (record { told = old; session = Opened (running m rebuild known) })
       (record { told = new; session = Opened (left_of last rebuild stopped) })
   write_performs = record {
-    was = running m rebuild;
+    was = running m rebuild known;
     is = left_of last rebuild stopped;
     starts = (refl, refl);
     ends = EndsIn.GoesOn (λ never. absurd (cc)) kept refl;
     later = part.after.later;
-    goes_on = member_goes_on m last rebuild stopped old new array part (WriteBlocks first contents);
-    rebuild = keeps_progress m last rebuild stopped old new array part;
+    goes_on = member_goes_on m last rebuild known stopped old new array part (WriteBlocks first contents);
+    rebuild = keeps_progress m last rebuild known stopped old new array part;
     draws_few = draws_few (WriteBlocks first contents) (point m old) (point last new) part;
     events_are = refl;
     caused = caused answer refl;
     allowed = allowed answer refl;
     array = λ going.
-        stands m last rebuild stopped old new array part
-        (written_array first contents answer (point m old) (point last new) does going (bare m last rebuild stopped old new array part));
+        stands m last rebuild known stopped old new array part
+        (written_array first contents answer (point m old) (point last new) does going (bare m last rebuild known stopped old new array part));
     counted = tt;
+    remembers = refl;
     does = does;
     left_out = written_left_out first contents answer (point m old) (point last new) does array.member;
     made = λ honest. tt;

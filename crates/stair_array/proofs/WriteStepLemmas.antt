@@ -27,7 +27,7 @@ use Rattle.stair_session.proofs.Serving.{IsCalmTo, IsServing, LeadsReads, LeadsR
 use Rattle.stair_array.specs.Calls.{refused}
 use Rattle.stair_array.specs.Machine.{Answer, CutWithin, Gone, HoldsAfter, InDoubt, IsAsItWas, IsFinal, PassesTests, Recover, Refusal, Row, TooFew, WasBegun, WriteBlocks}
 use Rattle.stair_array.specs.Promise.{IsInState, IsLed, IsLeftBy, IsOpenFor, Keeps, Performs, Seen, is_open}
-use Rattle.stair_array.proofs.OpenStepLemmas.{goes_on_as, kept_fault, open_first, serves_as, serves_first, stops_as, calm_first}
+use Rattle.stair_array.proofs.OpenStepLemmas.{forgetting, forgotten_in, goes_on_as, kept_fault, open_first, serves_as, serves_bare, stops_as, calm_first}
 use Rattle.stair_array.proofs.WriteDoubtLemmas.{Certain, Doubtful, MayDoubt, MayWrite, written}
 use Rattle.stair_array.proofs.WriteOutcomeLemmas.{Outcome, Refused, StandsWith, Stopped, Written, moments, outcome}
 
@@ -46,8 +46,8 @@ module _ (returning : Returning) (laws : LeadsReads returning) (redos : LeadsRed
   abbrev pub begins : IsOpenFor returning before s p.was x.told.history
   begins = open_first returning laws (WriteBlocks first contents) no_opening answer events x y p before s state
 
-  pub serves : IsServing returning before p.was begins.words s.content x.told.history
-  serves = serves_first returning laws (WriteBlocks first contents) no_opening answer events x y p before s state history
+  pub serves : IsServing returning before (forgetting p.was) begins.words s.content x.told.history
+  serves = serves_bare returning laws (WriteBlocks first contents) no_opening answer events x y p before s state history
 
   pub calm_begun : (h : List Happening) → IsCalm returning s.geometry (is_open x.session) before h
       → IsCalmTo returning p.was.member.array.geometry before h
@@ -136,7 +136,7 @@ module _ (returning : Returning) (laws : LeadsReads returning) (redos : LeadsRed
         is_in =
             serves_as returning laws (WriteBlocks first contents) no_opening answer events x y p before s state begins.words s.content stays_y
             (subst (λ (u : Point). IsServing returning before (led_to p.was u.member) begins.words s.content u.told.history) at serves_on) p.rebuild
-            calm;
+            (forgotten_in begins.words p.is.remembered p.remembers) calm;
       }
   led _ _ at is_answer (Written v writes is) calm =
       let last : Membership = p.is.member in
@@ -154,7 +154,8 @@ module _ (returning : Returning) (laws : LeadsReads returning) (redos : LeadsRed
         };
         is_in =
             serves_as returning laws (WriteBlocks first contents) no_opening answer events x y p before s state is.new set_content stays_y
-            (subst (λ (u : Point). IsServing returning before (led_to p.was u.member) is.new set_content u.told.history) at is.serves) p.rebuild calm;
+            (subst (λ (u : Point). IsServing returning before (led_to p.was u.member) is.new set_content u.told.history) at is.serves) p.rebuild
+            (forgotten_in is.new p.is.remembered p.remembers) calm;
       }
 
   pub leads : IsCalm returning s.geometry (is_open x.session) before y.told.history

@@ -45,7 +45,7 @@ use Rattle.stair_array.proofs.CourseLemmas.{redo_part}
 use Rattle.stair_array.proofs.GoneToLemmas.{attaches_none}
 use Rattle.stair_array.proofs.LoadingLemmas.{Comes, Serves, LiveStill}
 use Rattle.stair_array.proofs.NoneReturnsLemmas.{reads_lead}
-use Rattle.stair_array.proofs.OpenStepLemmas.{open_first, serves_first}
+use Rattle.stair_array.proofs.OpenStepLemmas.{forgetting, open_first, serves_bare}
 use Rattle.stair_array.proofs.ReadPartLemmas.{array_with}
 use Rattle.stair_array.proofs.RedoDoubtLemmas.{Begins, of_redo}
 use Rattle.stair_array.proofs.WriteCutOffLemmas.{IsRefusedIn, cut_off, rest_refused}
@@ -189,9 +189,9 @@ module _ (first : ℕ) (contents : List (List ℕ)) (refusal : Refusal) (events 
   abbrev begins_here : IsOpenFor NoneReturns before s p.was x.told.history
   begins_here = open_first NoneReturns reads_lead (WriteBlocks first contents) not_opening (Err refusal) events x y p before s state
 
-  abbrev serves_here : IsServing NoneReturns before p.was begins_here.words s.content x.told.history
+  abbrev serves_here : IsServing NoneReturns before (forgetting p.was) begins_here.words s.content x.told.history
   serves_here =
-      serves_first NoneReturns reads_lead (WriteBlocks first contents) not_opening (Err refusal) events x y p before s state begins_here.knows.history
+      serves_bare NoneReturns reads_lead (WriteBlocks first contents) not_opening (Err refusal) events x y p before s state begins_here.knows.history
 
   on : IsGoing NoneReturns m.array.geometry before y.told.history
   on = (none, λ stops. (still (image_now y.told.history) (CrashMayLeave-now y.told.history)).journal.serves.online (IsOffline.RackStopped stops))

@@ -1,17 +1,17 @@
 -- What the calls of an array answered.
-use Rattle.std.specs.Prelude.{◌≡◌, ◌*◌, ◌/◌, ◌≤◌, ℕ, List, length, Option, Some, Result, Ok, Err}
+use Rattle.std.specs.Prelude.{◌≡◌, ◌*◌, ◌/◌, ◌≤◌, ℕ, List, length, Option, None, Some, Result, Ok, Err}
 use Rattle.std.specs.Simd.{first_chunks}
 use Rattle.stair_model.specs.CellSet.{CellSet, HasCell}
 use Rattle.stair_model.specs.Device.{cell_sector}
-use Rattle.stair_model.specs.Geometry.{Geometry}
-use Rattle.stair_model.specs.Stripe.{SECTOR}
+use Rattle.stair_model.specs.Geometry.{Geometry, data_cells}
+use Rattle.stair_model.specs.Stripe.{SECTOR, Stripe}
 use Rattle.stair_rack.specs.Sector.{Damaged}
 use Rattle.stair_rack.specs.Telling.{IsGone, IsLater, IsReading, Telling}
 use Rattle.stair_member.specs.Membership.{Membership}
 use Rattle.stair_member.specs.declared.fault.FenceFault.{FenceFault}
 use Rattle.stair_session.specs.Courses.{Point, point}
 use Rattle.stair_session.specs.Rebuilding.{Rebuild}
-use Rattle.stair_session.specs.Session.{ArrayState, IsLiveIn, IsRebuiltIn}
+use Rattle.stair_session.specs.Session.{ArrayState, IsLiveIn, IsRebuiltIn, Remembered}
 use Rattle.stair_array.specs.Calls.{CannotHave, IsInPlace}
 use Rattle.stair_array.specs.Faults.{opening_refusal, rebuild_refusal, refusal_for, replace_refusal}
 use Rattle.stair_array.specs.Machine.{Chunk, Dropped, Nothing, Promoted, Refusal, Progress as Came}
@@ -25,16 +25,26 @@ use Rattle.stair_array.specs.declared.fault.ReplaceFault.{ReplaceFault}
 use Rattle.stair_array.specs.declared.news.News.{News}
 
 -- What contracts see of an open array: what it knows of its slots, how far a rebuild has come, by which refusal of an epoch it
--- was stopped, and its news.
+-- was stopped, the stripe that it remembers, and its news.
 pub record OpenArray : Type 0 where
   pub member : Membership
   pub rebuild : Option Rebuild
   pub stopped : Option FenceFault
+  pub remembered : Option Remembered
   pub news : News
 
 -- without the news
 abbrev pub state_of : OpenArray → ArrayState
-state_of a = record { member = a.member; rebuild = a.rebuild; stopped = a.stopped }
+state_of a = record { member = a.member; rebuild = a.rebuild; stopped = a.stopped; remembered = a.remembered }
+
+-- what an array remembers, whose buffer is of this stripe or of none
+abbrev pub remembered_as : Option ℕ → Stripe → Option Remembered
+remembered_as None cells = None
+remembered_as (Some t) cells = Some (record { stripe = t; cells = cells })
+
+-- block b is one of the stripe that is remembered
+abbrev pub IsOfRemembered : Geometry → Option Remembered → ℕ → Type 0
+IsOfRemembered g known b = (one : Remembered) × (known ≡ Some one) × (one.stripe ≡ b / data_cells g)
 
 -- An array was opened, or why it wasn't is told by what was known of its slots in the end. Want of memory is no refusal.
 abbrev pub Opens : Point → Telling → Result OpenArray RecoverFault → Type 0

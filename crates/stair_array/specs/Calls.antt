@@ -25,7 +25,7 @@ use Rattle.stair_stripes.specs.declared.gathering.Gathered.{Gathered}
 use Rattle.stair_state.specs.Blocks.{AreOfOneStripe, IsSetFrom}
 use Rattle.stair_state.specs.Redoing.{AtRest}
 use Rattle.stair_session.specs.Courses.{Loads, Point, Redoes}
-use Rattle.stair_session.specs.Session.{IsLiveIn}
+use Rattle.stair_session.specs.Session.{IsLiveIn, Remembered}
 use Rattle.stair_array.specs.Machine.{EpochsSpent, Frozen, Lost, OutOfRange, Refusal, TooFew}
 
 -- the refusal of an epoch as one of a step
@@ -83,19 +83,26 @@ pub record IsInPlace (g : Geometry) (b t i j : ℕ) : Type 0 where
   pub below : b < block_count g
   pub place : IsPlaceOf g b t i j
 
--- Block b was read: its own cell, or the stripe where that one couldn't be read.
-pub data Reads (b : ℕ) : Result (List ℕ) Refusal → Point → Point → Type 0 where
+-- Block b was read, by an array that remembered this stripe and remembers that one afterwards. It is a cell of the stripe that
+-- is remembered, and no call is made; its own cell was read; or that one couldn't be read and the stripe was restored, which is
+-- remembered from then on.
+pub data Reads (b : ℕ) (old : Option Remembered)
+    : Option Remembered → Result (List ℕ) Refusal → Point → Point → Type 0 where
   OutOf : (x : Point) → block_count x.member.array.geometry ≤ b
-      → Reads b (Err (OutOfRange b (block_count x.member.array.geometry))) x x
+      → Reads b old old (Err (OutOfRange b (block_count x.member.array.geometry))) x x
+  Recalled : (one : Remembered) (i j : ℕ) (x : Point) → old ≡ Some one
+      → IsInPlace x.member.array.geometry b one.stripe i j
+      → Reads b old old (Ok (cell one.cells i j)) x x
   Own : (t i j : ℕ) (bytes : List ℕ) (x y : Point) → IsInPlace x.member.array.geometry b t i j
       → AsksFor t i j got.Good x y
       → IsReading j (cell_sector x.member.array.geometry t i) x.told y.told (Good bytes)
-      → Reads b (Ok bytes) x y
+      → Reads b old old (Ok bytes) x y
   Restored : (t i j : ℕ) (into : Stripe) (x y z : Point) → IsInPlace x.member.array.geometry b t i j
-      → CannotHave t i j x y → LoadsStripe t into (Ok tt) y z → Reads b (Ok (cell into i j)) x z
+      → CannotHave t i j x y → LoadsStripe t into (Ok tt) y z
+      → Reads b old (Some (record { stripe = t; cells = into })) (Ok (cell into i j)) x z
   Refused : (t i j : ℕ) (into : Stripe) (refusal : Refusal) (x y z : Point)
       → IsInPlace x.member.array.geometry b t i j → CannotHave t i j x y
-      → LoadsStripe t into (Err refusal) y z → Reads b (Err refusal) x z
+      → LoadsStripe t into (Err refusal) y z → Reads b old None (Err refusal) x z
 
 -- WRITING
 

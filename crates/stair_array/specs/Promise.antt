@@ -29,7 +29,7 @@ use Rattle.stair_state.specs.State.{State}
 use Rattle.stair_session.specs.Courses.{Point, point}
 use Rattle.stair_session.specs.Rebuilding.{Rebuild}
 use Rattle.stair_session.specs.Returning.{AnyReturns, IsCalm, Knows, NoneReturns, Returning, StandsFor, StandsForAlone}
-use Rattle.stair_session.specs.Session.{ArrayState, IsArray, IsLiveIn, IsOpenWith, IsRebuiltIn, seats_in}
+use Rattle.stair_session.specs.Session.{ArrayState, IsArray, IsLiveIn, IsOpenWith, IsRebuiltIn, IsRememberedIn, Remembered, seats_in}
 use Rattle.stair_array.specs.Calls.{Reads, WritesBlocks, refused}
 use Rattle.stair_array.specs.Causes.{HasCause, HasCounted, IsAllowed, IsNextChunk, MemberGoesOn}
 use Rattle.stair_array.specs.Draws.{DrawsFew, HasDraws, most_drawn}
@@ -70,6 +70,7 @@ pub record IsOpenFor (returning : Returning) (before : List Happening) (s : Stat
   pub seats : s.seats ≡ Some (seats_in a.member.array)
   pub certain : s.in_doubt ≡ None
   pub knows : Knows returning s a.member h
+  pub remembered : IsRememberedIn words a.remembered
 
 -- What the session has of the array is right for this state; seats aren't known until it is open.
 abbrev pub ServesState : Returning → List Happening → State → Session → Telling → Type 0
@@ -165,7 +166,7 @@ pub record CanBeDone (step : Step) (s : State) (m : Membership) (old new : List 
 
 -- an array that was found, before it is opened
 abbrev pub unopened : Membership → ArrayState
-unopened m = record { member = m; rebuild = None; stopped = None }
+unopened m = record { member = m; rebuild = None; stopped = None; remembered = None }
 
 -- what a session has of the array after an opening
 abbrev pub session_after : Answer Recover → Membership → Session
@@ -237,24 +238,31 @@ rebuild_then (Ok (Promoted j)) last rebuild = None
 rebuild_then (Ok (Dropped j)) last rebuild = None
 rebuild_then answer last rebuild = rebuild_after last rebuild
 
--- an array that wasn't stopped, with a rebuild or none; and what is left of one by a step that drops slots at most
-abbrev pub running : Membership → Option Rebuild → ArrayState
-running m rebuild = record { member = m; rebuild = rebuild; stopped = None }
+-- an array that wasn't stopped, with a rebuild or none, which remembers a stripe or none; and what is left of one by a step that
+-- drops slots at most, and forgets
+abbrev pub running : Membership → Option Rebuild → Option Remembered → ArrayState
+running m rebuild known = record { member = m; rebuild = rebuild; stopped = None; remembered = known }
 
 abbrev pub left_of : Membership → Option Rebuild → Option FenceFault → ArrayState
-left_of last rebuild stopped = record { member = last; rebuild = rebuild_after last rebuild; stopped = stopped }
+left_of last rebuild stopped = record { member = last; rebuild = rebuild_after last rebuild; stopped = stopped; remembered = None }
 
--- what was called, whichever media come back
-abbrev pub Does : (step : Step) → ArrayState → Answer step → Point → Point → Type 0
-Does Recover was answer x y = Recovers answer x y
-Does (ReadBlock b) was answer x y = Reads b answer x y
-Does (WriteBlocks first contents) was answer x y = WritesBlocks first contents answer x y
-Does (ScrubStripe t) was answer x y = Scrubs t answer x y
-Does (ReplaceSlot j) was answer x y = Replaces j answer x y
-Does RebuildNext was answer x y = Rebuilds was answer x y
-Does (SetFrozen frozen) was answer x y = StampsAs frozen x.member.array.label answer x y
-Does (SetLabel label) was answer x y = StampsAs x.member.array.frozen label answer x y
-Does LookAtSeats was answer x y = y ≡ x
+-- What is remembered after a read it says itself, and a look leaves it. Any other step forgets.
+abbrev pub Remembers : Step → ArrayState → ArrayState → Type 0
+Remembers (ReadBlock b) was is = ⊤
+Remembers LookAtSeats was is = is.remembered ≡ was.remembered
+Remembers step was is = is.remembered ≡ None
+
+-- what was called, whichever media come back, by an array that remembers this afterwards
+abbrev pub Does : (step : Step) → ArrayState → Option Remembered → Answer step → Point → Point → Type 0
+Does Recover was after answer x y = Recovers answer x y
+Does (ReadBlock b) was after answer x y = Reads b was.remembered after answer x y
+Does (WriteBlocks first contents) was after answer x y = WritesBlocks first contents answer x y
+Does (ScrubStripe t) was after answer x y = Scrubs t answer x y
+Does (ReplaceSlot j) was after answer x y = Replaces j answer x y
+Does RebuildNext was after answer x y = Rebuilds was answer x y
+Does (SetFrozen frozen) was after answer x y = StampsAs frozen x.member.array.label answer x y
+Does (SetLabel label) was after answer x y = StampsAs x.member.array.frozen label answer x y
+Does LookAtSeats was after answer x y = y ≡ x
 
 -- SLOTS AND CELLS, on an honest rack
 
@@ -342,7 +350,8 @@ pub record Performs (step : Step) (answer : Answer step) (events : List Event) (
   pub allowed : IsAllowed step answer was
   pub array : ¬ Stops answer → IsArray is
   pub counted : HasCounted step answer x.told y.told
-  pub does : Does step was answer (point was.member x.told) (point is.member y.told)
+  pub remembers : Remembers step was is
+  pub does : Does step was is.remembered answer (point was.member x.told) (point is.member y.told)
   -- on an honest rack
   pub left_out : IsTrue y.told.honest → AreAllLeftOut was.member is.member x.told y.told
   pub made : IsTrue y.told.honest → HasMade step answer was is.member x.told y.told

@@ -8,7 +8,7 @@ ghost use Rattle.stair_member.specs.declared.fault.FenceFault.{FenceFault as Fau
 ghost use Rattle.stair_state.specs.Blocks.{AreOfOneStripe};
 ghost use Rattle.stair_session.specs.Courses.{point};
 ghost use Rattle.stair_session.specs.Session.{IsRebuiltIn};
-ghost use Rattle.stair_array.specs.Arrays.{LacksCell, LacksOne, Opens, answer_as, blocks_of, cells_of, outcome, rebuilt_as, replaced_as, state_of};
+ghost use Rattle.stair_array.specs.Arrays.{IsOfRemembered, LacksCell, LacksOne, Opens, answer_as, blocks_of, cells_of, outcome, rebuilt_as, replaced_as, state_of};
 ghost use Rattle.stair_array.specs.Calls.{AreOfBlocks, Reads, WritesBlocks};
 ghost use Rattle.stair_array.specs.Causes.{IsNextChunk};
 ghost use Rattle.stair_array.specs.Faults.{array_fault, rebuild_fault, replace_fault};
@@ -37,12 +37,14 @@ pub struct Array<C: StripeCode> {
     session: Session,
     code: C,
     rebuild: Option<Rebuild>,
+    // the stripe whose cells the session's buffer has, where a read restored it and no other step came since
+    remembered: Option<u32>,
     news: News,
 }
 
 impl<C: StripeCode> Model for Array<C> {
     ghost use Rattle.std.specs.Prelude.{◌≡◌};
-    ghost use Rattle.stair_array.specs.Arrays.{IsUnderWay, OpenArray};
+    ghost use Rattle.stair_array.specs.Arrays.{IsUnderWay, OpenArray, remembered_as};
 
     ghost Value = { OpenArray };
 
@@ -50,6 +52,7 @@ impl<C: StripeCode> Model for Array<C> {
       member = a.session.member;
       rebuild = a.rebuild;
       stopped = a.session.stopped;
+      remembered = remembered_as a.remembered a.session.stripe;
       news = a.news;
     } };
 
@@ -82,6 +85,7 @@ impl<C: StripeCode> Array<C> {
             rack.new ≡ rack.old) }
         ensures goes { IfOk result (λ array. array.stopped ≡ None) }
         ensures rebuilds { IfOk result (λ array. array.rebuild ≡ None) }
+        ensures remembers { IfOk result (λ array. array.remembered ≡ None) }
         ensures news { IfOk result (λ array. AddsNews Recover (Ok member.array.geometry)
             member.array array.member.array no_news array.news) }
     {
@@ -96,6 +100,7 @@ impl<C: StripeCode> Array<C> {
             session,
             code,
             rebuild: None,
+            remembered: None,
             news,
         })
     }
@@ -103,7 +108,9 @@ impl<C: StripeCode> Array<C> {
     /// Reads a block into `into`, which is left as it was where the block is refused.
     ///
     /// Its own cell is read where its slot is live. Where that can't be had its stripe is gathered, the slots that were gone
-    /// are left out, and it is restored.
+    /// are left out, and it is restored. The array remembers the stripe that a read restored last. A later read of one of its
+    /// blocks copies the cell from there and makes no call, even if the cells were damaged since. Any step but a read forgets
+    /// this stripe, and so does a read that is refused after it couldn't have its own cell.
     ///
     /// - `OutOfRange`: the array has no such block. No call is made.
     /// - `Lost`: the cells of its stripe that couldn't be had aren't covered. The array goes on.
@@ -114,7 +121,8 @@ impl<C: StripeCode> Array<C> {
         block: u64,
         into: &mut [u8; SECTOR],
     ) -> Result<(), ArrayFault>
-        ensures told { self.old.stopped ≡ None → Reads block (answer_as into.new result)
+        ensures told { self.old.stopped ≡ None →
+            Reads block self.old.remembered self.new.remembered (answer_as into.new result)
             (point self.old.member (told R.Rack rack.old))
             (point self.new.member (told R.Rack rack.new)) }
         ensures kept { self.old.stopped ≡ None → Keeps (answer_as into.new result) self.new.stopped }
@@ -125,6 +133,10 @@ impl<C: StripeCode> Array<C> {
         ensures rebuild { self.new.rebuild ≡ rebuild_after self.new.member self.old.rebuild }
         ensures news { AddsNews (ReadBlock block) (answer_as into.new result) self.old.member.array
             self.new.member.array self.old.news self.new.news }
+        ensures again { IsOfRemembered self.old.member.array.geometry self.old.remembered block →
+            rack.new ≡ rack.old }
+        ensures shared { IfOk result (λ _. RisesAtMost 1 (R.reads rack.old) (R.reads rack.new) ⊎
+            IsOfRemembered self.new.member.array.geometry self.new.remembered block) }
         ensures once { RisesAtMost 1 (R.reads rack.old) (R.reads rack.new) ⊎
             LacksCell block (point self.old.member (told R.Rack rack.old)) (told R.Rack rack.new) }
         ensures reads { RisesAtMost (1 + cells_of self.old.member.array.geometry)
@@ -134,14 +146,20 @@ impl<C: StripeCode> Array<C> {
             return Err(ArrayFault::from(fault));
         }
         let place = self.session.place_of(block)?;
+        if self.remembered == Some(place.stripe) {
+            *into = *self.session.stripe.cell(place.row, place.slot);
+            return Ok(());
+        }
         if self.session.read_cell(rack, place, into) {
             return Ok(());
         }
+        self.remembered = None;
         let before = self.session.member;
         let loaded = self.session.load(rack, &mut self.code, place.stripe);
         self.rebuild = left_of(self.rebuild, &self.session.member);
         self.news.add_fallen(&before, &self.session.member);
         loaded?;
+        self.remembered = Some(place.stripe);
         *into = *self.session.stripe.cell(place.row, place.slot);
         Ok(())
     }
@@ -162,6 +180,7 @@ impl<C: StripeCode> Array<C> {
         ensures past { block_count self.old.member.array.geometry ≤ block → rack.new ≡ rack.old }
         ensures frozen { IsTrue self.old.member.array.frozen → rack.new ≡ rack.old }
         ensures rebuild { self.new.rebuild ≡ rebuild_after self.new.member self.old.rebuild }
+        ensures remembers { self.old.stopped ≡ None → self.new.remembered ≡ None }
         ensures news { AddsNews (write_block block from.now) (outcome result) self.old.member.array
             self.new.member.array self.old.news self.new.news }
         ensures once { (cells : Cells) → AreOfBlocks self.old.member.array.geometry block 1 cells →
@@ -207,6 +226,7 @@ impl<C: StripeCode> Array<C> {
         ensures past { block_count self.old.member.array.geometry ≤ first → rack.new ≡ rack.old }
         ensures frozen { IsTrue self.old.member.array.frozen → rack.new ≡ rack.old }
         ensures rebuild { self.new.rebuild ≡ rebuild_after self.new.member self.old.rebuild }
+        ensures remembers { self.old.stopped ≡ None → self.new.remembered ≡ None }
         ensures news { AddsNews (WriteBlocks first (blocks_of from.now)) (outcome result) self.old.member.array
             self.new.member.array self.old.news self.new.news }
         ensures unread { length from.now / 512 ≡ data_cells self.old.member.array.geometry →
@@ -222,6 +242,7 @@ impl<C: StripeCode> Array<C> {
         if let Some(fault) = self.session.stopped {
             return Err(ArrayFault::from(fault));
         }
+        self.remembered = None;
         self.session.place_of(first)?;
         if self.session.member.frozen() {
             return Err(ArrayFault::Frozen);
@@ -252,6 +273,7 @@ impl<C: StripeCode> Array<C> {
             (result ≡ Err (array_fault fault)) × (rack.new ≡ rack.old) × (self.new ≡ self.old) }
         ensures past { self.old.member.array.geometry.stripes ≤ stripe → rack.new ≡ rack.old }
         ensures rebuild { self.new.rebuild ≡ rebuild_after self.new.member self.old.rebuild }
+        ensures remembers { self.old.stopped ≡ None → self.new.remembered ≡ None }
         ensures news { AddsNews (ScrubStripe stripe) (outcome result) self.old.member.array
             self.new.member.array self.old.news self.new.news }
         ensures reads { RisesAtMost (cells_of self.old.member.array.geometry) (R.reads rack.old)
@@ -260,6 +282,7 @@ impl<C: StripeCode> Array<C> {
         if let Some(fault) = self.session.stopped {
             return Err(ArrayFault::from(fault));
         }
+        self.remembered = None;
         let limit = self.session.member.geometry().stripes();
         if stripe >= limit {
             return Err(ArrayFault::OutOfRange {
@@ -300,6 +323,7 @@ impl<C: StripeCode> Array<C> {
             (result ≡ Err (replace_fault fault)) × (rack.new ≡ rack.old) × (self.new ≡ self.old) }
         ensures past { self.old.member.array.geometry.n ≤ slot → rack.new ≡ rack.old }
         ensures rebuild { self.new.rebuild ≡ rebuild_after self.new.member self.old.rebuild }
+        ensures remembers { self.old.stopped ≡ None → self.new.remembered ≡ None }
         ensures goes_on { self.old.stopped ≡ None → KeepsRebuild (ReplaceSlot slot) (replaced_as result)
             (state_of self.old) (state_of self.new) }
         ensures news { AddsNews (ReplaceSlot slot) (replaced_as result) self.old.member.array
@@ -309,6 +333,7 @@ impl<C: StripeCode> Array<C> {
         if let Some(fault) = self.session.stopped {
             return Err(ReplaceFault::from(fault));
         }
+        self.remembered = None;
         self.session.is_free(slot)?;
         let before = self.session.member;
         let replaced = self.session.replace(rack, slot);
@@ -349,6 +374,7 @@ impl<C: StripeCode> Array<C> {
             (result ≡ Err (rebuild_fault fault)) × (rack.new ≡ rack.old) × (self.new ≡ self.old) }
         ensures rebuild { self.new.rebuild ≡
             rebuild_then (rebuilt_as result) self.new.member self.old.rebuild }
+        ensures remembers { self.old.stopped ≡ None → self.new.remembered ≡ None }
         ensures goes_on { self.old.stopped ≡ None → KeepsRebuild RebuildNext (rebuilt_as result)
             (state_of self.old) (state_of self.new) }
         ensures news { AddsNews RebuildNext (rebuilt_as result) self.old.member.array
@@ -359,6 +385,7 @@ impl<C: StripeCode> Array<C> {
         if let Some(fault) = self.session.stopped {
             return Err(RebuildFault::from(fault));
         }
+        self.remembered = None;
         // by whose rules stripes can be counted one further
         let _ = self.session.member.geometry();
         let Some(next) = self.session.next_of(self.rebuild) else {
@@ -386,6 +413,7 @@ impl<C: StripeCode> Array<C> {
         ensures stopped { (fault : Fault) → self.old.stopped ≡ Some fault →
             (result ≡ Err (array_fault fault)) × (rack.new ≡ rack.old) × (self.new ≡ self.old) }
         ensures rebuild { self.new.rebuild ≡ rebuild_after self.new.member self.old.rebuild }
+        ensures remembers { self.old.stopped ≡ None → self.new.remembered ≡ None }
         ensures news { AddsNews (SetFrozen frozen) (outcome result) self.old.member.array
             self.new.member.array self.old.news self.new.news }
         ensures reads { R.reads rack.new ≡ R.reads rack.old }
@@ -407,6 +435,7 @@ impl<C: StripeCode> Array<C> {
         ensures stopped { (fault : Fault) → self.old.stopped ≡ Some fault →
             (result ≡ Err (array_fault fault)) × (rack.new ≡ rack.old) × (self.new ≡ self.old) }
         ensures rebuild { self.new.rebuild ≡ rebuild_after self.new.member self.old.rebuild }
+        ensures remembers { self.old.stopped ≡ None → self.new.remembered ≡ None }
         ensures news { AddsNews (SetLabel label) (outcome result) self.old.member.array
             self.new.member.array self.old.news self.new.news }
         ensures reads { R.reads rack.new ≡ R.reads rack.old }
@@ -424,6 +453,7 @@ impl<C: StripeCode> Array<C> {
         ensures stopped { (fault : Fault) → self.old.stopped ≡ Some fault →
             (result ≡ Err (array_fault fault)) × (rack.new ≡ rack.old) × (self.new ≡ self.old) }
         ensures rebuild { self.new.rebuild ≡ rebuild_after self.new.member self.old.rebuild }
+        ensures remembers { self.old.stopped ≡ None → self.new.remembered ≡ None }
         ensures news { AddsFallen self.old.member.array self.new.member.array self.old.news
             self.new.news }
         ensures reads { R.reads rack.new ≡ R.reads rack.old }
@@ -431,6 +461,7 @@ impl<C: StripeCode> Array<C> {
         if let Some(fault) = self.session.stopped {
             return Err(ArrayFault::from(fault));
         }
+        self.remembered = None;
         let before = self.session.member;
         let stamped = self.session.stamp(rack, frozen, label);
         self.rebuild = left_of(self.rebuild, &self.session.member);

@@ -6,7 +6,7 @@ ghost use Rattle.stair_member.specs.Membership.{IsMembership, Membership};
 ghost use Rattle.stair_member.specs.declared.fault.FenceFault.{FenceFault};
 ghost use Rattle.stair_session.specs.Courses.{point};
 ghost use Rattle.stair_session.specs.Rebuilding.{Rebuild};
-ghost use Rattle.stair_session.specs.Session.{ArrayState, IsArray, seats_in};
+ghost use Rattle.stair_session.specs.Session.{ArrayState, IsArray, Remembered, seats_in};
 ghost use Rattle.stair_array.specs.Calls.{Reads, WritesBlocks, refused};
 ghost use Rattle.stair_array.specs.Events.{events_of};
 ghost use Rattle.stair_array.specs.Machine.{
@@ -47,77 +47,79 @@ pub fn performs_laws()
         (record { told = y; session = session_after answer last }) }
     // a read of a block by an open array that wasn't stopped
     ensures read { (b : ℕ) (m last : Membership) (rebuild : Option Rebuild)
+        (known after : Option Remembered)
         (stopped : Option FenceFault) (answer : Answer (ReadBlock b)) (x y : Telling) →
-        IsArray (running m rebuild) → Reads b answer (point m x) (point last y) →
+        IsArray (running m rebuild known) → Reads b known after answer (point m x) (point last y) →
         Keeps answer stopped →
         Performs (ReadBlock b) answer (events_of (ReadBlock b) answer m.array last.array)
-        (record { told = x; session = Opened (running m rebuild) })
-        (record { told = y; session = Opened (left_of last rebuild stopped) }) }
+        (record { told = x; session = Opened (running m rebuild known) })
+        (record { told = y; session = Opened (record (left_of last rebuild stopped) { remembered = after }) }) }
     // a write of blocks
     ensures write { (first : ℕ) (contents : List (List ℕ)) (m last : Membership)
-        (rebuild : Option Rebuild) (stopped : Option FenceFault)
+        (rebuild : Option Rebuild) (known : Option Remembered) (stopped : Option FenceFault)
         (answer : Answer (WriteBlocks first contents)) (x y : Telling) →
-        IsArray (running m rebuild) → WritesBlocks first contents answer (point m x) (point last y) →
+        IsArray (running m rebuild known) → WritesBlocks first contents answer (point m x) (point last y) →
         Keeps answer stopped →
         Performs (WriteBlocks first contents) answer
         (events_of (WriteBlocks first contents) answer m.array last.array)
-        (record { told = x; session = Opened (running m rebuild) })
+        (record { told = x; session = Opened (running m rebuild known) })
         (record { told = y; session = Opened (left_of last rebuild stopped) }) }
     // a scrub of a stripe
-    ensures scrub { (t : ℕ) (m last : Membership) (rebuild : Option Rebuild)
+    ensures scrub { (t : ℕ) (m last : Membership) (rebuild : Option Rebuild) (known : Option Remembered)
         (stopped : Option FenceFault) (answer : Answer (ScrubStripe t)) (x y : Telling) →
-        IsArray (running m rebuild) → Scrubs t answer (point m x) (point last y) →
+        IsArray (running m rebuild known) → Scrubs t answer (point m x) (point last y) →
         Keeps answer stopped →
         Performs (ScrubStripe t) answer (events_of (ScrubStripe t) answer m.array last.array)
-        (record { told = x; session = Opened (running m rebuild) })
+        (record { told = x; session = Opened (running m rebuild known) })
         (record { told = y; session = Opened (left_of last rebuild stopped) }) }
     // a slot that is replaced
-    ensures replace { (slot : ℕ) (m last : Membership) (rebuild : Option Rebuild)
+    ensures replace { (slot : ℕ) (m last : Membership) (rebuild : Option Rebuild) (known : Option Remembered)
         (stopped : Option FenceFault) (answer : Answer (ReplaceSlot slot)) (x y : Telling) →
-        IsArray (running m rebuild) → Replaces slot answer (point m x) (point last y) →
+        IsArray (running m rebuild known) → Replaces slot answer (point m x) (point last y) →
         Keeps answer stopped →
         Performs (ReplaceSlot slot) answer (events_of (ReplaceSlot slot) answer m.array last.array)
-        (record { told = x; session = Opened (running m rebuild) })
+        (record { told = x; session = Opened (running m rebuild known) })
         (record { told = y; session = Opened (left_of last rebuild stopped) }) }
     // a step of a rebuild
-    ensures rebuild { (m last : Membership) (rebuild : Option Rebuild) (stopped : Option FenceFault)
+    ensures rebuild { (m last : Membership) (rebuild : Option Rebuild) (known : Option Remembered) (stopped : Option FenceFault)
         (answer : Answer RebuildNext) (x y : Telling) →
-        IsArray (running m rebuild) → Rebuilds (running m rebuild) answer (point m x) (point last y) →
+        IsArray (running m rebuild known) → Rebuilds (running m rebuild known) answer (point m x) (point last y) →
         Keeps answer stopped →
         Performs RebuildNext answer (events_of RebuildNext answer m.array last.array)
-        (record { told = x; session = Opened (running m rebuild) })
+        (record { told = x; session = Opened (running m rebuild known) })
         (record {
           told = y;
           session = Opened (record {
             member = last;
             rebuild = rebuild_then answer last rebuild;
             stopped = stopped;
+            remembered = None;
           });
         }) }
     // a frozen mark
-    ensures freeze { (frozen : Bool) (m last : Membership) (rebuild : Option Rebuild)
+    ensures freeze { (frozen : Bool) (m last : Membership) (rebuild : Option Rebuild) (known : Option Remembered)
         (stopped : Option FenceFault) (answer : Answer (SetFrozen frozen)) (x y : Telling) →
-        IsArray (running m rebuild) →
+        IsArray (running m rebuild known) →
         StampsAs frozen m.array.label answer (point m x) (point last y) → Keeps answer stopped →
         Performs (SetFrozen frozen) answer
         (events_of (SetFrozen frozen) answer m.array last.array)
-        (record { told = x; session = Opened (running m rebuild) })
+        (record { told = x; session = Opened (running m rebuild known) })
         (record { told = y; session = Opened (left_of last rebuild stopped) }) }
     // a label
-    ensures label { (label : List ℕ) (m last : Membership) (rebuild : Option Rebuild)
+    ensures label { (label : List ℕ) (m last : Membership) (rebuild : Option Rebuild) (known : Option Remembered)
         (stopped : Option FenceFault) (answer : Answer (SetLabel label)) (x y : Telling) →
-        IsArray (running m rebuild) →
+        IsArray (running m rebuild known) →
         StampsAs m.array.frozen label answer (point m x) (point last y) → Keeps answer stopped →
         Performs (SetLabel label) answer (events_of (SetLabel label) answer m.array last.array)
-        (record { told = x; session = Opened (running m rebuild) })
+        (record { told = x; session = Opened (running m rebuild known) })
         (record { told = y; session = Opened (left_of last rebuild stopped) }) }
     // a look at the seats of an array that wasn't stopped, which calls nothing
-    ensures look { (m : Membership) (rebuild : Option Rebuild) (x : Telling) →
-        IsArray (running m rebuild) →
+    ensures look { (m : Membership) (rebuild : Option Rebuild) (known : Option Remembered) (x : Telling) →
+        IsArray (running m rebuild known) →
         Performs LookAtSeats (Ok (seats_in m.array))
         (events_of LookAtSeats (Ok (seats_in m.array)) m.array m.array)
-        (record { told = x; session = Opened (running m rebuild) })
-        (record { told = x; session = Opened (running m rebuild) }) }
+        (record { told = x; session = Opened (running m rebuild known) })
+        (record { told = x; session = Opened (running m rebuild known) }) }
     // and an array that was stopped, which is called nothing
     ensures stopped { (step : Step) (array : ArrayState) (fault : FenceFault) (x : Seen) →
         x.session ≡ Opened array → array.stopped ≡ Some fault →

@@ -118,7 +118,7 @@ impl Session {
         ensures none { result ≡ None → (rebuild ≡ None)
             × ((j : ℕ) → ¬ IsRebuiltIn self.now.member j) }
         ensures some { IfSome result (λ next.
-            IsNextChunk (running self.now.member rebuild) next.slot next.stripe) }
+            IsNextChunk (running self.now.member rebuild None) next.slot next.stripe) }
     {
         if rebuild.is_some() {
             return rebuild;

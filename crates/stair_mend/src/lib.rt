@@ -39,6 +39,7 @@ pub fn scrub_step<R: Rack, C: StripeCode>(
         (result ≡ Err (array_fault fault)) × (rack.new ≡ rack.old) × (array.new ≡ array.old) }
     ensures past { array.old.member.array.geometry.stripes ≤ stripe → rack.new ≡ rack.old }
     ensures rebuild { array.new.rebuild ≡ rebuild_after array.new.member array.old.rebuild }
+    ensures remembers { array.old.stopped ≡ None → array.new.remembered ≡ None }
     ensures news { AddsNews (ScrubStripe stripe) (outcome result) array.old.member.array
         array.new.member.array array.old.news array.new.news }
     ensures reads { RisesAtMost (cells_of array.old.member.array.geometry) (R.reads rack.old)
@@ -71,6 +72,7 @@ pub fn replace<R: Rack, C: StripeCode>(
         (result ≡ Err (replace_fault fault)) × (rack.new ≡ rack.old) × (array.new ≡ array.old) }
     ensures past { array.old.member.array.geometry.n ≤ slot → rack.new ≡ rack.old }
     ensures rebuild { array.new.rebuild ≡ rebuild_after array.new.member array.old.rebuild }
+    ensures remembers { array.old.stopped ≡ None → array.new.remembered ≡ None }
     ensures goes_on { array.old.stopped ≡ None → KeepsRebuild (ReplaceSlot slot) (replaced_as result)
         (state_of array.old) (state_of array.new) }
     ensures news { AddsNews (ReplaceSlot slot) (replaced_as result) array.old.member.array
@@ -101,6 +103,7 @@ pub fn rebuild_step<R: Rack, C: StripeCode>(
         (result ≡ Err (rebuild_fault fault)) × (rack.new ≡ rack.old) × (array.new ≡ array.old) }
     ensures rebuild { array.new.rebuild ≡
         rebuild_then (rebuilt_as result) array.new.member array.old.rebuild }
+    ensures remembers { array.old.stopped ≡ None → array.new.remembered ≡ None }
     ensures goes_on { array.old.stopped ≡ None → KeepsRebuild RebuildNext (rebuilt_as result)
         (state_of array.old) (state_of array.new) }
     ensures news { AddsNews RebuildNext (rebuilt_as result) array.old.member.array

@@ -67,7 +67,7 @@ use Rattle.stair_return.proofs.SupersSince.{consistent_as, known_so, latest_so, 
 
 -- an array with this member
 abbrev pub with_member : Option Rebuild → Option FenceFault → Point → ArrayState
-with_member rebuild stopped p = record { member = p.member; rebuild = rebuild; stopped = stopped }
+with_member rebuild stopped p = record { member = p.member; rebuild = rebuild; stopped = stopped; remembered = None }
 
 -- a call that doesn't write this slot's gate
 abbrev pub SparesGate : ℕ → ℕ → SlotCall → Type 0

@@ -38,6 +38,7 @@ use Rattle.stair_session.proofs.RedoingLemmas.{halfway, over_here, redo_ran, sta
 use Rattle.stair_session.proofs.Serving.{IsCalmTo, IsServing, LeadsRedos, LeadsTo, StandsAs, StandsIn, calm_sooner, tolerated_now}
 use Rattle.stair_session.proofs.StaysArrayLemmas.{redo_stays, stage_stays}
 use Rattle.stair_array.proofs.LedOnLemmas.{led_again}
+use Rattle.stair_array.proofs.OpenStepLemmas.{forgets_open, forgetting}
 use Rattle.stair_return.specs.Following.{name_of}
 use Rattle.stair_return.proofs.LeavingOut.{throughout}
 use Rattle.stair_return.proofs.RedoEnd.{Ends, settled_knows}
@@ -249,7 +250,7 @@ module _ (before : List Happening) (a : ArrayState) (words new : Codewords) (kep
 
   rest_any : IsAmidAny before doing AtRest a.rebuild a.stopped here
   rest_any = record {
-    amid = redo_begins (redo_by a.member words new redo) before a old.history serving.is_open refl;
+    amid = redo_begins (redo_by a.member words new redo) before (forgetting a) old.history (forgets_open before a words old.history serving.is_open) refl;
     history = serving.history;
     stays = record { rules = serving.is_open.array.member; geometry = refl; frozen = refl; label = refl; seats = λ j. inl refl };
     known = serving.knows.known;

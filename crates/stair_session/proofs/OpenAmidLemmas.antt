@@ -42,7 +42,7 @@ module _ (s : State) (m last : Membership) (before old mid new : List Happening)
       by (inl was) = was
       by (inr never) = let joins : None ≡ Some j = never.0 in absurd (cc)
 
-  pub opened_amid : IsOpenAmid before (record { member = last; rebuild = None; stopped = None }) new
+  pub opened_amid : IsOpenAmid before (record { member = last; rebuild = None; stopped = None; remembered = None }) new
   opened_amid = record {
     array = record {
       member = st.member;

@@ -587,7 +587,7 @@ pub rebuilds_on : (before : List Happening) (a b : ArrayState) (words : Codeword
     × ((rebuild.stripe ≤ a.member.array.geometry.stripes)
     × (IsAttached h rebuild.slot → IsRebuiltTo a.member.array.geometry words rebuild.slot rebuild.stripe h h))) → IsOpenWith before b words h
 rebuilds_on before a b words h is same on =
-    subst (λ (x : Membership). IsOpenWith before (record { member = x; rebuild = b.rebuild; stopped = b.stopped }) words h) (sym same)
+    subst (λ (x : Membership). IsOpenWith before (record { member = x; rebuild = b.rebuild; stopped = b.stopped; remembered = b.remembered }) words h) (sym same)
     (record {
       array = record {
         member = is.array.member;

@@ -53,7 +53,7 @@ rebuild_in last (Some rebuild) = rebuild_if (why_of last rebuild.slot) rebuild
 
 -- the array with this member, not stopped
 abbrev pub led_to : ArrayState → Membership → ArrayState
-led_to a last = record { member = last; rebuild = rebuild_in last a.rebuild; stopped = None }
+led_to a last = record { member = last; rebuild = rebuild_in last a.rebuild; stopped = None; remembered = None }
 
 -- IN THE MIDST OF A REDO
 

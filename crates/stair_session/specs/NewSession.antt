@@ -21,7 +21,7 @@ use Rattle.stair_session.specs.Session.{ArrayState, HasOwn}
 
 -- an array that rebuilds no slot and wasn't stopped
 abbrev pub array_of : Membership → ArrayState
-array_of m = record { member = m; rebuild = None; stopped = None }
+array_of m = record { member = m; rebuild = None; stopped = None; remembered = None }
 
 -- the stripes of a new array
 abbrev pub new_words : Geometry → Codewords

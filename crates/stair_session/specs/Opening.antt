@@ -129,7 +129,7 @@ pub record StaysArray (was is : Membership) : Type 0 where
 
 -- an array that was opened with this member, of which no slot is rebuilt
 abbrev pub opened_with : Membership → ArrayState
-opened_with m = record { member = m; rebuild = None; stopped = None }
+opened_with m = record { member = m; rebuild = None; stopped = None; remembered = None }
 
 -- What lasts while it is opened, in a session that began at `before`, once its first epoch stands.
 pub record IsOpening (before : List Happening) (x : Point) : Type 0 where

@@ -1,6 +1,7 @@
 -- What a session keeps of an array between the calls that touch its devices, whichever media come back.
-use Rattle.std.specs.Prelude.{◌≡◌, ◌⊎◌, ◌-◌, ◌<◌, ◌≤◌, ℕ, List, [], Option, Some}
+use Rattle.std.specs.Prelude.{◌≡◌, ◌⊎◌, ◌-◌, ◌<◌, ◌≤◌, ℕ, List, [], Option, None, Some, ⊤}
 use Rattle.stair_model.specs.Geometry.{Geometry}
+use Rattle.stair_model.specs.Stripe.{Stripe}
 use Rattle.stair_rack.specs.Answers.{Ran, any_call}
 use Rattle.stair_rack.specs.History.{Happening, slot_state}
 use Rattle.stair_rack.specs.Offline.{IsAttached, IsHeld}
@@ -25,12 +26,23 @@ use Rattle.stair_state.specs.Redoing.{AtRest, IsIn}
 use Rattle.stair_state.specs.Represents.{IsLargeEnough}
 use Rattle.stair_session.specs.Rebuilding.{IsRebuiltTo, Rebuild}
 
--- What contracts see of an array: what it knows of its slots, how far a rebuild has come, and by which refusal of an epoch it
--- was stopped.
+-- a stripe as it was restored
+pub record Remembered : Type 0 where
+  pub stripe : ℕ
+  pub cells : Stripe
+
+-- What contracts see of an array: what it knows of its slots, how far a rebuild has come, by which refusal of an epoch it was
+-- stopped, and the stripe that it remembers.
 pub record ArrayState : Type 0 where
   pub member : Membership
   pub rebuild : Option Rebuild
   pub stopped : Option FenceFault
+  pub remembered : Option Remembered
+
+-- what is remembered is one of these stripes
+abbrev pub IsRememberedIn : Codewords → Option Remembered → Type 0
+IsRememberedIn words None = ⊤
+IsRememberedIn words (Some one) = one.cells ≡ words one.stripe
 
 -- slot j is live to it, and it takes part as one that is rebuilt
 pub record IsLiveIn (m : Membership) (j : ℕ) : Type 0 where

@@ -24,7 +24,7 @@ use Rattle.stair_state.specs.Redoing as stage
 use Rattle.stair_state.specs.Redoing.{Stage}
 use Rattle.stair_session.specs.Courses as course
 use Rattle.stair_session.specs.Courses.{DoesStage, FindsBody, FindsRedo, LeavesOut, Loads, Point, Redoes, Replays, point, stage_writes}
-use Rattle.stair_session.specs.Session.{ArrayState}
+use Rattle.stair_session.specs.Session.{ArrayState, Remembered}
 use Rattle.stair_session.proofs.HonestLemmas.{found_honest, left_honest, load_honest, redo_honest, replay_honest}
 use Rattle.stair_array.specs.Calls as calls
 use Rattle.stair_array.specs.Mends as mends
@@ -231,8 +231,9 @@ module _ (g : Geometry) (most : ℕ) where
   goes_without (calls.WasBad asks reading) = goes_asked asks
   goes_without (calls.WasGone asks gone) = goes_asked asks
 
-  goes_read : {b : ℕ} {answer : Result (List ℕ) Refusal} {x y : Point} → (does : Reads b answer x y) → Goes x y
+  goes_read : {b : ℕ} {old after : Option Remembered} {answer : Result (List ℕ) Refusal} {x y : Point} → (does : Reads b old after answer x y) → Goes x y
   goes_read (calls.OutOf x past) = goes_same refl
+  goes_read (calls.Recalled one i j x known place) = goes_same refl
   goes_read (calls.Own t i j bytes x y place asks reading) = goes_asked asks
   goes_read (calls.Restored t i j into x y z place cannot loads) = goes_on (goes_without cannot) (stripe_honest loads) (goes_stripe loads)
   goes_read (calls.Refused t i j into refusal x y z place cannot loads) = goes_on (goes_without cannot) (stripe_honest loads) (goes_stripe loads)
@@ -324,17 +325,17 @@ module _ (g : Geometry) (most : ℕ) where
 
   -- ---- a step
 
-  pub goes_step : (step : Step) (was : ArrayState) (answer : Answer step) (x y : Point) (does : Does step was answer x y) → Goes x y
-  goes_step Recover was answer x y does = goes_opened does
-  goes_step (ReadBlock b) was answer x y does = goes_read does
-  goes_step (WriteBlocks first contents) was answer x y does = goes_written does
-  goes_step (ScrubStripe t) was answer x y does = goes_scrubbed does
-  goes_step (ReplaceSlot j) was answer x y does = goes_replaced does
-  goes_step RebuildNext was answer x y does = goes_rebuilt does
-  goes_step (SetFrozen frozen) was answer x y (mends.Stamped given a b stamps) = goes_established stamps.establishes
-  goes_step (SetLabel label) was answer x y (mends.Stamped given a b stamps) = goes_established stamps.establishes
-  goes_step LookAtSeats was answer x y does = goes_same does
+  pub goes_step : (step : Step) (was : ArrayState) (after : Option Remembered) (answer : Answer step) (x y : Point) (does : Does step was after answer x y) → Goes x y
+  goes_step Recover was after answer x y does = goes_opened does
+  goes_step (ReadBlock b) was after answer x y does = goes_read does
+  goes_step (WriteBlocks first contents) was after answer x y does = goes_written does
+  goes_step (ScrubStripe t) was after answer x y does = goes_scrubbed does
+  goes_step (ReplaceSlot j) was after answer x y does = goes_replaced does
+  goes_step RebuildNext was after answer x y does = goes_rebuilt does
+  goes_step (SetFrozen frozen) was after answer x y (mends.Stamped given a b stamps) = goes_established stamps.establishes
+  goes_step (SetLabel label) was after answer x y (mends.Stamped given a b stamps) = goes_established stamps.establishes
+  goes_step LookAtSeats was after answer x y does = goes_same does
 
 pub stays_in_step : StepsAreBounded
-stays_in_step step was answer x y g most does honest few bounded =
-    stays_bounded g most ((goes_step g most step was answer x y does).fine few honest) bounded
+stays_in_step step was after answer x y g most does honest few bounded =
+    stays_bounded g most ((goes_step g most step was after answer x y does).fine few honest) bounded

@@ -167,7 +167,7 @@ module _ {R W : Type 0} (view : DeviceView R W) (honest : IsTrue view.rack.hones
       let enough : weights does.is.member + over_steps allowance story ≤ bound = omega (arith, before, grow, allowed) in
       let few_then : then ≤ bound = omega (arith, most, enough) in
       let stays : StaysBounded g then (view.rack.history x.rack) (view.rack.history y.rack) =
-      stays_in_step step does.was answer (point does.was.member (seen_of view x).told) (point does.is.member (seen_of view y).told) g then
+      stays_in_step step does.was does.is.remembered answer (point does.was.member (seen_of view x).told) (point does.is.member (seen_of view y).told) g then
       does.does honest high (weaker g now then low (view.rack.history x.rack) ahead.bounded) in
       let ends = ends_in does in
       record {

@@ -1,6 +1,6 @@
 -- A slot that is live and stays whole is live in the end: it is given up by no step, and its own superblock says so in what a crash
 -- leaves.
-use Rattle.std.proofs.Common.{◌≡◌, ◌∙◌, ◌⊎◌, ◌-◌, ◌<◌, ℕ, List, [], ◌∷◌, ◌++◌, None, Some, Ok, Err, Result, inl, inr, refl, sym, ap, subst, arith}
+use Rattle.std.proofs.Common.{◌≡◌, ◌∙◌, ◌⊎◌, ◌-◌, ◌<◌, ℕ, List, [], ◌∷◌, ◌++◌, None, Some, Ok, Err, Option, Result, inl, inr, refl, sym, ap, subst, arith}
 use Rattle.std.specs.Prelude.{IsTrue}
 use Rattle.stair_model.specs.Geometry.{Geometry}
 use Rattle.stair_model.specs.Slots.{HasSlot}
@@ -33,7 +33,7 @@ use Rattle.stair_state.specs.Tolerance.{IsWithinTolerance}
 use Rattle.stair_state.proofs.SurveyedLemmas.{finds_array}
 use Rattle.stair_session.specs.Courses.{Point, point}
 use Rattle.stair_session.specs.Returning.{NoneReturns}
-use Rattle.stair_session.specs.Session.{ArrayState, IsArray, IsLiveIn}
+use Rattle.stair_session.specs.Session.{ArrayState, IsArray, IsLiveIn, Remembered}
 use Rattle.stair_session.proofs.OwnPartLemmas.{live_left}
 use Rattle.stair_array.specs.Causes.{IsFree, WasGoneTo, WhyGoesOn}
 use Rattle.stair_array.specs.Machine.{Answer, EpochsSpent, Refusal, ReplaceSlot, Step, TooFew}
@@ -64,12 +64,12 @@ replaced_free slot _ _ _ (Replaces.Busy x below busy) = inl refl
 replaced_free slot _ _ _ (Replaces.Unprepared refusal x y free prepares) = inr free
 replaced_free slot _ _ _ (Replaces.Admitted answer x y z free prepares joins) = inr free
 
-admitted_free : (j : ℕ) (step : Step) (was : ArrayState) (answer : Answer step) (x y : Point) → Does step was answer x y → step ≡ ReplaceSlot j
+admitted_free : (j : ℕ) (step : Step) (was : ArrayState) (after : Option Remembered) (answer : Answer step) (x y : Point) → Does step was after answer x y → step ≡ ReplaceSlot j
     → (y ≡ x) ⊎ IsFree x.member j
-admitted_free j (ReplaceSlot slot) was answer x y does is =
+admitted_free j (ReplaceSlot slot) was after answer x y does is =
     let same : slot ≡ j = cc in
     subst (λ (i : ℕ). (y ≡ x) ⊎ IsFree x.member i) same (replaced_free slot answer x y does)
-admitted_free j _ was answer x y does is = absurd (cc)
+admitted_free j _ was after answer x y does is = absurd (cc)
 
 -- an open array that wasn't stopped keeps the rules of one
 abbrev KeepsArray : Session → Type 0
@@ -155,7 +155,7 @@ module _ {R W : Type 0} (view : DeviceView R W) (honest : IsTrue view.rack.hones
       by (WhyGoesOn.Stays same) = same ∙ was_here
       by (WhyGoesOn.Went was lost) = absurd (gone lost)
       by (WhyGoesOn.IsAdmitted replaces is) =
-          elim (admitted_free j step does.was answer (point does.was.member (seen_of view x).told) (point does.is.member (seen_of view y).told) does.does replaces) [
+          elim (admitted_free j step does.was does.is.remembered answer (point does.was.member (seen_of view x).told) (point does.is.member (seen_of view y).told) does.does replaces) [
             | inl same ↦ ap (λ (p : Point). why_of p.member j) same ∙ was_here
             | inr free ↦ absurd (never_free replaces free)
           ]

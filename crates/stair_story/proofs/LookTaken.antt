@@ -33,8 +33,8 @@ module _ {R W : Type 0} (view : DeviceView R W) (rack : R) (array : ArrayState) 
   pub look_taken : IsArray array → array.stopped ≡ None → Takes view LookAtSeats (Ok (seats_in array.member.array)) here here
   look_taken is none = record { events = []; left = not (nat_le (length watchers) (length watchers)); works = (inl performs, refl, refl, tt) }
     where
-      runs : array ≡ running array.member array.rebuild
-      runs i = record { member = array.member; rebuild = array.rebuild; stopped = none i }
+      runs : array ≡ running array.member array.rebuild array.remembered
+      runs i = record { member = array.member; rebuild = array.rebuild; stopped = none i; remembered = array.remembered }
 
       silent : fenced_from 0 32 array.member.array array.member.array ++ [] ≡ []
       silent = ap (λ (events : List Event). events ++ []) (none_fenced 0 32 array.member.array)
@@ -44,8 +44,8 @@ module _ {R W : Type 0} (view : DeviceView R W) (rack : R) (array : ArrayState) 
           subst (λ (a : ArrayState). Performs LookAtSeats (Ok (seats_in array.member.array)) [] (seen_of view (devices rack (Opened a) watchers)) (seen_of view (devices rack (Opened a) watchers)))
           (sym runs)
           (subst (λ (events : List Event). Performs LookAtSeats (Ok (seats_in array.member.array)) events
-          (seen_of view (devices rack (Opened (running array.member array.rebuild)) watchers)) (seen_of view (devices rack (Opened (running array.member array.rebuild)) watchers))) silent
-          (look_performs array.member array.rebuild (told_of view.rack rack) (subst IsArray runs is)))
+          (seen_of view (devices rack (Opened (running array.member array.rebuild array.remembered)) watchers)) (seen_of view (devices rack (Opened (running array.member array.rebuild array.remembered)) watchers))) silent
+          (look_performs array.member array.rebuild array.remembered (told_of view.rack rack) (subst IsArray runs is)))
 
   -- an array that was stopped answers by what it was stopped
   pub look_refused : (by : FenceFault) → array.stopped ≡ Some by → Takes view LookAtSeats (Err (refused by)) here here

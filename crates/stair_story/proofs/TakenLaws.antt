@@ -8,7 +8,7 @@ use Rattle.stair_member.specs.declared.fault.FenceFault.{FenceFault}
 use Rattle.stair_member.specs.declared.fault.FenceFault.TheVariants as fence
 use Rattle.stair_session.specs.Courses.{point}
 use Rattle.stair_session.specs.Rebuilding.{Rebuild}
-use Rattle.stair_session.specs.Session.{ArrayState, IsArray}
+use Rattle.stair_session.specs.Session.{ArrayState, IsArray, Remembered}
 use Rattle.stair_array.specs.Arrays.{OpenArray, answer_as, outcome, rebuilt_as, replaced_as, state_of}
 use Rattle.stair_array.specs.Faults.{array_fault, opening_refusal, rebuild_fault, replace_fault}
 use Rattle.stair_array.specs.declared.fault.RecoverFault.{RecoverFault}
@@ -43,12 +43,11 @@ use Rattle.stair_watch.specs.WatcherList.{TellsAll}
 
 -- AN OPEN ARRAY
 
--- what a session has of an array with this rebuild, that was stopped so
-state_is : (a : OpenArray) (rebuild : Option Rebuild) (stopped : Option FenceFault) → a.rebuild ≡ rebuild → a.stopped ≡ stopped
-    → state_of a ≡ record { member = a.member; rebuild = rebuild; stopped = stopped }
-state_is a rebuild stopped is was =
-    ap (λ (r : Option Rebuild). let s : ArrayState = record { member = a.member; rebuild = r; stopped = a.stopped } in s) is
-    ∙ ap (λ (f : Option FenceFault). let s : ArrayState = record { member = a.member; rebuild = rebuild; stopped = f } in s) was
+-- what a session has of an array with this rebuild, that was stopped so and remembers this
+state_is : (a : OpenArray) (rebuild : Option Rebuild) (stopped : Option FenceFault) (known : Option Remembered) → a.rebuild ≡ rebuild
+    → a.stopped ≡ stopped → a.remembered ≡ known
+    → state_of a ≡ record { member = a.member; rebuild = rebuild; stopped = stopped; remembered = known }
+state_is a rebuild stopped known is was remembers i = record { member = a.member; rebuild = is i; stopped = was i; remembered = remembers i }
 
 -- one that wasn't stopped by an answer isn't refused for good
 goes_on : {T : Type 0} (answer : Result T Refusal) → Keeps answer None → ¬ Stops answer
@@ -86,17 +85,18 @@ pub cleared_array : (was a : OpenArray) → was ≡ record a { news = no_news } 
     → was.stopped ≡ None → IsArray (state_of was)
 cleared_array was a cleared array = subst (λ (o : OpenArray). o.stopped ≡ None → IsArray (state_of o)) (sym cleared) array
 
--- what a call leaves of an array, whose news were cleared before it, with this rebuild
-pub record Leaves (step : Step) (answer : Answer step) (after : Option Rebuild) (was is : OpenArray) : Type 0 where
+-- what a call leaves of an array, whose news were cleared before it, with this rebuild, and with this to remember if it wasn't stopped
+pub record Leaves (step : Step) (answer : Answer step) (after : Option Rebuild) (known : Option Remembered) (was is : OpenArray) : Type 0 where
   pub cleared : was.news ≡ no_news
   pub rebuild : is.rebuild ≡ after
+  pub remembers : was.stopped ≡ None → is.remembered ≡ known
   pub news : AddsNews step answer was.member.array is.member.array was.news is.news
 
-pub left_by : (step : Step) (answer : Answer step) {after : Option Rebuild} (a was is : OpenArray) → was ≡ record a { news = no_news }
-    → is.rebuild ≡ after → AddsNews step answer was.member.array is.member.array was.news is.news
-    → Leaves step answer after was is
-left_by step answer a was is cleared rebuild news =
-    record { cleared = ap (λ (o : OpenArray). o.news) cleared; rebuild = rebuild; news = news }
+pub left_by : (step : Step) (answer : Answer step) {after : Option Rebuild} {known : Option Remembered} (a was is : OpenArray)
+    → was ≡ record a { news = no_news } → is.rebuild ≡ after → (was.stopped ≡ None → is.remembered ≡ known) → AddsNews step answer was.member.array is.member.array was.news is.news
+    → Leaves step answer after known was is
+left_by step answer a was is cleared rebuild remembers news =
+    record { cleared = ap (λ (o : OpenArray). o.news) cleared; rebuild = rebuild; remembers = remembers; news = news }
 
 -- one that was stopped answers its fault, and leaves the rack and itself as they were
 abbrev pub AnswersFault : {R : Type 0} → (step : Step) → Answer step → OpenArray → OpenArray → R → R → Type 0
@@ -125,15 +125,15 @@ module _ {R W : Type 0} (view : DeviceView R W) (old new : R) (watchers left : L
 
   pub opening_taken : (m : Membership) (array : OpenArray) → IsMembership m
       → Recovers (Ok m.array.geometry) (point m (told_of view.rack old)) (point array.member (told_of view.rack new))
-      → array.stopped ≡ None → array.rebuild ≡ None
+      → array.stopped ≡ None → array.rebuild ≡ None → array.remembered ≡ None
       → AddsNews Recover (Ok m.array.geometry) m.array array.member.array no_news array.news
       → (told : News) → told ≡ array.news → TellsAll view.watcher (events_in told) watchers left
       → Takes view Recover (Ok m.array.geometry) (devices old (Found m) watchers) (devices new (Opened (state_of array)) left)
-  opening_taken m array rules recovers goes rebuilds news told same tells =
+  opening_taken m array rules recovers goes rebuilds remembers news told same tells =
       taken Recover (Ok m.array.geometry) (events_in array.news) (Found m) (Opened (state_of array))
       (inl (rw (
         step_told Recover (Ok m.array.geometry) m.array array.member.array array.news news (λ step. refl),
-        state_is array None None rebuilds goes,
+        state_is array None None None rebuilds goes remembers,
       )
       (performs m array.member (Ok m.array.geometry) (told_of view.rack old) (told_of view.rack new) rules recovers)))
       (all_told told array.news same tells) rules
@@ -146,9 +146,9 @@ module _ {R W : Type 0} (view : DeviceView R W) (old new : R) (watchers left : L
       (inl (performs m last (Err refusal) (told_of view.rack old) (told_of view.rack new) rules recovers)) same rules
 
   -- a step of an open array, of which the session had this
-  pub step_taken : (step : Step) (answer : Answer step) {after : Option Rebuild} (was is : OpenArray) (had : ArrayState) → state_of was ≡ had
+  pub step_taken : (step : Step) (answer : Answer step) {after : Option Rebuild} {known : Option Remembered} (was is : OpenArray) (had : ArrayState) → state_of was ≡ had
       → (step ≡ Recover → IsOk answer)
-      → Leaves step answer after was is → Promises step answer was is (told_of view.rack old) (told_of view.rack new) → AnswersFault step answer was is old new
+      → Leaves step answer after known was is → Promises step answer was is (told_of view.rack old) (told_of view.rack new) → AnswersFault step answer was is old new
       → (told : News) → told ≡ is.news → TellsAll view.watcher (events_in told) watchers left
       → Takes view step answer (devices old (Opened had) watchers) (devices new (Opened (state_of is)) left)
   step_taken step answer was is had same goes leaves promises stopped told news tells =
@@ -206,9 +206,10 @@ stays_array step answer was is x y old new promises kept stopped none = by was.s
 -- OPENINGS
 
 pub opening_array : (m : Membership) (array : OpenArray) (x y : Telling) → IsMembership m
-    → Recovers (Ok m.array.geometry) (point m x) (point array.member y) → array.stopped ≡ None → array.rebuild ≡ None → IsArray (state_of array)
-opening_array m array x y rules recovers goes rebuilds =
-    subst IsArray (sym (state_is array None None rebuilds goes))
+    → Recovers (Ok m.array.geometry) (point m x) (point array.member y) → array.stopped ≡ None → array.rebuild ≡ None → array.remembered ≡ None
+    → IsArray (state_of array)
+opening_array m array x y rules recovers goes rebuilds remembers =
+    subst IsArray (sym (state_is array None None None rebuilds goes remembers))
     (performed_array Recover (Ok m.array.geometry) _ _ _ _ (performs m array.member (Ok m.array.geometry) x y rules recovers) refl (λ stops. stops))
 
 -- what is so of each refusal that a fault is, is so of an opening that was refused by it
@@ -222,26 +223,27 @@ opening_refused (Err e) fault IsSo is all = λ refusal told. all refusal (sym (a
 
 module _ (was is : OpenArray) (array : was.stopped ≡ None → IsArray (state_of was)) (x y : Telling) where
   -- a step of an array that ran, with what is left of it
-  promised : (step : Step) (answer : Answer step) {after : Option Rebuild} → Leaves step answer after was is
-      → (was.stopped ≡ None → IsArray (running was.member was.rebuild)
+  promised : (step : Step) (answer : Answer step) {after : Option Rebuild} {known : Option Remembered} → Leaves step answer after known was is
+      → (was.stopped ≡ None → IsArray (running was.member was.rebuild was.remembered)
       → Performs step answer (events_of step answer was.member.array is.member.array)
-      (seen x (Opened (running was.member was.rebuild)))
-      (seen y (Opened (record { member = is.member; rebuild = after; stopped = is.stopped }))))
+      (seen x (Opened (running was.member was.rebuild was.remembered)))
+      (seen y (Opened (record { member = is.member; rebuild = after; stopped = is.stopped; remembered = known }))))
       → Promises step answer was is x y
-  promised step answer {after} leaves does none =
-      let ran = state_is was was.rebuild None refl none in
-      rw (ran, state_is is after is.stopped leaves.rebuild refl) (does none (subst IsArray ran (array none)))
+  promised step answer {after} {known} leaves does none =
+      let ran = state_is was was.rebuild None was.remembered refl none refl in
+      rw (ran, state_is is after is.stopped known leaves.rebuild refl (leaves.remembers none)) (does none (subst IsArray ran (array none)))
 
   -- what a call leaves that keeps a rebuild as long as its slot is rebuilt
   abbrev LeavesIt : (step : Step) → Answer step → Type 0
-  LeavesIt step answer = Leaves step answer (rebuild_after is.member was.rebuild) was is
+  LeavesIt step answer = Leaves step answer (rebuild_after is.member was.rebuild) None was is
 
-  pub read_promises : (b : ℕ) (answer : Answer (ReadBlock b)) → (was.stopped ≡ None → Reads b answer (point was.member x) (point is.member y))
-      → (was.stopped ≡ None → Keeps answer is.stopped) → LeavesIt (ReadBlock b) answer
+  pub read_promises : (b : ℕ) (answer : Answer (ReadBlock b)) → (was.stopped ≡ None → Reads b was.remembered is.remembered answer (point was.member x) (point is.member y))
+      → (was.stopped ≡ None → Keeps answer is.stopped)
+      → Leaves (ReadBlock b) answer (rebuild_after is.member was.rebuild) is.remembered was is
       → Promises (ReadBlock b) answer was is x y
   read_promises b answer told kept leaves =
       promised (ReadBlock b) answer leaves
-      (λ none ran. read_performs b answer was.member is.member was.rebuild is.stopped x y ran (told none) (kept none))
+      (λ none ran. read_performs b answer was.member is.member was.rebuild was.remembered is.remembered is.stopped x y ran (told none) (kept none))
 
   pub write_promises : (first : ℕ) (contents : List (List ℕ)) (answer : Answer (WriteBlocks first contents))
       → (was.stopped ≡ None → WritesBlocks first contents answer (point was.member x) (point is.member y))
@@ -249,14 +251,14 @@ module _ (was is : OpenArray) (array : was.stopped ≡ None → IsArray (state_o
       → Promises (WriteBlocks first contents) answer was is x y
   write_promises first contents answer told kept leaves =
       promised (WriteBlocks first contents) answer leaves
-      (λ none ran. write_performs first contents answer was.member is.member was.rebuild is.stopped x y ran (told none) (kept none))
+      (λ none ran. write_performs first contents answer was.member is.member was.rebuild was.remembered is.stopped x y ran (told none) (kept none))
 
   pub scrub_promises : (t : ℕ) (answer : Answer (ScrubStripe t)) → (was.stopped ≡ None → Scrubs t answer (point was.member x) (point is.member y))
       → (was.stopped ≡ None → Keeps answer is.stopped) → LeavesIt (ScrubStripe t) answer
       → Promises (ScrubStripe t) answer was is x y
   scrub_promises t answer told kept leaves =
       promised (ScrubStripe t) answer leaves
-      (λ none ran. scrub_performs t answer was.member is.member was.rebuild is.stopped x y ran (told none) (kept none))
+      (λ none ran. scrub_performs t answer was.member is.member was.rebuild was.remembered is.stopped x y ran (told none) (kept none))
 
   pub replace_promises : (slot : ℕ) (answer : Answer (ReplaceSlot slot))
       → (was.stopped ≡ None → Replaces slot answer (point was.member x) (point is.member y))
@@ -264,16 +266,16 @@ module _ (was is : OpenArray) (array : was.stopped ≡ None → IsArray (state_o
       → Promises (ReplaceSlot slot) answer was is x y
   replace_promises slot answer told kept leaves =
       promised (ReplaceSlot slot) answer leaves
-      (λ none ran. replace_performs slot answer was.member is.member was.rebuild is.stopped x y ran (told none) (kept none))
+      (λ none ran. replace_performs slot answer was.member is.member was.rebuild was.remembered is.stopped x y ran (told none) (kept none))
 
   pub rebuild_promises : (answer : Answer RebuildNext)
       → (was.stopped ≡ None → Rebuilds (state_of was) answer (point was.member x) (point is.member y))
-      → (was.stopped ≡ None → Keeps answer is.stopped) → Leaves RebuildNext answer (rebuild_then answer is.member was.rebuild) was is
+      → (was.stopped ≡ None → Keeps answer is.stopped) → Leaves RebuildNext answer (rebuild_then answer is.member was.rebuild) None was is
       → Promises RebuildNext answer was is x y
   rebuild_promises answer told kept leaves =
       promised RebuildNext answer leaves
-      (λ none ran. rebuild_performs answer was.member is.member was.rebuild is.stopped x y ran
-      (subst (λ (s : ArrayState). Rebuilds s answer (point was.member x) (point is.member y)) (state_is was was.rebuild None refl none) (told none))
+      (λ none ran. rebuild_performs answer was.member is.member was.rebuild was.remembered is.stopped x y ran
+      (subst (λ (s : ArrayState). Rebuilds s answer (point was.member x) (point is.member y)) (state_is was was.rebuild None was.remembered refl none refl) (told none))
       (kept none))
 
   pub frozen_promises : (frozen : Bool) (answer : Answer (SetFrozen frozen))
@@ -282,7 +284,7 @@ module _ (was is : OpenArray) (array : was.stopped ≡ None → IsArray (state_o
       → Promises (SetFrozen frozen) answer was is x y
   frozen_promises frozen answer told kept leaves =
       promised (SetFrozen frozen) answer leaves
-      (λ none ran. frozen_performs frozen answer was.member is.member was.rebuild is.stopped x y ran (told none) (kept none))
+      (λ none ran. frozen_performs frozen answer was.member is.member was.rebuild was.remembered is.stopped x y ran (told none) (kept none))
 
   pub label_promises : (label : List ℕ) (answer : Answer (SetLabel label))
       → (was.stopped ≡ None → StampsAs was.member.array.frozen label answer (point was.member x) (point is.member y))
@@ -290,7 +292,7 @@ module _ (was is : OpenArray) (array : was.stopped ≡ None → IsArray (state_o
       → Promises (SetLabel label) answer was is x y
   label_promises label answer told kept leaves =
       promised (SetLabel label) answer leaves
-      (λ none ran. label_performs label answer was.member is.member was.rebuild is.stopped x y ran (told none) (kept none))
+      (λ none ran. label_performs label answer was.member is.member was.rebuild was.remembered is.stopped x y ran (told none) (kept none))
 
 -- THE GEOMETRY
 

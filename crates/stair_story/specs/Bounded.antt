@@ -1,5 +1,5 @@
 -- How great the draws of superblocks become in an image, at every moment of a call.
-use Rattle.std.specs.Prelude.{◌≡◌, ◌+◌, ◌*◌, ◌<◌, ◌≤◌, All, ℕ, IsTrue, List, [], ◌∷◌, Ok, ⊤}
+use Rattle.std.specs.Prelude.{◌≡◌, ◌+◌, ◌*◌, ◌<◌, ◌≤◌, All, ℕ, IsTrue, List, [], ◌∷◌, Ok, Option, ⊤}
 use Rattle.stair_model.specs.Geometry.{Geometry}
 use Rattle.stair_model.specs.Slots.{Slots}
 use Rattle.stair_rack.specs.Crash.{EachImage}
@@ -14,7 +14,7 @@ use Rattle.stair_member.specs.Membership.{Membership}
 use Rattle.stair_member.specs.Superblocks.{HoldsSuper}
 use Rattle.stair_member.specs.declared.aim.Aim.{Aim}
 use Rattle.stair_session.specs.Courses.{Point}
-use Rattle.stair_session.specs.Session.{ArrayState}
+use Rattle.stair_session.specs.Session.{ArrayState, Remembered}
 use Rattle.stair_array.specs.Machine.{Answer, Step}
 use Rattle.stair_array.specs.Draws.{allowance, weights}
 use Rattle.stair_array.specs.Promise.{Begun, Does}
@@ -59,8 +59,8 @@ EpochsAreBounded = (aim : Aim) (gone : Slots) (m last : Membership) (old new : L
 -- So it is of a step on an honest rack: no draw becomes greater than the greatest that is known in the end, or than what was
 -- borne before.
 abbrev pub StepsAreBounded : Type 0
-StepsAreBounded = (step : Step) (was : ArrayState) (answer : Answer step) (x y : Point)
-    (g : Geometry) (most : ℕ) → Does step was answer x y → IsTrue y.told.honest → y.member.drawn ≤ most → IsBoundedAt g most x.told.history
+StepsAreBounded = (step : Step) (was : ArrayState) (after : Option Remembered) (answer : Answer step) (x y : Point)
+    (g : Geometry) (most : ℕ) → Does step was after answer x y → IsTrue y.told.honest → y.member.drawn ≤ most → IsBoundedAt g most x.told.history
     → StaysBounded g most x.told.history y.told.history
 
 -- And of a story on an honest rack, which begins with an array that was found: in the image at every moment of it, and in every image that a crash then may leave, the superblocks of the array bear no draw that is greater than what was borne

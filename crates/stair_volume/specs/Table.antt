@@ -42,7 +42,7 @@ pub record IsVolume (blocks : ℕ) (entry : Entry) : Type 0 where
   pub some : 1 ≤ entry.extent.blocks
   pub within : IsWithin blocks entry.extent
 
--- Well formed: of an array of less than 2^37 blocks there are at most 15 volumes, which have names of their own and blocks of their
+-- Well formed: of an array of fewer than 2^37 blocks there are at most 15 volumes, which have names of their own and blocks of their
 -- own.
 pub record IsTable (table : Table) : Type 0 where
   pub size : table.blocks < 2 ^ 37

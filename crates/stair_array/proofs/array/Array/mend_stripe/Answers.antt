@@ -15,8 +15,8 @@ returns-then-stripe-limit-clause-told g c none =
     (scrub_past c.args.stripe _ _ (point c.self.inside.session.member (told g.R.Rack c.args.rack.now)) c.from-then-stripe-limit.ensures
     (limit ∙ c.stripes-limit.ensures.value ∙ ap (λ (k : Geometry). k.stripes) c.geometry.ensures.value) (omega (arith, limit, past)))
 
-pub invariant_of-self : goal.invariant_of-self
-invariant_of-self g c = (
+pub invariant_of-self-in_err-cells : goal.invariant_of-self-in_err-cells
+invariant_of-self-in_err-cells g c = (
   c.scrub-scrubbed.ensures.fits,
   rw c.left_of-self-inside.ensures (under_after _ _ c.scrub-scrubbed.ensures.geometry _ c.self.invariant.1),
 )

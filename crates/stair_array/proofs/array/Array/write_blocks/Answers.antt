@@ -41,8 +41,8 @@ returns-clause-once g c cells of =
     (subst (λ (n : ℕ). AreOfBlocks c.self.inside.session.member.array.geometry c.args.first n cells) (sym c.as_chunks.ensures.front_len)
     (subst (λ (g : Geometry). AreOfBlocks g c.args.first (length c.args.from.now / 512) cells) (sym same) of)))
 
-pub invariant_of-self : goal.invariant_of-self
-invariant_of-self g c = (
+pub invariant_of-self-2 : goal.invariant_of-self-2
+invariant_of-self-2 g c = (
   c.write-written.ensures.fits,
   rw c.left_of-self-inside.ensures (under_after _ _ c.write-written.ensures.geometry _ c.self.invariant.1),
 )

@@ -12,8 +12,9 @@ returns-in_err-array-clause-refused g c =
 pub invariant_of-result : goal.invariant_of-result
 invariant_of-result g c = λ none.
     opening_array _ c.in_ok-array.array _ _ c.geometry.ensures.rules (c.in_ok-array.ensures.told) (c.in_ok-array.ensures.goes) c.in_ok-array.ensures.rebuilds
+    c.in_ok-array.ensures.remembers
 
 pub returns-clause-taken : goal.returns-clause-taken
 returns-clause-taken g c =
     opening_taken _ _ _ _ _ c.args.member c.in_ok-array.array c.geometry.ensures.rules c.in_ok-array.ensures.told c.in_ok-array.ensures.goes
-    c.in_ok-array.ensures.rebuilds c.in_ok-array.ensures.news c.news.result c.news.ensures c.tell_all.ensures.told
+    c.in_ok-array.ensures.rebuilds c.in_ok-array.ensures.remembers c.in_ok-array.ensures.news c.news.result c.news.ensures c.tell_all.ensures.told
