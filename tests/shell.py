@@ -12,7 +12,7 @@ import tempfile
 import time
 
 from documents import is_printed, sessions
-from fixture import LIMIT, PACKAGES, TOP, Case, is_there, program
+from fixture import LIMIT, PACKAGES, TOP, Case, is_there, program, put_wrapper
 
 # Takes commands from standard input, each ended by a zero byte. What a command prints goes to the file $1, and then its status to standard
 # output. A command finds the status of the one before in `$?`.
@@ -33,13 +33,16 @@ class Stopped(Exception):
 
 
 class Shell:
-    """A bash in the folder `work` of a room, which is an empty folder. `stair` on its path is the script `stair`."""
+    """A bash in the folder `work` of a room, which is an empty folder. `stair` on its path is the script `stair`, and `stair-verify` and
+    `stair-salvage` are those of `scripts`."""
 
     def __init__(self, room):
         self.room, self.printed, self.why = room, room / "printed", None
         for name in "bin", "home", "tmp", "work":
             (room / name).mkdir()
         put_script(room / "bin" / "stair")
+        for name in "verify", "salvage":
+            (room / "bin" / f"stair-{name}").symlink_to(TOP / "scripts" / name)
         own = {"PATH": f"{room / 'bin'}:{os.environ['PATH']}", "HOME": str(room / "home"), "TMPDIR": str(room / "tmp"), "STAIR_ROOM": str(room)}
         self.process = subprocess.Popen(
             ["bash", "--norc", "-c", DRIVER, "bash", str(self.printed)],
@@ -101,14 +104,9 @@ def put_script(path):
     if "STAIR_PROGRAM" not in os.environ:
         path.symlink_to(TOP / "stair")
         return
-    path.write_text(f"""#!/bin/bash
-case ${{1-}} in
-  --build) exit ;;
-  --*) exec '{TOP}/stair' "$@" ;;
-esac
-exec '{program()}' "$@"
-""")
-    path.chmod(0o755)
+    put_wrapper(path, program())
+    own = f"case ${{1-}} in --build) exit ;; --help | --version | --install | --uninstall) exec '{TOP}/stair' \"$@\" ;; esac\n"
+    path.write_text(path.read_text().replace("run_stair", f"{own}run_stair"))
 
 
 def processes_of(room):
