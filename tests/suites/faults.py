@@ -1,11 +1,13 @@
-"""Commands whose requests for memory are refused, each in turn; calls of the system that fail, each in turn; kills at random moments."""
+"""Requests for memory that are refused, calls of the system that fail, unreadable sectors among eight, kills at random moments."""
 import collections
+import pathlib
 import random
 import re
 import subprocess
+import tempfile
 import time
 
-from cuts import Cut, KilledByTime, replaced, run_whole
+from cuts import SMALL, Cut, KilledByTime, old, old_array, replaced, run_whole
 from fixture import *
 from messages import BEGUN, READ, WRITE, request
 from rounds import *
@@ -286,3 +288,68 @@ class HurtReplacement(Hurt, KilledByTime):
 
     def before(self):
         return blank_in_place()
+
+
+# SECTORS AMONG EIGHT
+
+
+class AmongEight(Case):
+    """A device of SMALL has one sector that can't be read. It is one of eight that are read at once, so their read fails, and then a read
+    of this sector alone. No other sector of the device is taken for bad."""
+
+    eight = 8 * SEALED
+    first = SMALL.sectors - SMALL.r * SMALL.stripes  # the first sector of the stripes
+    windows = (first + 1, first + 9, first + 17)  # where reads of eight begin, since the first sector is read alone
+
+    def setUp(self):
+        super().setUp()
+        self.needs("strace")
+
+    def strace(self, folder, slot, *words):
+        return ["strace", "-qq", "-P", str(image(folder, slot)), "-e", "trace=read", *words]
+
+    def reads_of_eight(self, before, words, slot):
+        """Returns which reads of the device are of eight sectors of stripes: their numbers, in order."""
+        folder, trace = copy(before, self.room / f"whole{slot}"), self.room / "trace"
+        ended = self.run_program(words, folder=folder, wrap=self.strace(folder, slot, "-o", trace))
+        self.assertEqual(0, ended.status, ended)
+        sizes = re.findall(r", (\d+)\) += \d+$", trace.read_text(errors="replace"), re.MULTILINE)
+        found = [number for number, size in enumerate(sizes, 1) if int(size) == self.eight][-len(self.windows) :]
+        self.assertEqual(len(self.windows), len(found), sizes)
+        return found
+
+    def each_sector(self, before, words, slot, judge):
+        """Each run is a case: the read of eight fails alone, or with the read of one of its sectors. Then `judge` is called with what
+        ended, the folder, and the stripe of the sector or None."""
+        for begin, number in zip(self.windows, self.reads_of_eight(before, words, slot)):
+            for at in (None, *range(8)):
+                when = number if at is None else f"{number}..{number + 1 + at}+{1 + at}"
+                name = f"eight from {begin} of slot {slot}" if at is None else f"sector {begin + at} of slot {slot}"
+                with self.subTest(name), tempfile.TemporaryDirectory(dir=self.room) as place:
+                    folder = copy(before, pathlib.Path(place) / "folder")
+                    wrap = self.strace(folder, slot, "-o", "/dev/null", "-e", f"inject=read:error=EIO:when={when}")
+                    ended = self.run_program(words, folder=folder, wrap=wrap)
+                    judge(ended, folder, None if at is None else (begin + at - self.first) // SMALL.r)
+
+    def test_scrub(self):
+        """It repairs this sector, and no other one."""
+
+        def judge(ended, folder, stripe):
+            says = "" if stripe is None else f"repaired stripe {stripe} cells 1"
+            self.check_ended(ended, 0, says, lines(f"scrubbed {SMALL.stripes} stripes cells {int(stripe is not None)}"))
+            self.check_ended(self.run_program(f"read 0 {SMALL.blocks}", folder=folder), 0, "", old())
+
+        for slot in 5, 7:  # data with parities, and parities
+            self.each_sector(old_array(), "scrub", slot, judge)
+
+    def test_read(self):
+        """Two devices are lost, so the stripe would be lost if the sectors beside this one were taken for bad."""
+        folder = copy(old_array(), self.room / "less")
+        for slot in 0, 1:
+            image(folder, slot).unlink()
+        self.run_program("read 0 0", folder=folder)
+
+        def judge(ended, folder, stripe):
+            self.check_ended(ended, 0, "", old())
+
+        self.each_sector(folder, f"read 0 {SMALL.blocks}", 2, judge)

@@ -1,4 +1,5 @@
-//! Reads of sectors in order, over image files: those that are read ahead answer as if each were read alone.
+//! Reads of sectors in order, also with some passed over, over image files: those that are read ahead answer as if each were read
+//! alone.
 
 use crate::faulty::{Fault, FaultyFiles};
 use stair_base::SECTOR;
@@ -82,6 +83,67 @@ fn a_bad_sector_costs_itself_alone(rt: HostRuntime) -> Result<(), Fail> {
 }
 
 #[test]
+fn sectors_that_are_passed_over(rt: HostRuntime) -> Result<(), Fail> {
+    let (folder, path) = ("passed", "passed/dev03.img");
+    empty_folder(&rt, folder)?;
+    for bad in 0..COUNT {
+        let mut bytes = image(&rt, 0)?;
+        if let Some(byte) = bytes.get_mut(544 * bad as usize + 511) {
+            *byte ^= 1;
+        }
+        fs::write(&rt, path, bytes.as_slice())?;
+        let mut rack = FileRack::at(&rt, rt.alloc(), folder, Access::Reading)?;
+        // The first sectors of each chunk are read, as where the others are parities.
+        for (read_of, chunk) in [(1, 2), (3, 4), (2, 4), (1, 4), (1, 7), (2, 9), (1, 12)] {
+            assert_eq!(rt; rack.attach(3), Reply::Done);
+            for sector in 0..COUNT {
+                if sector % chunk < read_of {
+                    assert_eq!(rt;
+                        read(&mut rack, sector),
+                        wanted(sector, bad, bad + 1),
+                        "{sector} of {chunk}, {bad}"
+                    );
+                }
+            }
+        }
+    }
+    fs::remove_dir_all(&rt, folder)?;
+    Ok(())
+}
+
+// The last bytes of the buffer after reads of these sectors.
+fn read_three(rack: &mut impl Rack, sectors: [u32; 3]) -> [u8; 3] {
+    sectors.map(|sector| read(rack, sector).1)
+}
+
+#[test]
+fn what_is_passed_over_is_read_ahead(rt: HostRuntime) -> Result<(), Fail> {
+    let (folder, path) = ("over", "over/dev03.img");
+    empty_folder(&rt, folder)?;
+    let (old, new) = (image(&rt, 0)?, image(&rt, 100)?);
+    fs::write(&rt, path, old.as_slice())?;
+    let mut rack = FileRack::at(&rt, rt.alloc(), folder, Access::Reading)?;
+    assert_eq!(rt; rack.attach(3), Reply::Done);
+    // After sector 0 the sectors 1 to 8 are read at once, by the read of 2.
+    assert_eq!(rt; read(&mut rack, 0), (Got::Good, 0));
+    assert_eq!(rt; read(&mut rack, 2), (Got::Good, 2));
+    fs::write(&rt, path, new.as_slice())?;
+    assert_eq!(rt; read_three(&mut rack, [3, 6, 8]), [3, 6, 8]);
+    // Sectors 9 to 16 are read at once, by the read of 11.
+    assert_eq!(rt; read(&mut rack, 11), (Got::Good, 111));
+    fs::write(&rt, path, old.as_slice())?;
+    assert_eq!(rt; read_three(&mut rack, [12, 15, 16]), [112, 115, 116]);
+    // A sector that was passed over is read alone, and so is one that was read.
+    assert_eq!(rt; read_three(&mut rack, [10, 9, 8]), [10, 9, 8]);
+    // Sectors 9 to 16 are read at once. A sector behind that is read releases them.
+    assert_eq!(rt; read(&mut rack, 13), (Got::Good, 13));
+    fs::write(&rt, path, new.as_slice())?;
+    assert_eq!(rt; read_three(&mut rack, [14, 12, 16]), [14, 112, 116]);
+    fs::remove_dir_all(&rt, folder)?;
+    Ok(())
+}
+
+#[test]
 fn a_file_that_ends_among_eight(rt: HostRuntime) -> Result<(), Fail> {
     let (folder, path) = ("ends", "ends/dev03.img");
     empty_folder(&rt, folder)?;
@@ -105,9 +167,9 @@ fn what_is_held_is_dropped(rt: HostRuntime) -> Result<(), Fail> {
     let (folder, path) = ("dropped", "dropped/dev03.img");
     empty_folder(&rt, folder)?;
     let (old, new) = (image(&rt, 0)?, image(&rt, 100)?);
-    // A write of another sector, a sync, an attach, and a read elsewhere, each after sectors 1 to 8 were read at once and
-    // the file was changed.
-    for call in 0..4 {
+    // A write of another sector, a sync, an attach, and reads of sectors that aren't held, each after sectors 1 to 8 were read at
+    // once and the file was changed.
+    for call in 0..6 {
         fs::write(&rt, path, old.as_slice())?;
         let mut rack = FileRack::at(&rt, rt.alloc(), folder, Access::Writing)?;
         assert_eq!(rt; rack.attach(3), Reply::Done);
@@ -121,7 +183,9 @@ fn what_is_held_is_dropped(rt: HostRuntime) -> Result<(), Fail> {
             0 => assert_eq!(rt; rack.write(3, 15, &[7; SECTOR]), Reply::Done),
             1 => assert_eq!(rt; rack.sync(3), Reply::Done),
             2 => assert_eq!(rt; rack.attach(3), Reply::Done),
-            _ => assert_eq!(rt; read(&mut rack, 12), (Got::Good, 112)),
+            3 => assert_eq!(rt; read(&mut rack, 12), (Got::Good, 112)),
+            4 => assert_eq!(rt; read(&mut rack, 18), (Got::Good, 118)),
+            _ => assert_eq!(rt; read(&mut rack, 3), (Got::Good, 103)),
         }
         assert_eq!(rt;
             [4, 5, 6].map(|sector| read(&mut rack, sector).1),

@@ -7,7 +7,7 @@ use Rattle.stair_rack.specs.declared.rack.Got.{Got}
 use Rattle.stair_rack.specs.declared.rack.Got.TheVariants as got
 use Rattle.stair_image.specs.Seal.{IsSealed, payload_in, sealed}
 use Rattle.stair_image.proofs.SealLemmas.{sealed-payload_in}
-use Rattle.stair_filerack.specs.Files.{FailsToRead, GivesHeld, GivesUnsealed, GoesAlone, HasFirst, LacksSector, HoldsSector, IsGotOf, ReadsAlone, ReadsBadSector, ReadsNoSector, ReadsSector, TakesFirst, buffer_after}
+use Rattle.stair_filerack.specs.Files.{FailsToRead, GivesHeld, GivesUnsealed, GoesAlone, LacksSector, HoldsSector, IsGotOf, ReadsAlone, ReadsBadSector, ReadsNoSector, ReadsSector, TakesSector, buffer_after}
 use Rattle.stair_filerack.specs.Slot.{OpenFile, ReadAhead}
 
 module _ {T : Type 0} (place : T → Option ℕ) (left : T → Option (List ℕ)) (sector : ℕ) (old : OpenFile T) where
@@ -26,15 +26,19 @@ module _ {T : Type 0} (place : T → Option ℕ) (left : T → Option (List ℕ)
       inl (subst (λ (bs : List ℕ). GivesHeld left sector bs old (record { file = file; next = next; ahead = ahead' })) its_bytes its)
 
   -- of one that is held
-  pub held_gives : (file : T) (next : Option ℕ) (ahead ahead' : ReadAhead) (held : OpenFile T) (found : Option (List ℕ)) (bytes : List ℕ)
-      → record { file = file; next = next; ahead = ahead } ≡ held → HoldsSector left sector old held → HasFirst held.ahead sector
-      → TakesFirst bytes ahead ahead' → SomeIff found (IsSealed ahead.from bytes) (payload_in bytes)
+  pub held_gives : (file : T) (next : Option ℕ) (ahead ahead' : ReadAhead) (held : OpenFile T) (found : Option (List ℕ)) (bytes : List ℕ) (number : ℕ)
+      → record { file = file; next = next; ahead = ahead } ≡ held → HoldsSector left sector old held → number ≡ sector
+      → TakesSector number bytes ahead ahead' → SomeIff found (IsSealed number bytes) (payload_in bytes)
       → Gives (record { file = file; next = next; ahead = ahead' }) found
-  held_gives file next ahead ahead' held found bytes parts holds first takes unsealed =
-      let from : ahead.from ≡ sector = ap (λ (o : OpenFile T). o.ahead.from) parts ∙ first.1 in
-      let its : GivesHeld left sector bytes old (record { file = file; next = next; ahead = ahead' }) =
-      (record { file = file; next = next; ahead = ahead }, subst (HoldsSector left sector old) (sym parts) holds, takes, refl, refl) in
-      by_verdict file next ahead' found bytes its (subst (λ (n : ℕ). SomeIff found (IsSealed n bytes) (payload_in bytes)) from unsealed)
+  held_gives file next ahead ahead' held found bytes number parts holds is takes unsealed =
+      let its : GivesHeld left sector bytes old (record { file = file; next = next; ahead = ahead' }) = (
+        record { file = file; next = next; ahead = ahead },
+        subst (HoldsSector left sector old) (sym parts) holds,
+        subst (λ (n : ℕ). TakesSector n bytes ahead ahead') is takes,
+        refl,
+        refl,
+      ) in
+      by_verdict file next ahead' found bytes its (subst (λ (n : ℕ). SomeIff found (IsSealed n bytes) (payload_in bytes)) is unsealed)
 
   -- of one that is read alone
   pub alone_gives : (alone new : OpenFile T) (found : Option (List ℕ)) → LacksSector left sector old alone

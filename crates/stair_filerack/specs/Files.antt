@@ -78,55 +78,63 @@ abbrev pub ReadsBadAlone : {T : Type 0} → (T → Option ℕ) → (T → Option
 ReadsBadAlone place left sector old new =
     ReadsNoSector place left sector old new ⊎ FailsToRead place left sector old new
 
--- this sector is the first of those that are held
-abbrev pub HasFirst : ReadAhead → ℕ → Type 0
-HasFirst ahead sector = (0 < length ahead.bytes) × (ahead.from ≡ sector)
+-- the sector is one of those that are held
+abbrev pub IsHeld : ReadAhead → ℕ → Type 0
+IsHeld ahead sector = (ahead.from ≤ sector) × (sector < ahead.from + length ahead.bytes / 544)
 
--- the first of the sectors that are held, which has these bytes, was taken
-pub record TakesFirst (bytes : List ℕ) (old new : ReadAhead) : Type 0 where
+-- This sector, which has these bytes, was taken from those that are held. Those before it were released.
+pub record TakesSector (sector : ℕ) (bytes : List ℕ) (old new : ReadAhead) : Type 0 where
   pub whole : length bytes ≡ 544
-  pub first : old.bytes ≡ bytes ++ new.bytes
-  pub from : new.from ≡ old.from + 1
+  pub held : (before : List ℕ) × (old.bytes ≡ before ++ (bytes ++ new.bytes))
+      × (544 * old.from + length before ≡ 544 * sector)
+  pub from : new.from ≡ sector + 1
   pub missed : new.missed ≡ old.missed
+
+-- a sector is one of the eight from this one on
+abbrev pub IsOfEight : ℕ → ℕ → Type 0
+IsOfEight start sector = (start ≤ sector) × (sector < start + 8)
 
 -- the sector is one of the eight of which fewer were read
 abbrev pub IsNear : Option ℕ → ℕ → Type 0
-IsNear missed sector = IsSomeAnd missed (λ first. (first ≤ sector) × (sector < first + 8))
+IsNear missed sector = IsSomeAnd missed (λ first. IsOfEight first sector)
 
--- Eight sectors were read at once from this one on, and are held. The file was at this sector, and this sector isn't one of
+-- Eight sectors were read at once, from where the file was, and are held. This sector is one of them, and the first isn't one of
 -- the eight of which fewer were read.
-pub record ReadsEight {T : Type 0} (left : T → Option (List ℕ)) (sector : ℕ) (old new : OpenFile T) : Type 0 where
-  pub follows : old.next ≡ Some sector
-  pub far : ¬ IsNear old.ahead.missed sector
+pub record ReadsEight {T : Type 0} (left : T → Option (List ℕ)) (start sector : ℕ) (old new : OpenFile T) : Type 0 where
+  pub place : old.next ≡ Some start
+  pub among : IsOfEight start sector
+  pub far : ¬ IsNear old.ahead.missed start
   pub taken : Consumes (left old.file) (left new.file) new.ahead.bytes
   pub whole : length new.ahead.bytes ≡ 4352
-  pub from : new.ahead.from ≡ sector
+  pub from : new.ahead.from ≡ start
   pub missed : new.ahead.missed ≡ old.ahead.missed
-  pub next : new.next ≡ Some (sector + 8)
+  pub next : new.next ≡ Some (start + 8)
 
--- eight sectors were to be read at once from this one on, and fewer were
-pub record MissesEight {T : Type 0} (left : T → Option (List ℕ)) (sector : ℕ) (old new : OpenFile T) : Type 0 where
-  pub follows : old.next ≡ Some sector
-  pub far : ¬ IsNear old.ahead.missed sector
+-- eight sectors, of which this is one, were to be read at once, and fewer were
+pub record MissesEight {T : Type 0} (left : T → Option (List ℕ)) (start sector : ℕ) (old new : OpenFile T) : Type 0 where
+  pub place : old.next ≡ Some start
+  pub among : IsOfEight start sector
+  pub far : ¬ IsNear old.ahead.missed start
   pub fewer : ReadsFewer 4352 (left old.file) (left new.file)
-  pub ahead : new.ahead ≡ missed_at sector old.ahead
+  pub ahead : new.ahead ≡ missed_at start old.ahead
   pub next : new.next ≡ None
 
--- a sector is held: it was, or it was read with the seven after it
+-- a sector is held: it was, or it is one of eight that were read
 abbrev pub HoldsSector : {T : Type 0} → (T → Option (List ℕ)) → ℕ → OpenFile T → OpenFile T → Type 0
 HoldsSector left sector old new =
-    (HasFirst old.ahead sector × (new ≡ old)) ⊎ ReadsEight left sector old new
+    (IsHeld old.ahead sector × (new ≡ old)) ⊎ ((start : ℕ) × ReadsEight left start sector old new)
 
--- a sector isn't held: nothing was read, or eight sectors were to be read from it on and fewer were
+-- a sector isn't held: nothing was read, or eight sectors were to be read and fewer were
 abbrev pub LacksSector : {T : Type 0} → (T → Option (List ℕ)) → ℕ → OpenFile T → OpenFile T → Type 0
-LacksSector left sector old new = (new ≡ old) ⊎ MissesEight left sector old new
+LacksSector left sector old new =
+    (new ≡ old) ⊎ ((start : ℕ) × MissesEight left start sector old new)
 
 -- a sector of these bytes was held, and was taken
 abbrev pub GivesHeld : {T : Type 0} → (T → Option (List ℕ)) → ℕ → List ℕ →
     OpenFile T → OpenFile T → Type 0
 GivesHeld {T} left sector bytes old new =
     (held : OpenFile T) × HoldsSector left sector old held
-    × TakesFirst bytes held.ahead new.ahead × (new.file ≡ held.file) × (new.next ≡ held.next)
+    × TakesSector sector bytes held.ahead new.ahead × (new.file ≡ held.file) × (new.next ≡ held.next)
 
 -- a sector that wasn't held was read so
 abbrev pub GoesAlone : {T : Type 0} → (T → Option (List ℕ)) → ℕ →

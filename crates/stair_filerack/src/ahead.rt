@@ -3,7 +3,7 @@ ghost use Rattle.std.specs.Prelude.{◌≡◌, ◌↔◌, ◌+◌, ◌*◌, ◌^
 ghost use Rattle.std.specs.Option.{SomeIff};
 ghost use Rattle.std.specs.Io.KnownBytes.{Consumes};
 ghost use Rattle.stair_image.specs.Seal.{payload_in, IsSealed};
-ghost use Rattle.stair_filerack.specs.Files.{HasFirst, IsNear, TakesFirst, ReadsFewer};
+ghost use Rattle.stair_filerack.specs.Files.{IsHeld, IsNear, TakesSector, ReadsFewer};
 ghost use Rattle.stair_filerack.specs.Slot.{nothing_read, released, missed_at};
 
 use crate::full::read_full;
@@ -17,12 +17,13 @@ pub(crate) const SECTORS: usize = 8;
 
 const BYTES: usize = SECTORS * SECTOR_BYTES;
 
-/// Eight sectors of an image file that were read at once, and which of them are sealed. Those that no read was answered by yet
+/// Eight sectors of an image file that were read at once, and which of them are sealed. Those after the one that was read last
 /// are held, and answer the reads that follow.
 #[derive(Drop)]
 pub(crate) struct Ahead {
     bytes: [u8; 4352],
     sealed: [bool; 8],
+    // How many of them are answered or passed over.
     answered: usize,
     // The number of the first sector that is held.
     from: u64,
@@ -70,11 +71,11 @@ impl Ahead {
         self.answered = SECTORS;
     }
 
-    /// Returns whether this sector is the first that is held.
-    pub(crate) fn has_first(&self, sector: u64) -> bool
-        ensures { IsTrue result ↔ HasFirst self.now sector }
+    /// Returns whether this sector is held.
+    pub(crate) fn has(&self, sector: u64) -> bool
+        ensures { IsTrue result ↔ IsHeld self.now sector }
     {
-        self.answered < SECTORS && self.from == sector
+        self.from <= sector && sector - self.from < (SECTORS - self.answered) as u64
     }
 
     /// Returns whether this sector is one of the eight that were last missed.
@@ -87,15 +88,15 @@ impl Ahead {
         }
     }
 
-    /// Takes the first sector that is held, and returns its payload, or `None` if it isn't sealed.
-    pub(crate) fn take(&mut self) -> Option<[u8; 512]>
-        requires { 0 < length self.old.bytes }
-        ensures { (bytes : List ℕ) × TakesFirst bytes self.old self.new
-            × SomeIff result (IsSealed self.old.from bytes) (payload_in bytes) }
+    /// Takes this sector, releases those before it, and returns its payload, or `None` if it isn't sealed.
+    pub(crate) fn take(&mut self, sector: u64) -> Option<[u8; 512]>
+        requires { IsHeld self.old sector }
+        ensures { (bytes : List ℕ) × TakesSector sector bytes self.old self.new
+            × SomeIff result (IsSealed sector bytes) (payload_in bytes) }
     {
-        let place = self.answered;
-        self.answered += 1;
-        self.from += 1;
+        let place = self.answered + (sector - self.from) as usize;
+        self.answered = place + 1;
+        self.from = sector + 1;
         if !self.sealed[place] {
             return None;
         }

@@ -1,12 +1,12 @@
 // An image file, which may be open.
-ghost use Rattle.std.specs.Prelude.{◌≡◌, ◌≢◌, ◌≤◌, ◌<◌, true, false, take, IsTrue, IsSome, None, Some, IfOk, IfErr, OnErr, MatchOption, MatchResult, OnOk, ◌⊎◌};
+ghost use Rattle.std.specs.Prelude.{◌≡◌, ◌≢◌, ◌≤◌, ◌<◌, true, false, take, IsTrue, IsSome, None, Some, IfOk, IfErr, IfSome, OnErr, MatchOption, MatchResult, OnOk, ◌⊎◌};
 ghost use Rattle.std.specs.Option.{option_map};
 ghost use Rattle.std.specs.Fs.{asks_read, asks_write, asks_append, asks_truncate, asks_create, asks_create_new};
 ghost use Rattle.std.specs.Io.KnownBytes.{Consumes, Appends};
 ghost use Rattle.std.specs.Io.Seek.{StaysAt};
 ghost use Rattle.stair_image.specs.Seal.{sealed};
 ghost use Rattle.stair_filerack.specs.Reason.{IsBadSector, KeepsReason, first_reason, had_of};
-ghost use Rattle.stair_filerack.specs.Files.{CountsSectors, SeeksSector, FindsSector, ReadsAlone, ReadsSector, IsNoSector, ReadsNoSector, ReadsBadSector, ReadsFewer, FailsToRead, WritesSector, GoesAlone, GivesUnsealed, HasFirst, LacksSector, HoldsSector, IsNear, MissesEight, ReadsEight, GoesOn, IsGotOf, buffer_after, reply_of, sectors_in};
+ghost use Rattle.stair_filerack.specs.Files.{CountsSectors, SeeksSector, FindsSector, ReadsAlone, ReadsSector, IsNoSector, ReadsNoSector, ReadsBadSector, ReadsFewer, FailsToRead, WritesSector, GoesAlone, GivesUnsealed, LacksSector, HoldsSector, IsHeld, IsNear, IsOfEight, MissesEight, ReadsEight, GoesOn, IsGotOf, buffer_after, reply_of, sectors_in};
 ghost use Rattle.stair_filerack.specs.Slot.{opened, released, without_ahead, file_after_write};
 
 use crate::access::Access;
@@ -289,51 +289,57 @@ fn read_sector<T: Read + Seek>(
         (FailsToRead T.stream_position T.remaining sector) image.old image.new) }
 {
     if holds(image, sectors, sector) {
-        return Ok(image.ahead.take());
+        return Ok(image.ahead.take(u64::from(sector)));
     }
     read_alone(image, sector)
 }
 
-// Returns whether this sector is held: it was, or it is read now with the seven after it.
+// Returns whether this sector is held: it was, or it is one of eight that are read now.
 fn holds<T: Read>(image: &mut Opened<T>, sectors: u32, sector: u32) -> bool
     ensures held { result ≡ true → HoldsSector T.remaining sector image.old image.new }
-    ensures first { result ≡ true → HasFirst image.new.ahead sector }
+    ensures is_held { result ≡ true → IsHeld image.new.ahead sector }
     ensures none { result ≡ false → LacksSector T.remaining sector image.old image.new }
 {
-    if image.ahead.has_first(u64::from(sector)) {
+    if image.ahead.has(u64::from(sector)) {
         return true;
     }
-    if !goes_ahead(image, sectors, sector) {
-        return false;
+    match start_of_eight(image, sectors, sector) {
+        Some(start) => read_ahead(image, start, sector),
+        None => false,
     }
-    read_ahead(image, sector)
 }
 
-// Returns whether to read eight sectors at once from this one on: the file is at this sector and has seven more, and the last
-// try that read fewer wasn't near.
-fn goes_ahead<T>(image: &Opened<T>, sectors: u32, sector: u32) -> bool
-    ensures next { result ≡ true → image.now.next ≡ Some sector }
-    ensures far { result ≡ true → ¬ IsNear image.now.ahead.missed sector }
+// Returns the sector from which eight are to be read at once, which is where the file is: this sector is one of them, the file
+// has them all, and the last try that read fewer wasn't near.
+fn start_of_eight<T>(image: &Opened<T>, sectors: u32, sector: u32) -> Option<u64>
+    ensures place { IfSome result (λ start. image.now.next ≡ Some start) }
+    ensures among { IfSome result (λ start. IsOfEight start sector) }
+    ensures far { IfSome result (λ start. ¬ IsNear image.now.ahead.missed start) }
 {
     let number = u64::from(sector);
-    image.next == Some(number)
-        && !image.ahead.is_near_miss(number)
-        && sectors.saturating_sub(sector) >= ahead::SECTORS as u32
+    let start = image.next?;
+    if start > number || number - start >= ahead::SECTORS as u64 {
+        return None;
+    }
+    if start + ahead::SECTORS as u64 > u64::from(sectors) || image.ahead.is_near_miss(start) {
+        return None;
+    }
+    Some(start)
 }
 
 // Reads eight sectors at once from this one on, where the file is. Returns whether all eight were read.
-fn read_ahead<T: Read>(image: &mut Opened<T>, sector: u32) -> bool
-    requires next { image.old.next ≡ Some sector }
-    requires far { ¬ IsNear image.old.ahead.missed sector }
-    ensures held { result ≡ true → ReadsEight T.remaining sector image.old image.new }
-    ensures missed { result ≡ false → MissesEight T.remaining sector image.old image.new }
+fn read_ahead<T: Read>(image: &mut Opened<T>, start: u64, sector: u32) -> bool
+    requires place { image.old.next ≡ Some start }
+    requires among { IsOfEight start sector }
+    requires far { ¬ IsNear image.old.ahead.missed start }
+    ensures held { result ≡ true → ReadsEight T.remaining start sector image.old image.new }
+    ensures missed { result ≡ false → MissesEight T.remaining start sector image.old image.new }
 {
-    let number = u64::from(sector);
-    if !image.ahead.fill(&mut image.file, number) {
+    if !image.ahead.fill(&mut image.file, start) {
         image.next = None;
         return false;
     }
-    image.next = Some(number + ahead::SECTORS as u64);
+    image.next = Some(start + ahead::SECTORS as u64);
     true
 }
 
