@@ -160,7 +160,7 @@ class Devices(Both):
 
     def test_a_folder_in_use(self):
         self.needs("flock")
-        self.unavailable(FOUR.fresh, ".: in use", wrap=["flock", "."])
+        self.refused(FOUR.fresh, FOUR.fresh, 75, [".: in use"], wrap=["flock", "."])
 
     def test_a_device_in_use(self):
         self.needs("flock")

@@ -70,6 +70,6 @@ class Meanwhile(Story):
         talk = self.talk("write 0 2")
         talk.send(ONE)
         self.wait_for(0, 11, ONE)
-        self.step("read 0 1", 15, ".: in use", case="a read beside the write")
+        self.step("read 0 1", 75, ".: in use", case="a read beside the write")
         talk.kill()
         self.step("read 0 2", puts=ONE + ZERO, case="the block before")

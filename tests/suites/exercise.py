@@ -79,7 +79,7 @@ class Refused(Case):
 
     def test_a_folder_in_use(self):
         self.needs("flock")
-        self.refused(FOUR.fresh, FOUR.fresh, "0 1", 15, ".: in use", wrap=["flock", "."])
+        self.refused(FOUR.fresh, FOUR.fresh, "0 1", 75, ".: in use", wrap=["flock", "."])
 
 
 class ManySteps(Story):

@@ -63,7 +63,7 @@ class TwoCreates(Create):
         for number in range(self.ROUNDS):
             with self.subTest(f"two at once {number}"), self.copied(self.place) as folder:
                 both = [ended(process) for process in [self.start(folder), self.start(folder)]]
-                refused = [it for it in both if it in ((15, b"", b".: in use\n"), (12, b"", b"array already: slot 0\n"))]
+                refused = [it for it in both if it in ((75, b"", b".: in use\n"), (12, b"", b"array already: slot 0\n"))]
                 self.assertEqual([(0, self.array.created, b"")], [it for it in both if it not in refused])
                 self.check_folder(folder, self.array.fresh)
 

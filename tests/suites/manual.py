@@ -9,7 +9,7 @@ REFERENCE = TOP / "docs" / "reference.md"
 STATUSES = TOP / "crates" / "stair_status" / "specs" / "Status.antt"
 COMMANDS = USAGE.partition("FOLDER ")[2].split("|")
 # Statuses and lines that are not those of a call: of the script, of the loader, and of the folder's lock.
-OTHER_CODES, OTHER_LINES = {126, 127}, {"stair: ..", "FOLDER: in use"}
+OTHER_CODES, OTHER_LINES = {75, 126, 127}, {"stair: ..", "FOLDER: in use"}
 
 
 def part(title, text=None):
@@ -142,7 +142,7 @@ class Statuses(Manual):
     def test_those_of_the_errors(self):
         commands = part("## Commands")
         found = {int(code) for it in re.findall(r"\(([1-9]\d*(?:, [1-9]\d*)*)\)", commands) for code in it.split(", ")}
-        self.assertEqual({code for code, _ in rows()} - {0, *OTHER_CODES}, found)
+        self.assertEqual({code for code, _ in rows()} - {0, 126, 127}, found)
 
     def test_those_of_the_page(self):
         # Texts are compared without blanks, since a line may be broken at each of them.

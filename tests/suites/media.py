@@ -13,9 +13,9 @@ class Media(Case):
     def created(self, before, after, says="", **how):
         self.expect_in(before, after, "create", 0, says, FOUR.created, input=FOUR.text, **how)
 
-    def not_created(self, says, before=None, after=None, **how):
+    def not_created(self, says, before=None, after=None, status=15, **how):
         before = before or FOUR.blank
-        self.expect_in(before, after or before, "create", 15, says, input=FOUR.text, **how)
+        self.expect_in(before, after or before, "create", status, says, input=FOUR.text, **how)
 
     def shown(self, slots="", says="", **how):
         puts = FOUR.shown(1, *FOUR.slots(**slots)) if slots else LIVE
@@ -76,7 +76,7 @@ class InUse(Media):
 
     def test_locks_of_others(self):
         self.needs("flock")
-        self.not_created(".: in use", wrap=["flock", "."], case="a folder in use")
+        self.not_created(".: in use", status=75, wrap=["flock", "."], case="a folder in use")
         self.not_created(["dev02.img: in use", "gone: slot 2"], wrap=["flock", "dev02.img"], case="a device in use")
         self.shown(wrap=["flock", ".", "flock", "dev02.img"], case="an array in use is shown")
         self.expect_in(
@@ -92,7 +92,7 @@ class InUse(Media):
                     both = [pool.submit(self.run_program, "create", FOUR.text, folder) for _ in range(2)]
                 one, other = sorted(it.result()[:3] for it in both)
                 self.assertEqual((0, FOUR.created, b""), one)
-                self.assertIn(other, [(15, b"", b".: in use\n"), (12, b"", b"array already: slot 0\n")])
+                self.assertIn(other, [(75, b"", b".: in use\n"), (12, b"", b"array already: slot 0\n")])
                 self.check_folder(folder, FOUR.fresh)
 
 
@@ -162,7 +162,7 @@ class Failing(Media):
         self.needs("strace")
 
     def test_sectors_that_cannot_be_read(self):
-        self.shown(wrap=failing("read:error=EIO:when=1"), case="one")
+        self.shown(wrap=failing("read:error=EIO:when=3"), case="one")
         self.shown({"slot2": "live 1 no superblock"}, wrap=failing("read:error=EIO"), case="both superblocks")
 
     def test_a_device_that_fails(self):

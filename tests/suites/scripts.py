@@ -150,7 +150,7 @@ class Refused(Script):
 
     def test_a_folder_in_use(self):
         self.needs("flock")
-        self.run_in(FOUR.fresh, FOUR.fresh, lines("read 0"), [], 15, [".: in use"], wrap=["flock", "."])
+        self.run_in(FOUR.fresh, FOUR.fresh, lines("read 0"), [], 75, [".: in use"], wrap=["flock", "."])
 
 
 class Repairs(Script):
@@ -232,7 +232,7 @@ class Dialogues(Script):
     def test_pieces_of_lines(self):
         self.begin_talk()
         self.replies(ZEROS, b"r", b"ea", b"d ", b"0", b"\n", case="a line in pieces")
-        self.step("read 0 1", 15, ".: in use", case="a read beside a script")
+        self.step("read 0 1", 75, ".: in use", case="a read beside a script")
         self.dialogue.send(f"write 0 {digits('01')}".encode(), pause=0.1)
         self.block_0(ZERO, "half a line is not done")
         self.replies("wrote 0", b"\n", case="the rest of it")

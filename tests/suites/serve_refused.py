@@ -144,7 +144,7 @@ class NotServed(Sessions):
         self.not_served("a body that is lost", cut_and_damaged(), 19, "journal lost: sector 3", journal_lost())
 
     def test_what_is_in_use(self):
-        self.not_served("a folder in use", FOUR.fresh, 15, ".: in use", wrap=["flock", "."])
+        self.not_served("a folder in use", FOUR.fresh, 75, ".: in use", wrap=["flock", "."])
         self.not_served("a device in use", FOUR.fresh, 15, ["dev02.img: in use", "gone: slot 2"], wrap=["flock", "dev02.img"])
 
     def test_devices_that_may_only_be_read(self):

@@ -13,6 +13,9 @@ use std::process::ExitCode;
 use std::sync::ledger::{Blank, Ledger};
 use std::{fs, io};
 
+/// The exit status if another program has the folder: EX_TEMPFAIL, by which scripts and mailers know that they may try again.
+const IN_USE: u8 = 75;
+
 /// The array program.
 struct Engine;
 
@@ -68,8 +71,7 @@ fn main(rt: HostRuntime) -> ExitCode {
     let Outcome { ended, events } = run::<Engine, Brand>(&rt, &Engine, Blank::new(1));
     let code = match ended {
         Ok(status) | Err(Refusal::Status(status)) => end(&rt, status),
-        // Where another program has the folder, as where a device is gone.
-        Err(Refusal::InUse) => ExitCode::from(Status::Gone(0).code()),
+        Err(Refusal::InUse) => ExitCode::from(IN_USE),
     };
     if let Some(events) = events {
         tell_counts(&rt, events);

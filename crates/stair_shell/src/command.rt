@@ -1,6 +1,7 @@
 ghost use Rattle.std.specs.Prelude.{◌≡◌, ◌<◌};
 
 use crate::call::{TopCall, call, limits_of};
+use crate::copies::refuse_copies;
 use crate::devices::{InUse, access_of, ahead_of, lock_folder, measure_of, tell_reason};
 use crate::progress::Measure;
 use stair_conf::{Job, WordsFault};
@@ -135,6 +136,9 @@ fn run_words<T: TopCall, L: Ledger>(
     {
         tell_reason(rt, &refused);
         return Ok(Status::Gone(refused.slot));
+    }
+    if let Ok(job) = job {
+        refuse_copies(rt, words.folder.as_str(), job)?;
     }
     let called = call::<T, L>(
         rt,

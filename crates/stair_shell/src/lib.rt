@@ -4,6 +4,7 @@
 
 mod call;
 mod command;
+mod copies;
 mod devices;
 mod hearing;
 mod progress;

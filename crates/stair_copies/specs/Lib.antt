@@ -1,0 +1,3 @@
+-- When a device is an older copy, and what is found.
+pub mod Copies
+pub mod Found
