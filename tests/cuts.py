@@ -226,6 +226,11 @@ def old_array(folder):
     run_whole(copy(SMALL.fresh, folder), f"write 0 {SMALL.blocks}", old())
 
 
+def last_piece(first, past):
+    """Returns where the last piece begins of a write from block `first` on that took the blocks before `past`."""
+    return max(first, (past - 1) // PER_STRIPE * PER_STRIPE)
+
+
 class Write(OfBlocks):
     """What it took before the last piece is new, and what it did not take is old. The last piece, which is one step, is one of both. The
     blocks come from a file, so a piece is a stripe, but for the first and the last one, which begin and end within a stripe."""
@@ -240,7 +245,7 @@ class Write(OfBlocks):
 
     def judge(self, folder, taken):
         past = self.first + taken // SIZE
-        last = max(self.first, (past - 1) // PER_STRIPE * PER_STRIPE if past > self.first else self.first)
+        last = last_piece(self.first, past)
         found = self.found(folder)
         if found not in (self.up_to(last), self.up_to(past)):
             self.fail(f"took {taken} bytes, and other blocks are new; {bytes_differ(self.up_to(past), found)}")
@@ -335,16 +340,17 @@ class MakeVolume(OfVolumes):
 
 
 class WriteVolume(OfVolumes):
-    """What it took before the last block is new. The last block is old or new."""
+    """As `Write`: what it took before the last piece is new, and the last piece is old or new."""
 
     words = f"vwrite b {OfVolumes.first} {OfVolumes.count}"
     given = OfVolumes.new
 
     def judge(self, folder, taken):
-        count = taken // SIZE
-        is_last_old = self.puts_out(folder, "vread b 0 50") != self.b_with(count)
-        self.tally["early" if not taken else "old" if is_last_old else "new"] += 1
-        count = max(0, count - is_last_old)
+        begin = 40 + self.first
+        past = begin + taken // SIZE
+        is_new = self.puts_out(folder, "vread b 0 50") == self.b_with(past - begin)
+        self.tally["early" if not taken else "new" if is_new else "old"] += 1
+        count = (past if is_new else last_piece(begin, past)) - begin
         self.keeps(folder, self.two, count)
         self.reads(folder, self.words, lines(f"wrote {self.count} blocks"), given=self.given)
         self.has(folder, self.two, self.count)

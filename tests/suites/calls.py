@@ -47,12 +47,13 @@ class Calls(Story):
         self.costs("two lines", 203, 64, "run", Pipe(lines(f"write 10 {digits('01')}", f"write 11 {digits('01')}")))
 
     def test_volumes(self):
-        # The zeros of a stripe are one step, and the table is another one; a file is written block by block.
+        # The zeros of a stripe are one step, and the table is another one. The blocks of a stripe that come at once are one step, too.
         self.done("vinit")
         self.costs("a volume of the rest of a stripe", 410, 64, "vmake v 19")
         self.costs("a volume of a stripe", 419, 64, "vmake w 20")
         self.costs("a volume that is dropped", 115, 32, "vdrop v")
-        self.costs("two blocks of a volume", 230, 64, "vwrite w 0 2", Pipe(ONE + ONE))
+        self.costs("two blocks of a volume", 124, 32, "vwrite w 0 2", Pipe(ONE + ONE))
+        self.costs("two blocks of a volume that come slowly", 230, 64, "vwrite w 0 2", Pipe(ONE, TAKEN, 0.5, ONE))
         self.costs("a list", 0, 0, "vlist")
 
     def test_sessions(self):
@@ -86,7 +87,7 @@ class Failing(Sessions):
         self.expect_in(FOUR.fresh, written(), "write 0 2", 5, "input failed", case="an input that fails", **how)
         how = self.input_failing(ONE, "read:error=EINTR:when=1")
         self.expect_in(FOUR.fresh, written(), "write 0 1", puts=wrote(1), case="an input that is interrupted", **how)
-        how = {"wrap": failing("read:error=EIO:when=4")}
+        how = {"wrap": failing("read:error=EIO:when=6")}
         self.expect_in(FOUR.fresh, FOUR.opened, "read 2 1", puts=ZERO, case="a sector that is read no more", **how)
 
     def test_a_device_within_a_write(self):
@@ -106,7 +107,7 @@ class Failing(Sessions):
     def test_a_device_at_a_read(self):
         self.begin(device())
         answers = GREETED + reply() + spelt("0000")
-        wrap = failing("read:error=ENODEV:when=4+")
+        wrap = failing("read:error=ENODEV:when=6+")
         self.step("serve", says=self.says_lost, puts=answers, input=Pipe(BEGUN + request(READ, 1535, 2)), wrap=wrap, case="a READ")
 
     def test_the_input_of_a_session(self):
@@ -122,7 +123,7 @@ class Failing(Sessions):
         self.damage(0, 11)
         self.damage(1, 11)
         says = [*self.says_lost, "lost: stripe 0 counts 1 1 2 0", events(fenced=1)]
-        given, wrap = Pipe(lines("read 3", "read 0", "read 3")), failing("read:error=ENODEV:when=4+")
+        given, wrap = Pipe(lines("read 3", "read 0", "read 3")), failing("read:error=ENODEV:when=6+")
         self.step("run", 10, says, lines(f"3 {digits('00')}"), input=given, wrap=wrap, case="the events of the line")
 
     def test_the_input_of_a_script(self):

@@ -30,7 +30,7 @@ class NoTable(Volumes):
 
     def test_a_folder_in_use(self):
         for words in COMMANDS:
-            self.expect_in(FOUR.fresh, FOUR.fresh, words, 15, ".: in use", input=ONE, wrap=["flock", "."], case=words)
+            self.expect_in(FOUR.fresh, FOUR.fresh, words, 75, ".: in use", input=ONE, wrap=["flock", "."], case=words)
 
     def test_too_little_memory(self):
         self.expect_in(EIGHT.fresh, EIGHT.fresh, "vlist", 17, "out of memory", wrap=ulimit("-d", 600))
@@ -99,6 +99,11 @@ class TwoVolumes(Volumes):
         pieces = ONE + FF[:511]
         self.step("vwrite home 0 2", 4, "input: needed 1024, took 1023", input=Pipe(pieces), case="a byte too few")
         self.step("vread home 0 4", puts=ONE + file[512:], case="the block before it")
+        self.step("vwrite home 0 4", 4, "input: needed 2048, took 1100", input=Pipe(file[:1100]), case="an input cut within a stripe")
+        self.step("vread home 0 4", puts=file, case="the two blocks before it")
+        slow = Pipe(FF[:300], TAKEN, FF[:212] + FF, TAKEN, FF[:100])
+        self.step("vwrite home 1 3", 4, "input: needed 1536, took 1124", input=slow, case="parts of blocks that come slowly")
+        self.step("vread home 0 4", puts=file[:512] + FF + FF + file[1536:], case="the blocks that they are")
         self.step("vwrite home 1 1", 4, "input: needed 512, took 513", input=BLOCKS, left=2047, case="bytes too many")
         self.step("vread home 1 1", puts=ONE, case="the block before them")
         self.step("vwrite home 0 1", 5, "input failed", input=self.room, case="a folder as blocks")

@@ -24,14 +24,14 @@ use Rattle.stair_status.specs.declared.status.Status.{Status}
 use Rattle.stair_status.specs.declared.status.Status.TheVariants.{Done, Input, InputFault, OutOfMemory, OutputFault}
 use Rattle.stair_story.proofs.EndLaws.{no_move}
 use Rattle.stair_story.proofs.EndingLaws.{ends_so}
-use Rattle.stair_engine.specs.Blocks.{if_in_range, is_in_range, part_of, whole_of, within_range, write_plan, writes}
-use Rattle.stair_story.specs.Transfers.{wrote, wrote_line}
-use Rattle.stair_story.specs.Pieces.{piece_blocks}
+use Rattle.stair_engine.specs.Blocks.{if_in_range, is_in_range, within_range, write_plan}
+use Rattle.stair_story.specs.Transfers.{writes, wrote, wrote_line}
+use Rattle.stair_story.specs.Pieces.{part_of, piece_blocks, whole_of}
 use Rattle.stair_engine.specs.Came.{AreWritten, IsUnrefused}
 use Rattle.stair_engine.specs.Laws.{WholeBlocksStand}
 use Rattle.stair_engine.specs.Plans.{if_spelled, job_plan, plan_of}
-use Rattle.stair_engine.proofs.TurnLaws.{all_within, blocks_count, few_whole, part_long, part_short, some_whole, whole_long}
-use Rattle.stair_engine.proofs.WriteLaws.{turn, write_on}
+use Rattle.stair_story.proofs.TurnLaws.{all_within, blocks_count, few_whole, part_long, part_short, some_whole, whole_long}
+use Rattle.stair_story.proofs.WriteLaws.{turn, write_on}
 
 -- ---- bytes as blocks
 

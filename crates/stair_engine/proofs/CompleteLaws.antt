@@ -45,9 +45,9 @@ use Rattle.stair_engine.specs.Task.{one_stripe}
 use Rattle.stair_status.specs.declared.status.Status.{Status}
 use Rattle.stair_status.specs.declared.status.Status.TheVariants.{Done, NotCodeword, NoCodeword, Limit, Input, InputFault, OutputFault, Lost, OutOfMemory}
 use Rattle.stair_engine.proofs.MeaningLaws.{told_more, words_are_done}
-use Rattle.stair_engine.specs.Blocks.{IsInRange, if_in_range, part_of, read_plan, whole_of, within_range, write_plan, writes}
-use Rattle.stair_story.specs.Transfers.{reads, wrote}
-use Rattle.stair_story.specs.Pieces.{piece_blocks}
+use Rattle.stair_engine.specs.Blocks.{IsInRange, if_in_range, read_plan, within_range, write_plan}
+use Rattle.stair_story.specs.Transfers.{reads, writes, wrote}
+use Rattle.stair_story.specs.Pieces.{part_of, piece_blocks, whole_of}
 use Rattle.stair_engine.specs.Jobs.{MayAdmit, IsScripted}
 use Rattle.stair_engine.specs.Mending.{if_live, if_slot, rebuild_plan, rebuilt_line, replace_plan, replaces, scrub_plan, scrubs, stamps}
 use Rattle.stair_array.specs.Promise.{Begun}
@@ -60,7 +60,7 @@ use Rattle.stair_story.specs.Plan.{Plan as Plans, Over, Ask, Put, RebuildAll, Ta
 use Rattle.stair_engine.proofs.CallLaws.{none_opened, stepless}
 use Rattle.stair_engine.proofs.JobLaws.{job_admits_none, job_allowed, words_tell}
 use Rattle.stair_engine.proofs.RangeLaws.{in_range_is}
-use Rattle.stair_engine.proofs.TurnLaws.{blocks_count, few_whole, part_long, part_short, piece_left, piece_some, piece_together, some_whole}
+use Rattle.stair_story.proofs.TurnLaws.{blocks_count, few_whole, part_long, part_short, piece_left, piece_some, piece_together, some_whole}
 use Rattle.stair_engine.proofs.ServeLaws.{serve_done}
 use Rattle.stair_engine.proofs.WordLaws.{over_spelled, spelled_so}
 use Rattle.stair_story.specs.Question.{IsReply, Words}

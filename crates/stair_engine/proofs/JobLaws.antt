@@ -27,7 +27,7 @@ use Rattle.stair_story.specs.Sure.{most_allowed}
 use Rattle.stair_story.proofs.DeviceLaws.{ActsOnce, calls_once, once_no_step}
 use Rattle.stair_story.proofs.EndingLaws.{nothing_put, tells_faults, weaker}
 use Rattle.stair_story.proofs.LookLaws.{calls_look, first_unwritten}
-use Rattle.stair_story.proofs.PlannedLaws.{none_allows, none_each}
+use Rattle.stair_story.proofs.PlannedLaws.{none_counts, none_each}
 use Rattle.stair_engine.proofs.ExerciseLaws.{exercise_admits_none, exercise_allowed, exercise_last, exercise_none, exercise_own, exercise_untaken}
 use Rattle.stair_engine.proofs.LineLaws.{script_allowed, script_none, script_own}
 use Rattle.stair_nbd.specs.Client.{client_plan}
@@ -277,14 +277,14 @@ stamps_allowed step line few = λ member.
 
 pub job_allowed : (of : Job) → AllowsAtMost most_allowed (job_plan of)
 job_allowed (job.OneStripe command n m r e) =
-    none_allows most_allowed (job_plan (job.OneStripe command n m r e)) (job_no_step (job.OneStripe command n m r e) (λ no. no))
-job_allowed job.Create = none_allows most_allowed create_plan (job_no_step job.Create (λ no. no))
-job_allowed job.Show = none_allows most_allowed show_plan (job_no_step job.Show (λ no. no))
-job_allowed job.Report = none_allows most_allowed report_plan (job_no_step job.Report (λ no. no))
+    none_counts allowance most_allowed (job_plan (job.OneStripe command n m r e)) (job_no_step (job.OneStripe command n m r e) (λ no. no))
+job_allowed job.Create = none_counts allowance most_allowed create_plan (job_no_step job.Create (λ no. no))
+job_allowed job.Show = none_counts allowance most_allowed show_plan (job_no_step job.Show (λ no. no))
+job_allowed job.Report = none_counts allowance most_allowed report_plan (job_no_step job.Report (λ no. no))
 job_allowed job.Serve = λ member. opening_allowed member.array.geometry.n client_plan (client_allowed 3)
 job_allowed (job.Volume of) = λ member. opening_allowed member.array.geometry.n (volume_plan of) (volume_allowed of 3)
 job_allowed (job.Plan n m r e) =
-    none_allows most_allowed (job_plan (job.Plan n m r e)) (job_no_step (job.Plan n m r e) (λ no. no))
+    none_counts allowance most_allowed (job_plan (job.Plan n m r e)) (job_no_step (job.Plan n m r e) (λ no. no))
 job_allowed (job.Read first count) = λ member. opening_allowed member.array.geometry.n _ (read_allowed 3 first count)
 job_allowed (job.Write first count) = λ member. opening_allowed member.array.geometry.n _ (write_allowed 3 first count)
 job_allowed job.Scrub = λ member. opening_allowed member.array.geometry.n _ (λ g. scrubs_allowed 3 g 0 g.stripes 0)

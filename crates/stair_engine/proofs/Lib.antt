@@ -2,14 +2,11 @@ mod StripeLaws
 mod SpelledLaws
 pub mod ReadLaws
 mod SessionLaws
-pub mod WriteLaws
 mod CameLaws
-mod TurnLaws
 mod RangeLaws
 mod OpenLaws
 mod JobLaws
 mod WordLaws
-pub mod PieceLaws
 pub mod CellLaws
 pub mod BlockLaws
 pub mod MapLaws

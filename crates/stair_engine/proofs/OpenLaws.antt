@@ -9,8 +9,9 @@ use Rattle.stair_story.specs.Ending.{AdmitsNone, AdmitsOnce, AllowsAtMost, AsksF
 use Rattle.stair_story.specs.Plan.{Plan, Over, take_step, unless_refused, if_so}
 use Rattle.stair_story.specs.Refused.{status_of_refusal}
 use Rattle.stair_status.specs.declared.status.Status.TheVariants.{OutOfRange}
-use Rattle.stair_engine.specs.Blocks.{if_in_range, is_in_range, part_of, within_range, writes}
-use Rattle.stair_story.specs.Transfers.{reads, wrote}
+use Rattle.stair_engine.specs.Blocks.{if_in_range, is_in_range, within_range}
+use Rattle.stair_story.specs.Pieces.{part_of}
+use Rattle.stair_story.specs.Transfers.{reads, writes, wrote}
 use Rattle.stair_story.specs.Sure.{most_allowed}
 use Rattle.std.specs.Prelude.{max}
 

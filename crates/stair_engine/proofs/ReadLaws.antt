@@ -20,11 +20,6 @@ use Rattle.stair_story.proofs.TakenLaws.{taken_geometry}
 use Rattle.stair_watch.specs.WatcherList.{AllStay}
 use Rattle.stair_story.specs.Transfers.{reads}
 
--- an answer that isn't refused
-pub not_refused : {E : Type 0} (result : Result (Unit {0}) E) → ((fault : E) → result ≡ Err fault → ⊥) → result ≡ Ok tt
-not_refused (Ok done) none = refl
-not_refused (Err fault) none = absurd (none fault refl)
-
 -- behind the bytes of a block
 abbrev read_on : Geometry → ℕ → ℕ → List ℕ → Plan
 read_on g first count bytes = Put bytes (reads g first count)

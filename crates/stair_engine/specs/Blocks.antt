@@ -1,24 +1,20 @@
 -- What `read` and `write` do: an array is opened, and blocks of it are put out, or taken and written.
-use Rattle.std.specs.Prelude.{◌≡◌, ◌+◌, ◌-◌, ◌*◌, ◌/◌, ◌<◌, ◌≤◌, ℕ, zero, suc, Bool, false, nat_lt, List, [], ◌++◌, length, take, drop, max, Some, Err}
+use Rattle.std.specs.Prelude.{◌≡◌, ◌+◌, ◌<◌, ◌≤◌, ℕ, Bool, false, List, [], max, Some, Err}
 use Rattle.stair_model.specs.Geometry.{Geometry, block_count}
-use Rattle.stair_model.specs.Stripe.{SECTOR}
 use Rattle.stair_member.specs.Membership.{Membership}
-use Rattle.stair_array.specs.Arrays.{blocks_of}
 use Rattle.stair_array.specs.Faults.{opening_refusal}
-use Rattle.stair_array.specs.Machine.{Recover, Refusal, WriteBlocks}
+use Rattle.stair_array.specs.Machine.{Recover, Refusal}
 use Rattle.stair_session.specs.Session.{ArrayState}
 use Rattle.stair_array.specs.Promise.{Begun, Closed, Found, Opened, Session}
 use Rattle.stair_array.specs.declared.fault.RecoverFault.TheVariants as recover
 use Rattle.stair_story.specs.declared.fault.Fault.{Fault}
 use Rattle.stair_story.specs.declared.fault.Fault.TheVariants as fault
-use Rattle.stair_status.specs.declared.status.Status.TheVariants.{Input}
 use Rattle.stair_story.specs.Comes.{ComesTo}
 use Rattle.stair_story.specs.Fault.{status_of_fault}
 use Rattle.stair_story.specs.Devices.{DeviceView, devices, some_left}
-use Rattle.stair_story.specs.Pieces.{piece_blocks}
-use Rattle.stair_story.specs.Plan.{Plan, Over, Take, if_so, opens_array, take_step, watches_array}
+use Rattle.stair_story.specs.Plan.{Plan, Over, opens_array, watches_array}
 use Rattle.stair_story.specs.Steps.{Takes}
-use Rattle.stair_story.specs.Transfers.{if_within, is_within, reads, wrote}
+use Rattle.stair_story.specs.Transfers.{if_within, is_within, reads, writes}
 
 -- Why an array that was found isn't opened: memory was short before any call was made, or its opening was refused.
 abbrev pub IsUnopened : {R W : Type 0} → DeviceView R W → Membership → Fault → R → R → List W → List W
@@ -72,27 +68,6 @@ abbrev pub read_plan : (first count : ℕ) → Plan
 read_plan first count = opens_array (λ g. within_range g first count (reads g first count))
 
 -- WRITING
-
--- The whole blocks of bytes that were taken, and what is left over of them.
-abbrev pub whole_of : List ℕ → List ℕ
-whole_of bytes = take (length bytes / SECTOR * SECTOR) bytes
-
-abbrev pub part_of : List ℕ → List ℕ
-part_of bytes = drop (length bytes / SECTOR * SECTOR) bytes
-
--- What is left of a write of `all` blocks from `first` on, of which so many are done, behind bytes that were taken and are less
--- than a block. A piece has one whole block at least, and is within a stripe; its whole blocks are written as one step. So there
--- are no more turns than blocks.
-abbrev pub writes : Geometry → (first all turns done : ℕ) → List ℕ → Plan
-writes g first all zero done held = wrote all
-writes g first all (suc turns) done held = if_so (nat_lt done all)
-    (Take (SECTOR - length held)
-    (SECTOR * piece_blocks g (first + done) (all - done) - length held)
-    (λ bytes. take_step g.n (WriteBlocks (first + done) (blocks_of (whole_of (held ++ bytes))))
-    (λ ok. writes g first all turns (done + length (held ++ bytes) / SECTOR)
-    (part_of (held ++ bytes))))
-    (λ bytes. Over (Input (SECTOR * all) (SECTOR * done + length (held ++ bytes)))))
-    (wrote all)
 
 abbrev pub write_plan : (first count : ℕ) → Plan
 write_plan first count =

@@ -28,13 +28,13 @@ use Rattle.stair_array.specs.Arrays.{blocks_of}
 use Rattle.stair_array.specs.Promise.{Begun}
 use Rattle.stair_state.specs.State.{State}
 use Rattle.stair_session.specs.Returning.{Returning}
-use Rattle.stair_engine.specs.Blocks.{whole_of}
 use Rattle.stair_engine.specs.Came.{AreWritten, IsUnrefused}
 use Rattle.stair_engine.specs.Jobs.{IsScripted, PutsOnTheWay, MakesCalls, MayWrite, NotSpelled, OpensArray, TakesInput}
 use Rattle.stair_story.specs.Devices.{DeviceView, MeansWhole, devices}
 use Rattle.stair_story.specs.Ending.{IfNothingIsPutOut, TellsFaults}
 use Rattle.stair_story.specs.Means.{Means}
 use Rattle.stair_story.specs.Outside.{Outside, Views}
+use Rattle.stair_story.specs.Pieces.{whole_of}
 use Rattle.stair_story.specs.Plan.{Over}
 use Rattle.stair_story.specs.Story.{taken_in}
 use Rattle.stair_story.specs.Sure.{EachCanReplace, HasNoFault, IsDone, ServesAlong}

@@ -6,7 +6,6 @@ pub mod Blocks
 pub mod Mending
 pub mod Scripts
 pub mod Exercise
-pub mod Piece
 pub mod Came
 pub mod Serving
 pub mod Volumes

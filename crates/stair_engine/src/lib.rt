@@ -12,7 +12,6 @@ mod line;
 mod lines;
 mod map;
 mod open;
-mod piece;
 mod planning;
 mod read;
 mod rebuild;

@@ -13,7 +13,7 @@ use stair_base::SECTOR;
 use stair_conf::VolumeJob;
 use stair_member::survey;
 use stair_rack::{Rack, Sink, Source, Watcher};
-use stair_story::{Fault, Status};
+use stair_story::{Fault, Piece, Status};
 use stair_volume::volume;
 use std::alloc::Global;
 
@@ -38,8 +38,11 @@ pub(crate) fn volumes<R: Rack, S: Source, K: Sink>(
     let member = survey(rack)?;
     let geometry = member.geometry();
     let zeros = vec![in alloc; 0; usize::from(geometry.u()) * SECTOR]?;
+    let mut piece = Piece::new(alloc, &geometry)?;
     let mut array = open(alloc, rack, member, watchers)?;
-    let done = volume(&mut array, rack, job, &zeros, input, output, watchers);
+    let done = volume(
+        &mut array, rack, job, &zeros, &mut piece, input, output, watchers,
+    );
     match done {
         Ok(()) => Ok(Status::Done),
         Err(fault) => Ok(fault.status(geometry.n())),

@@ -10,7 +10,7 @@ use Rattle.stair_watch.proofs.WatchLemmas.{all_told, stay_throughout, told_then}
 use Rattle.stair_story.specs.declared.fault.Fault.{Fault}
 use Rattle.stair_status.specs.declared.status.Status.{Status}
 use Rattle.stair_status.specs.declared.status.Status.TheVariants.{OutputFault}
-use Rattle.stair_story.specs.Fault.{status_of, status_of_fault}
+use Rattle.stair_story.specs.Fault.{status_after, status_of, status_of_fault}
 use Rattle.stair_story.specs.Means.{Counts, Gives, Holds, Means}
 use Rattle.stair_story.proofs.EndingLaws.{gives_along}
 use Rattle.stair_story.proofs.PlanLaws.{and_then, does, leads_then}
@@ -31,6 +31,11 @@ after_no_step : (action : Action) (k : OkOf action → Plan) (outcome : Outcome 
     → TakesNoStep (after action k outcome)
 after_no_step action k (Ok done) none = none done
 after_no_step action k (Err refusal) none = tt
+
+-- an answer that isn't refused
+pub not_refused : {E : Type 0} (result : Result (Unit {0}) E) → ((fault : E) → result ≡ Err fault → ⊥) → result ≡ Ok tt
+not_refused (Ok done) none = refl
+not_refused (Err fault) none = absurd (none fault refl)
 
 module _ {R W : Type 0} (view : DeviceView R W) where
   same_rack : {x y : Devices R W} → y ≡ x → y.rack ≡ x.rack
@@ -276,6 +281,13 @@ module _ {R W S K : Type 0} (view : DeviceView R W) (streams : Views S K) where
       → MeansWith view streams plan (Over (status_of result)) a b x y
   with_hands_on plan a b x y (Ok status) fault is means = absurd is
   with_hands_on plan a b x y (Err f) fault is means =
+      subst (λ (k : Fault). MeansWith view streams plan (Over (status_of_fault k)) a b x y) (sym is) means
+
+  pub with_passes_on : (plan : Plan) (a b : Outside S K) (x y : Devices R W) (result : Result (Unit {0}) Fault) (fault : Fault)
+      → IsErrAnd result (λ f. f ≡ fault) → MeansWith view streams plan (Over (status_of_fault fault)) a b x y
+      → MeansWith view streams plan (Over (status_after result)) a b x y
+  with_passes_on plan a b x y (Ok done) fault is means = absurd is
+  with_passes_on plan a b x y (Err f) fault is means =
       subst (λ (k : Fault). MeansWith view streams plan (Over (status_of_fault k)) a b x y) (sym is) means
 
 module _ {R W S K : Type 0} (view : DeviceView R W) (streams : Views S K) where

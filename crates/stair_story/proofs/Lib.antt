@@ -22,6 +22,9 @@ pub mod SureStepLaws
 pub mod SureKeptLaws
 pub mod ComesLaws
 pub mod PieceLaws
+pub mod TurnLaws
+pub mod HeldLaws
+pub mod WriteLaws
 pub mod TalkLaws
 pub mod PerformedLaws
 pub mod PlannedLaws
@@ -36,6 +39,7 @@ pub mod BoundedLaws
 pub mod BoundedStepLaws
 pub mod BoundedStoryLaws
 pub mod BoundedCallLaws
+pub mod BoundedArrayLaws
 pub mod PlannedSureLaws
 pub mod ServedLaws
 pub mod SureDeviceLaws

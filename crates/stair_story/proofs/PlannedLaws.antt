@@ -7,7 +7,7 @@ use Rattle.stair_array.specs.Draws.{allowance}
 use Rattle.stair_array.specs.Machine.{Answer, Chunk, Dropped, Nothing, Progress, Promoted, RebuildNext, Refusal, Step}
 use Rattle.stair_story.specs.Action.{Action, OkOf, Outcome}
 use Rattle.stair_story.specs.Drawn.{at_step, over_steps}
-use Rattle.stair_story.specs.Ending.{AllowsAtMost, EachStep, TakesNoStep}
+use Rattle.stair_story.specs.Ending.{AllowsAtMost, CountsAtMost, EachStep, TakesNoStep}
 use Rattle.stair_story.specs.Means.{Gives}
 use Rattle.stair_story.specs.Outside.{SourceView}
 use Rattle.stair_story.specs.Plan.{Plan, Over, Ask, Take, Put, Allocate, Do, Try, RebuildAll, after_rebuild}
@@ -66,6 +66,12 @@ module _ (IsSo : Step → Type 0) where
   steps_along (deed ∷ story) plan rest each follows =
       let one = move_each deed plan follows.0 each follows.1 in
       (one.0, steps_along story follows.0 rest one.1 follows.2)
+
+  -- and neither does what is left of the plan
+  pub rest_along : (story : List Deed) (plan rest : Plan) → EachStep IsSo plan → Leads Moves story plan rest → EachStep IsSo rest
+  rest_along [] plan rest each follows = subst (EachStep IsSo) (sym follows) each
+  rest_along (deed ∷ story) plan rest each follows =
+      rest_along story follows.0 rest (move_each deed plan follows.0 each follows.1).1 follows.2
 
 -- ---- what is taken of bytes that a source tells
 
@@ -169,62 +175,67 @@ module _ (IsSo : Step → Type 0) {S : Type 0} (view : SourceView S) where
       let one = move_of deed plan follows.0 a gives.0 each follows.1 gives.1 in
       (one.0, steps_of story follows.0 rest gives.0 b one.1 follows.2 gives.2)
 
--- ---- what its steps are allowed
+-- ---- what its steps count
 
-after_allowed : (n : ℕ) (action : Action) (k : OkOf action → Plan) (outcome : Outcome action) → ((done : OkOf action) → AllowsAtMost n (k done))
-    → AllowsAtMost n (after action k outcome)
-after_allowed n action k (Ok done) allows = allows done
-after_allowed n action k (Err refusal) allows = tt
+module _ (count : Step → ℕ) (uncounted : count RebuildNext ≡ 0) where
+  after_counts : (n : ℕ) (action : Action) (k : OkOf action → Plan) (outcome : Outcome action) → ((done : OkOf action) → CountsAtMost count n (k done))
+      → CountsAtMost count n (after action k outcome)
+  after_counts n action k (Ok done) allows = allows done
+  after_counts n action k (Err refusal) allows = tt
 
-rebuilt_allowed : (n slots done : ℕ) (k : ℕ → Plan) (answer : Result Progress Refusal) → AllowsAtMost n (RebuildAll slots done k)
-    → AllowsAtMost n (after_rebuild slots done k answer)
-rebuilt_allowed n slots done k (Ok Nothing) allows = allows done
-rebuilt_allowed n slots done k (Ok (Chunk j t)) allows = allows
-rebuilt_allowed n slots done k (Ok (Promoted j)) allows = allows
-rebuilt_allowed n slots done k (Ok (Dropped j)) allows = allows
-rebuilt_allowed n slots done k (Err refusal) allows = tt
+  rebuilt_counts : (n slots done : ℕ) (k : ℕ → Plan) (answer : Result Progress Refusal) → CountsAtMost count n (RebuildAll slots done k)
+      → CountsAtMost count n (after_rebuild slots done k answer)
+  rebuilt_counts n slots done k (Ok Nothing) allows = allows done
+  rebuilt_counts n slots done k (Ok (Chunk j t)) allows = allows
+  rebuilt_counts n slots done k (Ok (Promoted j)) allows = allows
+  rebuilt_counts n slots done k (Ok (Dropped j)) allows = allows
+  rebuilt_counts n slots done k (Err refusal) allows = tt
 
--- what the rest of a plan is allowed, behind a deed
-record Leaves (n : ℕ) (deed : Deed) (rest : Plan) : Type 0 where
-  left : ℕ
-  within : at_step allowance deed + left ≤ n
-  allows : AllowsAtMost left rest
+  -- what the rest of a plan counts, behind a deed
+  record Leaves (n : ℕ) (deed : Deed) (rest : Plan) : Type 0 where
+    left : ℕ
+    within : at_step count deed + left ≤ n
+    allows : CountsAtMost count left rest
 
-same_left : (n : ℕ) (deed : Deed) (plan rest : Plan) → at_step allowance deed ≤ 0 → AllowsAtMost n plan → rest ≡ plan → Leaves n deed rest
-same_left n deed plan rest none allows same =
-    record { left = n; within = omega (arith, none); allows = subst (AllowsAtMost n) (sym same) allows }
+  same_left : (n : ℕ) (deed : Deed) (plan rest : Plan) → at_step count deed ≤ 0 → CountsAtMost count n plan → rest ≡ plan → Leaves n deed rest
+  same_left n deed plan rest none allows same =
+      record { left = n; within = omega (arith, none); allows = subst (CountsAtMost count n) (sym same) allows }
 
-move_allows : (n : ℕ) (deed : Deed) (plan rest : Plan) → AllowsAtMost n plan → Moves deed plan rest → Leaves n deed rest
-move_allows n (FoundOut asked) (Ask question k) rest allows moves =
-    same_left n (FoundOut asked) (k moves.0) rest (omega arith) (allows moves.0 moves.2) moves.3
-move_allows n (Took bytes) (Take least most k short) rest allows moves = same_left n (Took bytes) (k bytes) rest (omega arith) (allows.0 bytes) moves.1
-move_allows n (TookLast bytes) (Take least most k short) rest allows moves =
-    same_left n (TookLast bytes) (short bytes) rest (omega arith) (allows.1 bytes) moves.1
-move_allows n (TakeFailed bytes) (Take least most k short) rest allows moves = same_left n (TakeFailed bytes) _ rest (omega arith) tt moves.1
-move_allows n (HasPut bytes) (Put all plan) rest allows moves = same_left n (HasPut bytes) plan rest (omega arith) allows moves.1
-move_allows n (PutFailed part) (Put all plan) rest allows moves = same_left n (PutFailed part) _ rest (omega arith) tt moves.1
-move_allows n Grew (Allocate plan) rest allows moves = same_left n Grew plan rest (omega arith) allows moves
-move_allows n RanOut (Allocate plan) rest allows moves = same_left n RanOut _ rest (omega arith) tt moves
-move_allows n (Did did came) (Do action k) rest allows moves =
-    same_left n (Did did came) (after action k moves.0) rest (omega arith) (after_allowed n action k moves.0 allows) moves.2
-move_allows n (Stepped did came events left) (Try step k) rest allows moves = record {
-  left = allows.0;
-  within = subst (λ (taken : Deed). at_step allowance taken + allows.0 ≤ n) (sym moves.1) allows.1;
-  allows = subst (AllowsAtMost allows.0) (sym moves.2) (allows.2 moves.0 left);
-}
-move_allows n (Stepped did came events left) (RebuildAll slots done k) rest allows moves = record {
-  left = n;
-  within = subst (λ (taken : Deed). at_step allowance taken + n ≤ n) (sym moves.1) (omega arith);
-  allows = subst (AllowsAtMost n) (sym moves.2) (rebuilt_allowed n slots done k moves.0 allows);
-}
-move_allows n _ _ rest allows moves = absurd moves
+  move_counts : (n : ℕ) (deed : Deed) (plan rest : Plan) → CountsAtMost count n plan → Moves deed plan rest → Leaves n deed rest
+  move_counts n (FoundOut asked) (Ask question k) rest allows moves =
+      same_left n (FoundOut asked) (k moves.0) rest (omega arith) (allows moves.0 moves.2) moves.3
+  move_counts n (Took bytes) (Take least most k short) rest allows moves = same_left n (Took bytes) (k bytes) rest (omega arith) (allows.0 bytes) moves.1
+  move_counts n (TookLast bytes) (Take least most k short) rest allows moves =
+      same_left n (TookLast bytes) (short bytes) rest (omega arith) (allows.1 bytes) moves.1
+  move_counts n (TakeFailed bytes) (Take least most k short) rest allows moves = same_left n (TakeFailed bytes) _ rest (omega arith) tt moves.1
+  move_counts n (HasPut bytes) (Put all plan) rest allows moves = same_left n (HasPut bytes) plan rest (omega arith) allows moves.1
+  move_counts n (PutFailed part) (Put all plan) rest allows moves = same_left n (PutFailed part) _ rest (omega arith) tt moves.1
+  move_counts n Grew (Allocate plan) rest allows moves = same_left n Grew plan rest (omega arith) allows moves
+  move_counts n RanOut (Allocate plan) rest allows moves = same_left n RanOut _ rest (omega arith) tt moves
+  move_counts n (Did did came) (Do action k) rest allows moves =
+      same_left n (Did did came) (after action k moves.0) rest (omega arith) (after_counts n action k moves.0 allows) moves.2
+  move_counts n (Stepped did came events left) (Try step k) rest allows moves = record {
+    left = allows.0;
+    within = subst (λ (taken : Deed). at_step count taken + allows.0 ≤ n) (sym moves.1) allows.1;
+    allows = subst (CountsAtMost count allows.0) (sym moves.2) (allows.2 moves.0 left);
+  }
+  move_counts n (Stepped did came events left) (RebuildAll slots done k) rest allows moves = record {
+    left = n;
+    within = subst (λ (taken : Deed). at_step count taken + n ≤ n) (sym moves.1) (omega (arith, uncounted));
+    allows = subst (CountsAtMost count n) (sym moves.2) (rebuilt_counts n slots done k moves.0 allows);
+  }
+  move_counts n _ _ rest allows moves = absurd moves
 
--- the steps of a story are allowed no more than its plan
+  -- the steps of a story count no more than those of its plan
+  pub counted_along : (n : ℕ) (story : List Deed) (plan rest : Plan) → CountsAtMost count n plan → Leads Moves story plan rest → over_steps count story ≤ n
+  counted_along n [] plan rest allows follows = omega arith
+  counted_along n (deed ∷ story) plan rest allows follows =
+      let one = move_counts n deed plan follows.0 allows follows.1 in
+      omega (arith, one.within, counted_along one.left story follows.0 rest one.allows follows.2)
+
+-- and are allowed no more
 pub allowed_along : (n : ℕ) (story : List Deed) (plan rest : Plan) → AllowsAtMost n plan → Leads Moves story plan rest → over_steps allowance story ≤ n
-allowed_along n [] plan rest allows follows = omega arith
-allowed_along n (deed ∷ story) plan rest allows follows =
-    let one = move_allows n deed plan follows.0 allows follows.1 in
-    omega (arith, one.within, allowed_along one.left story follows.0 rest one.allows follows.2)
+allowed_along = counted_along allowance refl
 
 -- ---- plans that take no step
 
@@ -238,12 +249,12 @@ none_each IsSo (Do action k) none = λ done. none_each IsSo (k done) (none done)
 none_each IsSo (Try step k) none = absurd none
 none_each IsSo (RebuildAll slots done k) none = absurd none
 
-pub none_allows : (n : ℕ) (plan : Plan) → TakesNoStep plan → AllowsAtMost n plan
-none_allows n (Over status) none = tt
-none_allows n (Ask question k) none = λ reply is. none_allows n (k reply) (none reply is)
-none_allows n (Take least most k short) none = (λ bytes. none_allows n (k bytes) (none.0 bytes), λ bytes. none_allows n (short bytes) (none.1 bytes))
-none_allows n (Put bytes plan) none = none_allows n plan none
-none_allows n (Allocate plan) none = none_allows n plan none
-none_allows n (Do action k) none = λ done. none_allows n (k done) (none done)
-none_allows n (Try step k) none = absurd none
-none_allows n (RebuildAll slots done k) none = absurd none
+pub none_counts : (count : Step → ℕ) (n : ℕ) (plan : Plan) → TakesNoStep plan → CountsAtMost count n plan
+none_counts count n (Over status) none = tt
+none_counts count n (Ask question k) none = λ reply is. none_counts count n (k reply) (none reply is)
+none_counts count n (Take least most k short) none = (λ bytes. none_counts count n (k bytes) (none.0 bytes), λ bytes. none_counts count n (short bytes) (none.1 bytes))
+none_counts count n (Put bytes plan) none = none_counts count n plan none
+none_counts count n (Allocate plan) none = none_counts count n plan none
+none_counts count n (Do action k) none = λ done. none_counts count n (k done) (none done)
+none_counts count n (Try step k) none = absurd none
+none_counts count n (RebuildAll slots done k) none = absurd none

@@ -267,6 +267,8 @@ module _ {R W : Type 0} (view : DeviceView R W) where
                   stops = refl;
                   later = upto_ran ran;
                   member = does.was.member;
+                  last = does.is.member;
+                  events_are = does.events_are;
                   is_step = leads.is_step;
                 });
                 is_at = record { is_in = leads.is_in; kept = ended_by step answer does.is y.session does.ends };

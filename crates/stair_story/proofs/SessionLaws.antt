@@ -1,5 +1,6 @@
 -- Sessions as parts of a life: one turn a step, and one call after the other.
-use Rattle.std.proofs.Common.{◌≡◌, ◌∙◌, List, [], ◌∷◌, None, inl, inr, refl, sym, ap, subst}
+use Rattle.std.proofs.Common.{◌≡◌, ◌∙◌, ℕ, List, [], ◌∷◌, None, Ok, Err, inl, inr, refl, sym, ap, subst}
+use Rattle.std.proofs.lemmas.List.Elements.{All-cons}
 use Rattle.std.specs.Prelude.{IsTrue}
 use Rattle.stair_model.specs.Geometry.{Geometry}
 use Rattle.stair_rack.specs.Answers.{IsHistory, Ran}
@@ -16,13 +17,16 @@ use Rattle.stair_session.specs.Returning.{AnyReturns, NoneReturns, Returning, St
 use Rattle.stair_array.specs.Promise.{Begun}
 use Rattle.stair_story.specs.Devices.{DeviceView, Devices, devices}
 use Rattle.stair_story.specs.Headline.{IsBorneOut}
-use Rattle.stair_story.specs.Lives.{Ended, Lives, Took, Turn, Turns, WasCut}
+use Rattle.stair_array.specs.Machine.{Answer, Step}
+use Rattle.stair_story.specs.Ending.{EachStep}
+use Rattle.stair_story.specs.Lives.{Ended, IsWriteOf, Lives, MayWrite, NoneWrites, Took, Turn, Turns, WasCut}
 use Rattle.stair_story.specs.Outside.{Outside, Views}
-use Rattle.stair_story.specs.Plan.{Plan}
-use Rattle.stair_story.specs.Run.{Goes, IsRun, IsSafe, Now, history_of, now}
-use Rattle.stair_story.specs.Sessions.{Between, Calls, Cut, Ends, IsCalmMeanwhile, IsCalmOver, IsLived, NextSession, RunsAreLived, Starts, TurnsOfCut, Within, turns_of, with_turn}
+use Rattle.stair_story.specs.Plan.{Plan, RebuildAll, Try}
+use Rattle.stair_story.specs.Run.{Goes, IsNext, IsRun, IsSafe, Now, Runs, history_of, now}
+use Rattle.stair_story.specs.Sessions.{Between, Calls, Cut, CutsAreOfPlan, Ends, IsCalmMeanwhile, IsCalmOver, IsLived, NextSession, RunsAreLived, Starts, TurnsOfCut, Within, turns_of, with_turn}
 use Rattle.stair_story.specs.Story.{Deed, Found, Took as TookBytes, TookLast, TakeFailed, HasPut, PutFailed, Grew, RanOut, Did, Stepped}
 use Rattle.stair_story.proofs.LifeLaws.{reads_are_explained}
+use Rattle.stair_story.proofs.PlannedLaws.{AllSteps, OfDeed, rest_along, steps_along}
 use Rattle.stair_story.proofs.RunLaws.{forgets, works_ran}
 
 -- ---- a run
@@ -74,7 +78,7 @@ module _ {R W : Type 0} (view : DeviceView R W) where
         | inl stands ↦ record { turns = turns; are_of = Between; state = safe.state; lives = so_far; stands = stands }
         | inr next ↦ record {
           turns = WasCut next.step ∷ turns;
-          are_of = Within next.step;
+          are_of = Within next.step next.next;
           state = next.left.state;
           lives = (safe.state, so_far, (next.left.cut.begun, next.left.cut.within));
           stands = next.left.stands;
@@ -82,17 +86,68 @@ module _ {R W : Type 0} (view : DeviceView R W) where
       ]
 
   pub crashes_are_lived : (returning : Returning) (before c : List Happening) (s first : State) (plan : Plan) (story : List Deed)
-      (x y : Devices R W) (life : List Turn) (image : Image) → Lives life first s → IsSafe view returning before s plan story x y c
-      → CrashMayLeave c image → NextSession returning first image
+      (x y : Devices R W) (life : List Turn) (image : Image) → Lives life first s
+      → (safe : IsSafe view returning before s plan story x y c) → CrashMayLeave c image
+      → (turns : List Turn) × TurnsOfCut view returning before s plan story x y c safe life turns × NextSession returning first turns image
   crashes_are_lived returning before c s first plan story x y life image lives safe left =
-      let cut = cut_so returning before c s first plan story x y life image lives safe left in
-      record {
-        life = Ended ∷ cut.turns;
-        state = without_seats cut.state;
-        lives = (cut.state, cut.lives, refl);
-        unknown = refl;
-        stands = forgets returning cut.state (Made image ∷ []) cut.stands;
-      }
+      let cut = cut_so returning before c s first plan story x y life image lives safe left in (
+        cut.turns,
+        cut.are_of,
+        record {
+          state = without_seats cut.state;
+          lives = (cut.state, cut.lives, refl);
+          unknown = refl;
+          stands = forgets returning cut.state (Made image ∷ []) cut.stands;
+        },
+      )
+
+-- ---- no write but those of the plan
+
+module _ (b : ℕ) where
+  abbrev NoWrite : Step → Type 0
+  NoWrite step = ¬ IsWriteOf b step
+
+  taken_unwritten : (step : Step) (answer : Answer step) → NoWrite step → ¬ MayWrite b (Took step answer)
+  taken_unwritten step (Ok given) none = none
+  taken_unwritten step (Err refusal) none = λ may. none may.0
+
+  turn_unwritten : (returning : Returning) (before : List Happening) (deed : Deed) (old new : Now) (life : List Turn)
+      (goes : Goes returning before deed old new) → OfDeed NoWrite deed → NoneWrites b life → NoneWrites b (with_turn returning before deed old new goes life)
+  turn_unwritten returning before (Stepped step answer events left) old new life (inl taken) none so =
+      All-cons (λ turn. ¬ MayWrite b turn) (Took step answer) life (taken_unwritten step answer none) so
+  turn_unwritten returning before (Stepped step answer events left) old new life (inr again) none so = so
+  turn_unwritten returning before (Did action outcome) old new life goes none so = so
+  turn_unwritten returning before (Found question) old new life goes none so = so
+  turn_unwritten returning before (TookBytes bytes) old new life goes none so = so
+  turn_unwritten returning before (TookLast bytes) old new life goes none so = so
+  turn_unwritten returning before (TakeFailed bytes) old new life goes none so = so
+  turn_unwritten returning before (HasPut bytes) old new life goes none so = so
+  turn_unwritten returning before (PutFailed bytes) old new life goes none so = so
+  turn_unwritten returning before Grew old new life goes none so = so
+  turn_unwritten returning before RanOut old new life goes none so = so
+
+  turns_unwritten : (returning : Returning) (before : List Happening) (story : List Deed) (old new : Now) (life : List Turn)
+      (runs : Runs returning before story old new) → AllSteps NoWrite story → NoneWrites b life
+      → NoneWrites b (turns_of returning before story old new runs life)
+  turns_unwritten returning before [] old new life runs none so = so
+  turns_unwritten returning before (deed ∷ story) old new life runs none so =
+      turns_unwritten returning before story runs.0 new (with_turn returning before deed old runs.0 runs.1 life) runs.2 none.1
+      (turn_unwritten returning before deed old runs.0 life runs.1 none.0 so)
+
+  next_unwritten : (plan : Plan) (step : Step) → EachStep NoWrite plan → IsNext plan step → NoWrite step
+  next_unwritten (Try step k) next each is = subst NoWrite (sym is) each.0
+  next_unwritten (RebuildAll slots done k) next each is = subst NoWrite (sym is) each.0
+  next_unwritten _ next each is = absurd is
+
+pub cuts_are_of_plan : (R W : Type 0) → CutsAreOfPlan R W
+cuts_are_of_plan R W view returning before c s plan story x y life turns safe b each Between so =
+    turns_unwritten b returning before safe.done (now s (history_of view x) None) (now safe.state (history_of view safe.mid) safe.stopped) life safe.runs
+    (steps_along (NoWrite b) safe.done plan safe.rest each safe.follows) so
+cuts_are_of_plan R W view returning before c s plan story x y life turns safe b each (Within step next) so =
+    All-cons (λ turn. ¬ MayWrite b turn) (WasCut step) _
+    (next_unwritten b safe.rest step (rest_along (NoWrite b) safe.done plan safe.rest each safe.follows) next)
+    (turns_unwritten b returning before safe.done (now s (history_of view x) None) (now safe.state (history_of view safe.mid) safe.stopped) life safe.runs
+    (steps_along (NoWrite b) safe.done plan safe.rest each safe.follows) so)
 
 -- ---- calls, one after the other
 
@@ -146,7 +201,8 @@ module _ {R W S K : Type 0} (view : DeviceView R W) (streams : Views S K) (retur
   calls_history h (Ends later plan rest old new x y watchers left calls borne calm acted between) =
       history_on (history_on (calls_history (view.rack.history x) calls)
       (works_ran view honest borne.over.means.story (devices x Begun watchers) (devices y borne.session left) borne.over.works)) acted
-  calls_history h (Cut c image plan rest old new x y watchers left calls borne at calm crash) = history_made image
+  calls_history h (Cut c image later plan rest old new x y watchers left calls borne at calm crash acted between) =
+      history_on (history_made image) acted
 
   pub calls_are_lived : (h : List Happening) (calls : Calls view streams returning first h) → IsLived view streams returning first h calls
   calls_are_lived h (Starts h' history stands) = record {
@@ -183,7 +239,7 @@ module _ {R W S K : Type 0} (view : DeviceView R W) (streams : Views S K) (retur
         explained = λ certain.
             reads_are_explained (without_seats first) (without_seats run.state) (Ended ∷ turns) certain (run.state, lived, refl {a = without_seats run.state});
       }
-  calls_are_lived h (Cut c image plan rest old new x y watchers left calls borne at calm crash) =
+  calls_are_lived h (Cut c image later plan rest old new x y watchers left calls borne at calm crash acted between) =
       let before = calls_are_lived (view.rack.history x) calls in
       let history = calls_history (view.rack.history x) calls in
       let same = life_geometry before.life (without_seats first) before.state before.lives in
@@ -200,7 +256,9 @@ module _ {R W S K : Type 0} (view : DeviceView R W) (streams : Views S K) (retur
         is_of = (before.life, before.state, before.is_of, safe, cut.turns, cut.are_of, refl, refl);
         lives = (cut.state, cut.lives, refl);
         unknown = refl;
-        stands = forgets returning cut.state (Made image ∷ []) cut.stands;
+        stands = stands_between returning cut.state (Made image ∷ []) later cut.stands acted
+            (subst (λ (g : Geometry). IsCalmMeanwhile returning g (Made image ∷ []) later)
+            (sym (life_geometry cut.turns (without_seats first) cut.state cut.lives)) between);
         explained = λ certain.
             reads_are_explained (without_seats first) (without_seats cut.state) (Ended ∷ cut.turns) certain (cut.state, cut.lives, refl {a = without_seats cut.state});
       }

@@ -130,19 +130,24 @@ AdmitsOnce slot (Try (ReplaceSlot j) k) = (j ≡ slot)
 AdmitsOnce slot (Try step k) = (answer : Answer step) (left : Bool) → AdmitsOnce slot (k answer left)
 AdmitsOnce slot (RebuildAll slots done k) = (count : ℕ) → AdmitsOnce slot (k count)
 
--- the steps of any way through the plan are allowed so many draws together, at most
+-- The steps of any way through the plan count so much together, at most, by a number for each step. Those by which a rebuild
+-- goes on to its end aren't counted.
+abbrev pub CountsAtMost : (Step → ℕ) → ℕ → Plan → Type 0
+CountsAtMost count n (Over status) = ⊤
+CountsAtMost count n (Ask question k) =
+    (reply : Reply question) → IsReply question reply → CountsAtMost count n (k reply)
+CountsAtMost count n (Take least most k short) = ((bytes : List ℕ) → CountsAtMost count n (k bytes))
+    × ((bytes : List ℕ) → CountsAtMost count n (short bytes))
+CountsAtMost count n (Put bytes plan) = CountsAtMost count n plan
+CountsAtMost count n (Allocate plan) = CountsAtMost count n plan
+CountsAtMost count n (Do action k) = (done : OkOf action) → CountsAtMost count n (k done)
+CountsAtMost count n (Try step k) = (rest : ℕ) × (count step + rest ≤ n)
+    × ((answer : Answer step) (left : Bool) → CountsAtMost count rest (k answer left))
+CountsAtMost count n (RebuildAll slots done k) = (steps : ℕ) → CountsAtMost count n (k steps)
+
+-- they are allowed so many draws together, at most
 abbrev pub AllowsAtMost : ℕ → Plan → Type 0
-AllowsAtMost n (Over status) = ⊤
-AllowsAtMost n (Ask question k) =
-    (reply : Reply question) → IsReply question reply → AllowsAtMost n (k reply)
-AllowsAtMost n (Take least most k short) = ((bytes : List ℕ) → AllowsAtMost n (k bytes))
-    × ((bytes : List ℕ) → AllowsAtMost n (short bytes))
-AllowsAtMost n (Put bytes plan) = AllowsAtMost n plan
-AllowsAtMost n (Allocate plan) = AllowsAtMost n plan
-AllowsAtMost n (Do action k) = (done : OkOf action) → AllowsAtMost n (k done)
-AllowsAtMost n (Try step k) = (rest : ℕ) × (allowance step + rest ≤ n)
-    × ((answer : Answer step) (left : Bool) → AllowsAtMost rest (k answer left))
-AllowsAtMost n (RebuildAll slots done k) = (count : ℕ) → AllowsAtMost n (k count)
+AllowsAtMost n plan = CountsAtMost allowance n plan
 
 -- memory isn't asked for, so it can't be short
 abbrev pub AsksForNone : Plan → Type 0

@@ -10,7 +10,7 @@ use Rattle.stair_story.specs.declared.fault.Fault.TheVariants as fault
 use Rattle.stair_story.specs.Action.{status_of_create, status_of_survey}
 use Rattle.stair_story.specs.Refused.{status_of_refusal}
 use Rattle.stair_status.specs.declared.status.Status.{Status}
-use Rattle.stair_status.specs.declared.status.Status.TheVariants.{BadLine, EpochsSpent, Gone, JournalLost, Key, Limit, NotToml, Input, InputFault, OutOfRange, OutputFault, OutOfMemory, TooFew}
+use Rattle.stair_status.specs.declared.status.Status.TheVariants.{BadLine, Done, EpochsSpent, Gone, JournalLost, Key, Limit, NotToml, Input, InputFault, OutOfRange, OutputFault, OutOfMemory, TooFew}
 
 -- the status of a geometry text
 abbrev pub status_of_config : ConfigFault → Status
@@ -47,3 +47,8 @@ status_of_fault (fault.BadLine number) = BadLine number
 abbrev pub status_of : Result Status Fault → Status
 status_of (Ok status) = status
 status_of (Err fault) = status_of_fault fault
+
+-- the same, where nothing else may be told than that all was done
+abbrev pub status_after : Result (Unit {0}) Fault → Status
+status_after (Ok done) = Done
+status_after (Err fault) = status_of_fault fault

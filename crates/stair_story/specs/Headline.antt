@@ -97,7 +97,7 @@ abbrev pub AcknowledgedAreTaken : Type 0
 AcknowledgedAreTaken = (returning : Returning) (before : List Happening) (step : Step)
     (given : GivenBy step) (events : List Event) (left : Bool) (old new : Now)
     → Goes returning before (Stepped step (Ok given) events left) old new
-    → TakesStep returning before step (Ok given) old new
+    → TakesStep returning before step (Ok given) events old new
 
 -- A story from the beginning of a session on an honest rack that is an array in a state is a run of the machine, where its
 -- steps lead on and all of it was calm.

@@ -14,6 +14,7 @@ use Rattle.stair_state.specs.Tolerance.{ToleratedSince}
 use Rattle.stair_session.specs.Session.{ArrayState, IsLiveIn}
 use Rattle.stair_array.specs.Looking.{cells_at}
 use Rattle.stair_array.specs.Promise.{Begun, Opened}
+use Rattle.stair_story.specs.Bounded.{AreOfArray}
 use Rattle.stair_story.specs.Devices.{DeviceView, Devices, WorksAll}
 use Rattle.stair_story.specs.Run.{history_of}
 use Rattle.stair_story.specs.Story.{Deed, Leads}
@@ -68,3 +69,9 @@ LiveSlotsAreKept R W = (view : DeviceView R W) (s : State) (story : List Deed) (
     → StaysWhole s.geometry (history_of view first) (history_of view first) (history_of view last) j
     → IsLiveUnwritten s.geometry (history_of view first) (history_of view last) j
     → IsLiveAt s.geometry (history_of view last) j
+
+-- A call is of the array that the rack is: where it is within tolerance to the end, and no medium comes back.
+abbrev pub CallsAreOfArray : (R W : Type 0) → Type 0
+CallsAreOfArray R W = (view : DeviceView R W) (s : State) (story : List Deed)
+    (first last : Devices R W) (works : Leads (WorksAll view) story first last)
+    → StandsOver view s first last → AreOfArray view s.geometry story first last works

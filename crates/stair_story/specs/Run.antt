@@ -9,6 +9,7 @@ use Rattle.stair_rack.specs.Moments.{IsMoment}
 use Rattle.stair_member.specs.Membership.{Membership}
 use Rattle.stair_state.specs.State.{State}
 use Rattle.stair_session.specs.Returning.{IsCalm, Returning, StandsForAlone}
+use Rattle.stair_array.specs.Events.{events_of}
 use Rattle.stair_array.specs.Machine.{Answer, EpochsSpent, RebuildNext, Refusal, Step, TooFew}
 use Rattle.stair_array.specs.Promise.{IsInState, IsLeftBy, IsStep, LeadsStep, Performs, Seen, is_open}
 use Rattle.stair_rack.specs.declared.watcher.Event.{Event}
@@ -49,14 +50,18 @@ stop_of (Err (TooFew whys)) = Some (TooFew whys)
 stop_of (Err EpochsSpent) = Some EpochsSpent
 stop_of _ = None
 
--- A step of the machine, which a stopped array doesn't take. A refusal for good stops the array.
+-- A step of the machine, which a stopped array doesn't take. A refusal for good stops the array. The events that are reported
+-- of it are what became of the slots since it began.
 pub record TakesStep (returning : Returning) (before : List Happening) (step : Step)
-    (answer : Answer step) (old new : Now) : Type 0 where
+    (answer : Answer step) (events : List Event) (old new : Now) : Type 0 where
   pub unstopped : old.stopped ≡ None
   pub stops : new.stopped ≡ stop_of answer
   pub later : IsUpTo old.history new.history
+  -- what was known of the slots when it began, and in the end
   pub member : Membership
+  pub last : Membership
   pub is_step : IsStep returning step answer member before new.history old.state new.state
+  pub events_are : events ≡ events_of step answer member.array last.array
 
 -- A stopped array answers the refusal by which it was stopped, and nothing happens.
 pub record IsRefusedAgain (step : Step) (answer : Answer step) (old new : Now) : Type 0 where
@@ -76,7 +81,7 @@ pub record KeepsState (old new : Now) : Type 0 where
 -- was acknowledged is missing.
 abbrev pub Goes : Returning → List Happening → Deed → Now → Now → Type 0
 Goes returning before (Stepped step answer events left) old new =
-    TakesStep returning before step answer old new ⊎ IsRefusedAgain step answer old new
+    TakesStep returning before step answer events old new ⊎ IsRefusedAgain step answer old new
 Goes returning before (Did action outcome) old new = KeepsState old new
 Goes returning before _ old new = new ≡ old
 

@@ -1,6 +1,6 @@
 -- Sessions as parts of a life: a run, and a session that a crash cut, go on with a life; and calls of the program, one after the
 -- other, on one array.
-use Rattle.std.specs.Prelude.{◌≡◌, ◌⊎◌, Bool, List, [], ◌∷◌, None, IsTrue, ⊤}
+use Rattle.std.specs.Prelude.{◌≡◌, ◌⊎◌, ℕ, Bool, List, [], ◌∷◌, None, IsTrue, ⊤}
 use Rattle.std.proofs.Common.{inl, inr}
 use Rattle.stair_model.specs.Geometry.{Geometry}
 use Rattle.stair_rack.specs.Answers.{IsHistory, Ran}
@@ -17,10 +17,11 @@ use Rattle.stair_array.specs.Machine.{Step}
 use Rattle.stair_array.specs.Promise.{Begun}
 use Rattle.stair_story.specs.Devices.{DeviceView, Devices, WorksAll, devices}
 use Rattle.stair_story.specs.Headline.{IsBorneOut}
-use Rattle.stair_story.specs.Lives.{EachReadsLast, Ended, Lives, Took, Turn, WasCut}
+use Rattle.stair_story.specs.Ending.{EachStep}
+use Rattle.stair_story.specs.Lives.{EachReadsLast, Ended, IsWriteOf, Lives, NoneWrites, Took, Turn, WasCut}
 use Rattle.stair_story.specs.Outside.{Outside, Views}
 use Rattle.stair_story.specs.Plan.{Plan}
-use Rattle.stair_story.specs.Run.{Goes, IsCalmUpTo, IsRun, IsSafe, Now, IsRefusedAgain, Runs, TakesStep, history_of, now}
+use Rattle.stair_story.specs.Run.{Goes, IsCalmUpTo, IsNext, IsRun, IsSafe, Now, IsRefusedAgain, Runs, TakesStep, history_of, now}
 use Rattle.stair_story.specs.Story.{Deed, Leads, Stepped}
 
 -- A RUN AS TURNS
@@ -29,7 +30,7 @@ use Rattle.stair_story.specs.Story.{Deed, Leads, Stepped}
 abbrev pub with_turn : (returning : Returning) (before : List Happening) (deed : Deed) (old new : Now) → Goes returning before deed old new → List Turn → List Turn
 with_turn returning before (Stepped step answer events left) old new goes life = if_taken goes
   where
-    if_taken : TakesStep returning before step answer old new ⊎ IsRefusedAgain step answer old new → List Turn
+    if_taken : TakesStep returning before step answer events old new ⊎ IsRefusedAgain step answer old new → List Turn
     if_taken (inl taken) = Took step answer ∷ life
     if_taken (inr again) = life
 with_turn returning before _ old new goes life = life
@@ -48,7 +49,8 @@ pub data TurnsOfCut {R W : Type 0} (view : DeviceView R W) (returning : Returnin
   Between : TurnsOfCut view returning before s plan story x y c safe life
       (turns_of returning before safe.done (now s (history_of view x) None)
       (now safe.state (history_of view safe.mid) safe.stopped) safe.runs life)
-  Within : (step : Step) → TurnsOfCut view returning before s plan story x y c safe life
+  Within : (step : Step) → IsNext safe.rest step
+      → TurnsOfCut view returning before s plan story x y c safe life
       (WasCut step ∷ turns_of returning before safe.done (now s (history_of view x) None)
       (now safe.state (history_of view safe.mid) safe.stopped) safe.runs life)
 
@@ -86,14 +88,17 @@ pub data Calls {R W S K : Type 0} (view : DeviceView R W) (streams : Views S K)
       → Ran no_write (view.rack.history y) later
       → IsCalmMeanwhile returning first.geometry (view.rack.history y) later
       → Calls view streams returning first later
-  -- a crash cut it at c, and the rack is made anew over what that left
-  Cut : (c : List Happening) (image : Image) (plan rest : Plan) (old new : Outside S K) (x y : R)
+  -- A crash cut it at c, and the rack is made anew over what that left; until the next one begins it is as after one that ended.
+  Cut : (c : List Happening) (image : Image) (later : List Happening) (plan rest : Plan)
+      (old new : Outside S K) (x y : R)
       (watchers left : List W) → Calls view streams returning first (view.rack.history x)
       → (borne : IsBorneOut view streams plan rest old new x y watchers left)
       → IsMoment (view.rack.history x) c (view.rack.history y)
       → IsCalmOver view returning first.geometry c borne.over.means.story
       (devices x Begun watchers) (devices y borne.session left) borne.over.works
-      → CrashMayLeave c image → Calls view streams returning first (Made image ∷ [])
+      → CrashMayLeave c image → Ran no_write (Made image ∷ []) later
+      → IsCalmMeanwhile returning first.geometry (Made image ∷ []) later
+      → Calls view streams returning first later
 
 -- The life of these calls, up to a state: each call is a run from the state before, or was cut, and then its session ended.
 abbrev pub IsLifeOf : {R W S K : Type 0} (view : DeviceView R W) (streams : Views S K)
@@ -110,7 +115,7 @@ IsLifeOf view streams returning first h (Ends later plan rest old new x y watche
     (now from (view.rack.history x) None)
     (now run.state (view.rack.history y) run.stopped) run.runs before)
     × (s ≡ without_seats run.state)
-IsLifeOf view streams returning first h (Cut c image plan rest old new x y watchers left calls borne at calm crash) life s =
+IsLifeOf view streams returning first h (Cut c image later plan rest old new x y watchers left calls borne at calm crash acted between) life s =
     (before : List Turn) × (from : State)
     × IsLifeOf view streams returning first (view.rack.history x) calls before from
     × (safe : IsSafe view returning (view.rack.history x) from plan borne.over.means.story
@@ -122,11 +127,11 @@ IsLifeOf view streams returning first h (Cut c image plan rest old new x y watch
 
 -- LAWS
 
--- a life that goes on in a new session, whose rack is made over this image
-pub record NextSession (returning : Returning) (first : State) (image : Image) : Type 0 where
-  pub life : List Turn
+-- a life that goes on, behind these turns, in a new session, whose rack is made over this image
+pub record NextSession (returning : Returning) (first : State) (turns : List Turn) (image : Image)
+    : Type 0 where
   pub state : State
-  pub lives : Lives life first state
+  pub lives : Lives (Ended ∷ turns) first state
   pub unknown : state.seats ≡ None
   pub stands : StandsForAlone returning state image
 
@@ -137,12 +142,24 @@ RunsAreLived = (returning : Returning) (before : List Happening) (story : List D
     → Lives life first old.state
     → Lives (turns_of returning before story old new runs life) first new.state
 
--- And so does a session that is cut at a moment, with whatever the crash leaves; then the next one begins.
+-- And so does a session that is cut at a moment, by the turns of what the crash leaves; then the next one begins.
 abbrev pub CrashesAreLived : (R W : Type 0) → Type 0
 CrashesAreLived R W = (view : DeviceView R W) (returning : Returning) (before c : List Happening)
     (s first : State) (plan : Plan) (story : List Deed) (x y : Devices R W) (life : List Turn)
-    (image : Image) → Lives life first s → IsSafe view returning before s plan story x y c
-    → CrashMayLeave c image → NextSession returning first image
+    (image : Image) → Lives life first s
+    → (safe : IsSafe view returning before s plan story x y c) → CrashMayLeave c image
+    → (turns : List Turn) × TurnsOfCut view returning before s plan story x y c safe life turns
+    × NextSession returning first turns image
+
+-- A step that was cut is one of the plan's. So by a session whose plan has no write of a block none is lived, whether it was
+-- taken or cut.
+abbrev pub CutsAreOfPlan : (R W : Type 0) → Type 0
+CutsAreOfPlan R W = (view : DeviceView R W) (returning : Returning) (before c : List Happening)
+    (s : State) (plan : Plan) (story : List Deed) (x y : Devices R W) (life turns : List Turn)
+    (safe : IsSafe view returning before s plan story x y c) (b : ℕ)
+    → EachStep (λ step. ¬ IsWriteOf b step) plan
+    → TurnsOfCut view returning before s plan story x y c safe life turns
+    → NoneWrites b life → NoneWrites b turns
 
 -- what becomes of an array by some calls on it
 pub record IsLived {R W S K : Type 0} (view : DeviceView R W) (streams : Views S K)

@@ -1,11 +1,13 @@
 -- Blocks of an open array that are put out or written, as more than one command does it.
-use Rattle.std.specs.Prelude.{◌+◌, ◌*◌, ℕ, zero, suc, Bool, true, nat_le, List, [], ◌∷◌, ◌++◌, codes, max}
+use Rattle.std.specs.Prelude.{◌+◌, ◌-◌, ◌*◌, ◌/◌, ℕ, zero, suc, Bool, true, nat_le, nat_lt, List, [], ◌∷◌, ◌++◌, codes, length, max}
 use Rattle.std.specs.Fmt.{decimal}
 use Rattle.stair_model.specs.Geometry.{Geometry}
 use Rattle.stair_model.specs.Stripe.{SECTOR}
-use Rattle.stair_array.specs.Machine.{ReadBlock}
+use Rattle.stair_array.specs.Arrays.{blocks_of}
+use Rattle.stair_array.specs.Machine.{ReadBlock, WriteBlocks}
 use Rattle.stair_status.specs.declared.status.Status.TheVariants.{Done, Input, OutOfRange}
-use Rattle.stair_story.specs.Plan.{Plan, Over, Put, if_so, take_exactly, take_step}
+use Rattle.stair_story.specs.Pieces.{part_of, piece_blocks, whole_of}
+use Rattle.stair_story.specs.Plan.{Plan, Over, Put, Take, if_so, take_exactly, take_step}
 
 -- RANGES
 
@@ -36,3 +38,17 @@ wrote_line count = codes "wrote " ++ (decimal count ++ (codes " blocks" ++ 10 �
 abbrev pub wrote : ℕ → Plan
 wrote all = take_exactly 1 (λ more. Over (Input (SECTOR * all) (SECTOR * all + 1)))
     (λ none. Put (wrote_line all) (Over Done))
+
+-- What is left of a write of `all` blocks from `first` on, of which so many are done, behind bytes that were taken and are less
+-- than a block. A piece has one whole block at least, and is within a stripe; its whole blocks are written as one step. So there
+-- are no more turns than blocks.
+abbrev pub writes : Geometry → (first all turns done : ℕ) → List ℕ → Plan
+writes g first all zero done held = wrote all
+writes g first all (suc turns) done held = if_so (nat_lt done all)
+    (Take (SECTOR - length held)
+    (SECTOR * piece_blocks g (first + done) (all - done) - length held)
+    (λ bytes. take_step g.n (WriteBlocks (first + done) (blocks_of (whole_of (held ++ bytes))))
+    (λ ok. writes g first all turns (done + length (held ++ bytes) / SECTOR)
+    (part_of (held ++ bytes))))
+    (λ bytes. Over (Input (SECTOR * all) (SECTOR * done + length (held ++ bytes)))))
+    (wrote all)

@@ -7,6 +7,7 @@ ghost use Rattle.stair_story.specs.Bounded.{
   StoriesAreBounded,
   StoriesAreWithin,
 };
+ghost use Rattle.stair_story.specs.Living.{CallsAreOfArray};
 
 /// What follows of draws at every moment of a call. It does nothing.
 pub fn draw_laws<R, W>()
@@ -20,4 +21,6 @@ pub fn draw_laws<R, W>()
     ensures within { StoriesAreWithin R W }
     // and so it is over a whole call, of what was borne at its entry
     ensures calls { CallsAreBounded R W }
+    // a call on an array that stands within tolerance is of this array
+    ensures alone { CallsAreOfArray R W }
 {}

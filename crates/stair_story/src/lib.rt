@@ -15,11 +15,13 @@ mod steps;
 mod streams;
 pub mod sure;
 mod text;
+mod writing;
 
 pub use fault::Fault;
 pub use intake::Intake;
-pub use pieces::piece_blocks;
+pub use pieces::{Piece, piece_blocks};
 pub use stair_status::Status;
 pub use steps::Opened;
 pub use streams::{Filled, put_all, take_at_least};
 pub use text::wrote_line;
+pub use writing::write_input;

@@ -9,7 +9,7 @@ ghost use Rattle.stair_story.specs.Lives.{
   ReadsAreExplained,
   UnwrittenStays,
 };
-ghost use Rattle.stair_story.specs.Sessions.{CallsAreLived, CrashesAreLived, RunsAreLived};
+ghost use Rattle.stair_story.specs.Sessions.{CallsAreLived, CrashesAreLived, CutsAreOfPlan, RunsAreLived};
 
 /// What follows of every life, whatever crashes, sessions and openings it has. It does nothing.
 pub fn life_laws()
@@ -35,6 +35,8 @@ pub fn session_lives<R, W, S, K>()
     ensures runs { RunsAreLived }
     // and so does a session that a crash cut, with whatever that left
     ensures crashes { CrashesAreLived R W }
+    // a step that was cut is one of the plan's, so a session without a write of a block is lived by none
+    ensures of_plan { CutsAreOfPlan R W }
     // calls one after the other, each whole or cut by a crash, are one life, and the rack is the array that it leads to
     ensures calls { CallsAreLived R W S K }
 {}

@@ -233,7 +233,7 @@ module _ (IsSo : List ℕ → Content → Type 0) (IsEnd : Come → Type 0) wher
   -- any step, by its own answer
   step_comes : (returning : Returning) (before : List Happening) (step : Step) (answer : Answer step) (events : List Event) (left : Bool)
       (k : Answer step → Bool → Plan) (come : Come) (old new : Now) → IsCertain old come → Stays (Try step k) come
-      → TakesStep returning before step answer old new ⊎ IsRefusedAgain step answer old new
+      → TakesStep returning before step answer events old new ⊎ IsRefusedAgain step answer old new
       → ComesBy come (Stepped step answer events left ∷ []) (k answer left) new
   step_comes returning before (ReadBlock b) answer events left k come old new is stays (inl taken) = record {
     last = come;

@@ -5,11 +5,11 @@ use Rattle.stair_story.specs.Comes.{ComesTo}
 use Rattle.stair_story.specs.Devices.{DeviceView, Devices, MeansWith}
 use Rattle.stair_story.specs.Outside.{Views, outside}
 use Rattle.stair_story.specs.Plan.{Plan, Over}
-use Rattle.stair_story.specs.Talks.{PutsTo, TakesTo}
+use Rattle.stair_story.specs.Talks.{PutsTo}
 use Rattle.stair_status.specs.declared.status.Status.TheVariants.{Done}
 use Rattle.stair_story.proofs.ComesLaws.{with_comes}
 use Rattle.stair_story.proofs.DeviceLaws.{with_none, with_then}
-use Rattle.stair_story.proofs.TalkLaws.{talks_put, talks_taken, with_talk}
+use Rattle.stair_story.proofs.TalkLaws.{talks_put, with_talk}
 use Rattle.stair_volume.specs.declared.fault.VolumeFault.{VolumeFault}
 use Rattle.stair_volume.specs.Commands.{status_of, status_of_volume}
 use Rattle.stair_volume.specs.Parts.{after_done}
@@ -25,9 +25,6 @@ module _ {R W S K : Type 0} (view : DeviceView R W) (streams : Views S K) where
   module _ (plan : Plan) (from : S) (empty : K) (start : Devices R W) where
     abbrev DidTo : Plan → S → K → Devices R W → Type 0
     DidTo = Did view streams plan from empty start
-
-    pub did_take : {mid rest : Plan} {a b : S} (k : K) (x : Devices R W) → DidTo mid a k x → TakesTo streams.source mid rest a b → DidTo rest b k x
-    did_take k x did takes counter = with_then view streams (did counter) (with_talk streams view (talks_taken streams takes k) counter x)
 
     pub did_put : {mid rest : Plan} {k l : K} (a : S) (x : Devices R W) → DidTo mid a k x → PutsTo streams.sink mid rest k l → DidTo rest a l x
     did_put a x did puts counter = with_then view streams (did counter) (with_talk streams view (talks_put streams puts a) counter x)

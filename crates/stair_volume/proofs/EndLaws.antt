@@ -1,29 +1,32 @@
 -- How the plan of each command ends where its array serves.
-use Rattle.std.proofs.Common.{◌≡◌, ◌∙◌, ◌+◌, ◌-◌, ◌<◌, ◌≤◌, ◌++◌, cond, ℕ, zero, suc, Bool, true, false, List, [], ◌∷◌, inl, inr, length, replicate, Option, None, Some, Ok, Err, Result, refl, sym, ap, subst, arith}
-use Rattle.std.specs.Prelude.{Contains, is_some, nat_le}
-use Rattle.std.proofs.lemmas.Bool.{cases_Bool, false≢true, leb-true, ne_eqb}
+use Rattle.std.proofs.Common.{◌≡◌, ◌∙◌, ◌+◌, ◌-◌, ◌/◌, ◌<◌, ◌≤◌, ◌++◌, cond, ℕ, zero, suc, Bool, true, false, List, [], ◌∷◌, inl, inr, length, replicate, Option, None, Some, Ok, Err, Result, refl, sym, ap, subst, arith}
+use Rattle.std.specs.Prelude.{Contains, is_some, nat_le, nat_lt}
+use Rattle.std.proofs.lemmas.Bool.{cases_Bool, false≢true, leb-true, ltb-true, ne_eqb}
 use Rattle.std.proofs.Math.Seq.{get_or-append_seam}
 use Rattle.std.proofs.lemmas.List.{length-append}
 use Rattle.stair_model.specs.Geometry.{Geometry, IsWithinLimits, block_count}
+use Rattle.stair_model.specs.Stripe.{SECTOR}
 use Rattle.stair_state.specs.Blocks.{zero_block}
 use Rattle.stair_state.specs.State.{State}
+use Rattle.stair_array.specs.Arrays.{blocks_of}
 use Rattle.stair_array.specs.Machine.{Frozen as Freezes, ReadBlock, Refusal, WriteBlocks}
 use Rattle.stair_conf.specs.declared.job.VolumeJob.{VolumeJob}
 use Rattle.stair_conf.specs.declared.job.VolumeJob.TheVariants as volume
-use Rattle.stair_story.specs.Pieces.{piece_blocks}
+use Rattle.stair_story.specs.Pieces.{part_of, piece_blocks, whole_of}
 use Rattle.stair_story.specs.Plan.{Plan, Over, Put, if_so, take_step}
 use Rattle.stair_story.specs.Refused.{status_of_refusal}
 use Rattle.stair_story.specs.Served.{EndsServed}
-use Rattle.stair_story.specs.Transfers.{if_within, is_within, reads}
+use Rattle.stair_story.specs.Transfers.{if_within, is_within, reads, writes, wrote}
 use Rattle.stair_status.specs.declared.status.Status.{Status}
 use Rattle.stair_status.specs.declared.status.Status.TheVariants.{Done, Frozen}
 use Rattle.stair_story.proofs.PieceLaws.{piece_left, piece_some, some_blocks}
+use Rattle.stair_story.proofs.WriteLaws.{turn}
 use Rattle.stair_volume.specs.declared.extent.Entry.{Entry}
 use Rattle.stair_volume.specs.declared.extent.Extent.{Extent}
 use Rattle.stair_volume.specs.declared.table_fault.TableFault.{TableFault}
 use Rattle.stair_volume.specs.declared.table_fault.TableFault.TheVariants as table
 use Rattle.stair_volume.specs.Changes.{placed, room, volume_of, with_volume, without_entry, without_volume}
-use Rattle.stair_volume.specs.Commands.{clears, dropped_line, if_found, lists, made_line, makes, on_table, ready_line, removes, sets_table, status_of_table, volume_plan, within_volume, writes_each}
+use Rattle.stair_volume.specs.Commands.{clears, dropped_line, if_found, lists, made_line, makes, on_table, ready_line, removes, sets_table, status_of_table, volume_plan, within_volume}
 use Rattle.stair_volume.specs.Ends.{MayEnd}
 use Rattle.stair_volume.specs.Page.{HasTable, table_bytes, table_of}
 use Rattle.stair_volume.specs.Table.{IsTable, Table, end_of, extent_of, find_in, table_with}
@@ -96,16 +99,28 @@ module _ (job : VolumeJob) (g : Geometry) where
   lists_end (entry ∷ later) s = lists_end later s
 
 -- an input is written
-writes_end : (name : List ℕ) (block all : ℕ) (g : Geometry) (first done left : ℕ) (s : State) → s.geometry ≡ g → done + left ≡ all
-    → (0 < all → first + all ≤ block_count g) → EndsServed (MayEnd (volume.Write name block all)) (writes_each g first all done left) s
-writes_end name block all g first done zero s same ends within = (λ more enough. (refl, λ same. omega (arith, same)), λ none short. tt)
-writes_end name block all g first done (suc left) s same ends within = (
-  λ bytes enough.
-      write_ends (MayEnd (volume.Write name block all)) g.n (first + done) (bytes ∷ []) (λ ok. writes_each g first all (done + 1) left) s
-      (subst (λ (f : Geometry). first + done < block_count f) (sym same) (omega (arith, ends, within (omega (arith, ends))))) tt
-      (λ later on. writes_end name block all g first (done + 1) left later (on ∙ same) (omega (arith, ends)) within),
-  λ bytes short. (refl, λ same. omega (arith, same, short, ends)),
-)
+writes_end : (name : List ℕ) (block all : ℕ) (g : Geometry) (first turns done : ℕ) (held : List ℕ) (s : State) → s.geometry ≡ g
+    → (0 < all → first + all ≤ block_count g) → EndsServed (MayEnd (volume.Write name block all)) (writes g first all turns done held) s
+writes_end name block all g first zero done held s same within = (λ more enough. (refl, λ same. omega (arith, same)), λ none short. tt)
+writes_end name block all g first (suc turns) done held s same within =
+    by (nat_lt done all) refl
+    (λ bytes later on. writes_end name block all g first turns (done + length (held ++ bytes) / SECTOR) (part_of (held ++ bytes)) later (on ∙ same)
+    within)
+  where
+    by : (left : Bool) → nat_lt done all ≡ left
+        → ((bytes : List ℕ) (later : State) → later.geometry ≡ s.geometry
+        → EndsServed (MayEnd (volume.Write name block all)) (writes g first all turns (done + length (held ++ bytes) / SECTOR) (part_of (held ++ bytes))) later)
+        → EndsServed (MayEnd (volume.Write name block all)) (if_so left (turn g first all turns done held) (wrote all)) s
+    by false is again = (λ more enough. (refl, λ same. omega (arith, same)), λ none short. tt)
+    by true is again =
+        let left = ltb-true done all is in (
+          λ bytes enough.
+              write_ends (MayEnd (volume.Write name block all)) g.n (first + done) (blocks_of (whole_of (held ++ bytes)))
+              (λ ok. writes g first all turns (done + length (held ++ bytes) / SECTOR) (part_of (held ++ bytes))) s
+              (subst (λ (f : Geometry). first + done < block_count f) (sym same) (omega (arith, left, within (omega (arith, left))))) tt
+              (λ later on. again bytes later on),
+          λ bytes short. (refl, λ same. omega (arith, same, short, left, length-append held bytes)),
+        )
 
 -- why a volume isn't made, and why none is taken out
 made_fault : (t : Table) (name : List ℕ) (blocks : ℕ) (why : TableFault) → with_volume t name blocks ≡ Err why
@@ -198,15 +213,15 @@ module _ (g : Geometry) (some : 0 < block_count g) (s : State) (same : s.geometr
 
   write_ends_by : (bytes : List ℕ) (t : Table) (name : List ℕ) (block count : ℕ) → HasTable (block_count g) bytes t
       → (o : Option Extent) → find_in t.entries name ≡ o
-      → EndsServed (MayEnd (volume.Write name block count)) (if_found o (λ extent. within_volume extent block count (writes_each g (extent.first + block) count 0 count))) s
+      → EndsServed (MayEnd (volume.Write name block count)) (if_found o (λ extent. within_volume extent block count (writes g (extent.first + block) count count 0 []))) s
   write_ends_by bytes t name block count has None is = tt
   write_ends_by bytes t name block count has (Some extent) is = by (is_within extent.blocks block count) refl
     where
       by : (within : Bool) → is_within extent.blocks block count ≡ within
-          → EndsServed (MayEnd (volume.Write name block count)) (if_within extent.blocks block within (writes_each g (extent.first + block) count 0 count)) s
+          → EndsServed (MayEnd (volume.Write name block count)) (if_within extent.blocks block within (writes g (extent.first + block) count count 0 [])) s
       by false past = tt
       by true within =
-          writes_end name block count g (extent.first + block) 0 count s same (omega arith)
+          writes_end name block count g (extent.first + block) count 0 [] s same
           (in_array extent block count (inside bytes t name extent has.of_array has.rules is) within)
 
   -- by what block 0 is

@@ -4,7 +4,6 @@ pub mod RoomLaws
 pub mod ChangeLaws
 pub mod PageLaws
 pub mod ReadingLaws
-pub mod StreamLaws
 pub mod StepLaws
 pub mod ClearLaws
 pub mod ChangingLaws

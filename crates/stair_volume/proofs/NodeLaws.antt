@@ -1,23 +1,26 @@
 -- What is so of each node of a command's plan by what comes behind it is so of the plan.
-use Rattle.std.proofs.Common.{◌≢◌, ◌+◌, ◌-◌, ◌*◌, ◌==◌, ℕ, zero, suc, Bool, true, false, List, [], ◌∷◌, length, replicate, Option, None, Some, Ok, Err, Result}
+use Rattle.std.proofs.Common.{◌≢◌, ◌+◌, ◌++◌, ◌-◌, ◌*◌, ◌/◌, ◌==◌, ℕ, zero, suc, Bool, true, false, List, [], ◌∷◌, length, replicate, Option, None, Some, Ok, Err, Result}
+use Rattle.std.specs.Prelude.{nat_lt}
 use Rattle.stair_model.specs.Geometry.{Geometry, block_count}
 use Rattle.stair_model.specs.Stripe.{SECTOR}
 use Rattle.stair_state.specs.Blocks.{zero_block}
+use Rattle.stair_array.specs.Arrays.{blocks_of}
 use Rattle.stair_array.specs.Machine.{AlreadyArray, Answer, EpochsSpent, Frozen, Gone, JournalLost, Lost, OutOfRange, ReadBlock, Refusal, SlotBusy, SmallDevice, TooFew, WriteBlocks}
 use Rattle.stair_conf.specs.declared.job.VolumeJob.{VolumeJob}
 use Rattle.stair_conf.specs.declared.job.VolumeJob.TheVariants as volume
-use Rattle.stair_story.specs.Pieces.{piece_blocks}
+use Rattle.stair_story.specs.Pieces.{part_of, piece_blocks, whole_of}
 use Rattle.stair_story.specs.Plan.{Plan, Over, Put, Take, Try, if_so, take_step, unless_refused}
 use Rattle.stair_story.specs.Refused.{status_of_refusal}
-use Rattle.stair_story.specs.Transfers.{if_within, is_within, reads, wrote_line}
+use Rattle.stair_story.specs.Transfers.{if_within, is_within, reads, writes, wrote, wrote_line}
 use Rattle.stair_status.specs.declared.status.Status.{Status}
 use Rattle.stair_status.specs.declared.status.Status.TheVariants.{Done, Input, InputFault, OutOfMemory, OutputFault, Usage}
+use Rattle.stair_story.proofs.WriteLaws.{turn}
 use Rattle.stair_volume.specs.declared.extent.Entry.{Entry}
 use Rattle.stair_volume.specs.declared.extent.Extent.{Extent}
 use Rattle.stair_volume.specs.declared.table_fault.TableFault.{TableFault}
 use Rattle.stair_volume.specs.declared.table_fault.TableFault.TheVariants as table
 use Rattle.stair_volume.specs.Changes.{with_volume, without_volume}
-use Rattle.stair_volume.specs.Commands.{PutsSome, TakesSome, clears, dropped_line, if_found, lists, made_line, makes, on_table, ready_line, removes, sets_table, status_of_table, volume_line, volume_plan, within_volume, writes_each}
+use Rattle.stair_volume.specs.Commands.{PutsSome, TakesSome, clears, dropped_line, if_found, lists, made_line, makes, on_table, ready_line, removes, sets_table, status_of_table, volume_line, volume_plan, within_volume}
 use Rattle.stair_volume.specs.Page.{table_bytes, table_of}
 use Rattle.stair_volume.specs.Table.{Table, find_in, table_with}
 
@@ -95,14 +98,25 @@ module _ (job : VolumeJob) (g : Geometry) (IsSo : Plan → Type 0) (nodes : IsSo
   reads_so puts first (suc count) =
       read_so first (λ bytes. Put bytes (reads g (first + 1) count)) (λ bytes. nodes.puts puts bytes (reads g (first + 1) count) (reads_so puts (first + 1) count))
 
-  writes_so : TakesSome job → (first all done left : ℕ) → IsSo (writes_each g first all done left)
-  writes_so takes first all done zero =
+  wrote_so : TakesSome job → (all : ℕ) → IsSo (wrote all)
+  wrote_so takes all =
       nodes.takes takes 1 1 (λ more. Over (Input (SECTOR * all) (SECTOR * all + 1))) (λ none. Put (wrote_line all) (Over Done))
       (λ more. nodes.over (Input (SECTOR * all) (SECTOR * all + 1)) (λ is. cc, λ is. cc, λ is. cc, λ is. cc)) (λ none. nodes.puts_last (wrote_line all))
-  writes_so takes first all done (suc left) =
-      nodes.takes takes SECTOR SECTOR _ _
-      (λ bytes. write_so (first + done) (bytes ∷ []) (writes_each g first all (done + 1) left) (writes_so takes first all (done + 1) left))
-      (λ bytes. nodes.over (Input (SECTOR * all) (SECTOR * done + length bytes)) (λ is. cc, λ is. cc, λ is. cc, λ is. cc))
+
+  writes_so : TakesSome job → (first all turns done : ℕ) (held : List ℕ) → IsSo (writes g first all turns done held)
+  writes_so takes first all zero done held = wrote_so takes all
+  writes_so takes first all (suc turns) done held =
+      by (nat_lt done all) (λ bytes. writes_so takes first all turns (done + length (held ++ bytes) / SECTOR) (part_of (held ++ bytes)))
+    where
+      by : (left : Bool)
+          → ((bytes : List ℕ) → IsSo (writes g first all turns (done + length (held ++ bytes) / SECTOR) (part_of (held ++ bytes))))
+          → IsSo (if_so left (turn g first all turns done held) (wrote all))
+      by false again = wrote_so takes all
+      by true again =
+          nodes.takes takes (SECTOR - length held) (SECTOR * piece_blocks g (first + done) (all - done) - length held) _ _
+          (λ bytes. write_so (first + done) (blocks_of (whole_of (held ++ bytes)))
+          (writes g first all turns (done + length (held ++ bytes) / SECTOR) (part_of (held ++ bytes))) (again bytes))
+          (λ bytes. nodes.over (Input (SECTOR * all) (SECTOR * done + length (held ++ bytes))) (λ is. cc, λ is. cc, λ is. cc, λ is. cc))
 
   ranged_so : (extent : Extent) (block count : ℕ) (plan : Plan) → IsSo plan → IsSo (within_volume extent block count plan)
   ranged_so extent block count plan behind = by (is_within extent.blocks block count)
@@ -144,8 +158,8 @@ table_so (volume.Read name block count) g IsSo nodes (Some t) =
     (reads_so (volume.Read name block count) g IsSo nodes tt (extent.first + block) count))
 table_so (volume.Write name block count) g IsSo nodes (Some t) =
     found_so (volume.Write name block count) g IsSo nodes (find_in t.entries name) _ (λ extent.
-    ranged_so (volume.Write name block count) g IsSo nodes extent block count (writes_each g (extent.first + block) count 0 count)
-    (writes_so (volume.Write name block count) g IsSo nodes tt (extent.first + block) count 0 count))
+    ranged_so (volume.Write name block count) g IsSo nodes extent block count (writes g (extent.first + block) count count 0 [])
+    (writes_so (volume.Write name block count) g IsSo nodes tt (extent.first + block) count count 0 []))
 
 pub volume_so : (job : VolumeJob) (g : Geometry) (IsSo : Plan → Type 0) → IsSoOfNodes job IsSo → IsSo (volume_plan job g)
 volume_so job g IsSo nodes =

@@ -3,6 +3,7 @@ use Rattle.std.proofs.Common.{◌≡◌, ◌∙◌, ◌⊎◌, ℕ, List, [], �
 use Rattle.std.specs.Prelude.{Bool}
 use Rattle.stair_model.specs.Geometry.{Geometry, IsWithinLimits, block_count}
 use Rattle.stair_rack.specs.History.{Happening}
+use Rattle.stair_rack.specs.declared.watcher.Event.{Event}
 use Rattle.stair_member.specs.Seats.{Seats}
 use Rattle.stair_member.specs.declared.fault.SurveyFault.{SurveyFault}
 use Rattle.stair_member.specs.declared.fault.SurveyFault.TheVariants as survey
@@ -72,11 +73,11 @@ module _ (returning : Returning) (before : List Happening) (job : VolumeJob) (is
   over_before (deed ∷ story) taken put status rest mid new undone same follows runs = absurd (no_move deed status follows.0 follows.1)
 
   -- the array is opened, or isn't
-  reached_open : (slots : ℕ) (answer : Answer Recover) (left : Bool) (story : List Deed) (rest : Plan) (old mid new : Now) → old.state ≡ s
-      → TakesStep returning before Recover answer old mid
+  reached_open : (slots : ℕ) (answer : Answer Recover) (events : List Event) (left : Bool) (story : List Deed) (rest : Plan) (old mid new : Now) → old.state ≡ s
+      → TakesStep returning before Recover answer events old mid
       → Leads Moves story (unless_refused slots (λ (g : Geometry) (left : Bool). volume_plan job g) answer left) rest → Runs returning before story mid new
       → Reached (taken_in story) (put_in story) rest new
-  reached_open slots (Ok g) left story rest old mid new same taken follows runs =
+  reached_open slots (Ok g) events left story rest old mid new same taken follows runs =
       let holds = subst (λ (x : State). HoldsAfter Recover (Ok g) x mid.state) same taken.is_step.row.holds in
       let held = decided_held s mid.state holds.1 in
       Behind mid.state.content story held.1
@@ -85,7 +86,7 @@ module _ (returning : Returning) (before : List Happening) (job : VolumeJob) (is
       (record { unstopped = taken.stops; content = refl; certain = held.0 }) (volume_stays s.geometry limits mid.state.content job is)
       (subst (λ (f : Geometry). Leads Moves story (volume_plan job f) rest) holds.0 follows) runs)
       refl refl
-  reached_open slots (Err refusal) left story rest old mid new same taken follows runs =
+  reached_open slots (Err refusal) events left story rest old mid new same taken follows runs =
       over_before story (taken_in story) (put_in story) (status_of_refusal slots refusal) rest mid new (refused_undone slots refusal)
       (refused_holds refusal s mid.state (subst (λ (x : State). HoldsAfter Recover (Err refusal) x mid.state) same taken.is_step.row.holds)) follows runs
 
@@ -99,10 +100,10 @@ module _ (returning : Returning) (before : List Happening) (job : VolumeJob) (is
   reached_try slots (Stepped did came events left ∷ story) rest old new same unstopped follows runs =
       by (subst (λ (deed : Deed). DeedGoes returning before deed old runs.0) follows.1.1 runs.1)
     where
-      by : TakesStep returning before Recover follows.1.0 old runs.0 ⊎ IsRefusedAgain Recover follows.1.0 old runs.0
+      by : TakesStep returning before Recover follows.1.0 events old runs.0 ⊎ IsRefusedAgain Recover follows.1.0 old runs.0
           → Reached (taken_in story) (put_in story) rest new
       by (inl taken) =
-          reached_open slots follows.1.0 left story rest old runs.0 new same taken
+          reached_open slots follows.1.0 events left story rest old runs.0 new same taken
           (subst (λ (p : Plan). Leads Moves story p rest) follows.1.2 follows.2) runs.2
       by (inr again) = absurd (some_none again.stopped unstopped)
   reached_try slots (_ ∷ story) rest old new same unstopped follows runs = absurd follows.1

@@ -1,35 +1,39 @@
 -- What is so along the plan of each command: the volumes are those from before, or those after.
-use Rattle.std.proofs.Common.{◌≡◌, ◌≢◌, ◌∙◌, ◌+◌, ◌-◌, ◌*◌, ◌<◌, ◌≤◌, ◌++◌, ◌⊎◌, ℕ, zero, suc, Bool, true, false, List, [], ◌∷◌, append-nil, append_assoc, inl, inr, length, get_or, drop, take, replicate, Option, None, Some, Ok, Err, Result, refl, sym, ap, subst, arith}
-use Rattle.std.specs.Prelude.{All, Contains, is_some, nat_le}
+use Rattle.std.proofs.Common.{◌≡◌, ◌≢◌, ◌∙◌, ◌+◌, ◌-◌, ◌*◌, ◌/◌, ◌<◌, ◌≤◌, ◌++◌, ◌⊎◌, ℕ, zero, suc, Bool, true, false, List, [], ◌∷◌, append-nil, append_assoc, inl, inr, length, drop, take, replicate, Option, None, Some, Ok, Err, Result, refl, sym, ap, subst, arith}
+use Rattle.std.specs.Prelude.{All, Contains, is_some, nat_le, nat_lt}
 use Rattle.std.specs.List.{concat}
-use Rattle.std.proofs.lemmas.Bool.{cases_Bool, leb-false, leb-true, ne_eqb}
+use Rattle.std.proofs.lemmas.Bool.{cases_Bool, leb-false, leb-true, ltb-false, ltb-true, ne_eqb}
 use Rattle.std.proofs.lemmas.List.{get_or-replicate, get_or_append_left, length-append, length-replicate}
-use Rattle.std.proofs.lemmas.List.Elements.{All-nil, All-push}
+use Rattle.std.proofs.lemmas.List.Elements.{All-append, All-nil}
 use Rattle.std.proofs.lemmas.List.Folds.{concat-append}
-use Rattle.std.proofs.Math.Seq.{get_or-append_seam}
+use Rattle.std.proofs.Math.Seq.{get_or-append_right, get_or-append_seam}
 use Rattle.stair_model.specs.Geometry.{Geometry, IsWithinLimits, block_count}
 use Rattle.stair_model.specs.Stripe.{SECTOR}
 use Rattle.stair_model.proofs.LimitLaws.{block_count_few}
 use Rattle.stair_state.specs.Blocks.{Blocks, with_blocks, zero_block}
 use Rattle.stair_state.specs.State.{Content}
+use Rattle.stair_array.specs.Arrays.{blocks_of}
 use Rattle.stair_array.specs.Machine.{AlreadyArray, EpochsSpent, Frozen, Gone, JournalLost, Lost, OutOfRange, ReadBlock, Refusal, SlotBusy, SmallDevice, Step, TooFew, WriteBlocks, GivenBy}
 use Rattle.stair_conf.specs.Name.{IsName}
 use Rattle.stair_conf.specs.declared.job.VolumeJob.{VolumeJob}
 use Rattle.stair_conf.specs.declared.job.VolumeJob.TheVariants as volume
-use Rattle.stair_story.specs.Pieces.{piece_blocks}
+use Rattle.stair_story.specs.Pieces.{part_of, piece_blocks, whole_of}
 use Rattle.stair_story.specs.Plan.{Plan, Over, Put, if_so, take_step, unless_refused}
 use Rattle.stair_story.specs.Refused.{status_of_refusal}
-use Rattle.stair_story.specs.Transfers.{if_within, is_within, reads}
+use Rattle.stair_story.specs.Transfers.{if_within, is_within, reads, wrote}
+use Rattle.stair_story.specs.Transfers.{writes as write_rest}
 use Rattle.stair_status.specs.declared.status.Status.{Status}
 use Rattle.stair_status.specs.declared.status.Status.TheVariants.{Done, Input, NoVolume}
 use Rattle.stair_story.proofs.LifeLaws.{block_set, blocks_stay}
 use Rattle.stair_story.proofs.PieceLaws.{piece_left, piece_some}
+use Rattle.stair_story.proofs.TurnLaws.{blocks_count, blocks_whole, few_whole, part_short, some_whole, whole_then_part}
+use Rattle.stair_story.proofs.WriteLaws.{turn}
 use Rattle.stair_volume.specs.declared.extent.Entry.{Entry}
 use Rattle.stair_volume.specs.declared.extent.Extent.{Extent}
 use Rattle.stair_volume.specs.declared.table_fault.TableFault.{TableFault}
 use Rattle.stair_volume.specs.declared.table_fault.TableFault.TheVariants as table
 use Rattle.stair_volume.specs.Changes.{volume_of, with_volume, without_entry, without_volume}
-use Rattle.stair_volume.specs.Commands.{clears, dropped_line, if_found, lists, made_line, makes, on_table, ready_line, removes, sets_table, status_of_table, volume_line, volume_plan, within_volume, writes_each}
+use Rattle.stair_volume.specs.Commands.{clears, dropped_line, if_found, lists, made_line, makes, on_table, ready_line, removes, sets_table, status_of_table, volume_line, volume_plan, within_volume}
 use Rattle.stair_volume.specs.Page.{HasTable, table_bytes, table_of}
 use Rattle.stair_volume.specs.Table.{IsTable, Table, end_of, extent_of, find_in, table_with}
 use Rattle.stair_volume.specs.Volumes.{AreFront, HasDone, HasNone, IsCommand, KeepsVolumes, MayHold, PutsOut, Volume, blocks_from, most_written, volume_at}
@@ -224,88 +228,122 @@ module _ (job : VolumeJob) (g : Geometry) (held : Blocks) where
   module _ (first all : ℕ) (wants : all ≡ most_written job)
       (done_by : (contents : List (List ℕ)) (now : Blocks) → length contents ≤ all → IsSetTo held now first contents
       → HasDone job contents (block_count g) held now) (any : (volumes : List Volume) (put : List ℕ) → PutsOut job volumes put) where
-    -- these came, whole, and were written
-    record AreWritten (contents : List (List ℕ)) (come : Come) : Type 0 where
+    -- these came, whole, and were written; and behind them a part of the next
+    record AreWritten (contents : List (List ℕ)) (part : List ℕ) (come : Come) : Type 0 where
       few : length contents ≤ all
-      taken : come.taken ≡ concat contents
+      taken : come.taken ≡ concat contents ++ part
       whole : All (λ bytes. length bytes ≡ SECTOR) contents
       set : IsSetTo held come.content.blocks first contents
 
-    -- behind them something may have come
-    written_so : (contents : List (List ℕ)) (come : Come) (bytes : List ℕ) → AreWritten contents come → IsSo (come.taken ++ bytes) come.content
-    written_so contents come bytes are = inr (
+    written_now : (contents : List (List ℕ)) (part : List ℕ) (come : Come) → AreWritten contents part come → IsSo come.taken come.content
+    written_now contents part come are = inr (
       contents,
-      record { rest = bytes; are = ap (λ (l : List ℕ). l ++ bytes) are.taken; whole = are.whole },
+      record { rest = part; are = are.taken; whole = are.whole },
       omega (arith, are.few, wants),
       done_by contents come.content.blocks are.few are.set,
     )
 
-    written_now : (contents : List (List ℕ)) (come : Come) → AreWritten contents come → IsSo come.taken come.content
-    written_now contents come are =
-        subst (λ (l : List ℕ). IsSo l come.content) (append-nil come.taken) (written_so contents come [] are)
+    -- more may have come
+    written_so : (contents : List (List ℕ)) (part : List ℕ) (come : Come) (bytes : List ℕ) → AreWritten contents part come
+        → IsSo (come.taken ++ bytes) come.content
+    written_so contents part come bytes are = so_more come.taken bytes come.content (written_now contents part come are)
 
-    -- one more
-    written_on : (contents : List (List ℕ)) (come : Come) (bytes : List ℕ) (at : ℕ) → at ≡ first + length contents → length contents < all
-        → length bytes ≡ SECTOR → AreWritten contents come → AreWritten (contents ++ bytes ∷ []) (writes (takes come bytes) at (bytes ∷ []))
-    written_on contents come bytes at here more size are =
-        let count : length (contents ++ bytes ∷ []) ≡ length contents + 1 = length-append contents (bytes ∷ []) in
+    -- more of them
+    written_on : (contents more : List (List ℕ)) (part left bytes : List ℕ) (come : Come) (at : ℕ) → at ≡ first + length contents
+        → length contents + length more ≤ all → All (λ bytes. length bytes ≡ SECTOR) more → part ++ bytes ≡ concat more ++ left
+        → AreWritten contents part come → AreWritten (contents ++ more) left (writes (takes come bytes) at more)
+    written_on contents more part left bytes come at here few whole came are =
+        let count : length (contents ++ more) ≡ length contents + length more = length-append contents more in
         record {
-          few = omega (arith, count, more);
-          taken = ap (λ (l : List ℕ). l ++ bytes) are.taken ∙ ap (λ (l : List ℕ). concat contents ++ l) (sym (append-nil bytes))
-              ∙ sym (concat-append contents (bytes ∷ []));
-          whole = All-push (λ (bytes : List ℕ). length bytes ≡ SECTOR) contents bytes are.whole size;
+          few = omega (arith, count, few);
+          taken = ap (λ (l : List ℕ). l ++ bytes) are.taken ∙ append_assoc (concat contents) part bytes
+              ∙ ap (λ (l : List ℕ). concat contents ++ l) came ∙ sym (append_assoc (concat contents) (concat more) left)
+              ∙ ap (λ (l : List ℕ). l ++ left) (sym (concat-append contents more));
+          whole = All-append (λ (bytes : List ℕ). length bytes ≡ SECTOR) contents more are.whole whole;
           set = record {
-            beside = λ b off. elim off as (λ _. with_blocks come.content.blocks at (bytes ∷ []) b ≡ held b) [
+            beside = λ b off. elim off as (λ _. with_blocks come.content.blocks at more b ≡ held b) [
               | inl before ↦
-                  blocks_stay (bytes ∷ []) come.content.blocks at b (λ within. omega (arith, within.0, before, here)) ∙ are.set.beside b (inl before)
+                  blocks_stay more come.content.blocks at b (λ within. omega (arith, within.0, before, here)) ∙ are.set.beside b (inl before)
               | inr behind ↦
-                  blocks_stay (bytes ∷ []) come.content.blocks at b (λ within. omega (arith, within.1, behind, here, count))
+                  blocks_stay more come.content.blocks at b (λ within. omega (arith, within.1, behind, here, count))
                   ∙ are.set.beside b (inr (omega (arith, behind, count)))
             ];
             set = λ k below. elim (cases_Bool (nat_le (length contents) k)) [
               | inl on ↦
-                  let last : k ≡ length contents = omega (arith, leb-true (length contents) k on, below, count) in
-                  let there : first + k ≡ at + 0 = omega (arith, last, here) in
-                  ap (with_blocks come.content.blocks at (bytes ∷ [])) there ∙ block_set (bytes ∷ []) come.content.blocks at 0 (omega arith)
-                  ∙ sym (get_or-append_seam contents bytes [] []) ∙ ap (λ (n : ℕ). get_or (contents ++ bytes ∷ []) n []) (sym last)
+                  let from : length contents ≤ k = leb-true (length contents) k on in
+                  let there : first + k ≡ at + (k - length contents) = omega (arith, from, here) in
+                  ap (with_blocks come.content.blocks at more) there
+                  ∙ block_set more come.content.blocks at (k - length contents) (omega (arith, from, below, count))
+                  ∙ sym (get_or-append_right contents more k [] from)
               | inr before ↦
                   let there : k < length contents = leb-false (length contents) k before in
-                  blocks_stay (bytes ∷ []) come.content.blocks at (first + k) (λ within. omega (arith, within.0, there, here))
-                  ∙ are.set.set k there ∙ sym (get_or_append_left contents (bytes ∷ []) [] k there)
+                  blocks_stay more come.content.blocks at (first + k) (λ within. omega (arith, within.0, there, here))
+                  ∙ are.set.set k there ∙ sym (get_or_append_left contents more [] k there)
             ];
           };
         }
 
-    writes_stay : (done left : ℕ) (contents : List (List ℕ)) (come : Come) → length contents ≡ done → done + left ≡ all → AreWritten contents come
-        → Stays IsSo EndsSo (writes_each g first all done left) come
-    writes_stay done zero contents come count ends are = (
-      written_now contents come are,
-      λ more enough. over_so (Input (SECTOR * all) (SECTOR * all + 1)) (takes come more) (λ same. cc) (written_so contents come more are),
+    -- all of them
+    all_stay : (contents : List (List ℕ)) (part : List ℕ) (come : Come) → length contents ≡ all → AreWritten contents part come
+        → Stays IsSo EndsSo (wrote all) come
+    all_stay contents part come count are = (
+      written_now contents part come are,
+      λ more enough. over_so (Input (SECTOR * all) (SECTOR * all + 1)) (takes come more) (λ same. cc) (written_so contents part come more are),
       λ none short. (
-        written_so contents come none are,
+        written_so contents part come none are,
         (
-          written_so contents come none are,
+          written_so contents part come none are,
           λ _. record {
             contents = contents;
-            front = record { rest = none; are = ap (λ (l : List ℕ). l ++ none) are.taken; whole = are.whole };
-            all = omega (arith, count, ends, wants);
+            front = record {
+              rest = part ++ none;
+              are = ap (λ (l : List ℕ). l ++ none) are.taken ∙ append_assoc (concat contents) part none;
+              whole = are.whole;
+            };
+            all = omega (arith, count, wants);
             done = done_by contents come.content.blocks are.few are.set;
             puts = any _ _;
           },
         ),
       ),
     )
-    writes_stay done (suc left) contents come count ends are = (
-      written_now contents come are,
-      λ bytes enough. (
-        written_so contents come bytes are,
-        λ gone. writes_stay (done + 1) left (contents ++ bytes ∷ []) (writes (takes come bytes) (first + done) (bytes ∷ []))
-            (omega (arith, length-append contents (bytes ∷ []), count)) (omega (arith, ends))
-            (written_on contents come bytes (first + done) (omega (arith, count)) (omega (arith, count, ends)) (omega (arith, enough.enough, enough.within)) are),
-        λ refusal gone. step_undone g.n (WriteBlocks (first + done) (bytes ∷ [])) (λ ok. writes_each g first all (done + 1) left) refusal gone,
-      ),
-      λ bytes short. over_so (Input (SECTOR * all) (SECTOR * done + length bytes)) (takes come bytes) (λ same. cc) (written_so contents come bytes are),
-    )
+
+    writes_stay : (turns done : ℕ) (contents : List (List ℕ)) (part : List ℕ) (come : Come) → length contents ≡ done → all ≤ done + turns
+        → done ≤ all → length part < SECTOR → AreWritten contents part come → Stays IsSo EndsSo (write_rest g first all turns done part) come
+    writes_stay zero done contents part come count fuel below short are = all_stay contents part come (omega (arith, count, fuel, below)) are
+    writes_stay (suc turns) done contents part come count fuel below short are =
+        by (nat_lt done all) refl
+        (λ bytes after some few are. writes_stay turns (done + length (part ++ bytes) / SECTOR) (contents ++ blocks_of (whole_of (part ++ bytes)))
+        (part_of (part ++ bytes)) after
+        (omega (arith, length-append contents (blocks_of (whole_of (part ++ bytes))), count, blocks_count (part ++ bytes)))
+        (omega (arith, fuel, some)) few (part_short (part ++ bytes)) are)
+      where
+        by : (left : Bool) → nat_lt done all ≡ left
+            → ((bytes : List ℕ) (after : Come) → 0 < length (part ++ bytes) / SECTOR → done + length (part ++ bytes) / SECTOR ≤ all
+            → AreWritten (contents ++ blocks_of (whole_of (part ++ bytes))) (part_of (part ++ bytes)) after
+            → Stays IsSo EndsSo (write_rest g first all turns (done + length (part ++ bytes) / SECTOR) (part_of (part ++ bytes))) after)
+            → Stays IsSo EndsSo (if_so left (turn g first all turns done part) (wrote all)) come
+        by false is again = all_stay contents part come (omega (arith, count, below, ltb-false done all is)) are
+        by true is again = (
+          written_now contents part come are,
+          λ bytes enough.
+              let have = part ++ bytes in
+              let more = blocks_of (whole_of have) in
+              let piece = piece_blocks g (first + done) (all - done) in
+              let some : 0 < piece = omega (arith, enough.enough, enough.within, short) in
+              let most : piece ≤ all - done = omega arith in
+              let few = few_whole piece part bytes short some enough in
+              let fits : done + length have / SECTOR ≤ all = omega (arith, few, most, ltb-true done all is) in (
+                written_so contents part come bytes are,
+                λ gone. again bytes (writes (takes come bytes) (first + done) more) (some_whole piece part bytes short some enough) fits
+                    (written_on contents more part (part_of have) bytes come (first + done) (omega (arith, count))
+                    (omega (arith, count, blocks_count have, fits)) (blocks_whole have) (whole_then_part have) are),
+                λ refusal gone. step_undone g.n (WriteBlocks (first + done) more)
+                    (λ ok. write_rest g first all turns (done + length have / SECTOR) (part_of have)) refusal gone,
+              ),
+          λ bytes few. over_so (Input (SECTOR * all) (SECTOR * done + length (part ++ bytes))) (takes come bytes) (λ same. cc)
+              (written_so contents part come bytes are),
+        )
 
 -- ---- each command
 
@@ -422,7 +460,7 @@ module _ (g : Geometry) (limits : IsWithinLimits g) (c : Content) where
           ranged extent block (suc all) range = sym (range_of c.blocks extent.first extent.blocks block (suc all) (range (omega arith)))
 
   write_stays : (t : Table) (name : List ℕ) (block all : ℕ) → HasTable count (c.blocks 0) t → (found : Option Extent) → find_in t.entries name ≡ found
-      → StaysFor (volume.Write name block all) (if_found found (λ extent. within_volume extent block all (writes_each g (extent.first + block) all 0 all)))
+      → StaysFor (volume.Write name block all) (if_found found (λ extent. within_volume extent block all (write_rest g (extent.first + block) all all 0 [])))
   write_stays t name block all has None is = refused_so (volume.Write name block all) NoVolume (λ same. cc)
   write_stays t name block all has (Some extent) is = by (is_within extent.blocks block all) refl
     where
@@ -434,14 +472,14 @@ module _ (g : Geometry) (limits : IsWithinLimits g) (c : Content) where
           subst (λ (e : Entry). 1 ≤ e.extent.first) there.2 (has.rules.volumes there.0 (volume_of name extent) there.1).within.behind_table
 
       by : (within : Bool) → is_within extent.blocks block all ≡ within
-          → StaysFor job (if_within extent.blocks block within (writes_each g (extent.first + block) all 0 all))
+          → StaysFor job (if_within extent.blocks block within (write_rest g (extent.first + block) all all 0 []))
       by false past = refused_so job _ (λ same. cc)
       by true within =
           let range = in_range extent block all within in
           writes_stay job g c.blocks (extent.first + block) all refl
           (λ contents now few set. written_done count c.blocks now t name extent block all contents has is first
           (λ some. omega (arith, range (omega (arith, some, few)), few)) set)
-          (λ volumes put. tt) 0 all [] (opened c) refl (omega arith)
+          (λ volumes put. tt) all 0 [] [] (opened c) refl (omega arith) (omega arith) (omega arith)
           (record {
             few = omega arith;
             taken = refl;

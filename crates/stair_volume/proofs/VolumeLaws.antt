@@ -1,5 +1,5 @@
 -- Each command, of its parts.
-use Rattle.std.proofs.Common.{◌≡◌, ◌≢◌, ◌∙◌, ◌+◌, ◌^◌, ◌<◌, ◌≤◌, ℕ, zero, suc, List, Ok, Err, Result, None, Some, Option, Bool, ap, ap₂, arith, refl, subst, sym}
+use Rattle.std.proofs.Common.{◌≡◌, ◌≢◌, ◌∙◌, ◌+◌, ◌*◌, ◌^◌, ◌<◌, ◌≤◌, ℕ, zero, suc, List, Ok, Err, Result, None, Some, Option, Bool, ap, ap₂, arith, refl, subst, sym}
 use Rattle.std.proofs.lemmas.Bool.{le-leb}
 use Rattle.std.proofs.lemmas.List.Elements.{All-contains}
 use Rattle.std.specs.Result.{IsErrAnd}
@@ -44,12 +44,22 @@ in_range entries name block count k =
     if_found (find_in entries name) (λ extent. within_volume extent block count (k (extent.first + block) count))
 
 -- a range of a volume ends within the array
+pub range_within : (table : Table) (name : List ℕ) (extent : Extent) (block count : ℕ) → IsTable table → find_in table.entries name ≡ Some extent
+    → block + count ≤ extent.blocks → extent.first + block + count ≤ table.blocks
+range_within table name extent block count rules found within =
+    let volume : IsVolume table.blocks (volume_of name extent) =
+    All-contains (IsVolume table.blocks) table.entries (volume_of name extent) rules.volumes ((find_is_volume table name extent rules).0 found) in
+    omega (arith, volume.within.inside)
+
 pub range_fits : (table : Table) (name : List ℕ) (extent : Extent) (block count : ℕ) → IsTable table → find_in table.entries name ≡ Some extent
     → block + count ≤ extent.blocks → extent.first + block + count < 2 ^ 37
 range_fits table name extent block count rules found within =
-    let volume : IsVolume table.blocks (volume_of name extent) =
-    All-contains (IsVolume table.blocks) table.entries (volume_of name extent) rules.volumes ((find_is_volume table name extent rules).0 found) in
-    omega (arith, volume.within.inside, rules.size)
+    omega (arith, range_within table name extent block count rules found within, rules.size)
+
+-- so its numbers of blocks and bytes are small
+pub range_small : (first count : ℕ) → (0 < count → first + count < 2 ^ 37) → first < 2 ^ 64 → (first + count < 2 ^ 64) × (512 * count < 2 ^ 63)
+range_small first zero fits below = (omega (arith, below), omega arith)
+range_small first (suc count) fits below = let few = fits (omega arith) in (omega (arith, few), omega (arith, few))
 
 -- it hasn't this one
 pub range_past : (slots : ℕ) (entries : List Entry) (name : List ℕ) (block count : ℕ) (k : ℕ → ℕ → Plan) (why : VolumeFault)

@@ -1,19 +1,19 @@
 -- What the commands on volumes do to an open array, of which block 0 is the table of them.
-use Rattle.std.specs.Prelude.{◌+◌, ◌-◌, ◌*◌, ◌==◌, ℕ, zero, suc, List, [], ◌∷◌, ◌++◌, codes, length, replicate, Option, None, Some, Result, Ok, Err, ⊤}
+use Rattle.std.specs.Prelude.{◌+◌, ◌-◌, ◌==◌, ℕ, zero, suc, List, [], ◌∷◌, ◌++◌, codes, replicate, Option, None, Some, Result, Ok, Err, ⊤}
 use Rattle.std.specs.Fmt.{decimal}
 use Rattle.stair_model.specs.Geometry.{Geometry, block_count}
-use Rattle.stair_model.specs.Stripe.{SECTOR}
 use Rattle.stair_state.specs.Blocks.{zero_block}
 use Rattle.stair_array.specs.Faults.{refusal_for}
 use Rattle.stair_array.specs.Machine.{ReadBlock, WriteBlocks, write_block}
 use Rattle.stair_conf.specs.declared.job.VolumeJob.{VolumeJob}
 use Rattle.stair_conf.specs.declared.job.VolumeJob.TheVariants as volume
+use Rattle.stair_story.specs.Fault.{status_of_fault}
 use Rattle.stair_story.specs.Pieces.{piece_blocks}
-use Rattle.stair_story.specs.Plan.{Plan, Over, Put, if_so, take_exactly, take_step}
+use Rattle.stair_story.specs.Plan.{Plan, Over, Put, if_so, take_step}
 use Rattle.stair_story.specs.Refused.{status_of_refusal}
-use Rattle.stair_story.specs.Transfers.{if_within, is_within, reads, wrote}
+use Rattle.stair_story.specs.Transfers.{if_within, is_within, reads, writes}
 use Rattle.stair_status.specs.declared.status.Status.{Status}
-use Rattle.stair_status.specs.declared.status.Status.TheVariants.{Done, Input, InputFault, NameTaken, NoRoom, NoTable, NoVolume, OutputFault, TableFull, TableThere}
+use Rattle.stair_status.specs.declared.status.Status.TheVariants.{Done, NameTaken, NoRoom, NoTable, NoVolume, TableFull, TableThere}
 use Rattle.stair_volume.specs.declared.extent.Entry.{Entry}
 use Rattle.stair_volume.specs.declared.extent.Extent.{Extent}
 use Rattle.stair_volume.specs.declared.fault.VolumeFault.{VolumeFault}
@@ -38,9 +38,7 @@ status_of_volume slots fault.NoTable = NoTable
 status_of_volume slots fault.TableThere = TableThere
 status_of_volume slots (fault.Table why) = status_of_table why
 status_of_volume slots (fault.Array why) = status_of_refusal slots (refusal_for why)
-status_of_volume slots (fault.Input needed took) = Input needed took
-status_of_volume slots fault.InputFault = InputFault
-status_of_volume slots fault.OutputFault = OutputFault
+status_of_volume slots (fault.Transfer why) = status_of_fault why
 
 abbrev pub status_of : (slots : ℕ) → Result (Unit {0}) VolumeFault → Status
 status_of slots (Ok done) = Done
@@ -104,14 +102,6 @@ abbrev pub lists : List Entry → Plan
 lists [] = Over Done
 lists (entry ∷ later) = Put (volume_line entry.name entry.extent) (lists later)
 
--- What is left of a write of `all` blocks from `first` on, of which so many are done: each is taken before it is written.
-abbrev pub writes_each : Geometry → (first all done left : ℕ) → Plan
-writes_each g first all done zero = wrote all
-writes_each g first all done (suc left) = take_exactly SECTOR
-    (λ bytes. take_step g.n (write_block (first + done) bytes)
-    (λ ok. writes_each g first all (done + 1) left))
-    (λ bytes. Over (Input (SECTOR * all) (SECTOR * done + length bytes)))
-
 -- what is done where block 0 is this table, or none
 abbrev pub on_table : Geometry → VolumeJob → Option Table → Plan
 on_table g volume.Ready None =
@@ -126,7 +116,7 @@ on_table g (volume.Read name block count) (Some table) =
     (reads g (extent.first + block) count))
 on_table g (volume.Write name block count) (Some table) =
     if_found (find_in table.entries name) (λ extent. within_volume extent block count
-    (writes_each g (extent.first + block) count 0 count))
+    (writes g (extent.first + block) count count 0 []))
 
 -- the table is read first
 abbrev pub volume_plan : VolumeJob → Geometry → Plan

@@ -27,11 +27,6 @@ abbrev pub after_done : (slots : ℕ) → Result (Unit {0}) VolumeFault → (res
 after_done slots (Ok done) rest = rest
 after_done slots (Err why) rest = Over (status_of_volume slots why)
 
--- behind bytes that were taken
-abbrev pub after_bytes : (slots : ℕ) → Result (Unit {0}) VolumeFault → List ℕ → (List ℕ → Plan) → Plan
-after_bytes slots (Ok done) bytes k = k bytes
-after_bytes slots (Err why) bytes k = Over (status_of_volume slots why)
-
 -- behind a change of the volumes, of which a line is put out
 abbrev pub after_line : (slots : ℕ) → Result (List ℕ) VolumeFault → Plan
 after_line slots (Ok line) = Put line (Over Done)

@@ -1,5 +1,5 @@
 // The commands on volumes.
-ghost use Rattle.std.specs.Prelude.{◌≡◌, ◌+◌, ◌*◌, ◌^◌, ◌<◌, ℕ, IfErr, IfOk, Some, replicate};
+ghost use Rattle.std.specs.Prelude.{◌≡◌, ◌+◌, ◌*◌, ◌^◌, ◌<◌, ◌≤◌, ℕ, [], IfErr, IfOk, Some, replicate};
 ghost use Rattle.stair_array.specs.Promise.{Opened as IsOpen};
 ghost use Rattle.stair_model.specs.Geometry.{block_count, data_cells};
 ghost use Rattle.stair_model.specs.Stripe.{SECTOR as BYTES};
@@ -10,41 +10,44 @@ ghost use Rattle.stair_story.specs.Rack.{rack_view};
 ghost use Rattle.stair_story.specs.Talks.{PutsTo};
 ghost use Rattle.stair_story.specs.Transfers.{reads};
 ghost use Rattle.stair_watch.specs.WatcherList.{AllStay};
-ghost use Rattle.stair_volume.specs.Commands.{lists, on_table, status_of, volume_plan, writes_each};
+ghost use Rattle.stair_volume.specs.Commands.{lists, on_table, status_of, volume_plan};
 ghost use Rattle.stair_volume.specs.Parts.{IsFirstBlock, IsNoRange, MakesSome};
 
 use crate::changing::{make, make_ready, push_volume, remove};
 use crate::extent::Extent;
 use crate::fault::VolumeFault;
 use crate::reading::read_table;
-use crate::streams::{put, take_block, take_end};
+use crate::streams::put;
 use crate::table::Table;
 use crate::table_fault::TableFault;
 use stair_array::ArrayFault;
 use stair_base::{SECTOR, StripeCode};
 use stair_conf::{Name, VolumeJob};
 use stair_rack::{Rack, Sink, Source, Watcher};
-use stair_story::{Opened, wrote_line};
+use stair_story::{Opened, Piece, write_input};
 use stair_watch::Line;
 
 /// Does a command on the volumes of an open array.
 ///
 /// The table is read first. `Make` writes zeros to all blocks of the new volume, those of a stripe as one step, and then the table;
-/// its number of blocks is at least 1. `Read` puts out each block before it reads the next. `Write` takes each block before it writes
-/// it, and looks for the end behind the last; no other command takes anything. What was written or put out before a fault stands.
+/// its number of blocks is at least 1. `Read` puts out each block before it reads the next. `Write` is [`write_input`]; no other
+/// command takes anything. What was written or put out before a fault stands.
 ///
-/// `zeros` are those of the blocks of a stripe; no memory is taken.
+/// `zeros` are those of the blocks of a stripe, and `piece` has room for as many bytes; no memory is taken.
 pub fn volume<C: StripeCode, R: Rack, S: Source, K: Sink>(
     array: &mut Opened<C>,
     rack: &mut R,
     job: &VolumeJob,
     zeros: &[u8],
+    piece: &mut Piece,
     input: &mut S,
     output: &mut K,
     watchers: &mut Vec<Box<dyn Watcher>>,
 ) -> Result<(), VolumeFault>
     requires command { MakesSome job.now }
     requires zeros { zeros.now ≡ replicate (BYTES * data_cells array.old.member.array.geometry) 0 }
+    requires room { data_cells array.old.member.array.geometry * BYTES ≤ piece.old.room }
+    requires empty { piece.old.bytes ≡ [] }
     requires stay { AllStay hears watchers.old.items }
     ensures means { (counter : ℕ) → MeansWith
         (device_view (rack_view R.Rack) hears) (views S.Source K.Sink)
@@ -58,7 +61,9 @@ pub fn volume<C: StripeCode, R: Rack, S: Source, K: Sink>(
     let mut page = [0; SECTOR];
     array.read(rack, 0, &mut page, watchers)?;
     if let Some(table) = read_table(array.geometry().blocks(), &page) {
-        return with_table(&table, array, rack, job, zeros, input, output, watchers);
+        return with_table(
+            &table, array, rack, job, zeros, piece, input, output, watchers,
+        );
     }
     match job {
         VolumeJob::Ready => {
@@ -76,6 +81,7 @@ fn with_table<C: StripeCode, R: Rack, S: Source, K: Sink>(
     rack: &mut R,
     job: &VolumeJob,
     zeros: &[u8],
+    piece: &mut Piece,
     input: &mut S,
     output: &mut K,
     watchers: &mut Vec<Box<dyn Watcher>>,
@@ -83,6 +89,8 @@ fn with_table<C: StripeCode, R: Rack, S: Source, K: Sink>(
     requires command { MakesSome job.now }
     requires of { table.now.blocks ≡ block_count array.old.member.array.geometry }
     requires zeros { zeros.now ≡ replicate (BYTES * data_cells array.old.member.array.geometry) 0 }
+    requires room { data_cells array.old.member.array.geometry * BYTES ≤ piece.old.room }
+    requires empty { piece.old.bytes ≡ [] }
     requires stay { AllStay hears watchers.old.items }
     ensures means { (counter : ℕ) → MeansWith
         (device_view (rack_view R.Rack) hears) (views S.Source K.Sink)
@@ -110,7 +118,8 @@ fn with_table<C: StripeCode, R: Rack, S: Source, K: Sink>(
         }
         VolumeJob::Write { name, block, count } => {
             let first = first_block(table, name, block, count)?;
-            write_input(first, count, array, rack, input, output, watchers)
+            write_input(array, piece, first, count, rack, input, output, watchers)?;
+            Ok(())
         }
     }
 }
@@ -132,6 +141,7 @@ fn list<K: Sink>(table: &Table, output: &mut K) -> Result<(), VolumeFault>
 fn first_block(table: &Table, name: Name, block: u64, count: u64) -> Result<u64, VolumeFault>
     ensures ok { IfOk result (IsFirstBlock table.now.entries name block count) }
     ensures refused { IfErr result (IsNoRange table.now.entries name block count) }
+    ensures within { IfOk result (λ first. 0 < count → first + count ≤ table.now.blocks) }
     ensures fits { IfOk result (λ first. 0 < count → first + count < 2 ^ 37) }
 {
     // by whose rules its volumes are within the array
@@ -172,37 +182,4 @@ fn put_blocks<C: StripeCode, R: Rack, K: Sink>(
         put(output, &block)?;
     }
     Ok(())
-}
-
-// Writes so many blocks from this one on, which are all of the input. Each is taken before it is written.
-fn write_input<C: StripeCode, R: Rack, S: Source, K: Sink>(
-    first: u64,
-    blocks: u64,
-    array: &mut Opened<C>,
-    rack: &mut R,
-    input: &mut S,
-    output: &mut K,
-    watchers: &mut Vec<Box<dyn Watcher>>,
-) -> Result<(), VolumeFault>
-    requires fits { 0 < blocks → first + blocks < 2 ^ 37 }
-    requires stay { AllStay hears watchers.old.items }
-    ensures means { (counter : ℕ) → MeansWith
-        (device_view (rack_view R.Rack) hears) (views S.Source K.Sink)
-        (writes_each array.old.member.array.geometry first blocks 0 blocks)
-        (Over (status_of array.old.member.array.geometry.n result))
-        (outside input.old output.old counter) (outside input.new output.new counter)
-        (devices rack.old (IsOpen array.old) watchers.old.items)
-        (devices rack.new (IsOpen array.new) watchers.new.items) }
-    ensures stay { AllStay hears watchers.new.items }
-{
-    // by whose rules a block alone is of one stripe
-    let _ = array.geometry();
-    let needed = SECTOR as u64 * blocks;
-    let mut block = [0; SECTOR];
-    for done in 0..blocks {
-        take_block(input, needed, SECTOR as u64 * done, &mut block)?;
-        array.write_blocks(rack, first + done, &block, watchers)?;
-    }
-    take_end(input, needed)?;
-    put(output, wrote_line(blocks).bytes())
 }

@@ -20,12 +20,8 @@ pub enum VolumeFault {
     /// A step of the array was refused, or blocks were asked for that a volume hasn't: `OutOfRange`, whose limit is the number of
     /// its blocks.
     Array(ArrayFault),
-    /// The input had another length, in bytes, than was needed: fewer came, or one more.
-    Input { needed: u64, took: u64 },
-    /// The source failed.
-    InputFault,
-    /// The sink failed, and a part of the output may have been put out.
-    OutputFault,
+    /// Blocks of the input weren't all written, or the sink failed, and a part of the output may have been put out.
+    Transfer(Fault),
 }
 
 impl VolumeFault {
@@ -38,9 +34,7 @@ impl VolumeFault {
             VolumeFault::TableThere => Status::TableThere,
             VolumeFault::Table(fault) => Status::from(fault),
             VolumeFault::Array(fault) => Status::from(Fault::Step { fault, slots }),
-            VolumeFault::Input { needed, took } => Status::Input { needed, took },
-            VolumeFault::InputFault => Status::InputFault,
-            VolumeFault::OutputFault => Status::OutputFault,
+            VolumeFault::Transfer(fault) => Status::from(fault),
         }
     }
 }
@@ -71,5 +65,13 @@ impl From<ArrayFault> for VolumeFault {
 
     fn from(fault: ArrayFault) -> VolumeFault {
         VolumeFault::Array(fault)
+    }
+}
+
+impl From<Fault> for VolumeFault {
+    ghost from_gives = { λ why fault. fault ≡ volume.Transfer why };
+
+    fn from(fault: Fault) -> VolumeFault {
+        VolumeFault::Transfer(fault)
     }
 }

@@ -4,8 +4,8 @@ use Rattle.stair_story.specs.Devices.{device_view}
 use Rattle.stair_story.specs.Outside.{sink_alone}
 use Rattle.stair_story.specs.Rack.{rack_view}
 use Rattle.stair_story.specs.declared.fault.Fault.TheVariants.{Output}
-use Rattle.stair_story.proofs.DeviceLaws.{with_hands_on}
-use Rattle.stair_engine.proofs.ReadLaws.{all_read, none_read, not_refused, one_read, read_cut, read_refused}
+use Rattle.stair_story.proofs.DeviceLaws.{not_refused, with_hands_on}
+use Rattle.stair_engine.proofs.ReadLaws.{all_read, none_read, one_read, read_cut, read_refused}
 use Rattle.stair_engine.proofs.read.put_blocks.Goals as goal
 
 pub loop-done-init : goal.loop-done-init

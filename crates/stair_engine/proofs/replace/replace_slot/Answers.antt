@@ -13,7 +13,7 @@ use Rattle.stair_story.specs.Rack.{rack_view}
 use Rattle.stair_story.specs.Steps.{Takes}
 use Rattle.stair_story.proofs.IntakeLaws.{if_err_of}
 use Rattle.stair_engine.specs.Mending.{replaces}
-use Rattle.stair_engine.proofs.ReadLaws.{not_refused}
+use Rattle.stair_story.proofs.DeviceLaws.{not_refused}
 use Rattle.stair_engine.proofs.ReplaceLaws.{admitted, gone_plan, live_plan, look_on, looked, not_admitted, not_looked}
 use Rattle.stair_engine.proofs.replace.replace_slot.Goals as goal
 

@@ -12,8 +12,7 @@ use Rattle.stair_story.specs.Rack.{rack_view}
 use Rattle.stair_story.specs.Plan.{Over, Put, take_step}
 use Rattle.stair_story.specs.Steps.{Takes}
 use Rattle.stair_status.specs.declared.status.Status.TheVariants.{Done}
-use Rattle.stair_story.proofs.DeviceLaws.{whole_hands_on}
-use Rattle.stair_engine.proofs.ReadLaws.{not_refused}
+use Rattle.stair_story.proofs.DeviceLaws.{not_refused, whole_hands_on}
 use Rattle.stair_engine.proofs.SessionLaws.{ended}
 use Rattle.stair_engine.proofs.StampLaws.{stamp_refused, stamped}
 use Rattle.stair_engine.proofs.stamp.thaw.Goals as goal

@@ -1,5 +1,5 @@
 -- A session, and a command on the volumes of it.
-use Rattle.std.proofs.Common.{◌≡◌, ◌∙◌, ℕ, ◌*◌, Ok, replicate, mul_comm, ap, refl, subst, sym}
+use Rattle.std.proofs.Common.{◌≡◌, ◌∙◌, ℕ, ◌*◌, Ok, replicate, mul_comm, ap, arith, refl, subst, sym}
 use Rattle.stair_model.specs.Geometry.{Geometry, data_cells}
 use Rattle.stair_array.specs.Machine.{Recover}
 use Rattle.stair_array.specs.Promise.{Found, Opened}
@@ -36,6 +36,15 @@ returns-in_err-zeros-clause-means g c counter =
     whole_hands_on view streams _ _ _ _ _ _ _ c.from_residual-in_err-zeros.result Memory c.from_residual-in_err-zeros.ensures.1
     (no_memory view streams k a c.args.rack.now c.survey.new.rack c.args.watchers.now.items c.in_ok-member.member c.in_ok-member.ensures.told)
 
+pub returns-in_err-piece-clause-means : goal.returns-in_err-piece-clause-means
+returns-in_err-piece-clause-means g c counter =
+    let view = device_view (rack_view g.R.Rack) (λ b. (goal.Watcher-dyn g (b.vtable, b.value)).hears b.value) in
+    let streams = views g.S.Source g.K.Sink in
+    let k : Geometry → Plan = volume_plan c.args.job.now in
+    let a = outside c.args.input.now c.args.output.now counter in
+    whole_hands_on view streams _ _ _ _ _ _ _ c.from_residual-in_err-piece.result Memory c.from_residual-in_err-piece.ensures.1
+    (no_memory view streams k a c.args.rack.now c.survey.new.rack c.args.watchers.now.items c.in_ok-member.member c.in_ok-member.ensures.told)
+
 pub returns-in_err-array-clause-means : goal.returns-in_err-array-clause-means
 returns-in_err-array-clause-means g c counter =
     let view = device_view (rack_view g.R.Rack) (λ b. (goal.Watcher-dyn g (b.vtable, b.value)).hears b.value) in
@@ -56,6 +65,16 @@ volume-done-requires-clause-zeros g c =
     c.from.ensures ∙ c.u.ensures.value ∙ ap data_cells (c.geometry-geometry.ensures.value ∙ sym same) in
     c.deref.ensures.value ∙ c.in_ok-zeros.ensures.items_if_clones_equal (λ y is. is)
     ∙ ap (λ (count : ℕ). replicate count 0) (mul_comm c.from.result SECTOR ∙ ap (λ (u : ℕ). SECTOR * u) cells)
+
+pub volume-done-requires-clause-room : goal.volume-done-requires-clause-room
+volume-done-requires-clause-room g c =
+    let view = device_view (rack_view g.R.Rack) (λ b. (goal.Watcher-dyn g (b.vtable, b.value)).hears b.value) in
+    let m = c.in_ok-member.member in
+    let same = taken_geometry view Recover (Ok m.array.geometry) (devices c.survey.new.rack (Found m) c.args.watchers.now.items)
+    (devices c.open.new.rack (Opened c.in_ok-array.array) c.open.new.watchers.items) m c.in_ok-array.array.member c.in_ok-array.ensures.taken refl refl in
+    let cells : data_cells c.in_ok-array.array.member.array.geometry ≡ data_cells c.geometry-geometry.result =
+    ap data_cells (same ∙ sym c.geometry-geometry.ensures.value) in
+    rw (cells, c.in_ok-piece.ensures) (omega arith)
 
 pub returns-in-Ok-clause-means : goal.returns-in-Ok-clause-means
 returns-in-Ok-clause-means g c counter =

@@ -4,14 +4,16 @@ use Rattle.stair_model.specs.Geometry.{Geometry, data_cells}
 use Rattle.stair_array.specs.Machine.{Recover}
 use Rattle.stair_array.specs.Promise.{Found, Opened}
 use Rattle.stair_story.specs.Devices.{MeansWith, device_view, devices}
-use Rattle.stair_story.specs.Fault.{status_of}
+use Rattle.stair_story.specs.Fault.{status_of_fault}
 use Rattle.stair_story.specs.Outside.{outside, views}
 use Rattle.stair_story.specs.Plan.{Plan, Over}
 use Rattle.stair_story.specs.Rack.{rack_view}
+use Rattle.stair_status.specs.declared.status.Status.TheVariants.{Done}
 use Rattle.stair_story.specs.declared.fault.Fault.TheVariants.{Memory, Survey}
+use Rattle.stair_story.specs.Transfers.{writes}
 use Rattle.stair_story.proofs.DeviceLaws.{whole_hands_on, with_then}
 use Rattle.stair_story.proofs.TakenLaws.{taken_geometry}
-use Rattle.stair_engine.specs.Blocks.{IsInRange, IsPast, is_in_range, within_range, writes}
+use Rattle.stair_engine.specs.Blocks.{IsInRange, IsPast, is_in_range, within_range}
 use Rattle.stair_engine.proofs.RangeLaws.{in_range_has}
 use Rattle.stair_engine.proofs.SessionLaws.{inside, no_memory, none_found, not_opened, opened, past}
 use Rattle.stair_engine.proofs.write.write.Goals as goal
@@ -48,6 +50,27 @@ returns-in_err-in_range-clause-means g c counter =
           c.in_ok-member.ensures.told c.open.new.rack c.open.new.watchers.items c.in_ok-array.array c.in_ok-array.ensures.taken);
     })
 
+pub returns-in_err-write_input-clause-means : goal.returns-in_err-write_input-clause-means
+returns-in_err-write_input-clause-means g c counter =
+    let view = device_view (rack_view g.R.Rack) (λ b. (goal.Watcher-dyn g (b.vtable, b.value)).hears b.value) in
+    let streams = views g.S.Source g.K.Sink in
+    let k : Geometry → Plan = λ of. within_range of c.args.first c.args.blocks (writes of c.args.first c.args.blocks c.args.blocks 0 []) in
+    let m = c.in_ok-member.member in
+    let same = taken_geometry view Recover (Ok m.array.geometry) (devices c.survey.new.rack (Found m) c.args.watchers.now.items)
+    (devices c.open.new.rack (Opened c.in_ok-array.array) c.open.new.watchers.items) m c.in_ok-array.array.member c.in_ok-array.ensures.taken refl refl in
+    whole_hands_on view streams _ _ _ _ _ _ _ c.from_residual-in_err-write_input.result c.in_err-write_input.field-0.0 c.from_residual-in_err-write_input.ensures.1
+    (record {
+      session = Opened c.write_input.new.array;
+      with = with_then view streams
+          (inside view streams m.array.geometry c.args.first c.args.blocks (writes m.array.geometry c.args.first c.args.blocks c.args.blocks 0 [])
+          (subst (λ (of : Geometry). is_in_range of c.args.first c.args.blocks ≡ true) c.geometry-geometry.ensures.value c.in_ok-in_range.ensures.within)
+          (opened view streams k (outside c.args.input.now c.args.output.now counter) c.args.rack.now c.survey.new.rack c.args.watchers.now.items m
+          c.in_ok-member.ensures.told c.open.new.rack c.open.new.watchers.items c.in_ok-array.array c.in_ok-array.ensures.taken))
+          (subst (λ (of : Geometry). MeansWith view streams (writes of c.args.first c.args.blocks c.args.blocks 0 []) (Over (status_of_fault c.in_err-write_input.field-0.0))
+          (outside c.args.input.now c.args.output.now counter) (outside c.write_input.new.input c.write_input.new.output counter) (devices c.open.new.rack (Opened c.in_ok-array.array) c.open.new.watchers.items)
+          (devices c.write_input.new.rack (Opened c.write_input.new.array) c.write_input.new.watchers.items)) same (c.in_err-write_input.ensures.means counter));
+    })
+
 pub returns-clause-means : goal.returns-clause-means
 returns-clause-means g c counter =
     let view = device_view (rack_view g.R.Rack) (λ b. (goal.Watcher-dyn g (b.vtable, b.value)).hears b.value) in
@@ -63,9 +86,9 @@ returns-clause-means g c counter =
           (subst (λ (of : Geometry). is_in_range of c.args.first c.args.blocks ≡ true) c.geometry-geometry.ensures.value c.in_ok-in_range.ensures.within)
           (opened view streams k (outside c.args.input.now c.args.output.now counter) c.args.rack.now c.survey.new.rack c.args.watchers.now.items m
           c.in_ok-member.ensures.told c.open.new.rack c.open.new.watchers.items c.in_ok-array.array c.in_ok-array.ensures.taken))
-          (subst (λ (of : Geometry). MeansWith view streams (writes of c.args.first c.args.blocks c.args.blocks 0 []) (Over (status_of c.write_input.result))
+          (subst (λ (of : Geometry). MeansWith view streams (writes of c.args.first c.args.blocks c.args.blocks 0 []) (Over Done)
           (outside c.args.input.now c.args.output.now counter) (outside c.write_input.new.input c.write_input.new.output counter) (devices c.open.new.rack (Opened c.in_ok-array.array) c.open.new.watchers.items)
-          (devices c.write_input.new.rack (Opened c.write_input.new.array) c.write_input.new.watchers.items)) same (c.write_input.ensures.means counter));
+          (devices c.write_input.new.rack (Opened c.write_input.new.array) c.write_input.new.watchers.items)) same (c.in_ok-write_input.ensures.means counter));
     }
 
 pub returns-in_err-piece-clause-means : goal.returns-in_err-piece-clause-means

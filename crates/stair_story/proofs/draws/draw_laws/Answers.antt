@@ -1,4 +1,5 @@
 -- Each by what a crash may leave of a superblock place.
+use Rattle.stair_story.proofs.BoundedArrayLaws.{calls_of_array}
 use Rattle.stair_story.proofs.BoundedCallLaws.{calls_bounded}
 use Rattle.stair_story.proofs.BoundedLaws.{epochs_bounded}
 use Rattle.stair_story.proofs.BoundedStepLaws.{stays_in_step}
@@ -14,4 +15,5 @@ returns g c = record {
       stories_within _ _ view story old new works first most from slots;
   calls = λ view story old new works array most honest begun bounded of.
       calls_bounded _ _ view story old new works array most honest begun bounded of;
+  alone = λ view s story old new works stands. calls_of_array _ _ view s story old new works stands;
 }

@@ -1,5 +1,5 @@
 -- Each by the laws of sessions.
-use Rattle.stair_story.proofs.SessionLaws.{calls_are_lived, crashes_are_lived, runs_are_lived}
+use Rattle.stair_story.proofs.SessionLaws.{calls_are_lived, crashes_are_lived, cuts_are_of_plan, runs_are_lived}
 use Rattle.stair_story.proofs.lives.session_lives.Goals as goal
 
 pub returns : goal.returns
@@ -7,5 +7,6 @@ returns g c = record {
   runs = runs_are_lived;
   crashes = λ view returning before c s first plan story x y life image lives safe left.
       crashes_are_lived view returning before c s first plan story x y life image lives safe left;
+  of_plan = cuts_are_of_plan _ _;
   calls = λ view streams returning first h calls honest. calls_are_lived view streams returning first honest h calls;
 }

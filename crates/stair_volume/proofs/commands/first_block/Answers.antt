@@ -3,7 +3,7 @@ use Rattle.std.proofs.Common.{◌∙◌, ◌≡◌, ◌+◌, ◌≤◌, ◌<◌,
 use Rattle.std.proofs.lemmas.Bool.{ltb-false}
 use Rattle.stair_volume.specs.Table.{find_in}
 use Rattle.stair_volume.proofs.ChangingLaws.{found_ok}
-use Rattle.stair_volume.proofs.VolumeLaws.{range_fits}
+use Rattle.stair_volume.proofs.VolumeLaws.{range_fits, range_within}
 use Rattle.stair_volume.proofs.commands.first_block.Goals.{else-count-gt0-via-then-count-gt0+else-count-limit, then-block-limit, else-block-limit, else-count-gt0-via-else-count-gt0}
 use Rattle.stair_volume.proofs.commands.first_block.Goals as goal
 
@@ -33,3 +33,12 @@ returns-clause-ok c = record {
 pub returns-clause-fits : goal.returns-clause-fits
 returns-clause-fits c some =
     omega (arith, c.saturating_add.ensures, range_fits c.args.table.now c.args.name c.in_ok-extent.extent c.args.block c.args.count c.entries.ensures.rules (found c) (inside c some))
+
+pub returns-clause-within : goal.returns-clause-within
+returns-clause-within c some =
+    omega (
+      arith,
+      c.saturating_add.ensures,
+      range_fits c.args.table.now c.args.name c.in_ok-extent.extent c.args.block c.args.count c.entries.ensures.rules (found c) (inside c some),
+      range_within c.args.table.now c.args.name c.in_ok-extent.extent c.args.block c.args.count c.entries.ensures.rules (found c) (inside c some),
+    )

@@ -1,11 +1,13 @@
 -- What each command does.
-use Rattle.std.proofs.Common.{◌∙◌, Some, ap, refl}
+use Rattle.std.proofs.Common.{◌∙◌, [], Some, ap, refl}
 use Rattle.stair_conf.specs.declared.job.VolumeJob.{VolumeJob}
 use Rattle.stair_story.specs.Outside.{sink_view, source_view}
 use Rattle.stair_story.specs.Plan.{Over}
-use Rattle.stair_story.specs.Transfers.{reads}
+use Rattle.stair_story.specs.Transfers.{reads, writes}
 use Rattle.stair_status.specs.declared.status.Status.TheVariants.{Done, TableThere}
-use Rattle.stair_volume.specs.Commands.{on_table, writes_each}
+use Rattle.stair_volume.specs.Commands.{on_table}
+use Rattle.stair_volume.specs.declared.fault.VolumeFault.TheVariants as fault
+use Rattle.stair_volume.proofs.CommandLaws.{did_fail}
 use Rattle.stair_volume.proofs.VolumeLaws.{did_as, did_fault, did_line, did_over, did_over_by, did_puts, did_read, range_inside, range_past}
 use Rattle.stair_volume.proofs.commands.with_table.Goals as goal
 
@@ -69,14 +71,24 @@ returns-in_err-first-in-Write-clause-means g c =
     let why = c.in_err-first-in-Write.field-0.0 in
     did_over_by _ _ of.n c.from_residual-in_err-first-in-Write.result why c.from_residual-in_err-first-in-Write.ensures.1
     (ap (λ (job : VolumeJob). on_table of job (Some c.args.table.now)) c.in-Write.is
-    ∙ range_past of.n c.args.table.now.entries c.in-Write.name c.in-Write.block c.in-Write.count (λ first count. writes_each of first count 0 count) why
+    ∙ range_past of.n c.args.table.now.entries c.in-Write.name c.in-Write.block c.in-Write.count (λ first count. writes of first count count 0 []) why
     c.in_err-first-in-Write.ensures.refused)
 
-pub returns-in_ok-first-in-Write-clause-means : goal.returns-in_ok-first-in-Write-clause-means
-returns-in_ok-first-in-Write-clause-means g c =
+pub returns-in_err-write_input-in-Write-clause-means : goal.returns-in_err-write_input-in-Write-clause-means
+returns-in_err-write_input-in-Write-clause-means g c =
     let of = c.args.array.now.member.array.geometry in
     did_as _ _
     (ap (λ (job : VolumeJob). on_table of job (Some c.args.table.now)) c.in-Write.is
     ∙ range_inside c.args.table.now.entries c.in-Write.name c.in-Write.block c.in-Write.count c.in_ok-first-in-Write.first
-    (λ first count. writes_each of first count 0 count) (λ a b. refl) c.in_ok-first-in-Write.ensures.ok)
-    c.write_input.ensures.means
+    (λ first count. writes of first count count 0 []) (λ a b. refl) c.in_ok-first-in-Write.ensures.ok)
+    (did_fail _ _ _ _ _ _ of.n _ _ _ c.from_residual-in_err-write_input-in-Write.result (fault.Transfer c.in_err-write_input-in-Write.field-0.0)
+    c.from_residual-in_err-write_input-in-Write.ensures.1 c.in_err-write_input-in-Write.ensures.means)
+
+pub returns-in_ok-write_input-in-Write-clause-means : goal.returns-in_ok-write_input-in-Write-clause-means
+returns-in_ok-write_input-in-Write-clause-means g c =
+    let of = c.args.array.now.member.array.geometry in
+    did_as _ _
+    (ap (λ (job : VolumeJob). on_table of job (Some c.args.table.now)) c.in-Write.is
+    ∙ range_inside c.args.table.now.entries c.in-Write.name c.in-Write.block c.in-Write.count c.in_ok-first-in-Write.first
+    (λ first count. writes of first count count 0 []) (λ a b. refl) c.in_ok-first-in-Write.ensures.ok)
+    c.in_ok-write_input-in-Write.ensures.means
