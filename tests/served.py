@@ -3,7 +3,9 @@ import contextlib
 import functools
 import os
 import select
+import pathlib
 import shlex
+import socket
 import subprocess
 import time
 
@@ -29,6 +31,19 @@ def until(is_so, seconds=60):
     while not is_so() and time.monotonic() < end:
         time.sleep(0.02)
     return is_so()
+
+
+def free_port():
+    """Returns a port of this host that nothing listens on."""
+    with socket.socket() as some:
+        some.bind(("127.0.0.1", 0))
+        return some.getsockname()[1]
+
+
+def is_listened_on(port):
+    """Returns whether a process listens on this port. No connection is made: that would be a client."""
+    sockets = (line.split() for line in pathlib.Path("/proc/net/tcp").read_text().splitlines())
+    return any(place.endswith(f":{port:04X}") and state == "0A" for _, place, _, state, *_ in sockets)
 
 
 class Served(Case):
@@ -71,15 +86,17 @@ class Served(Case):
         self.assertTrue(have_ended, "a session has not ended")
 
     @contextlib.contextmanager
-    def listening(self, seconds=CLIENT_LIMIT):
-        """Has a session for each client that comes to the socket, which is killed after so many seconds."""
+    def listening(self, seconds=CLIENT_LIMIT, port=None):
+        """Has a session for each client that comes to the socket, or to this port, which is killed after so many seconds."""
         with contextlib.suppress(FileNotFoundError):
             self.socket.unlink()
+        place = f"UNIX-LISTEN:{self.socket}" if port is None else f"TCP-LISTEN:{port},bind=127.0.0.1"
+        listens = self.socket.exists if port is None else lambda: is_listened_on(port)
         with self.sessions() as end, open(self.room / "listened", "wb") as log:
-            command = ["socat", f"UNIX-LISTEN:{self.socket},fork", f"EXEC:{self.serve} {seconds:.6f}"]
+            command = ["socat", f"{place},fork", f"EXEC:{self.serve} {seconds:.6f}"]
             socat = subprocess.Popen(command, pass_fds=[end], stderr=log)
             try:
-                self.assertTrue(until(self.socket.exists), "socat does not listen")
+                self.assertTrue(until(listens), "socat does not listen")
                 yield
             finally:
                 socat.terminate()

@@ -35,6 +35,18 @@ class Tools(Served):
             with self.judged("nbdcopy of it out"):
                 self.same(self.data, self.client("nbdcopy", self.uri, "-"))
 
+    def test_nbdcopy_out_of_a_degraded_array(self):
+        self.needs("nbdcopy")
+        self.runs(f"write 0 {self.array.blocks}", puts=lines(f"wrote {self.array.blocks} blocks"), given=self.data)
+        port = free_port()
+        for of, lost, says in ("all devices", None, ""), ("a lost device", 3, "fenced 3"), ("two lost devices", 6, "fenced 6"):
+            if lost is not None:
+                image(self.work, lost).unlink()
+            with self.listening(), self.judged(f"nbdcopy over a Unix socket, {of}", says):
+                self.same(self.data, self.client("nbdcopy", self.uri, "-"))
+            with self.listening(port=port), self.judged(f"nbdcopy over TCP, {of}"):
+                self.same(self.data, self.client("nbdcopy", f"nbd://127.0.0.1:{port}", "-"))
+
     def test_qemu_img(self):
         self.needs("qemu-img")
         compare = ["qemu-img", "compare", "-f", "raw", "-F", "raw"]

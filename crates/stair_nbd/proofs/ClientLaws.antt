@@ -179,7 +179,7 @@ module _ (g : Geometry) (IsSo : Plan → Type 0) (nodes : IsOfSession g IsSo) wh
   answers_so q rest so =
       data_so REQUEST_LENGTH (data_length q) (λ bytes. responds g q bytes (replies q rest) q.command)
       (λ bytes. responds_so g IsSo nodes.tries q (replies q rest)
-      (λ why bytes. nodes.puts (simple_reply why q.cookie) (Put bytes rest) (nodes.puts bytes rest so)) bytes q.command)
+      (λ why bytes. nodes.puts (simple_reply why q.cookie ++ bytes) rest so) bytes q.command)
 
   -- one request, where the rest is so behind each
   one_so : (q : Request) (rest : Plan) → IsSo rest → IsSo (if_so (is_disconnect q.command) (Over Done) (answers g q rest))

@@ -9,4 +9,5 @@ pub mod ReadAroundLaws
 pub mod RespondLaws
 pub mod ClientLaws
 pub mod CivilLaws
+mod ReplyLaws
 mod RequestLaws

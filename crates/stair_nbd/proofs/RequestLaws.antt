@@ -1,5 +1,5 @@
 -- One request after the other.
-use Rattle.std.proofs.Common.{◌≡◌, ◌∙◌, ap₂, ◌==◌, ◌+◌, ◌<◌, ◌≤◌, ℕ, zero, suc, Bool, true, false, List, Option, None, Some, Result, Ok, Err, refl, sym, ap, subst, arith}
+use Rattle.std.proofs.Common.{◌≡◌, ◌∙◌, ap₂, ◌==◌, ◌+◌, ◌++◌, ◌<◌, ◌≤◌, ℕ, zero, suc, Bool, true, false, List, Option, None, Some, Result, Ok, Err, refl, sym, ap, subst, arith}
 use Rattle.std.specs.Prelude.{nat_le}
 use Rattle.std.specs.Result.{IsErrAnd}
 use Rattle.std.proofs.lemmas.Bool.{le-leb, lt-leb}
@@ -182,56 +182,42 @@ module _ {R W S K : Type 0} {view : DeviceView R W} {streams : Views S K} {g : G
               (later : Devices R W) (reply : Reply) (after : List ℕ)
               (comes : (bytes : List ℕ) → IsKept (size_of is.member.array.geometry) q (data_length q) bytes buffer → (k : Comes)
               → ComesTo view (responds is.member.array.geometry q bytes k q.command) (k reply.error (data_of reply after)) here later) where
-            abbrev on_reply : Plan
-            on_reply = Put (data_of reply after) (rest q)
+            abbrev reply_bytes : List ℕ
+            reply_bytes = simple_reply reply.error q.cookie ++ data_of reply after
 
             -- what was asked for was done
-            at_reply : DidTo (Put (simple_reply reply.error q.cookie) on_reply) c sink later
+            at_reply : DidTo (Put reply_bytes (rest q)) c sink later
             at_reply =
                 did_come view streams _ input output start c sink
                 (did_take view streams _ input output start sink here at_data (takes.takes on_data))
-                (subst (λ (of : Geometry). ComesTo view (responds of q takes.bytes (replies q (rest q)) q.command) (Put (simple_reply reply.error q.cookie) on_reply)
-                here later) so_far.geometry
+                (subst (λ (of : Geometry). ComesTo view (responds of q takes.bytes (replies q (rest q)) q.command) (Put reply_bytes (rest q)) here later)
+                so_far.geometry
                 (comes takes.bytes
                 (subst (λ (n : ℕ). IsKept n q (data_length q) takes.bytes buffer) (same_size ∙ ap size_of (sym so_far.geometry)) takes.kept) (replies q (rest q))))
 
-            -- the header of its reply wasn't put out
-            pub no_reply : (l : K) (status : Status) (words : List ℕ) → words ≡ simple_reply reply.error q.cookie
-                → ((plan : Plan) → PutsTo streams.sink (Put words plan) (Over status) sink l) → DidTo (Over status) c l later
-            no_reply l status words says puts =
-                did_put view streams _ input output start c later at_reply
-                (subst (λ (said : List ℕ). PutsTo streams.sink (Put said on_reply) (Over status) sink l) says (puts on_reply))
-
-            module _ (l : K) (words : List ℕ) (says : words ≡ simple_reply reply.error q.cookie)
-                (puts : (plan : Plan) → PutsTo streams.sink (Put words plan) plan sink l) where
-              at_bytes : DidTo on_reply c l later
-              at_bytes =
+            module _ (l : K) (bytes : List ℕ) (says : bytes ≡ reply_bytes) where
+              -- its reply wasn't put out
+              pub no_reply : (status : Status) → ((plan : Plan) → PutsTo streams.sink (Put bytes plan) (Over status) sink l) → DidTo (Over status) c l later
+              no_reply status puts =
                   did_put view streams _ input output start c later at_reply
-                  (subst (λ (said : List ℕ). PutsTo streams.sink (Put said on_reply) on_reply sink l) says (puts on_reply))
-
-              -- its bytes weren't
-              pub no_bytes : (m : K) (status : Status) (bytes : List ℕ) → bytes ≡ data_of reply after
-                  → ((plan : Plan) → PutsTo streams.sink (Put bytes plan) (Over status) l m) → DidTo (Over status) c m later
-              no_bytes m status bytes same sends =
-                  did_put view streams _ input output start c later at_bytes
-                  (subst (λ (said : List ℕ). PutsTo streams.sink (Put said (rest q)) (Over status) l m) same (sends (rest q)))
+                  (subst (λ (said : List ℕ). PutsTo streams.sink (Put said (rest q)) (Over status) sink l) says (puts (rest q)))
 
               -- it was answered
-              pub one_answered : (m : K) (bytes : List ℕ) → bytes ≡ data_of reply after → ((plan : Plan) → PutsTo streams.sink (Put bytes plan) plan l m)
+              pub one_answered : ((plan : Plan) → PutsTo streams.sink (Put bytes plan) plan sink l)
                   → (next : Place) (last : R) (then : ArrayState) (on : List W) → later ≡ devices last (Opened then) on
                   → next.number ≡ place.number + 1 → next.taken ≡ place.taken + (REQUEST_LENGTH + data_length q) → IsPlace next
                   → then.member.array.geometry ≡ is.member.array.geometry → AllStay view.watcher on
-                  → Answered view streams g first rack array watchers input output next last then on c m
-              one_answered m bytes same sends next last then on at number taken next_is kept stay = record {
+                  → Answered view streams g first rack array watchers input output next last then on c l
+              one_answered puts next last then on at number taken next_is kept stay = record {
                 turns = hears.0;
                 room = omega (arith, so_far.room, hears.1, taken);
                 place_is = next_is;
                 geometry = kept ∙ so_far.geometry;
-                did = subst (λ (x : Devices R W). DidTo (requests g hears.0 next.number next.taken) c m x) at
-                    (did_so view streams _ input output start c m later
+                did = subst (λ (x : Devices R W). DidTo (requests g hears.0 next.number next.taken) c l x) at
+                    (did_so view streams _ input output start c l later
                     (ap₂ (λ (n t : ℕ). requests g hears.0 n t) (sym number) (omega (arith, taken)))
-                    (did_put view streams _ input output start c later at_bytes
-                    (subst (λ (said : List ℕ). PutsTo streams.sink (Put said (rest q)) (rest q) l m) same (sends (rest q)))));
+                    (did_put view streams _ input output start c later at_reply
+                    (subst (λ (said : List ℕ). PutsTo streams.sink (Put said (rest q)) (rest q) sink l) says (puts (rest q)))));
                 stay = stay;
               }
 

@@ -17,7 +17,7 @@ use Rattle.stair_story.specs.Talks.{TakesTo}
 use Rattle.stair_story.proofs.IntakeLaws.{Gives-failed, Gives-last, Gives-took, TookSoFar-more, TookSoFar-none, TookSoFar-took, are_all}
 use Rattle.stair_story.proofs.TalkLaws.{takes_none, takes_one}
 use Rattle.stair_nbd.specs.Client.{DATA_LIMIT, ends_in_header, is_too_long, skipped, takes_data, takes_header}
-use Rattle.stair_nbd.specs.Sessions.{BUFFER, IsKept, TakesData, after_data}
+use Rattle.stair_nbd.specs.Sessions.{BLOCKS, IsKept, TakesData, after_data}
 use Rattle.stair_nbd.specs.Wire.{REQUEST_LENGTH, data_length, data_length_of}
 use Rattle.stair_nbd.specs.declared.fault.NbdFault.{NbdFault}
 use Rattle.stair_nbd.specs.declared.wire.Command.{Command}
@@ -171,7 +171,7 @@ data_few command.Flush count = omega arith
 data_few command.Other count = omega arith
 
 -- so the buffer has room for them, behind what the first block keeps
-pub data_fits : (q : Request) (start count room : ℕ) → is_too_long q ≡ false → start < SECTOR → count ≡ data_length q → room ≡ BUFFER → start + count ≤ room
+pub data_fits : (q : Request) (start count room : ℕ) → is_too_long q ≡ false → start < SECTOR → count ≡ data_length q → room ≡ BLOCKS → start + count ≤ room
 data_fits q start count room short within many all = omega (arith, ltb-false DATA_LIMIT q.length short, data_few q.command q.length, within, many, all)
 
 -- a fact that doesn't depend on the result

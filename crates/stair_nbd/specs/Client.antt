@@ -157,9 +157,9 @@ responds g q bytes k command.Disconnect = k error.None []
 responds g q bytes k command.Flush = k error.None []
 responds g q bytes k command.Other = k error.Invalid []
 
--- its reply
+-- its reply, put out as one piece
 abbrev pub replies : Request → (rest : Plan) → Comes
-replies q rest why bytes = Put (simple_reply why q.cookie) (Put bytes rest)
+replies q rest why bytes = Put (simple_reply why q.cookie ++ bytes) rest
 
 abbrev pub answers : Geometry → Request → (rest : Plan) → Plan
 answers g q rest = takes_data REQUEST_LENGTH (data_length q)

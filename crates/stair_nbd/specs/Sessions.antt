@@ -11,7 +11,7 @@ use Rattle.stair_nbd.specs.declared.place.Place.{Place}
 use Rattle.stair_nbd.specs.declared.reply.Reply.{Reply}
 use Rattle.stair_nbd.specs.declared.wire.Request.{Request}
 use Rattle.stair_nbd.specs.Client.{SESSION_LIMIT, is_past, is_too_long, skipped, status_of_nbd, takes_data}
-use Rattle.stair_nbd.specs.Wire.{REQUEST_LENGTH, data_length}
+use Rattle.stair_nbd.specs.Wire.{REPLY_LENGTH, REQUEST_LENGTH, data_length}
 
 -- behind a header that was taken, or before which the input ended
 abbrev pub after_header : Result Bool NbdFault → List ℕ → (List ℕ → Plan) → Plan
@@ -40,9 +40,13 @@ pub record IsPlace (place : Place) : Type 0 where
   pub few : place.number ≤ place.taken
   pub within : place.taken < SESSION_LIMIT + 4294967296 + REQUEST_LENGTH
 
--- The buffer has room for the blocks that the most bytes touch: one more than they fill.
+-- The blocks that the most bytes of a request touch are one more than those fill.
+abbrev pub BLOCKS : ℕ
+BLOCKS = 65537 * SECTOR
+
+-- A buffer has room for these blocks, and before them for the header of a reply.
 abbrev pub BUFFER : ℕ
-BUFFER = 65537 * SECTOR
+BUFFER = REPLY_LENGTH + BLOCKS
 
 -- So many bytes came behind a request's header; those that are to be written are in the buffer, behind as many as the first block
 -- keeps before them.

@@ -125,6 +125,9 @@ error_code error.Io = 5
 error_code error.Invalid = 22
 error_code error.NoSpace = 28
 
+abbrev pub REPLY_LENGTH : ℕ
+REPLY_LENGTH = 16
+
 -- the header of a reply, behind which come the bytes of a READ without an error
 abbrev pub simple_reply : ReplyError → (cookie : ℕ) → List ℕ
 simple_reply why cookie = to_be_bytes w32 0x6744_6698

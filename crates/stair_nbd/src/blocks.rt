@@ -29,7 +29,7 @@ ghost use Rattle.stair_nbd.specs.Client.{
   writes_on,
 };
 ghost use Rattle.stair_nbd.specs.Wire.{data_length};
-ghost use Rattle.stair_nbd.specs.Sessions.{BUFFER, IsKept, after_steps, data_of};
+ghost use Rattle.stair_nbd.specs.Sessions.{BLOCKS, IsKept, after_steps, data_of};
 
 use crate::reply::Reply;
 use crate::taking::DATA_LIMIT;
@@ -89,7 +89,7 @@ impl Request {
     fn touched(&self) -> usize
         requires { is_too_long self.now ≡ false }
         ensures value { result ≡ blocks_touched (bytes_skipped self.now) self.now.length }
-        ensures within { BYTES * result ≤ BUFFER }
+        ensures within { BYTES * result ≤ BLOCKS }
         ensures covers { bytes_skipped self.now + self.now.length ≤ BYTES * result + BYTES }
     {
         match self.length as usize {
@@ -115,7 +115,7 @@ pub(crate) fn respond<C: StripeCode, R: Rack>(
     buffer: &mut [u8],
     watchers: &mut Vec<Box<dyn Watcher>>,
 ) -> Reply
-    requires room { length buffer.old ≡ BUFFER }
+    requires room { length buffer.old ≡ BLOCKS }
     requires stay { AllStay hears watchers.old.items }
     ensures comes { (bytes : List ℕ) → IsKept (size_of array.old.member.array.geometry) request.now (data_length request.now) bytes buffer.old
         → (k : Comes) → ComesTo
@@ -144,7 +144,7 @@ fn read<C: StripeCode, R: Rack>(
     buffer: &mut [u8],
     watchers: &mut Vec<Box<dyn Watcher>>,
 ) -> Reply
-    requires room { length buffer.old ≡ BUFFER }
+    requires room { length buffer.old ≡ BLOCKS }
     requires stay { AllStay hears watchers.old.items }
     ensures comes { (k : Comes) → ComesTo
         (device_view (rack_view R.Rack) hears)
@@ -213,7 +213,7 @@ fn write<C: StripeCode, R: Rack>(
     buffer: &mut [u8],
     watchers: &mut Vec<Box<dyn Watcher>>,
 ) -> ReplyError
-    requires room { length buffer.old ≡ BUFFER }
+    requires room { length buffer.old ≡ BLOCKS }
     requires stay { AllStay hears watchers.old.items }
     ensures comes { (bytes : List ℕ) → IsKept (size_of array.old.member.array.geometry) request.now request.now.length bytes buffer.old
         → (k : Comes) → ComesTo
@@ -247,7 +247,7 @@ fn write_touched<C: StripeCode, R: Rack>(
     buffer: &mut [u8],
     watchers: &mut Vec<Box<dyn Watcher>>,
 ) -> Result<(), ArrayFault>
-    requires room { length buffer.old ≡ BUFFER }
+    requires room { length buffer.old ≡ BLOCKS }
     requires short { is_too_long request.now ≡ false }
     requires inside { is_past (size_of array.old.member.array.geometry) request.now ≡ false }
     requires fits { request.now.offset + request.now.length < 2 ^ 64 }

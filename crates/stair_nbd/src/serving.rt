@@ -13,17 +13,18 @@ ghost use Rattle.stair_nbd.specs.Sessions.{BUFFER as ROOM, IsPlace, after_option
 use crate::blocks::{array_size, respond};
 use crate::fault::NbdFault;
 use crate::place::Place;
-use crate::taking::{put, take_data, take_end, take_header, take_request_data};
+use crate::taking::{put, put_reply, take_data, take_end, take_header, take_request_data};
 use crate::wire::{
-    ABORT, ACK, ERR_UNSUP, EXPORT_NAME, FLAGS_LENGTH, OPTION_LENGTH, OptionRequest, REQUEST_LENGTH,
-    Request, export_answer, greeting, option_reply, read_flags, simple_reply,
+    ABORT, ACK, ERR_UNSUP, EXPORT_NAME, FLAGS_LENGTH, OPTION_LENGTH, OptionRequest, REPLY_LENGTH,
+    REQUEST_LENGTH, Request, export_answer, greeting, option_reply, read_flags,
 };
 use stair_base::{SECTOR, StripeCode};
 use stair_rack::{Rack, Sink, Source, Watcher};
 use stair_story::Opened;
 
-/// How many bytes the buffer of a session has: the blocks that the most bytes of a request touch, which are one more than they fill.
-pub const BUFFER: usize = 65_537 * SECTOR;
+/// How many bytes the buffer of a session has: a header of a reply, and the blocks that the most bytes of a request touch, which are
+/// one more than they fill.
+pub const BUFFER: usize = REPLY_LENGTH + 65_537 * SECTOR;
 
 /// Serves one client of an open array, from the greeting on up to the end of its input or its word that it goes.
 ///
@@ -162,10 +163,9 @@ fn answer_requests<C: StripeCode, R: Rack, S: Source, K: Sink>(
         if request.is_disconnect() {
             return Ok(());
         }
-        take_request_data(input, &request, size, buffer)?;
-        let reply = respond(&request, array, rack, buffer, watchers);
-        put(output, simple_reply(reply.error, request.cookie).bytes())?;
-        put(output, reply.data(buffer))?;
+        take_request_data(input, &request, size, &mut buffer[REPLY_LENGTH..])?;
+        let reply = respond(&request, array, rack, &mut buffer[REPLY_LENGTH..], watchers);
+        put_reply(output, reply, request.cookie, buffer)?;
         place = place.behind(REQUEST_LENGTH as u64 + u64::from(request.data_length()));
     }
     take_end(input, place)

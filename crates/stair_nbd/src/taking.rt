@@ -1,14 +1,16 @@
 // What is taken of a client's messages, and what is put out to it.
-ghost use Rattle.std.specs.Prelude.{◌≡◌, ◌+◌, ◌*◌, ◌≤◌, ◌<◌, ℕ, List, IfErr, IfOk, length};
+ghost use Rattle.std.specs.Prelude.{◌≡◌, ◌++◌, ◌+◌, ◌*◌, ◌≤◌, ◌<◌, ℕ, List, IfErr, IfOk, drop, length};
 ghost use Rattle.stair_story.specs.Outside.{sink_view, source_view};
 ghost use Rattle.stair_story.specs.Plan.{Over, Plan, Put};
 ghost use Rattle.stair_story.specs.Talks.{PutsTo, TakesTo};
 ghost use Rattle.stair_nbd.specs.Client.{status_of, takes_data, takes_header, too_late as comes_too_late};
-ghost use Rattle.stair_nbd.specs.Sessions.{BUFFER, TakesData, after_data, after_done, after_header};
+ghost use Rattle.stair_nbd.specs.Sessions.{BLOCKS, TakesData, after_data, after_done, after_header, data_of};
+ghost use Rattle.stair_nbd.specs.Wire.{simple_reply as header_of};
 
 use crate::fault::NbdFault;
 use crate::place::Place;
-use crate::wire::{REQUEST_LENGTH, Request};
+use crate::reply::Reply;
+use crate::wire::{REPLY_LENGTH, REQUEST_LENGTH, Request, simple_reply};
 use stair_rack::{Sink, Source};
 use stair_story::{Filled, put_all, take_at_least};
 
@@ -68,7 +70,7 @@ pub(crate) fn drop_data<S: Source>(
     buffer: &mut [u8],
 ) -> Result<(), NbdFault>
     requires short { header ≤ 28 }
-    requires room { length buffer.old ≡ BUFFER }
+    requires room { length buffer.old ≡ BLOCKS }
     ensures { (bytes : List ℕ) × ((k : List ℕ → Plan) →
         TakesTo (source_view S.Source)
         (takes_data header count k) (after_data result bytes k)
@@ -100,7 +102,7 @@ pub(crate) fn take_request_data<S: Source>(
     size: u64,
     buffer: &mut [u8],
 ) -> Result<(), NbdFault>
-    requires { length buffer.old ≡ BUFFER }
+    requires { length buffer.old ≡ BLOCKS }
     ensures { TakesData (source_view S.Source) size request.now result buffer.new
         input.old input.new }
 {
@@ -137,4 +139,22 @@ pub(crate) fn put<K: Sink>(output: &mut K, bytes: &[u8]) -> Result<(), NbdFault>
         Ok(()) => Ok(()),
         Err(_) => Err(NbdFault::OutputFault),
     }
+}
+
+/// Puts a reply out as one piece: its header, which is written before its bytes, and these. They are in the buffer, behind room for a
+/// header.
+pub(crate) fn put_reply<K: Sink>(
+    output: &mut K,
+    reply: Reply,
+    cookie: u64,
+    buffer: &mut [u8],
+) -> Result<(), NbdFault>
+    requires { REPLY_LENGTH + reply.start + reply.length ≤ length buffer.old }
+    ensures { (rest : Plan) → PutsTo (sink_view K.Sink)
+        (Put (header_of reply.error cookie ++ data_of reply (drop REPLY_LENGTH buffer.old)) rest)
+        (after_done result rest) output.old output.new }
+{
+    let end = REPLY_LENGTH + reply.start;
+    buffer[reply.start..end].copy_from_slice(simple_reply(reply.error, cookie).bytes());
+    put(output, &buffer[reply.start..end + reply.length])
 }

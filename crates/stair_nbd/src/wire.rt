@@ -26,6 +26,8 @@ pub(crate) const OPTION_LENGTH: usize = 16;
 const OPTION_DATA_LIMIT: u32 = 4096;
 /// How many bytes the header of a request has.
 pub(crate) const REQUEST_LENGTH: usize = 28;
+/// How many bytes the header of a reply has.
+pub(crate) const REPLY_LENGTH: usize = 16;
 
 const NBD_MAGIC: &[u8; 8] = b"NBDMAGIC";
 
@@ -227,7 +229,8 @@ pub(crate) fn export_answer(size: u64, brief: bool) -> Line
 
 /// The header of the reply to a request.
 pub(crate) fn simple_reply(error: ReplyError, cookie: u64) -> Line
-    ensures { result ≡ reply_to_request error cookie }
+    ensures bytes { result ≡ reply_to_request error cookie }
+    ensures long { length result ≡ REPLY_LENGTH }
 {
     let mut words = Line::new();
     words.push(&REPLY_MAGIC.to_be_bytes());

@@ -1,14 +1,15 @@
 -- No request came, or none that can be answered; the client goes; or it was answered.
-use Rattle.std.proofs.Common.{false, ◌≡◌, ◌∙◌, ◌+◌, ◌<◌, ◌≤◌, Some, arith, refl, rules, sym}
+use Rattle.std.proofs.Common.{false, ◌≡◌, ◌∙◌, ◌+◌, ◌<◌, ◌≤◌, Some, arith, length, refl, rules, sym}
 use Rattle.stair_array.specs.Promise.{Opened}
 use Rattle.stair_story.specs.Devices.{device_view, devices}
 use Rattle.stair_story.specs.Outside.{views}
 use Rattle.stair_story.specs.Rack.{rack_view}
 use Rattle.stair_status.specs.declared.status.Status.TheVariants.{Done}
 use Rattle.stair_nbd.specs.Client.{SESSION_LIMIT, is_disconnect, status_of, status_of_nbd}
-use Rattle.stair_nbd.specs.Wire.{REQUEST_LENGTH, read_request}
+use Rattle.stair_nbd.specs.Wire.{REPLY_LENGTH, REQUEST_LENGTH, read_request}
 use Rattle.stair_nbd.proofs.OptionLaws.{header_came, header_passed, none_read}
-use Rattle.stair_nbd.proofs.RequestLaws.{answered_none, client_goes, did_fail, ends_late, no_bytes, no_data, no_header, no_reply, no_request, one_answered}
+use Rattle.stair_nbd.proofs.ReplyLaws.{kept_behind, reply_behind}
+use Rattle.stair_nbd.proofs.RequestLaws.{answered_none, client_goes, did_fail, ends_late, no_data, no_header, no_reply, no_request, one_answered}
 use Rattle.stair_nbd.proofs.serving.answer_requests.Goals as goal
 
 pub loop-header-init : goal.loop-header-init
@@ -66,8 +67,8 @@ returns-in_err-take_request_data-clause-means g c =
     did_fail view streams _ _ _ _ c.take_request_data.new.input c.loop-header.output (devices c.loop-header.rack (Opened c.loop-header.array) c.loop-header.watchers.items) c.from_residual-in_err-take_request_data.result c.in_err-take_request_data.field-0.0 c.from_residual-in_err-take_request_data.ensures.1
     (no_data c.loop-header.invariant early c.take_header.new.input c.take_header.new.header came c.in-Some.request asks stays c.take_request_data.new.input c.array_size-size.result c.in_err-take_request_data.field-0.0 c.take_request_data.new.buffer c.in_err-take_request_data.ensures)
 
-pub returns-in_err-put-clause-means : goal.returns-in_err-put-clause-means
-returns-in_err-put-clause-means g c =
+pub returns-in_err-put_reply-clause-means : goal.returns-in_err-put_reply-clause-means
+returns-in_err-put_reply-clause-means g c =
     let view =
     device_view (rack_view g.R.Rack) (λ b. (goal.Watcher-dyn g (b.vtable, b.value)).hears b.value) in
     let streams = views g.S.Source g.K.Sink in
@@ -76,25 +77,14 @@ returns-in_err-put-clause-means g c =
     (search rules) c.in_ok-take_header.ensures in
     let asks : read_request c.take_header.new.header ≡ Some c.in-Some.request = sym c.read.ensures ∙ c.in-Some.is in
     let stays : is_disconnect c.in-Some.request.command ≡ false = search rules in
-    did_fail view streams _ _ _ _ c.take_request_data.new.input c.put.new.output (devices c.respond-reply.new.rack (Opened c.respond-reply.new.array) c.respond-reply.new.watchers.items) c.from_residual-in_err-put.result c.in_err-put.field-0.0 c.from_residual-in_err-put.ensures.1
+    let fits : REPLY_LENGTH ≤ length c.loop-header.buffer = omega (arith, c.loop-header.auto.buffer, c.requires.room) in
+    did_fail view streams _ _ _ _ c.take_request_data.new.input c.put_reply.new.output (devices c.respond-reply.new.rack (Opened c.respond-reply.new.array) c.respond-reply.new.watchers.items) c.from_residual-in_err-put_reply.result c.in_err-put_reply.field-0.0 c.from_residual-in_err-put_reply.ensures.1
     (no_reply c.loop-header.invariant early c.take_header.new.input c.take_header.new.header came c.in-Some.request asks stays c.take_request_data.new.input c.array_size-size.result c.array_size-size.ensures c.take_request_data.new.buffer c.in_ok-take_request_data.ensures
-    (devices c.respond-reply.new.rack (Opened c.respond-reply.new.array) c.respond-reply.new.watchers.items) c.respond-reply.result c.respond-reply.new.buffer c.respond-reply.ensures.comes
-    c.put.new.output (status_of_nbd c.in_err-put.field-0.0) c.bytes.result.now (c.bytes.ensures ∙ c.simple_reply.ensures) c.in_err-put.ensures)
-
-pub returns-in_err-put-2-clause-means : goal.returns-in_err-put-2-clause-means
-returns-in_err-put-2-clause-means g c =
-    let view =
-    device_view (rack_view g.R.Rack) (λ b. (goal.Watcher-dyn g (b.vtable, b.value)).hears b.value) in
-    let streams = views g.S.Source g.K.Sink in
-    let early : c.loop-header.place.taken < SESSION_LIMIT = c.is_too_late.ensures.early (search rules) in
-    let came = header_came streams.source REQUEST_LENGTH c.take_header.new.header c.in_ok-take_header.field-0 c.loop-header.input c.take_header.new.input
-    (search rules) c.in_ok-take_header.ensures in
-    let asks : read_request c.take_header.new.header ≡ Some c.in-Some.request = sym c.read.ensures ∙ c.in-Some.is in
-    let stays : is_disconnect c.in-Some.request.command ≡ false = search rules in
-    did_fail view streams _ _ _ _ c.take_request_data.new.input c.put-in-loop-header.new.output (devices c.respond-reply.new.rack (Opened c.respond-reply.new.array) c.respond-reply.new.watchers.items) c.from_residual-in_err-put-2.result c.in_err-put-2.field-0.0 c.from_residual-in_err-put-2.ensures.1
-    (no_bytes c.loop-header.invariant early c.take_header.new.input c.take_header.new.header came c.in-Some.request asks stays c.take_request_data.new.input c.array_size-size.result c.array_size-size.ensures c.take_request_data.new.buffer c.in_ok-take_request_data.ensures
-    (devices c.respond-reply.new.rack (Opened c.respond-reply.new.array) c.respond-reply.new.watchers.items) c.respond-reply.result c.respond-reply.new.buffer c.respond-reply.ensures.comes
-    c.put.new.output c.bytes.result.now (c.bytes.ensures ∙ c.simple_reply.ensures) c.in_ok-put.ensures c.put-in-loop-header.new.output (status_of_nbd c.in_err-put-2.field-0.0) c.data.result.now c.data.ensures c.in_err-put-2.ensures)
+    (devices c.respond-reply.new.rack (Opened c.respond-reply.new.array) c.respond-reply.new.watchers.items) c.respond-reply.result c.respond-reply.new.buffer
+    (λ bytes kept. c.respond-reply.ensures.comes bytes (kept_behind REPLY_LENGTH c.loop-header.buffer c.take_request_data.new.buffer fits _ c.in-Some.request bytes kept))
+    c.put_reply.new.output _
+    (reply_behind REPLY_LENGTH c.loop-header.buffer c.take_request_data.new.buffer fits c.respond-reply.new.buffer c.respond-reply.result c.in-Some.request)
+    (status_of_nbd c.in_err-put_reply.field-0.0) c.in_err-put_reply.ensures)
 
 pub loop-header-preserved : goal.loop-header-preserved
 loop-header-preserved g c =
@@ -104,9 +94,13 @@ loop-header-preserved g c =
     (search rules) c.in_ok-take_header.ensures in
     let asks : read_request c.take_header.new.header ≡ Some c.in-Some.request = sym c.read.ensures ∙ c.in-Some.is in
     let stays : is_disconnect c.in-Some.request.command ≡ false = search rules in
+    let fits : REPLY_LENGTH ≤ length c.loop-header.buffer = omega (arith, c.loop-header.auto.buffer, c.requires.room) in
     one_answered c.loop-header.invariant early c.take_header.new.input c.take_header.new.header came c.in-Some.request asks stays c.take_request_data.new.input c.array_size-size.result c.array_size-size.ensures c.take_request_data.new.buffer c.in_ok-take_request_data.ensures
-    (devices c.respond-reply.new.rack (Opened c.respond-reply.new.array) c.respond-reply.new.watchers.items) c.respond-reply.result c.respond-reply.new.buffer c.respond-reply.ensures.comes
-    c.put.new.output c.bytes.result.now (c.bytes.ensures ∙ c.simple_reply.ensures) c.in_ok-put.ensures c.put-in-loop-header.new.output c.data.result.now c.data.ensures c.in_ok-put-2.ensures
+    (devices c.respond-reply.new.rack (Opened c.respond-reply.new.array) c.respond-reply.new.watchers.items) c.respond-reply.result c.respond-reply.new.buffer
+    (λ bytes kept. c.respond-reply.ensures.comes bytes (kept_behind REPLY_LENGTH c.loop-header.buffer c.take_request_data.new.buffer fits _ c.in-Some.request bytes kept))
+    c.put_reply.new.output _
+    (reply_behind REPLY_LENGTH c.loop-header.buffer c.take_request_data.new.buffer fits c.respond-reply.new.buffer c.respond-reply.result c.in-Some.request)
+    c.in_ok-put_reply.ensures
     c.behind-place.result c.respond-reply.new.rack c.respond-reply.new.array c.respond-reply.new.watchers.items refl c.behind-place.ensures.number
     (omega (arith, c.behind-place.ensures.taken, c.from.ensures, c.data_length.ensures)) c.behind-place.ensures.is c.respond-reply.ensures.geometry
     c.respond-reply.ensures.stay
