@@ -137,14 +137,16 @@ pub(crate) enum Kernel {
     CopySymbols(Row),
     /// Work on a stripe.
     Stripe(StripeWork, Layout),
-    /// Sectors of an image file, sealed.
+    /// Sectors of an image file, sealed one after the other.
     SealSectors,
+    /// The same sectors, sealed eight at a time.
+    SealSectorsByEight,
     /// Work on image files.
     Files(FileWork),
 }
 
 /// The kernels that need no file.
-pub(crate) static IN_MEMORY: [Kernel; 31] = [
+pub(crate) static IN_MEMORY: [Kernel; 32] = [
     Kernel::MultiplyAdd,
     Kernel::Solve(Row::EightTwo),
     Kernel::CopySymbols(Row::EightTwo),
@@ -176,6 +178,7 @@ pub(crate) static IN_MEMORY: [Kernel; 31] = [
     Kernel::Stripe(StripeWork::RestoreInTurn, Layout::ThirtyTwoDevices),
     Kernel::Stripe(StripeWork::CopyCells, Layout::ThirtyTwoDevices),
     Kernel::SealSectors,
+    Kernel::SealSectorsByEight,
 ];
 
 /// Those over image files.
@@ -200,6 +203,7 @@ impl Kernel {
             Kernel::CopySymbols(row) => ("copy", row.name()),
             Kernel::Stripe(work, layout) => (work.name(), layout.name()),
             Kernel::SealSectors => ("seal", "sectors"),
+            Kernel::SealSectorsByEight => ("seal", "sectors-by-eight"),
             Kernel::Files(work) => work.words(),
         }
     }

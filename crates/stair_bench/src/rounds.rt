@@ -12,7 +12,10 @@ use crate::kernel::{Code, FileWork, Kernel, StripeWork};
 use crate::layout::Layout;
 use crate::redo::check_of_redoing;
 use crate::restoring::check_of_restoring;
-use crate::sectors::{check_of_reading, check_of_sealing, check_of_writing, check_of_writing_all};
+use crate::sectors::{
+    check_of_reading, check_of_sealing, check_of_sealing_by_eight, check_of_writing,
+    check_of_writing_all,
+};
 use crate::varied::varied;
 use crate::writes::check_of_block_writes;
 use stair_base::SECTOR;
@@ -55,6 +58,7 @@ where
             made_in_memory(check_of_stripe_work(alloc, work, layout, rounds))
         }
         Kernel::SealSectors => made_in_memory(check_of_sealing(alloc, rounds)),
+        Kernel::SealSectorsByEight => made_in_memory(check_of_sealing_by_eight(alloc, rounds)),
         Kernel::Files(work) => make_on_files(rt, alloc, work, rounds),
     }
 }

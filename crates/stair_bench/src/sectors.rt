@@ -7,6 +7,7 @@ use stair_base::{SECTOR, Slots};
 use stair_filerack::{Access, FileRack, Lock};
 use stair_image::{SECTOR_BYTES, seal};
 use stair_rack::{Got, Rack, Reply, sync_all, write_all};
+use stair_tags::seal_all;
 use std::alloc::{AllocError, Global};
 use std::fs::Files;
 
@@ -22,6 +23,27 @@ pub(crate) fn check_of_sealing(alloc: Global, rounds: u32) -> Result<u64, AllocE
         for (into, sector) in sealed.iter_mut().zip(&sectors) {
             *into = seal(number, sector);
             number = number.wrapping_add(1);
+        }
+    }
+    Ok(check_of_blocks(&sealed))
+}
+
+/// Does the same eight at a time.
+pub(crate) fn check_of_sealing_by_eight(alloc: Global, rounds: u32) -> Result<u64, AllocError> {
+    let sectors = varied_sectors(alloc)?;
+    let mut sealed = vec![in alloc; [0; SECTOR_BYTES]; usize::from(SECTORS)]?;
+    for _round in 0..rounds {
+        let mut numbers = [0, 1, 2, 3, 4, 5, 6, 7];
+        for (into, eight) in sealed
+            .as_chunks_mut()
+            .0
+            .iter_mut()
+            .zip(sectors.as_chunks().0)
+        {
+            *into = seal_all(&numbers, eight);
+            for number in &mut numbers {
+                *number = number.wrapping_add(8);
+            }
         }
     }
     Ok(check_of_blocks(&sealed))
