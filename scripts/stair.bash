@@ -1,29 +1,37 @@
-# Has bash complete the words of stair, where a user sources it: . scripts/stair.bash
-# The first word is a folder or an option, the second a command of scripts/commands, and a method comes after `stripe`. A file comes after
-# < and >, and no other word is completed.
+# Completes the words of stair in bash. Made from scripts/commands by scripts/completion: change these.
 # shellcheck shell=bash
-_stair_commands=$(sed 's/ .*//' "$(dirname "$(readlink -f "${BASH_SOURCE[0]}")")/commands")
 _stair() {
-  local word=${COMP_WORDS[COMP_CWORD]} before=${COMP_WORDS[COMP_CWORD - 1]} offered
-  local options='--build --help --version'
+  local at=$COMP_CWORD words=("${COMP_WORDS[@]}") offered=()
   COMPREPLY=()
-  if [[ $before == *[\<\>] ]]; then
+  if [ "$at" -gt 3 ] && [ "${words[1]}" = --wait ]; then words=(stair . "${words[@]:4}") at=$((at - 2)); fi
+  if [[ ${COMP_WORDS[COMP_CWORD - 1]} == *[\<\>] ]]; then
     offered=(-f)
-  elif [ "$COMP_CWORD" = 1 ] && [[ $word == -* ]]; then
-    offered=(-W "$options")
-  elif [ "$COMP_CWORD" = 1 ]; then
-    offered=(-d)
-  elif [[ " $options " == *" ${COMP_WORDS[1]} "* ]]; then
-    return
-  elif [ "$COMP_CWORD" = 2 ]; then
-    offered=(-W "$_stair_commands")
-  elif [ "$COMP_CWORD:$before" = 3:stripe ]; then
-    offered=(-W 'standard up down fewest')
   else
-    return
+    case $at:${words[1]}:${words[2]-} in
+      1:-*) offered=(-W '--wait --health --metrics --build --install --uninstall --help --version') ;;
+      1:*) offered=(-d) ;;
+      2:--install:-*) offered=(-W '--native') ;;
+      3:--install:--native) offered=(-d) ;;
+      3:--wait:*) offered=(-d) ;;
+      2:--health:*) offered=(-d) ;;
+      2:--metrics:*) offered=(-d) ;;
+      2:--install:*) offered=(-d) ;;
+      2:--uninstall:*) offered=(-d) ;;
+      *:--wait:*) : ;;
+      *:--health:*) : ;;
+      *:--metrics:*) : ;;
+      *:--build:*) : ;;
+      *:--install:*) : ;;
+      *:--uninstall:*) : ;;
+      *:--help:*) : ;;
+      *:--version:*) : ;;
+      2:*) offered=(-W 'create show write read scrub replace rebuild freeze thaw label run guard report serve exercise vinit vmake vlist vwrite vread vdrop stripe check restore plan') ;;
+      3:*:stripe) offered=(-W 'standard up down fewest') ;;
+    esac
   fi
-  # So bash quotes names of files, and puts a slash behind a folder's. Outside of a completion the call fails.
+  [ "${#offered[@]}" != 0 ] || return 0
+  # So bash quotes names of files, and puts a slash after a folder's. Outside of a completion the call fails.
   [ "${#offered[@]}" != 1 ] || compopt -o filenames 2> /dev/null
-  mapfile -t COMPREPLY < <(compgen "${offered[@]}" -- "$word")
+  mapfile -t COMPREPLY < <(compgen "${offered[@]}" -- "${COMP_WORDS[COMP_CWORD]}")
 }
 complete -F _stair stair ./stair

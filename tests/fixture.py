@@ -25,6 +25,7 @@ PACKAGES = {
     "ddrescue": "gddrescue",
     "debugfs": "e2fsprogs",
     "e2fsck": "e2fsprogs",
+    "fish": "fish",
     "flock": "util-linux",
     "fusermount3": "fuse3",
     "gdb": "gdb",
@@ -45,6 +46,7 @@ PACKAGES = {
     "strace": "strace",
     "systemd-socket-activate": "systemd",
     "unshare": "util-linux",
+    "zsh": "zsh",
 }
 # A tool that is installed may still lack a privilege: such a call shows it.
 TRIALS = {"strace": ["strace", "-o", "/dev/null", "true"], "unshare": ["unshare", "-m", "true"]}
@@ -122,6 +124,13 @@ def said(lines_said):
     if isinstance(lines_said, bytes):
         return lines_said
     return lines(*([lines_said] if isinstance(lines_said, str) else lines_said)) if lines_said else b""
+
+
+def put_wrapper(path, program):
+    """Makes this path a script that has the options of the script `stair`, and runs this program."""
+    tables = TOP / "scripts"
+    path.write_text(f"#!/bin/sh\nset -u\nprogram='{program}' tables='{tables}'\n. '{tables}/options'\nrun_stair \"$@\"\n")
+    path.chmod(0o755)
 
 
 class Case(unittest.TestCase):

@@ -81,6 +81,7 @@ build stair "${CRATE:-stair_cli}" 'a while'
 exec "$program" processor
 """
 CRATES = "low", "high", "stair_cli", "other"
+KIT = "rattle-kit-13f logic dac8208d650f15bf"
 TABLE = [re.split("  +", line) for line in (TOP / "scripts" / "commands").read_text().splitlines()]
 # So that no sum is within half a minute below whole minutes.
 LAST_TIME = "low 560", "high 300", "stair_cli 70"
@@ -132,7 +133,7 @@ class Build(Case):
         for path, text in ("rt", RT), ("bin/rattle", RATTLE), ("bin/rattle-link", LINK):
             write_script(self.kit / path, text)
         write_script(self.repository / "on", ON)
-        for name in "stair", "scripts", "VERSION":
+        for name in "stair", "scripts", "VERSION", "KIT":
             copy(TOP / name, self.repository / name)
         (self.room / "link").symlink_to(self.repository / "stair")
         self.uses("low:", "high: low byteorder", "other: low", "stair_cli: high")
@@ -299,7 +300,7 @@ class Script(Build):
         for name in "bash", "cat", "dirname", "find", "readlink", "sed":
             (tools / name).symlink_to(shutil.which(name))
         self.env["PATH"] = str(tools)
-        no_kit = lines("stair: the kit's command rt is not on the path")
+        no_kit = lines(f"stair: the kit's command rt is not on the path: install {KIT}")
         for words in ["word"], ["--build"]:
             with self.subTest(f"{words}"):
                 self.assertEqual((126, b"", no_kit), self.stair(*words)[:3])
@@ -358,7 +359,7 @@ class Options(Build):
         for row in TABLE:
             with self.subTest(row[0]):
                 self.assertIn(row, found)
-        for option in "--build", "--help", "--version":
+        for option in "--build", "--help", "--version", "--health FOLDER", "--install [PREFIX]":
             with self.subTest(option):
                 self.assertIn(option, [row[0] for row in found])
         with self.subTest("lines of a terminal"):
@@ -371,7 +372,8 @@ class Options(Build):
         page = (TOP / "docs" / "stair.1").read_text()
         synopsis = page[page.index(".SH SYNOPSIS") : page.index(".SH DESCRIPTION")]
         wanted = ["".join(shlex.split(line)[1:]) for line in synopsis.splitlines() if line.startswith(".BI")]
-        self.assertEqual(sorted(it.removeprefix("stair FOLDER ") for it in wanted), sorted(row[0] for row in TABLE))
+        found = [row[0] for row in TABLE if not row[0].startswith("--")]
+        self.assertEqual(sorted(it.removeprefix("stair FOLDER ") for it in wanted), sorted(found))
         self.assertEqual([], [row for row in TABLE if len(row) != 2])
 
     def test_version(self):
