@@ -88,11 +88,11 @@ named name line word values n parts is number = record {
 
 -- ---- repairs
 
--- what stands behind a front that is taken off
+-- what stands after a front that is taken off
 pub stripped : (front bytes rest : List ℕ) → StripsPrefix (FindsTextPrefix front) bytes rest → bytes ≡ front ++ rest
 stripped front bytes rest strips = strips.1.1 ∙ ap (λ text. front ++ text) (sym strips.2)
 
--- the words of a repair behind `repaired stripe`
+-- the words of a repair after `repaired stripe`
 record RepairWords (rest : List ℕ) : Type 0 where
   stripe : ℕ
   cells : ℕ
@@ -119,7 +119,7 @@ repair_words values rest (Repaired stripe cells) is spells =
     }
 repair_words values rest said is spells = let first = ap (λ (text : List ℕ). get_or text 0 0) spells.words.spelled in absurd (omega arith)
 
--- there is a space behind the number of the stripe
+-- there is a space after the number of the stripe
 pub no_cut_read : (values rest : List ℕ) → values ≡ codes "stripe " ++ rest → ((i : ℕ) → i < length rest → get_or rest i 0 ≢ 32)
     → ReadsEvent (codes "repaired " ++ values) None
 no_cut_read values rest is none =
@@ -128,7 +128,7 @@ no_cut_read values rest is none =
     let words = repair_words values rest said is spells in
     some_space rest words.stripe_word (codes "cells " ++ words.cells_word) words.parts none)
 
--- the words of a repair, before that space and behind it
+-- the words of a repair, before that space and after it
 record CutWords (first second : List ℕ) : Type 0 where
   stripe : ℕ
   cells : ℕ

@@ -141,7 +141,7 @@ some_last number (byte ∷ line) events some = refl
 
 -- ---- byte by byte
 
--- behind a byte
+-- after a byte
 abbrev byte_on : (room number : ℕ) (line : List ℕ) → List Event → List ℕ → Plan
 byte_on room number line events byte =
     if_so (ends_line byte) (event_taken number line events (reports room (number + 1) []))
@@ -202,7 +202,7 @@ module _ {S : Type 0} (view : SourceView S) where
               reads_one view (TookLast []) (reports (suc room) number line events) (last_of event_taken report_over number line events) left later tt
               (omega arith, refl) gives
 
-      -- what stands behind the last end was seen
+      -- what stands after the last end was seen
       pub ends_last : (byte : Option ℕ) → ((some : ℕ) → byte ≡ Some some → ⊥) → TakesByte view byte left later → (bytes : List ℕ) → bytes ≡ line
           → (result : Result Seen ReportFault) → SeesLast number bytes events result → ReadsText view result from later
       ends_last byte none gives bytes same result sees =

@@ -61,7 +61,7 @@ event_taken number line events rest = Ask (EventLine line) (if_event number even
 abbrev pub report_over : List Event → Plan
 report_over events = Put (report_text events) (Over Done)
 
--- what is left of a text of at most so many bytes more, of whose line of this number these bytes came, behind these events
+-- what is left of a text of at most so many bytes more, of whose line of this number these bytes came, after these events
 abbrev pub reports : (room number : ℕ) → List ℕ → List Event → Plan
 reports room number line events =
     by_lines EVENT_LIMIT event_taken report_over room number line events

@@ -40,7 +40,7 @@ IsEventOf number line (Ok said) = SpellsEvent line said
 IsEventOf number line (Err why) =
     (why ≡ fault.BadLine number) × ((said : Event) → ¬ SpellsEvent line said)
 
--- what stands behind the last end of a line tells one event more, and nothing none; or it is something that tells none
+-- what stands after the last end of a line tells one event more, and nothing none; or it is something that tells none
 abbrev pub SeesLast : (number : ℕ) → List ℕ → List Event → Result Seen ReportFault → Type 0
 SeesLast number line events (Ok seen) = ((line ≡ []) × Tells events seen)
     ⊎ ((said : Event) × (0 < length line) × SpellsEvent line said × Tells (said ∷ events) seen)

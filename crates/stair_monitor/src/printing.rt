@@ -7,7 +7,7 @@ use stair_watch::Line;
 /// Room for the line of an event, which has at most 37 bytes.
 pub const TEXT_LIMIT: usize = 64;
 
-/// Prints the line of an event, without its end, at the front of the room, and tells how many bytes it has. What stands behind
+/// Prints the line of an event, without its end, at the front of the room, and tells how many bytes it has. What stands after
 /// it stays as it was. It takes no memory.
 pub fn print_event(event: Event, into: &mut [u8; TEXT_LIMIT]) -> usize
     requires { IsEvent event }

@@ -39,7 +39,7 @@ fn read_text(line: &str) -> Option<Event>
     }
 }
 
-// Reads what stands behind the word `repaired`: the number of the stripe, and that of the cells.
+// Reads what stands after the word `repaired`: the number of the stripe, and that of the cells.
 fn read_repaired(values: &str) -> Option<Event>
     ensures { (said : Event) → (result ≡ Some said)
         ↔ SpellsEvent (codes "repaired " ++ values.now) said }

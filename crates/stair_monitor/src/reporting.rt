@@ -32,7 +32,7 @@ pub enum ReportFault {
 /// Counts the events of a text, and puts out how many there were: a line for all kinds, and then one for each slot that was fenced,
 /// rising.
 ///
-/// A line ends with a newline; behind the last one there may be a line without an end. Each line is that of an event
+/// A line ends with a newline; after the last one there may be a line without an end. Each line is that of an event
 /// ([`read_event`]). A text has at most as many bytes as a script. It is taken byte by byte, and nothing is put out before all of it
 /// was. It takes no memory.
 pub fn report<S: Source, K: Sink>(input: &mut S, output: &mut K) -> Result<(), ReportFault>
@@ -172,7 +172,7 @@ fn take_events<S: Source>(input: &mut S) -> Result<Seen, ReportFault>
     take_last(seen, line.bytes(), number)
 }
 
-// Counts what stands behind the last end of a line, which is no line where it is nothing.
+// Counts what stands after the last end of a line, which is no line where it is nothing.
 fn take_last(mut seen: Seen, line: &[u8], number: u64) -> Result<Seen, ReportFault>
     requires { IsFew seen }
     ensures { (events : List Event) → Tells events seen → SeesLast number line.now events result }

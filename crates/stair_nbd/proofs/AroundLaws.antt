@@ -16,7 +16,7 @@ touched_some before (suc n) some = let less : suc n - 1 ≡ n = omega arith in a
 pub ends_whole : (q : Request) → 0 < q.length → end_within q ≡ 0 → SECTOR * touched (skipped q) q.length ≡ skipped q + q.length
 ends_whole q some whole = omega (arith, touched_some (skipped q) q.length some, whole, some)
 
--- or behind them
+-- or after them
 pub ends_in_part : (q : Request) → 0 < q.length → 0 < end_within q
     → SECTOR * touched (skipped q) q.length ≡ (skipped q + q.length) + (SECTOR - end_within q)
 ends_in_part q some part = omega (arith, touched_some (skipped q) q.length some, part, some)
@@ -40,7 +40,7 @@ front_has whole before count bytes fits =
     ∙ ap (take count) (drop-take before (whole - before) bytes)
     ∙ take-take count (whole - before) (drop before bytes) (omega (arith, fits))
 
--- and those that were read are there, whatever is behind them
+-- and those that were read are there, whatever is after them
 pub joined_has : (before count : ℕ) (blocks rest : List ℕ) → (0 < count → before + count ≤ length blocks)
     → take count (drop before (blocks ++ rest)) ≡ take count (drop before blocks)
 joined_has before zero blocks rest fits = refl
@@ -49,7 +49,7 @@ joined_has before (suc n) blocks rest fits =
     ap (take (suc n)) (drop-append-le before blocks rest (omega (arith, long)))
     ∙ take-append-le (suc n) (drop before blocks) rest (omega (arith, long, length-drop before blocks))
 
--- up to the end of the bytes, behind what the first block keeps before them
+-- up to the end of the bytes, after what the first block keeps before them
 joined_up : (before count : ℕ) (front old : List ℕ) → before ≤ length front
     → take (before + count) (take before front ++ drop before old) ≡ take before front ++ take count (drop before old)
 joined_up before count front old long =
@@ -58,11 +58,11 @@ joined_up before count front old long =
 
 module _ (q : Request) (some : 0 < q.length) (old front blocks : List ℕ) (long : skipped q ≤ length front)
     (size : length old ≡ SECTOR * touched (skipped q) q.length) (joined : blocks ≡ take (skipped q) front ++ drop (skipped q) old) where
-  -- they are all that was behind
+  -- they are all that was after
   bytes_all : end_within q ≡ 0 → take q.length (drop (skipped q) old) ≡ drop (skipped q) old
   bytes_all whole = take_all q.length (drop (skipped q) old) (omega (arith, length-drop (skipped q) old, size, ends_whole q some whole))
 
-  -- nothing is kept behind bytes that end with a block
+  -- nothing is kept after bytes that end with a block
   pub around_whole : end_within q ≡ 0 → blocks ≡ around q front (take q.length (drop (skipped q) old)) []
   around_whole whole =
       let behind : drop (end_within q) [] ≡ [] = drop_all (end_within q) [] (omega arith) in

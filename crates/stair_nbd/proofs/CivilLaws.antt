@@ -51,7 +51,7 @@ module _ (g : Geometry) where
   late_ends : (number : ℕ) → EndsDone g (too_late number) (Some [])
   late_ends number = none_ends 1 (λ byte. Over (BadMessage number)) (λ none. Over Done) (omega arith) refl
 
-  -- the bytes behind a header
+  -- the bytes after a header
   data_ends : (header n : ℕ) (k : List ℕ → Plan) (bytes rest : List ℕ) → length bytes ≡ n → EndsDone g (k bytes) (Some rest)
       → EndsDone g (takes_data header n k) (Some (bytes ++ rest))
   data_ends header zero k bytes rest long ends =

@@ -1,4 +1,4 @@
--- What is so of the plan of a session, if it is so of each node by what comes behind it.
+-- What is so of the plan of a session, if it is so of each node by what comes after it.
 use Rattle.std.proofs.Common.{◌≡◌, sym, ℕ, zero, suc, ◌+◌, ◌-◌, ◌*◌, ◌/◌, ◌%◌, ◌<◌, ◌≤◌, ◌==◌, Bool, true, false, List, [], ◌∷◌, ◌++◌, length, take, drop, min, Option, None, Some, Result, Ok, Err, refl, ap, arith}
 use Rattle.std.specs.Prelude.{◌||◌, ◌&&◌, nat_le, nat_lt, ⊤}
 use Rattle.std.proofs.lemmas.Bool.{eqb-false, false≢true, ltb-false}
@@ -38,7 +38,7 @@ IsOfRequest g (ReadBlock block) = block < block_count g
 IsOfRequest g (WriteBlocks first contents) = first < block_count g
 IsOfRequest g _ = ⊥
 
--- in range: behind the last byte of a request there is no block
+-- in range: after the last byte of a request there is no block
 module _ (g : Geometry) (q : Request) (inside : is_past (size_of g) q ≡ false) where
   pub fits : q.offset + q.length ≤ SECTOR * block_count g
   fits = ltb-false (size_of g) (q.offset + q.length) inside
@@ -181,7 +181,7 @@ module _ (g : Geometry) (IsSo : Plan → Type 0) (nodes : IsOfSession g IsSo) wh
       (λ bytes. responds_so g IsSo nodes.tries q (replies q rest)
       (λ why bytes. nodes.puts (simple_reply why q.cookie ++ bytes) rest so) bytes q.command)
 
-  -- one request, where the rest is so behind each
+  -- one request, where the rest is so after each
   one_so : (q : Request) (rest : Plan) → IsSo rest → IsSo (if_so (is_disconnect q.command) (Over Done) (answers g q rest))
   one_so q rest so =
       if_so_by IsSo (is_disconnect q.command) (Over Done) (answers g q rest) (λ goes. nodes.ends Done tt) (λ stays. answers_so q rest so)

@@ -15,7 +15,7 @@ use Rattle.stair_nbd.specs.declared.fault.NbdFault.{NbdFault}
 use Rattle.stair_nbd.specs.declared.place.Place.{Place}
 use Rattle.stair_nbd.specs.declared.wire.OptionRequest.{OptionRequest}
 
--- the requests behind the options
+-- the requests after the options
 abbrev pub Rest : Type 0
 Rest = (number taken : ℕ) → Plan
 
@@ -59,7 +59,7 @@ pub none_where : {M : Type 0} (b : Bool) (o : M) → cond b (Some o) None ≡ No
 none_where true o is = cc
 none_where false o is = refl
 
--- no more bytes come behind it than an option may have
+-- no more bytes come after it than an option may have
 pub option_short : (header : List ℕ) (o : OptionRequest) → read_option header ≡ Some o → o.length ≤ OPTION_DATA_LIMIT
 option_short header o is =
     let both = some_where ((u64_at 0 header == OPTION_MAGIC) && nat_le (u32_at 12 header) OPTION_DATA_LIMIT)
@@ -140,7 +140,7 @@ module _ {S K : Type 0} (view : Views S K) (export : List ℕ) (from : Rest → 
           at_option rest =
               subst (λ (said : Option OptionRequest). TalksTo view (from rest) (if_message number (on_option rest) said) a b k held) is (at_message rest)
 
-          -- the bytes behind it didn't come
+          -- the bytes after it didn't come
           pub data_over : (c : S) (n : ℕ) (status : Status) → n ≡ o.length
               → ((on : List ℕ → Plan) → TakesTo view.source (takes_data OPTION_LENGTH n on) (Over status) b c) → Comes c held (λ rest. Over status)
           data_over c n status long takes rest =

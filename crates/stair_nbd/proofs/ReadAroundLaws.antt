@@ -132,14 +132,14 @@ module _ {R W : Type 0} (view : DeviceView R W) (q : Request) where
     pub comes : (refused : Plan) (k : List ℕ → Plan) → ComesTo view (reads_back q front refused k) (k back) x y
 
   module _ (front : List ℕ) (x : Devices R W) where
-    -- nothing is behind them
+    -- nothing is after them
     pub none_behind : end_within q ≡ 0 → BackRead front [] x x
     none_behind none = record {
       comes = λ refused k. subst (λ (plan : Plan). ComesTo view plan (k []) x x) (sym (back_whole front refused k none)) (comes_none view (k []) x);
     }
 
     module _ (some : 0 < end_within q) where
-      -- what is behind them is of the first block
+      -- what is after them is of the first block
       pub same_behind : (back : List ℕ) (y : Devices R W) → y ≡ x → back ≡ front → was_read q ≡ true → BackRead front back x y
       same_behind back y same is was = record {
         comes = λ refused k.
@@ -171,7 +171,7 @@ module _ {R W : Type 0} (view : DeviceView R W) (q : Request) where
             (comes_unread view x y refused result (end_block q) bytes k err taken_last)
 
   module _ (old : List ℕ) (x : Devices R W) (block blocks : List ℕ) (y : Devices R W) (kept : FrontRead old x block blocks y) where
-    -- the plan behind both
+    -- the plan after both
     abbrev on : (List ℕ → Plan) → List ℕ → List ℕ → Plan
     on k front back = k (around q front (take q.length (drop (skipped q) old)) back)
 

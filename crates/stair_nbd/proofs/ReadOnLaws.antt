@@ -56,7 +56,7 @@ module _ {R W : Type 0} (view : DeviceView R W) (first count : ℕ) (x : Devices
     pub read_geometry : (g : Geometry) → HasGeometry g x.session → HasGeometry g z.session
     read_geometry g has = geometry_stays view y z (ReadBlock (first + done)) (answer_as bytes result) takes opened g (so_far.geometry g has)
 
-    -- the plan behind the next block
+    -- the plan after the next block
     abbrev behind : Plan → (List ℕ → Plan) → List ℕ → Plan
     behind refused k bytes = reads_on (first + (done + 1)) (count - (done + 1)) (take (SECTOR * done) into ++ bytes) refused k
 

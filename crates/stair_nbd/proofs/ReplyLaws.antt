@@ -10,7 +10,7 @@ use Rattle.stair_nbd.specs.declared.wire.Request.{Request}
 
 -- ---- the room before the blocks
 
--- the buffer, of which the blocks behind the room are these
+-- the buffer, of which the blocks after the room are these
 abbrev pub with_blocks : (room : ℕ) (old blocks : List ℕ) → List ℕ
 with_blocks room old blocks = put_mid room (length old - room) old blocks
 
@@ -20,8 +20,8 @@ room_stays room old blocks fits =
     let long : length (with_blocks room old blocks) ≡ length (take room old) + length (blocks ++ rest) = length-append (take room old) (blocks ++ rest) in
     omega (arith, long, length-take-le room old fits)
 
-pub behind_room : (room : ℕ) (old blocks : List ℕ) → room ≤ length old → drop room (with_blocks room old blocks) ≡ blocks
-behind_room room old blocks fits =
+pub after_room : (room : ℕ) (old blocks : List ℕ) → room ≤ length old → drop room (with_blocks room old blocks) ≡ blocks
+after_room room old blocks fits =
     let rest : List ℕ = drop (length old - room) (drop room old) in
     let none : rest ≡ [] = drop_all (length old - room) (drop room old) (omega (arith, length-drop room old)) in
     ap (λ (n : ℕ). drop n (take room old ++ (blocks ++ rest))) (sym (length-take-le room old fits))
@@ -29,28 +29,28 @@ behind_room room old blocks fits =
     ∙ ap (λ (b : List ℕ). blocks ++ b) none
     ∙ append-nil blocks
 
--- the part behind the room, up to the end
-abbrev pub part_behind : (room : ℕ) → List ℕ → List ℕ
-part_behind room buffer = take (length buffer - room) (drop room buffer)
+-- the part after the room, up to the end
+abbrev pub part_after : (room : ℕ) → List ℕ → List ℕ
+part_after room buffer = take (length buffer - room) (drop room buffer)
 
 module _ (room : ℕ) (old blocks : List ℕ) (fits : room ≤ length old) where
-  is_behind : part_behind room (with_blocks room old blocks) ≡ blocks
-  is_behind =
+  is_after : part_after room (with_blocks room old blocks) ≡ blocks
+  is_after =
       let now : List ℕ = with_blocks room old blocks in
-      take_all (length now - room) (drop room now) (omega (arith, length-drop room now)) ∙ behind_room room old blocks fits
+      take_all (length now - room) (drop room now) (omega (arith, length-drop room now)) ∙ after_room room old blocks fits
 
   -- what is kept in the blocks is kept there
-  pub kept_behind : (size : ℕ) (q : Request) (bytes : List ℕ) → IsKept size q (data_length q) bytes blocks
-      → IsKept size q (data_length q) bytes (part_behind room (with_blocks room old blocks))
-  kept_behind size q bytes = subst (λ (b : List ℕ). IsKept size q (data_length q) bytes b) (sym is_behind)
+  pub kept_after : (size : ℕ) (q : Request) (bytes : List ℕ) → IsKept size q (data_length q) bytes blocks
+      → IsKept size q (data_length q) bytes (part_after room (with_blocks room old blocks))
+  kept_after size q bytes = subst (λ (b : List ℕ). IsKept size q (data_length q) bytes b) (sym is_after)
 
   -- and the blocks afterwards have the bytes of the reply
-  pub reply_behind : (after : List ℕ) (reply : Reply) (q : Request)
+  pub reply_after : (after : List ℕ) (reply : Reply) (q : Request)
       → simple_reply reply.error q.cookie ++ data_of reply (drop room (with_blocks room (with_blocks room old blocks) after))
       ≡ simple_reply reply.error q.cookie ++ data_of reply after
-  reply_behind after reply q =
+  reply_after after reply q =
       ap (λ (b : List ℕ). simple_reply reply.error q.cookie ++ data_of reply b)
-      (behind_room room (with_blocks room old blocks) after (room_stays room old blocks fits))
+      (after_room room (with_blocks room old blocks) after (room_stays room old blocks fits))
 
 -- ---- a reply
 

@@ -221,7 +221,7 @@ module _ {R W S K : Type 0} {view : DeviceView R W} {streams : Views S K} {g : G
                 stay = stay;
               }
 
--- ---- behind the handshake
+-- ---- after the handshake
 
 module _ {R W S K : Type 0} (view : DeviceView R W) (streams : Views S K) (g : Geometry) (from : S) (empty : K) (start : Devices R W) (size : ℕ) (whole : size ≡ size_of g)
     (a : S) (k : K) where

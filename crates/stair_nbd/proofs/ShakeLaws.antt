@@ -1,4 +1,4 @@
--- What is said first, the client's flags, and the options behind them.
+-- What is said first, the client's flags, and the options after them.
 use Rattle.std.proofs.Common.{◌≡◌, ◌∙◌, ℕ, Bool, true, false, List, None, Option, Result, Some, cond, subst, sym}
 use Rattle.stair_story.specs.Outside.{Views}
 use Rattle.stair_story.specs.Plan.{Plan, Over, Put, if_so}
@@ -57,7 +57,7 @@ module _ {S K : Type 0} (view : Views S K) (size : ℕ) (a : S) (k : K) (words :
           talks_else view (shakes_hands size rest) (are_flags flags) (options (export_answer size (is_brief flags)) rest SESSION_LIMIT 2 FLAGS_LENGTH) (Over (BadMessage 1)) a b k l
           (none_where (are_flags flags) (is_brief flags) (sym is ∙ none)) (flags_came rest)
 
-      -- options come behind them
+      -- options come after them
       pub options_come : (brief : Bool) → read ≡ Some brief → (export : List ℕ) → export ≡ export_answer size brief → (c : S) (m : K)
           (result : Result (Option Place) NbdFault)
           → ((rest : Rest) → TalksTo view (options export rest SESSION_LIMIT 2 FLAGS_LENGTH) (after_options result rest) b c l m)

@@ -1,4 +1,4 @@
--- What is taken of a message: its header, the bytes behind it, and the end of the input.
+-- What is taken of a message: its header, the bytes after it, and the end of the input.
 use Rattle.std.proofs.Common.{◌≡◌, ◌∙◌, ℕ, zero, suc, ◌+◌, ◌-◌, ◌<◌, ◌≤◌, Err, List, [], ◌∷◌, ◌++◌, Ok, OnOk, Result, length, length-append, length-drop, drop, false, le_refl, take, refl, sym, ap, ap₂, subst, arith}
 use Rattle.std.proofs.lemmas.List.{length-take, length-take-le, take_all}
 use Rattle.std.proofs.lemmas.Bool.{ltb-false}
@@ -66,7 +66,7 @@ module _ {S : Type 0} (view : SourceView S) (n : ℕ) (k : List ℕ → Plan) (a
       subst (λ (rest : Plan). TakesTo view (takes_header n k) rest a b) (header_cut n count (take count into) (length-take-le count into within) some)
       (took_part view n k (ends_in_header n) a b into count gives)
 
--- ---- the bytes behind it
+-- ---- the bytes after it
 
 -- where the end came within them
 abbrev data_cut : (header n : ℕ) → List ℕ → Plan
@@ -160,7 +160,7 @@ module _ {S : Type 0} (view : SourceView S) (a : S) where
           (takes_one view (TakeFailed bytes) (take_exactly n k (data_cut header n)) (Over InputFault) a c tt (few, refl)
           (Gives-failed view so_far.bytes gives.0 a b c so_far.taken gives.2))
 
--- ---- what comes behind a request's header
+-- ---- what comes after a request's header
 
 -- there are no more of them than the request has bytes
 data_few : (kind : Command) (count : ℕ) → data_length_of kind count ≤ count
@@ -170,7 +170,7 @@ data_few command.Disconnect count = omega arith
 data_few command.Flush count = omega arith
 data_few command.Other count = omega arith
 
--- so the buffer has room for them, behind what the first block keeps
+-- so the buffer has room for them, after what the first block keeps
 pub data_fits : (q : Request) (start count room : ℕ) → is_too_long q ≡ false → start < SECTOR → count ≡ data_length q → room ≡ BLOCKS → start + count ≤ room
 data_fits q start count room short within many all = omega (arith, ltb-false DATA_LIMIT q.length short, data_few q.command q.length, within, many, all)
 

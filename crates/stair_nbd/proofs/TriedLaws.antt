@@ -28,7 +28,7 @@ abbrev pub HasGeometry : Geometry → Session → Type 0
 HasGeometry g (Opened array) = array.member.array.geometry ≡ g
 HasGeometry g _ = ⊥
 
--- behind a refusal that was handed on
+-- after a refusal that was handed on
 pub after_refused : (Q : ArrayFault → Type 0) (result : Result (Unit {0}) ArrayFault) (refused done : Plan) → IsErrAnd result Q
     → after_steps result refused done ≡ refused
 after_refused Q (Ok ok) refused done is = absurd is

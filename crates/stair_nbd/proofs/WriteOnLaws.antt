@@ -102,7 +102,7 @@ module _ {R W : Type 0} (view : DeviceView R W) (g : Geometry) (first : ℕ) (bl
       (within : first + length blocks / SECTOR ≤ block_count g) (count : ℕ) (same_count : count ≡ piece_at g first (length blocks) done) (piece : List ℕ)
       (same_piece : piece ≡ take (SECTOR * count) (drop done blocks)) (result : Result (Unit {0}) ArrayFault)
       (takes : Takes view (WriteBlocks (first + done / SECTOR) (blocks_of piece)) (outcome result) y z) (opened : IsOpen z.session) where
-    -- the turns behind it, and the blocks that were left before
+    -- the turns after it, and the blocks that were left before
     abbrev less : ℕ
     less = (fuel done so_far.turns below so_far.enough).0
 
@@ -127,7 +127,7 @@ module _ {R W : Type 0} (view : DeviceView R W) (g : Geometry) (first : ℕ) (bl
     took : Takes view (WriteBlocks (first + done / SECTOR) (blocks_of (take (SECTOR * count) (drop done blocks)))) (outcome result) y z
     took = subst (λ (bytes : List ℕ). Takes view (WriteBlocks (first + done / SECTOR) (blocks_of bytes)) (outcome result) y z) same_piece takes
 
-    -- the plan behind it
+    -- the plan after it
     abbrev behind : Plan → Plan → Unit {0} → Plan
     behind refused over ok = writes_on g less (first + done / SECTOR + count) (left - count) (drop (SECTOR * count) (drop done blocks)) refused over
 

@@ -5,13 +5,13 @@ use Rattle.stair_nbd.specs.declared.wire.Request.{Request}
 use Rattle.stair_nbd.specs.Client.{SESSION_LIMIT, is_disconnect}
 use Rattle.stair_nbd.specs.Wire.{ABORT, EXPORT_NAME, FLAGS_LENGTH, OPTION_LENGTH, REQUEST_LENGTH, are_flags, data_length, read_option, read_request}
 
--- Bytes of a message behind so many: its header, and as many as that says.
+-- Bytes of a message after so many: its header, and as many as that says.
 pub record IsMessage (header_length count : ℕ) (taken : ℕ) (header bytes : List ℕ) : Type 0 where
   pub early : taken < SESSION_LIMIT
   pub whole : length header ≡ header_length
   pub of : length bytes ≡ count
 
--- What is left of a session behind so many bytes is requests, up to one that ends it, or to the end of the input.
+-- What is left of a session after so many bytes is requests, up to one that ends it, or to the end of the input.
 pub data AreRequests : (taken : ℕ) → List ℕ → Type 0 where
   Silent : (taken : ℕ) → AreRequests taken []
   Leaves : (taken : ℕ) (q : Request) (header rest : List ℕ)
@@ -23,7 +23,7 @@ pub data AreRequests : (taken : ℕ) → List ℕ → Type 0 where
       → AreRequests (taken + REQUEST_LENGTH + data_length q) rest
       → AreRequests taken (header ++ (bytes ++ rest))
 
--- Or it is options: up to the one that names the export, behind which come requests, to one that ends the session, or to the end of
+-- Or it is options: up to the one that names the export, after which come requests, to one that ends the session, or to the end of
 -- the input.
 pub data AreOptions : (taken : ℕ) → List ℕ → Type 0 where
   Silent : (taken : ℕ) → AreOptions taken []
@@ -40,7 +40,7 @@ pub data AreOptions : (taken : ℕ) → List ℕ → Type 0 where
       → AreOptions (taken + OPTION_LENGTH + o.length) rest
       → AreOptions taken (header ++ (bytes ++ rest))
 
--- a whole input: none, or the client's flags and what comes behind them
+-- a whole input: none, or the client's flags and what comes after them
 pub data IsCivil : List ℕ → Type 0 where
   Silent : IsCivil []
   Speaks : (flags rest : List ℕ) → length flags ≡ FLAGS_LENGTH → are_flags flags ≡ true

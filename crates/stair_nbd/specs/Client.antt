@@ -33,7 +33,7 @@ ends_in_header needed (byte ∷ bytes) = Over (Input needed (length (byte ∷ by
 abbrev pub takes_header : (needed : ℕ) → (List ℕ → Plan) → Plan
 takes_header needed k = take_exactly needed k (ends_in_header needed)
 
--- the bytes of a message behind its header of so many, of which there may be none
+-- the bytes of a message after its header of so many, of which there may be none
 abbrev pub takes_data : (header length : ℕ) → (List ℕ → Plan) → Plan
 takes_data header zero k = k []
 takes_data header (suc n) k = take_exactly (suc n) k
@@ -57,7 +57,7 @@ if_answered refused k (Err refusal) = refused
 abbrev pub tries : (step : Step) → (refused : Plan) → (GivenBy step → Plan) → Plan
 tries step refused k = Try step (λ answer left. if_answered refused k answer)
 
--- so many blocks are read, from this one on, behind bytes that were read
+-- so many blocks are read, from this one on, after bytes that were read
 abbrev pub reads_on : (block count : ℕ) → List ℕ → (refused : Plan) → (List ℕ → Plan) → Plan
 reads_on block zero so_far refused k = k so_far
 reads_on block (suc count) so_far refused k = tries (ReadBlock block) refused
@@ -86,7 +86,7 @@ abbrev pub touched : (skipped length : ℕ) → ℕ
 touched skipped zero = 0
 touched skipped (suc n) = (skipped + n) / SECTOR + 1
 
--- the block in which they end, and how many bytes of it they end behind; none where they end with the block before
+-- the block in which they end, and how many bytes of it come before their end; none if they end with the block before
 abbrev pub end_block : Request → ℕ
 end_block q = (q.offset + q.length) / SECTOR
 
@@ -106,7 +106,7 @@ is_past size q = nat_lt size (q.offset + q.length)
 
 -- READING
 
--- what comes of a request: an error, or none, and the bytes behind the reply's header
+-- what comes of a request: an error, or none, and the bytes after the reply's header
 abbrev pub Comes : Type 0
 Comes = ReplyError → List ℕ → Plan
 
@@ -149,7 +149,7 @@ writes_for g q bytes k = if_so (is_too_long q) (k error.Invalid [])
 
 -- REQUESTS
 
--- What is done for a request, behind which these bytes came. What was written stands already, so there is nothing to flush.
+-- What is done for a request, after which these bytes came. What was written stands already, so there is nothing to flush.
 abbrev pub responds : Geometry → Request → List ℕ → Comes → Command → Plan
 responds g q bytes k command.Read = reads_for g q k
 responds g q bytes k command.Write = writes_for g q bytes k
@@ -174,7 +174,7 @@ abbrev pub if_message : {M : Type 0} → (number : ℕ) → (M → Plan) → Opt
 if_message number k None = Over (BadMessage number)
 if_message number k (Some message) = k message
 
--- What is left of a session behind so many bytes, of which the next message has this number. Each has some bytes, so turns as many
+-- What is left of a session after so many bytes, of which the next message has this number. Each has some bytes, so turns as many
 -- as the limit are enough.
 abbrev pub requests : Geometry → (turns number taken : ℕ) → Plan
 requests g zero number taken = too_late number

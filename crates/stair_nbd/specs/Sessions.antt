@@ -13,23 +13,23 @@ use Rattle.stair_nbd.specs.declared.wire.Request.{Request}
 use Rattle.stair_nbd.specs.Client.{SESSION_LIMIT, is_past, is_too_long, skipped, status_of_nbd, takes_data}
 use Rattle.stair_nbd.specs.Wire.{REPLY_LENGTH, REQUEST_LENGTH, data_length}
 
--- behind a header that was taken, or before which the input ended
+-- after a header that was taken, or before which the input ended
 abbrev pub after_header : Result Bool NbdFault → List ℕ → (List ℕ → Plan) → Plan
 after_header (Ok true) bytes k = k bytes
 after_header (Ok false) bytes k = Over Done
 after_header (Err why) bytes k = Over (status_of_nbd why)
 
--- behind bytes that were taken
+-- after bytes that were taken
 abbrev pub after_data : Result (Unit {0}) NbdFault → List ℕ → (List ℕ → Plan) → Plan
 after_data (Ok done) bytes k = k bytes
 after_data (Err why) bytes k = Over (status_of_nbd why)
 
--- behind something that was done, whatever it was
+-- after something that was done, whatever it was
 abbrev pub after_done : Result (Unit {0}) NbdFault → Plan → Plan
 after_done (Ok done) rest = rest
 after_done (Err why) rest = Over (status_of_nbd why)
 
--- behind the options: the export was named, or the session is over
+-- after the options: the export was named, or the session is over
 abbrev pub after_options : Result (Option Place) NbdFault → ((number taken : ℕ) → Plan) → Plan
 after_options (Ok (Some place)) requests = requests place.number place.taken
 after_options (Ok None) requests = Over Done
@@ -48,7 +48,7 @@ BLOCKS = 65537 * SECTOR
 abbrev pub BUFFER : ℕ
 BUFFER = REPLY_LENGTH + BLOCKS
 
--- So many bytes came behind a request's header; those that are to be written are in the buffer, behind as many as the first block
+-- So many bytes came after a request's header; those that are to be written are in the buffer, after as many as the first block
 -- keeps before them.
 abbrev pub IsKept : (size : ℕ) → Request → (count : ℕ) → List ℕ → (buffer : List ℕ) → Type 0
 IsKept size q count bytes buffer = is_too_long q ≡ false → is_past size q ≡ false
@@ -61,7 +61,7 @@ pub record TakesData {S : Type 0} (view : SourceView S) (size : ℕ) (q : Reques
   pub takes : (k : List ℕ → Plan) → TakesTo view (takes_data REQUEST_LENGTH (data_length q) k)
       (after_data result bytes k) old new
 
--- behind steps that were done, or of which one was refused
+-- after steps that were done, or of which one was refused
 abbrev pub after_steps : Result (Unit {0}) ArrayFault → (refused done : Plan) → Plan
 after_steps (Ok ok) refused done = done
 after_steps (Err why) refused done = refused

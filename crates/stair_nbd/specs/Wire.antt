@@ -109,7 +109,7 @@ abbrev pub read_request : List ℕ → Option Request
 read_request header =
     if u32_at 0 header == REQUEST_MAGIC then Some (request_of header) else None
 
--- the bytes that come behind its header
+-- the bytes that come after its header
 abbrev pub data_length_of : Command → ℕ → ℕ
 data_length_of command.Write length = length
 data_length_of _ length = 0
@@ -128,7 +128,7 @@ error_code error.NoSpace = 28
 abbrev pub REPLY_LENGTH : ℕ
 REPLY_LENGTH = 16
 
--- the header of a reply, behind which come the bytes of a READ without an error
+-- the header of a reply, after which come the bytes of a READ without an error
 abbrev pub simple_reply : ReplyError → (cookie : ℕ) → List ℕ
 simple_reply why cookie = to_be_bytes w32 0x6744_6698
     ++ (to_be_bytes w32 (error_code why) ++ to_be_bytes w64 cookie)

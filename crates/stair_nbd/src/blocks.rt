@@ -69,7 +69,7 @@ impl Request {
         self.offset / SECTOR as u64
     }
 
-    // The block in which its bytes end, and how many bytes of that they end behind.
+    // The block in which its bytes end, and how many bytes of that block come before their end.
     fn end_block(&self) -> u64
         requires { self.now.offset + self.now.length < 2 ^ 64 }
         ensures { result ≡ end_block self.now }

@@ -15,7 +15,7 @@ pub(crate) struct Place {
 }
 
 impl Place {
-    /// Where the message behind one of so many bytes begins.
+    /// Where the message after one of so many bytes begins.
     pub(crate) fn behind(self, bytes: u64) -> Place
         requires some { 0 < bytes }
         requires few { self.number ≤ self.taken }

@@ -59,7 +59,7 @@ pub fn session<C: StripeCode, R: Rack, S: Source, K: Sink>(
     }
 }
 
-// The handshake, up to the option that names the export, behind which comes the first request; none comes where the client or the
+// The handshake, up to the option that names the export, after which comes the first request; none comes where the client or the
 // input ended before.
 fn shake_hands<S: Source, K: Sink>(
     size: u64,

@@ -36,7 +36,7 @@ pub(crate) fn take_header<S: Source>(input: &mut S, header: &mut [u8]) -> Result
     }
 }
 
-/// Takes the bytes behind a header of so many.
+/// Takes the bytes after a header of so many.
 pub(crate) fn take_data<S: Source>(
     input: &mut S,
     header: usize,
@@ -62,7 +62,7 @@ pub(crate) fn take_data<S: Source>(
     }
 }
 
-/// Takes the bytes behind a header of so many, and drops them.
+/// Takes the bytes after a header of so many, and drops them.
 pub(crate) fn drop_data<S: Source>(
     input: &mut S,
     header: usize,
@@ -94,7 +94,7 @@ pub(crate) fn drop_data<S: Source>(
     Ok(())
 }
 
-/// Takes the bytes behind the header of a request. Those that are to be written are then in the buffer, behind as many as the first
+/// Takes the bytes after the header of a request. Those that are to be written are then in the buffer, after as many as the first
 /// of their blocks has before them.
 pub(crate) fn take_request_data<S: Source>(
     input: &mut S,
@@ -141,7 +141,7 @@ pub(crate) fn put<K: Sink>(output: &mut K, bytes: &[u8]) -> Result<(), NbdFault>
     }
 }
 
-/// Puts a reply out as one piece: its header, which is written before its bytes, and these. They are in the buffer, behind room for a
+/// Puts a reply out as one piece: its header, which is written before its bytes, and these. They are in the buffer, after room for a
 /// header.
 pub(crate) fn put_reply<K: Sink>(
     output: &mut K,

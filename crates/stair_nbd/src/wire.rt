@@ -22,7 +22,7 @@ use stair_watch::Line;
 pub(crate) const FLAGS_LENGTH: usize = 4;
 /// How many bytes the header of an option has.
 pub(crate) const OPTION_LENGTH: usize = 16;
-/// How many bytes an option has behind its header at most.
+/// How many bytes an option has after its header at most.
 const OPTION_DATA_LIMIT: u32 = 4096;
 /// How many bytes the header of a request has.
 pub(crate) const REQUEST_LENGTH: usize = 28;
@@ -44,7 +44,7 @@ const HANDSHAKE_FLAGS: u16 = 3;
 // Of the export: that there are flags (bit 0), and that FLUSH is served (bit 2).
 const TRANSMISSION_FLAGS: u16 = 5;
 
-/// The option that names the export, behind which come requests.
+/// The option that names the export, after which come requests.
 pub(crate) const EXPORT_NAME: u32 = 1;
 /// The option that ends the session.
 pub(crate) const ABORT: u32 = 2;
@@ -58,7 +58,7 @@ pub(crate) const ERR_UNSUP: u32 = 0x8000_0001;
 #[derive(Clone, Copy)]
 pub(crate) struct OptionRequest {
     pub(crate) option: u32,
-    /// How many bytes come behind its header, at most 4,096.
+    /// How many bytes come after its header, at most 4,096.
     pub(crate) length: u32,
 }
 
@@ -150,7 +150,7 @@ impl Request {
         matches!(self.command, Command::Disconnect)
     }
 
-    /// How many bytes come behind its header.
+    /// How many bytes come after its header.
     pub(crate) fn data_length(&self) -> u32
         ensures { result ≡ length_of_data self.now }
     {
@@ -162,7 +162,7 @@ impl Request {
 }
 
 impl OptionRequest {
-    /// What a header asks for, unless its magic is wrong or too many bytes come behind it.
+    /// What a header asks for, unless its magic is wrong or too many bytes come after it.
     pub(crate) fn read(header: &[u8; OPTION_LENGTH]) -> Option<OptionRequest>
         ensures { result ≡ option_in header.now }
     {

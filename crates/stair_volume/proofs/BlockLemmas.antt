@@ -16,7 +16,7 @@ pub length-blocks_from : (held : Blocks) (first count : ℕ) → length (blocks_
 length-blocks_from held first zero = refl
 length-blocks_from held first (suc count) = ap suc (length-blocks_from held (first + 1) count)
 
--- one range behind another
+-- one range after another
 pub blocks_from-split : (held : Blocks) (first a b : ℕ) → blocks_from held first (a + b) ≡ blocks_from held first a ++ blocks_from held (first + a) b
 blocks_from-split held first zero b =
     let none : 0 + b ≡ b = omega arith in let here : first ≡ first + 0 = omega arith in λ i. blocks_from held (here i) (none i)
@@ -26,7 +26,7 @@ blocks_from-split held first (suc a) b =
     ∙ ap (λ (l : List (List ℕ)). held first ∷ l)
     (blocks_from-split held (first + 1) a b ∙ ap (λ (f : ℕ). blocks_from held (first + 1) a ++ blocks_from held f b) (omega arith))
 
--- the front of a range, and what is behind it
+-- the front of a range, and what is after it
 pub take-blocks_from : (held : Blocks) (first a b : ℕ) → take a (blocks_from held first (a + b)) ≡ blocks_from held first a
 take-blocks_from held first zero b = refl
 take-blocks_from held first (suc a) b =

@@ -1,4 +1,4 @@
--- A volume is found by its name, put behind the others, and taken out.
+-- A volume is found by its name, put after the others, and taken out.
 use Rattle.std.proofs.Common.{◌≡◌, ◌≢◌, ℕ, zero, suc, ◌<◌, ◌≤◌, Bool, true, false, cond, not, List, [], ◌∷◌, ◌++◌, Option, None, Some, Result, Ok, Err, length, get_or, refl, sym, ap, ◌∙◌, subst, arith, inl, inr}
 use Rattle.std.specs.Prelude.{◌↔◌, All, AllPairs, Contains, filter, is_some, nat_le}
 use Rattle.std.proofs.lemmas.Bool.{cases_Bool, cond-true, cond-false, le-leb, lt-leb, leb-false, not_from_false, not_from_true, false_from_ne_true}

@@ -61,7 +61,7 @@ module _ {R W : Type 0} (view : DeviceView R W) {x y : Devices R W} where
   pub comes_from : {plan other rest : Plan} → plan ≡ other → ComesTo view plan rest x y → ComesTo view other rest x y
   comes_from {plan} {other} {rest} same comes = subst (λ (p : Plan). ComesTo view p rest x y) same comes
 
-  -- a line is put out behind it
+  -- a line is put out after it
   pub comes_line : {plan : Plan} (slots : ℕ) (line other : List ℕ) → line ≡ other → ComesTo view plan (Put other (Over Done)) x y
       → ComesTo view plan (after_line slots (Ok line)) x y
   comes_line {plan} slots line other same comes = subst (λ (l : List ℕ). ComesTo view plan (Put l (Over Done)) x y) (sym same) comes

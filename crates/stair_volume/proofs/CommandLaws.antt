@@ -42,7 +42,7 @@ module _ {R W S K : Type 0} (view : DeviceView R W) (streams : Views S K) where
     did_fail slots a k x (Ok done) why is did = absurd is
     did_fail slots a k x (Err f) why is did = subst (λ (f : VolumeFault). DidTo (Over (status_of_volume slots f)) a k x) (sym is) did
 
-    -- behind the last thing that was done, or wasn't
+    -- after the last thing that was done, or wasn't
     pub did_end : (slots : ℕ) (a : S) (k : K) (x : Devices R W) (result : Result (Unit {0}) VolumeFault) → DidTo (after_done slots result (Over Done)) a k x
         → DidTo (Over (status_of slots result)) a k x
     did_end slots a k x (Ok done) did = did

@@ -29,7 +29,7 @@ over_zeros front field at n m here sized =
     ap (λ (l : List ℕ). with_field (front ++ l) at field) (zeros_split (length field) m n sized)
     ∙ with_field-at front (zeros (length field)) (zeros m) field at here (sym (length-zeros (length field)))
 
--- the number and the name of an entry, its numbers behind them
+-- the number and the name of an entry, its numbers after them
 pub entry_written : (entry : Entry) (s1 s2 s3 s4 s5 : List ℕ) → length entry.name ≤ 16 → s1 ≡ with_field (zeros 32) 0 (length entry.name ∷ []) → s2 ≡ with_field s1 1 entry.name → s3 ≡ with_field s2 19 (entry.extent.blocks / 2 ^ 32 ∷ []) → s4 ≡ with_field s3 20 (to_be_bytes w64 entry.extent.first) → s5 ≡ with_field s4 28 (to_be_bytes w32 (entry.extent.blocks % 2 ^ 32)) → s5 ≡ entry_bytes entry
 unfolding entry_bytes
 entry_written entry s1 s2 s3 s4 s5 short e1 e2 e3 e4 e5 =
@@ -69,7 +69,7 @@ entry_written entry s1 s2 s3 s4 s5 short e1 e2 e3 e4 e5 =
     ∙ append_assoc front high (first ++ low)
     ∙ ap (λ (l : List ℕ). count ∷ l) (append_assoc (padded name) (zeros 2) (high ++ (first ++ low)))
 
--- the heading, and zeros behind it
+-- the heading, and zeros after it
 pub heading_written : (entries : List Entry) (s1 s2 : List ℕ) → s1 ≡ with_field (zeros 512) 0 (codes "STAIRVT1") → s2 ≡ with_field s1 8 (length entries ∷ []) → s2 ≡ heading (length entries) ++ (flat_map entry_bytes (take 0 entries) ++ zeros (480 - 32 * 0))
 heading_written entries s1 s2 e1 e2 =
     let magic = codes "STAIRVT1" in

@@ -80,7 +80,7 @@ apart_same held now extent e beside (inr behind) =
     ap (λ (blocks : List (List ℕ)). let v : Volume = record { name = e.name; blocks = blocks } in v)
     (blocks_from-same held now e.extent.first e.extent.blocks (λ b from below. beside b (inr (omega (arith, from, behind)))))
 
--- volumes that are apart from a range behind the table are kept
+-- volumes that are apart from a range after the table are kept
 pub keeps_beside : (count : ℕ) (held now : Blocks) (extent : Extent) (t : Table) → HasTable count (held 0) t → 1 ≤ extent.first
     → All (λ e. AreApart e.extent extent) t.entries → IsBeside extent held now → KeepsVolumes count held now
 keeps_beside count held now extent t has first apart beside =

@@ -1,4 +1,4 @@
--- What is so of each node of a command's plan by what comes behind it is so of the plan.
+-- What is so of each node of a command's plan by what comes after it is so of the plan.
 use Rattle.std.proofs.Common.{◌≢◌, ◌+◌, ◌++◌, ◌-◌, ◌*◌, ◌/◌, ◌==◌, ℕ, zero, suc, Bool, true, false, List, [], ◌∷◌, length, replicate, Option, None, Some, Ok, Err, Result}
 use Rattle.std.specs.Prelude.{nat_lt}
 use Rattle.stair_model.specs.Geometry.{Geometry, block_count}

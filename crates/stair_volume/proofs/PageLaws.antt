@@ -65,7 +65,7 @@ length-table_bytes entries room few = omega (
   length-replicate {A = ℕ} (480 - 32 * length entries) 0,
 )
 
--- what stands behind an entry
+-- what stands after an entry
 pub record StandsAt (bytes : List ℕ) (at : ℕ) (entry : Entry) : Type 0 where
   pub rest : List ℕ
   pub text : drop at bytes ≡ entry_bytes entry ++ rest
@@ -109,7 +109,7 @@ pub count_stands : (entries : List Entry) → get_or (table_bytes entries) 8 0 �
 unfolding table_bytes
 count_stands entries = refl
 
--- what stands at a place is the field, and behind it the rest
+-- what stands at a place is the field, and after it the rest
 field_at : (bytes field rest : List ℕ) (at size : ℕ) → drop at bytes ≡ field ++ rest → length field ≡ size → take size (drop at bytes) ≡ field
 field_at bytes field rest at size here sized = ap (λ (l : List ℕ). take size l) here ∙ take_at field rest size sized
 

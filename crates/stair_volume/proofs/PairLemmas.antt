@@ -1,4 +1,4 @@
--- Lists whose elements are apart from those behind them.
+-- Lists whose elements are apart from those after them.
 use Rattle.std.proofs.Common.{suc, List, ◌∷◌, arith}
 use Rattle.std.specs.Prelude.{All, AllPairs}
 

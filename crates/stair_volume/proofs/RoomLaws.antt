@@ -158,7 +158,7 @@ room_past table count first below past =
     let within : IsWithin table.blocks (extent_of first count) = record { behind_table = below.low; inside = omega arith } in
     both_ways _ past ((Decides-within table.blocks (extent_of first count)).1 within))
 
--- a search goes on behind a volume that has a block of it
+-- a search goes on after a volume that has a block of it
 pub none_below_more : (table : Table) (count first end : ℕ) → NoneBelow table count first → EndsMet table.entries (extent_of first count) end → NoneBelow table count end
 none_below_more table count first end below met =
     let entry = met.0 in

@@ -228,7 +228,7 @@ module _ (job : VolumeJob) (g : Geometry) (held : Blocks) where
   module _ (first all : ℕ) (wants : all ≡ most_written job)
       (done_by : (contents : List (List ℕ)) (now : Blocks) → length contents ≤ all → IsSetTo held now first contents
       → HasDone job contents (block_count g) held now) (any : (volumes : List Volume) (put : List ℕ) → PutsOut job volumes put) where
-    -- these came, whole, and were written; and behind them a part of the next
+    -- these came, whole, and were written; and after them a part of the next
     record AreWritten (contents : List (List ℕ)) (part : List ℕ) (come : Come) : Type 0 where
       few : length contents ≤ all
       taken : come.taken ≡ concat contents ++ part

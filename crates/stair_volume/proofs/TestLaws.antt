@@ -33,7 +33,7 @@ Decides-name text =
     (Decides-and _ _ (Decides-ltb 0 (length text)) (Decides-and _ _ (Decides-leb (length text) 16)
     (Decides-by_and is_name_byte IsNameByte (λ bytes. list_all is_name_byte bytes) Decides-name_byte refl (λ _ _. refl) text)))
 
--- blocks lie behind block 0 and within the array
+-- blocks lie after block 0 and within the array
 pub Decides-within : (blocks : ℕ) (extent : Extent) → Decides (is_within blocks extent) (IsWithin blocks extent)
 Decides-within blocks extent =
     Decides-like (is_within blocks extent)
@@ -105,7 +105,7 @@ All-named entry others = All-weaker (λ (other : Entry). other.name ≢ entry.na
 All-named_back : (entry : Entry) (others : List Entry) → All (λ other. entry.name ≢ other.name) others → All (λ other. other.name ≢ entry.name) others
 All-named_back entry others = All-weaker (λ (other : Entry). entry.name ≢ other.name) (λ (other : Entry). other.name ≢ entry.name) (λ other differ same. differ (sym same)) others
 
--- each is a volume, and apart from those behind it
+-- each is a volume, and apart from those after it
 pub Decides-volumes : (blocks : ℕ) (entries : List Entry) → Decides (are_volumes blocks entries) (AreVolumes blocks entries)
 Decides-volumes blocks [] = (
   λ _. record {

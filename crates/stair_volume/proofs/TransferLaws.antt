@@ -18,7 +18,7 @@ use Rattle.stair_volume.proofs.StepLaws.{HasGeometry, IsOpen, comes_read, geomet
 
 -- ---- blocks are put out
 
--- behind the bytes of a block
+-- after the bytes of a block
 abbrev pub read_on : Geometry → (first count : ℕ) → List ℕ → Plan
 read_on g first count bytes = Put bytes (reads g first count)
 

@@ -168,7 +168,7 @@ module _ {R W S K : Type 0} (view : DeviceView R W) (streams : Views S K) (job :
       did_come view streams (volume_plan job g) a k x a k (did_none view streams (volume_plan job g) a k x)
       (comes_read view g.n 0 page result (λ bytes. on_table g job (table_of (block_count g) bytes)) takes)
 
-  -- what is done behind it, of an array whose geometry is this one
+  -- what is done after it, of an array whose geometry is this one
   module _ (takes : Takes view (ReadBlock 0) (Ok page) x y) (h : Geometry) (same : h ≡ g) (count : ℕ) (all : count ≡ block_count h) (table : Option Table)
       (is : table ≡ table_of count page) {b : S} {l : K} {z : Devices R W} where
     pub page_then : (result : Result (Unit {0}) VolumeFault) → Did view streams (on_table h job table) a k y (Over (status_of h.n result)) b l z

@@ -14,7 +14,7 @@ pub record IsFree (table : Table) (extent : Extent) : Type 0 where
   pub within : IsWithin table.blocks extent
   pub apart : All (λ entry. AreApart entry.extent extent) table.entries
 
--- what a search upwards goes on to: the block behind a volume that has a block of it
+-- what a search upwards goes on to: the block after a volume that has a block of it
 abbrev pub EndsMet : List Entry → Extent → (end : ℕ) → Type 0
 EndsMet entries extent end = (entry : Entry) × Contains entries entry
     × (meets entry.extent extent ≡ true) × (end ≡ end_of entry.extent)

@@ -22,7 +22,7 @@ entry_bytes entry = length entry.name ∷ (padded entry.name
     ++ (zeros 2 ++ (entry.extent.blocks / 2 ^ 32 ∷ (to_be_bytes w64 entry.extent.first
     ++ to_be_bytes w32 (entry.extent.blocks % 2 ^ 32)))))
 
--- the heading, the entries one behind the other, and zeros up to byte 512
+-- the heading, the entries in order, and zeros up to byte 512
 unfoldable pub table_bytes : List Entry → List ℕ
 table_bytes entries = heading (length entries)
     ++ (flat_map entry_bytes entries ++ zeros (480 - 32 * length entries))

@@ -17,17 +17,17 @@ use Rattle.stair_volume.specs.declared.table_fault.TableFault.TheVariants.{NoVol
 use Rattle.stair_volume.specs.Commands.{status_of_volume}
 use Rattle.stair_volume.specs.Table.{find_in}
 
--- behind steps of an array of so many slots, of which one may be refused
+-- after steps of an array of so many slots, of which one may be refused
 abbrev pub after_steps : (slots : ℕ) → Result (Unit {0}) ArrayFault → (rest : Plan) → Plan
 after_steps slots (Ok done) rest = rest
 after_steps slots (Err why) rest = Over (status_of_refusal slots (refusal_for why))
 
--- behind something that was done, or wasn't
+-- after something that was done, or wasn't
 abbrev pub after_done : (slots : ℕ) → Result (Unit {0}) VolumeFault → (rest : Plan) → Plan
 after_done slots (Ok done) rest = rest
 after_done slots (Err why) rest = Over (status_of_volume slots why)
 
--- behind a change of the volumes, of which a line is put out
+-- after a change of the volumes, of which a line is put out
 abbrev pub after_line : (slots : ℕ) → Result (List ℕ) VolumeFault → Plan
 after_line slots (Ok line) = Put line (Over Done)
 after_line slots (Err why) = Over (status_of_volume slots why)

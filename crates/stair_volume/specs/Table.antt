@@ -21,11 +21,11 @@ table_with blocks entries = record { blocks = blocks; entries = entries }
 abbrev pub extent_of : (first blocks : ℕ) → Extent
 extent_of first blocks = record { first = first; blocks = blocks }
 
--- the block behind the last one
+-- the block after the last one
 abbrev pub end_of : Extent → ℕ
 end_of extent = extent.first + extent.blocks
 
--- within an array of so many blocks, behind block 0, where the table is
+-- within an array of so many blocks, after block 0, where the table is
 pub record IsWithin (blocks : ℕ) (extent : Extent) : Type 0 where
   pub behind_table : 1 ≤ extent.first
   pub inside : end_of extent ≤ blocks
@@ -87,7 +87,7 @@ find_in (entry ∷ later) name =
 abbrev pub is_apart : List Entry → Entry → Bool
 is_apart others entry = is_none (find_in others entry.name) && is_free others entry.extent
 
--- each is a volume, and apart from those behind it
+-- each is a volume, and apart from those after it
 abbrev pub are_volumes : (blocks : ℕ) → List Entry → Bool
 are_volumes blocks [] = true
 are_volumes blocks (entry ∷ later) =

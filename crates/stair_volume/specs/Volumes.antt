@@ -119,7 +119,7 @@ pub record KeepsVolumes (count : ℕ) (held now : Blocks) : Type 0 where
   pub some : (volumes : List Volume) → HasVolumes count held volumes → HasVolumes count now volumes
   pub none : HasNone count held → HasNone count now
 
--- blocks that were taken, and what came behind them
+-- blocks that were taken, and what came after them
 pub record AreFront (contents : List (List ℕ)) (taken : List ℕ) : Type 0 where
   pub rest : List ℕ
   pub are : taken ≡ concat contents ++ rest

@@ -1,6 +1,6 @@
 use stair_conf::Name;
 
-/// Blocks of an array, one behind the other.
+/// A range of blocks of an array.
 #[derive(Clone, Copy, Debug, PartialEq, Eq)]
 pub struct Extent {
     /// The first of them.
@@ -20,7 +20,7 @@ impl Extent {
     ghost use Rattle.std.specs.Prelude.{◌≡◌, ◌^◌, ◌<◌, nat_lt};
     ghost use Rattle.stair_volume.specs.Table.{end_of, is_within as is_inside, meets as have_common};
 
-    /// The block behind the last one.
+    /// The block after the last one.
     pub(crate) fn end(self) -> u64
         requires { end_of self < 2 ^ 64 }
         ensures { result ≡ end_of self }
@@ -28,7 +28,7 @@ impl Extent {
         self.first + self.blocks
     }
 
-    /// Whether it lies within an array of so many blocks, behind block 0.
+    /// Whether it lies within an array of so many blocks, after block 0.
     pub(crate) fn is_within(self, blocks: u64) -> bool
         ensures { result ≡ is_inside blocks self }
     {

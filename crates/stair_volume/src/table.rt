@@ -21,12 +21,12 @@ use std::marker::Model;
 /// The most volumes that an array has.
 pub const TABLE_LIMIT: usize = 15;
 
-/// The volumes of an array: at most 15, each with a name of its own and blocks of its own, behind block 0.
+/// The volumes of an array: at most 15, each with a name of its own and blocks of its own, after block 0.
 #[derive(Drop)]
 pub struct Table {
     blocks: u64,
     len: usize,
-    // behind the first len of them anything
+    // after the first len of them anything
     entries: [Entry; TABLE_LIMIT],
 }
 
@@ -139,7 +139,7 @@ impl Table {
             return None;
         }
         let mut extent = Extent { first: 1, blocks };
-        // behind each volume that has a block of it, until none has
+        // after each volume that has a block of it, until none has
         while let Some(end) = end_of_met(self.entries(), extent) {
             extent.first = end;
         }
@@ -187,7 +187,7 @@ fn extent_named(entries: &[Entry], name: &Name) -> Option<Extent>
     None
 }
 
-// The block behind some entry that has a block of it.
+// The block after some entry that has a block of it.
 fn end_of_met(entries: &[Entry], extent: Extent) -> Option<u64>
     requires { All (λ entry. end_of entry.extent < 2 ^ 64) entries.now }
     ensures { MatchOption result (IsTrue (all_free entries.now extent))
@@ -224,7 +224,7 @@ fn is_volume(blocks: u64, entry: &Entry) -> bool
     entry.extent.blocks >= 1 && entry.extent.is_within(blocks)
 }
 
-// Whether these are volumes of an array of so many blocks, each apart from those behind it.
+// Whether these are volumes of an array of so many blocks, each apart from those after it.
 fn are_volumes(blocks: u64, entries: &[Entry]) -> bool
     ensures { result ≡ all_volumes blocks entries.now }
 {

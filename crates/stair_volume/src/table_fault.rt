@@ -7,6 +7,6 @@ pub enum TableFault {
     NameTaken,
     /// There are 15 volumes.
     TableFull,
-    /// Nowhere are so many blocks free, one behind the other.
+    /// There is no free range of so many blocks.
     NoRoom(u64),
 }

@@ -1,4 +1,4 @@
--- What is before the bytes, and what is behind them.
+-- What is before the bytes, and what is after them.
 use Rattle.std.proofs.Common.{◌≡◌, ◌∙◌, ◌+◌, ◌-◌, ◌<◌, arith, drop, length, length-drop, length-take, refl, sym, ap, ℕ, false}
 use Rattle.stair_array.specs.Promise.{Opened}
 use Rattle.stair_story.specs.Devices.{device_view, devices}

@@ -8,7 +8,7 @@ use Rattle.stair_status.specs.declared.status.Status.TheVariants.{Done}
 use Rattle.stair_nbd.specs.Client.{SESSION_LIMIT, is_disconnect, status_of, status_of_nbd}
 use Rattle.stair_nbd.specs.Wire.{REPLY_LENGTH, REQUEST_LENGTH, read_request}
 use Rattle.stair_nbd.proofs.OptionLaws.{header_came, header_passed, none_read}
-use Rattle.stair_nbd.proofs.ReplyLaws.{kept_behind, reply_behind}
+use Rattle.stair_nbd.proofs.ReplyLaws.{kept_after, reply_after}
 use Rattle.stair_nbd.proofs.RequestLaws.{answered_none, client_goes, did_fail, ends_late, no_data, no_header, no_reply, no_request, one_answered}
 use Rattle.stair_nbd.proofs.serving.answer_requests.Goals as goal
 
@@ -81,9 +81,9 @@ returns-in_err-put_reply-clause-means g c =
     did_fail view streams _ _ _ _ c.take_request_data.new.input c.put_reply.new.output (devices c.respond-reply.new.rack (Opened c.respond-reply.new.array) c.respond-reply.new.watchers.items) c.from_residual-in_err-put_reply.result c.in_err-put_reply.field-0.0 c.from_residual-in_err-put_reply.ensures.1
     (no_reply c.loop-header.invariant early c.take_header.new.input c.take_header.new.header came c.in-Some.request asks stays c.take_request_data.new.input c.array_size-size.result c.array_size-size.ensures c.take_request_data.new.buffer c.in_ok-take_request_data.ensures
     (devices c.respond-reply.new.rack (Opened c.respond-reply.new.array) c.respond-reply.new.watchers.items) c.respond-reply.result c.respond-reply.new.buffer
-    (λ bytes kept. c.respond-reply.ensures.comes bytes (kept_behind REPLY_LENGTH c.loop-header.buffer c.take_request_data.new.buffer fits _ c.in-Some.request bytes kept))
+    (λ bytes kept. c.respond-reply.ensures.comes bytes (kept_after REPLY_LENGTH c.loop-header.buffer c.take_request_data.new.buffer fits _ c.in-Some.request bytes kept))
     c.put_reply.new.output _
-    (reply_behind REPLY_LENGTH c.loop-header.buffer c.take_request_data.new.buffer fits c.respond-reply.new.buffer c.respond-reply.result c.in-Some.request)
+    (reply_after REPLY_LENGTH c.loop-header.buffer c.take_request_data.new.buffer fits c.respond-reply.new.buffer c.respond-reply.result c.in-Some.request)
     (status_of_nbd c.in_err-put_reply.field-0.0) c.in_err-put_reply.ensures)
 
 pub loop-header-preserved : goal.loop-header-preserved
@@ -97,9 +97,9 @@ loop-header-preserved g c =
     let fits : REPLY_LENGTH ≤ length c.loop-header.buffer = omega (arith, c.loop-header.auto.buffer, c.requires.room) in
     one_answered c.loop-header.invariant early c.take_header.new.input c.take_header.new.header came c.in-Some.request asks stays c.take_request_data.new.input c.array_size-size.result c.array_size-size.ensures c.take_request_data.new.buffer c.in_ok-take_request_data.ensures
     (devices c.respond-reply.new.rack (Opened c.respond-reply.new.array) c.respond-reply.new.watchers.items) c.respond-reply.result c.respond-reply.new.buffer
-    (λ bytes kept. c.respond-reply.ensures.comes bytes (kept_behind REPLY_LENGTH c.loop-header.buffer c.take_request_data.new.buffer fits _ c.in-Some.request bytes kept))
+    (λ bytes kept. c.respond-reply.ensures.comes bytes (kept_after REPLY_LENGTH c.loop-header.buffer c.take_request_data.new.buffer fits _ c.in-Some.request bytes kept))
     c.put_reply.new.output _
-    (reply_behind REPLY_LENGTH c.loop-header.buffer c.take_request_data.new.buffer fits c.respond-reply.new.buffer c.respond-reply.result c.in-Some.request)
+    (reply_after REPLY_LENGTH c.loop-header.buffer c.take_request_data.new.buffer fits c.respond-reply.new.buffer c.respond-reply.result c.in-Some.request)
     c.in_ok-put_reply.ensures
     c.behind-place.result c.respond-reply.new.rack c.respond-reply.new.array c.respond-reply.new.watchers.items refl c.behind-place.ensures.number
     (omega (arith, c.behind-place.ensures.taken, c.from.ensures, c.data_length.ensures)) c.behind-place.ensures.is c.respond-reply.ensures.geometry

@@ -1,4 +1,4 @@
--- The handshake came to an end, with or without a fault; or requests come behind it.
+-- The handshake came to an end, with or without a fault; or requests come after it.
 use Rattle.stair_array.specs.Promise.{Opened}
 use Rattle.stair_story.specs.Devices.{device_view, devices}
 use Rattle.stair_story.specs.Outside.{views}

@@ -1,4 +1,4 @@
--- What is said first wasn't put out; no flags came, or unknown ones; or options come behind them.
+-- What is said first wasn't put out; no flags came, or unknown ones; or options come after them.
 use Rattle.std.proofs.Common.{◌∙◌, rules}
 use Rattle.stair_story.specs.Outside.{views}
 use Rattle.stair_status.specs.declared.status.Status.TheVariants.{Done}

@@ -1,4 +1,4 @@
--- The entries so far are volumes, each apart from those behind it.
+-- The entries so far are volumes, each apart from those after it.
 use Rattle.std.proofs.Common.{◌≡◌, drop}
 use Rattle.stair_volume.specs.Table.{are_volumes}
 use Rattle.stair_volume.proofs.table.are_volumes.Given as goal

@@ -1,4 +1,4 @@
--- The field stands in its place, between what stood before and behind.
+-- The field stands in its place, between what stood before and after.
 use Rattle.std.proofs.Common.{◌≡◌, ℕ, ◌+◌, ◌-◌, List, ◌++◌, length, take, drop, ap, ◌∙◌, arith}
 use Rattle.std.proofs.lemmas.List.{drop-drop}
 use Rattle.stair_volume.specs.Page.{with_field}

@@ -1,4 +1,4 @@
--- The entries so far, and zeros behind them.
+-- The entries so far, and zeros after them.
 use Rattle.std.proofs.Common.{◌≡◌, ◌-◌, ◌*◌, ◌++◌, length, take}
 use Rattle.std.specs.Prelude.{flat_map}
 use Rattle.stair_volume.specs.Page.{entry_bytes, heading, zeros}
