@@ -1,6 +1,6 @@
 -- The number that a scrub tells is that of the cells that couldn't be read at first: no stripe is written before it is scrubbed, and
 -- nothing of the outside comes between.
-use Rattle.std.proofs.Common.{◌≡◌, ◌∙◌, ◌+◌, ◌<◌, ◌≤◌, ℕ, zero, suc, List, [], ◌∷◌, length, None, Some, Ok, inl, inr, refl, sym, ap, subst, false, arith}
+use Rattle.std.proofs.Common.{◌↔◌, ◌≡◌, ◌∙◌, ◌+◌, ◌<◌, ◌≤◌, ℕ, zero, suc, List, [], ◌∷◌, length, None, Some, Ok, inl, inr, refl, sym, ap, subst, false, arith}
 use Rattle.std.proofs.lemmas.Bool.{cases_Bool, false≢true}
 use Rattle.std.specs.Prelude.{Bool, IsSome, IsTrue}
 use Rattle.std.specs.Io.KnownBytes.{Appends}
@@ -15,19 +15,20 @@ use Rattle.stair_rack.specs.Media.{has_sector}
 use Rattle.stair_rack.specs.Moments.{AtSomeMoment, IsMoment}
 use Rattle.stair_rack.specs.Offline.{IsHeld, IsOffline, WasPulled}
 use Rattle.stair_rack.specs.Sector.{Good, content}
-use Rattle.stair_rack.specs.Stretch.{NothingDamaged, NothingWritten, every_slot}
+use Rattle.stair_rack.specs.Stretch.{NothingDamaged}
 use Rattle.stair_rack.specs.declared.watcher.Event.{Event}
 use Rattle.stair_rack.proofs.CrashLemmas.{CrashMayLeave-now}
 use Rattle.stair_rack.proofs.KeptLemmas.{not_none}
 use Rattle.stair_rack.proofs.MomentLemmas.{moment_between, moment_sooner, ran_after, ran_any, ran_before, ran_join, ran_none}
 use Rattle.stair_rack.proofs.OfflineLemmas.{held_on, pulls_on}
-use Rattle.stair_rack.proofs.StretchLemmas.{each_after, each_before, none_written}
+use Rattle.stair_rack.proofs.StretchLemmas.{each_after, each_before}
 use Rattle.stair_rack.proofs.TidyLemmas.{HasSize, size_on}
 use Rattle.stair_member.specs.Membership.{IsMembership, Membership, why_of}
 use Rattle.stair_member.specs.declared.why.Why.TheVariants as why
-use Rattle.stair_state.specs.Represents.{IsImageOf, IsLargeEnough}
+use Rattle.stair_state.specs.Represents.{ImageRepresents, IsImageOf, IsLargeEnough}
 use Rattle.stair_state.specs.State.{State}
 use Rattle.stair_member.specs.Asked.{LeavesSectors}
+use Rattle.stair_member.specs.Current.{IsLive}
 use Rattle.stair_member.specs.Reasons.{rank}
 use Rattle.stair_member.specs.Survey.{Surveys}
 use Rattle.stair_member.proofs.AskedLemmas.{asked_ran}
@@ -35,8 +36,8 @@ use Rattle.stair_member.proofs.SuperLemmas.{counts_limits}
 use Rattle.stair_journal.specs.Gate.{closed_gate, open_gate}
 use Rattle.stair_journal.specs.declared.redo.Redo.{Redo}
 use Rattle.stair_state.specs.Surveyed.{FindsArray}
-use Rattle.stair_state.specs.Tolerance.{IsWithinTolerance}
 use Rattle.stair_state.proofs.RedoPhaseLemmas.{large_some}
+use Rattle.stair_state.proofs.OutsideLemmas.{unwritten_ran}
 use Rattle.stair_state.proofs.SurveyedLemmas.{finds_array}
 use Rattle.stair_session.specs.Courses.{point}
 use Rattle.stair_session.specs.Session.{ArrayState, IsLiveIn}
@@ -48,11 +49,10 @@ use Rattle.stair_array.specs.Promise.{AnswersStopped, AreRepaired, Begun, Found,
 use Rattle.stair_array.proofs.OpenStepLemmas.{IsOpened, starts_open}
 use Rattle.stair_array.proofs.PartsLemmas.{IsPart, live_back}
 use Rattle.stair_array.proofs.PerformsLemmas.{recovered_part}
-use Rattle.stair_array.proofs.OpeningsLeadLemmas.{looks_write_none}
 use Rattle.stair_conf.specs.declared.job.Job.TheVariants.{Scrub}
 use Rattle.stair_story.specs.Devices.{DeviceView, Devices, KeepsRules, WorksAll, devices, seen_of}
 use Rattle.stair_story.specs.Rack.{told_of}
-use Rattle.stair_story.specs.Living.{IsLiveAt, IsLiveUnwritten, StaysWhole}
+use Rattle.stair_story.specs.Living.{IsLiveAt}
 use Rattle.stair_story.specs.Means.{Holds}
 use Rattle.stair_story.specs.Outside.{SinkView}
 use Rattle.stair_story.specs.Question.{Question}
@@ -71,6 +71,7 @@ use Rattle.stair_engine.specs.Mending.{scrubbed_line, scrubs}
 use Rattle.stair_engine.specs.Plans.{plan_of}
 use Rattle.stair_engine.proofs.FollowedLaws.{IsDoneBy, StepFirst, opened_story, opens_first, puts_line, step_first}
 use Rattle.stair_engine.proofs.OpeningLaws.{opening_spares, spared_asked}
+use Rattle.stair_engine.proofs.QuietLaws.{live_found}
 use Rattle.stair_engine.proofs.SparedLaws.{Spared, gate_none, held_before, spared_scrub, stays_bad, stays_good}
 
 -- ---- slots of a rack that is left alone
@@ -141,7 +142,8 @@ module _ {R W : Type 0} (view : DeviceView R W) (honest : IsTrue view.rack.hones
     (all : Ran any_call (view.rack.history first.rack) (view.rack.history last.rack))
     (quiet : IsQuiet (view.rack.history first.rack) (view.rack.history last.rack))
     (going : (h : List Happening) → IsMoment (view.rack.history first.rack) h (view.rack.history last.rack) → ¬ IsTrue (stopped h)) (m : Membership)
-    (lives : (j : ℕ) → IsLiveIn m j → (j < g.n) × IsLargeEnough g (slot_state (view.rack.history first.rack) j).size) (some_slot : 0 < g.n) where
+    (lives : (j : ℕ) → IsLiveIn m j → (j < g.n) × IsLargeEnough g (slot_state (view.rack.history first.rack) j).size) (some_slot : 0 < g.n)
+    (same_live : (j : ℕ) → IsLiveIn m j ↔ IsLiveAt g (view.rack.history first.rack) j) where
   abbrev before : List Happening
   before = view.rack.history first.rack
 
@@ -173,7 +175,7 @@ module _ {R W : Type 0} (view : DeviceView R W) (honest : IsTrue view.rack.hones
 
     -- what was repaired of it is what couldn't be read at first
     repaired_is : (count : ℕ) (repaired : AreRepaired ready.array.member t count (seen_of view x).told (seen_of view y).told)
-        → AreBad g m (view.rack.history first.rack) t repaired.cells
+        → AreBad g (view.rack.history first.rack) t repaired.cells
     repaired_is count repaired = record {
       formed = repaired.formed;
       each = λ i j. (
@@ -185,12 +187,12 @@ module _ {R W : Type 0} (view : DeviceView R W) (honest : IsTrue view.rack.hones
             let from_x = ran_before ran was.is_one in
             let to_y = ran_after ran was.is_one in (
               subst (λ (q : Geometry). i < q.r) ready.geometry one.1,
-              live,
+              (same_live j).0 live,
               bad_before g (view.rack.history first.rack) (view.rack.history last.rack) all quiet j (lives j live).1 (cell_sector g t i)
                   (ran_join ready.since from_x) (ran_join to_y rest) was.holds,
             ),
         λ is.
-            let live = is.1 in
+            let live = (same_live j).1 is.1 in
             let inside : i < ready.array.member.array.geometry.r = subst (λ (q : Geometry). i < q.r) (sym ready.geometry) is.0 in
             let bad = bad_then g (view.rack.history first.rack) (view.rack.history last.rack) all quiet j (lives j live).1 (cell_sector g t i)
             (ready.spared t i j (omega arith) is.0) ready.later is.2 in
@@ -278,7 +280,7 @@ module _ {R W : Type 0} (view : DeviceView R W) (honest : IsTrue view.rack.hones
   pub record Counts (t left cells : ℕ) (story : List Deed) : Type 0 where
     pub bad : List CellSet
     pub long : length bad ≡ left
-    pub are : AreBadFrom g m (view.rack.history first.rack) t bad
+    pub are : AreBadFrom g (view.rack.history first.rack) t bad
     pub put : PutsAlone (scrubbed_line (t + left) (cells + cells_in bad)) story
 
   count_all : (slots : Geometry) (left t cells : ℕ) (story : List Deed) → IsDoneBy (scrubs slots t left cells) story → (x : Devices R W)
@@ -331,7 +333,7 @@ module _ {R W : Type 0} (view : DeviceView R W) (honest : IsTrue view.rack.hones
                   cc
 
               joined : (step : StepFirst (ScrubStripe t) (λ count. scrubs slots (t + 1) left (cells + count)) story) (found : CellSet) → cell_count found ≡ step.given
-                  → AreBad g m (view.rack.history first.rack) t found → Counts (t + 1) left (cells + step.given) step.rest → Counts t (suc left) cells story
+                  → AreBad g (view.rack.history first.rack) t found → Counts (t + 1) left (cells + step.given) step.rest → Counts t (suc left) cells story
               joined step found number are later = record {
                 bad = found ∷ later.bad;
                 long = ap suc later.long;
@@ -348,7 +350,7 @@ same_line : (stripes cells : ℕ) → scrubbed_line (0 + stripes) (0 + cells) �
 same_line stripes cells = ap (λ n. scrubbed_line n (0 + cells)) (omega arith) ∙ ap (scrubbed_line stripes) (omega arith)
 
 abbrev IsTold : State → List Happening → List Happening → List Deed → Type 0
-IsTold s first last story = (count : ℕ) × IsExact s.geometry first last count × PutsAlone (scrubbed_line s.geometry.stripes count) story
+IsTold s first last story = (count : ℕ) × IsExact s.geometry first count × PutsAlone (scrubbed_line s.geometry.stripes count) story
 
 module _ {R W : Type 0} (view : DeviceView R W) (honest : IsTrue view.rack.honest) (s : State) (m : Membership) (g : Geometry) (events : List Event) (left : Bool)
     (rest : List Deed) (x mid z y : Devices R W) (surveys : Surveys (Ok m) (told_of view.rack x.rack) (told_of view.rack mid.rack))
@@ -480,40 +482,23 @@ module _ {R W : Type 0} (view : DeviceView R W) (honest : IsTrue view.rack.hones
   some_slot : 0 < s.geometry.n
   some_slot = let slots = rules.array.limits.devices.0 in omega (arith, slots, ap (λ (q : Geometry). q.n) geometry)
 
-  ready : Ready view honest s.geometry x y all_ran rack.quiet going performs.is.member lives some_slot 0 z
-  ready =
-      let ended = ends_open Recover g performs.is z.session performs.ends in
-      record {
-        array = performs.is;
-        opened = ended.is_open;
-        unstopped = ended.unstopped;
-        geometry = last_geometry;
-        back = λ j live. live;
-        on = λ j live. live;
-        held = λ j live. held_last j (back j live);
-        since = to_z;
-        later = rest_ran;
-        spared = λ t i j from inside. cells_spared t i j inside;
-      }
-
-  -- a slot that was live and stays whole is live then
-  module _ (j : ℕ) (stays : StaysWhole s.geometry (h_at x) (h_at x) (h_at y) j) (unwritten : IsLiveUnwritten s.geometry (h_at x) (h_at y) j) where
-    none_written_yet : NothingWritten (h_at x) (h_at mid)
-    none_written_yet = none_written {allowed = LeavesSectors} {slots = every_slot} looks_write_none asked
-
-    within : IsWithinTolerance (IsOffline (h_at x) (h_at mid)) s.geometry (image_now (h_at mid))
-    within = rack.tolerated (h_at mid) until (image_now (h_at mid)) (CrashMayLeave-now (h_at mid))
-
+  -- a slot that was live is found so, and is live then
+  module _ (j : ℕ) (live : IsLiveAt s.geometry (h_at x) j) where
     found_live : IsLiveIn m j
     found_live = record {
-      below = subst (λ (q : Geometry). j < q.n) (sym geometry) stays.below;
-      why = ap (λ (n : Membership). why_of n j) same_member
-          ∙ finds.here within.current j within.is_current (record {
-            live = unwritten (h_at mid) until none_written_yet within.current within.is_current;
-            places = λ k place. stays.places (h_at mid) k until place;
-            online = stays.there.online (h_at mid) until;
-          });
+      below = subst (λ (q : Geometry). j < q.n) (sym geometry) (live_now.below);
+      why = live_found s (told_of view.rack x.rack) (told_of view.rack mid.rack) surveys.findings surveys.found honest (surveys.began honest)
+          (unwritten_ran asked) rack.represents (each_before rack.returned until) (λ h is. rack.tolerated h (moment_sooner is until))
+          (undamaged s.geometry (h_at x) (h_at y) all_ran rack.quiet (ran_none (h_at x)) (ran_any asked) after_ran)
+          (λ i some. unpulled s.geometry (h_at x) (h_at y) all_ran rack.quiet (ran_none (h_at x)) after_ran i some) m surveys.answered.0 image.current j
+          image.is_current live_now;
     }
+      where
+        image : ImageRepresents s rack.represents.encodings (image_now (h_at x))
+        image = rack.represents.each (image_now (h_at x)) (IsImageOf.Left (CrashMayLeave-now (h_at x)))
+
+        live_now : IsLive s.geometry (image_now (h_at x)) image.current j
+        live_now = live (image_now (h_at x)) (CrashMayLeave-now (h_at x)) image.current image.is_current
 
     was_live : IsLiveIn performs.was.member j
     was_live = subst (λ (n : Membership). IsLiveIn n j) (sym was_member) found_live
@@ -521,7 +506,7 @@ module _ {R W : Type 0} (view : DeviceView R W) (honest : IsTrue view.rack.hones
     was_gone : WasGoneTo performs.was.member j (told_of view.rack mid.rack) (told_of view.rack z.rack) → ⊥
     was_gone = not_gone s.geometry (h_at x) (h_at y) performs.was j (told_of view.rack mid.rack) (told_of view.rack z.rack) (record {
       from = h_at x;
-      there = stays.there;
+      there = there s.geometry (h_at x) (h_at y) all_ran rack.quiet j (large j found_live) going;
       held = held_mid j found_live;
       since = ran_any asked;
       ran = opened_ran;
@@ -540,21 +525,38 @@ module _ {R W : Type 0} (view : DeviceView R W) (honest : IsTrue view.rack.hones
 
     stays_live : IsLiveIn performs.is.member j
     stays_live = record {
-      below = subst (λ (q : Geometry). j < q.n) (sym last_geometry) stays.below;
+      below = subst (λ (q : Geometry). j < q.n) (sym (last_geometry ∙ sym geometry)) found_live.below;
       why = by (performs.goes_on.whys j was_live.below);
     }
+
+  -- so the slots that are live to the array then are those that were live at first
+  are_live : (j : ℕ) → IsLiveIn performs.is.member j ↔ IsLiveAt s.geometry (h_at x) j
+  are_live j = (λ live. live_first j (back j live), λ live. stays_live j live)
+
+  ready : Ready view honest s.geometry x y all_ran rack.quiet going performs.is.member lives some_slot are_live 0 z
+  ready =
+      let ended = ends_open Recover g performs.is z.session performs.ends in
+      record {
+        array = performs.is;
+        opened = ended.is_open;
+        unstopped = ended.unstopped;
+        geometry = last_geometry;
+        back = λ j live. live;
+        on = λ j live. live;
+        held = λ j live. held_last j (back j live);
+        since = to_z;
+        later = rest_ran;
+        spared = λ t i j from inside. cells_spared t i j inside;
+      }
 
   given_geometry : g ≡ s.geometry
   given_geometry = performs.allowed ∙ ap (λ (n : Membership). n.array.geometry) was_member ∙ geometry
 
   counted : IsDoneBy (scrubs g 0 g.stripes 0) rest → IsTold s (h_at x) (h_at y) rest
   counted follows =
-      let counts = count_all view honest s.geometry x y all_ran rack.quiet going performs.is.member lives some_slot g g.stripes 0 0 rest follows z works ready in (
+      let counts = count_all view honest s.geometry x y all_ran rack.quiet going performs.is.member lives some_slot are_live g g.stripes 0 0 rest follows z works ready in (
         cells_in counts.bad,
         record {
-          member = performs.is.member;
-          live = λ j live. live_first j (back j live);
-          all = λ j stays unwritten. stays_live j stays unwritten;
           bad = counts.bad;
           stripes = counts.long ∙ ap (λ (q : Geometry). q.stripes) given_geometry;
           are = counts.are;

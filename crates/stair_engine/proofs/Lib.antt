@@ -33,6 +33,7 @@ mod FollowedLaws
 mod MendedLaws
 mod SparedLaws
 mod OpeningLaws
+mod QuietLaws
 mod CountedLaws
 mod ExercisedLaws
 mod SureLaws

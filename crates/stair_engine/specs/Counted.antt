@@ -9,15 +9,13 @@ use Rattle.stair_rack.specs.History.{Happening, slot_state}
 use Rattle.stair_rack.specs.Offline.{WasPulled}
 use Rattle.stair_rack.specs.Sector.{Good, content}
 use Rattle.stair_rack.specs.Stretch.{NothingDamaged, NothingReturned}
-use Rattle.stair_member.specs.Membership.{Membership}
 use Rattle.stair_journal.specs.Gate.{open_gate}
 use Rattle.stair_journal.specs.declared.redo.Redo.{Redo}
 use Rattle.stair_state.specs.Represents.{Represents}
 use Rattle.stair_state.specs.State.{State}
 use Rattle.stair_state.specs.Tolerance.{ToleratedSince}
-use Rattle.stair_session.specs.Session.{IsLiveIn}
 use Rattle.stair_array.specs.Looking.{cells_at}
-use Rattle.stair_story.specs.Living.{IsLiveAt, IsLiveUnwritten, StaysWhole}
+use Rattle.stair_story.specs.Living.{IsLiveAt}
 use Rattle.stair_story.specs.Outside.{SinkView}
 use Rattle.stair_story.specs.Story.{Deed, HasPut, PutFailed}
 use Rattle.stair_status.specs.declared.status.Status.{Status}
@@ -29,32 +27,26 @@ abbrev pub NoGateIsOpen : Geometry → List Happening → Type 0
 NoGateIsOpen g h = (j : ℕ) (redo : Redo) → IsLiveAt g h j
     → ¬ (cells_at h j gate_sector ≡ Good (open_gate g redo))
 
--- of stripe t the cells on the member's live slots that can't be read at h
-pub record AreBad (g : Geometry) (m : Membership) (h : List Happening) (t : ℕ) (cells : CellSet)
-    : Type 0 where
+-- the cells of stripe t that can't be read at h, on slots that are live then
+pub record AreBad (g : Geometry) (h : List Happening) (t : ℕ) (cells : CellSet) : Type 0 where
   pub formed : IsCellSet cells
-  pub each : (i j : ℕ) → HasCell cells i j ↔ ((i < g.r) × IsLiveIn m j
+  pub each : (i j : ℕ) → HasCell cells i j ↔ ((i < g.r) × IsLiveAt g h j
       × (is_good (content ((slot_state h j).sector (cell_sector g t i))) ≡ false))
 
 -- those of so many stripes, from stripe t on
-abbrev pub AreBadFrom : Geometry → Membership → List Happening → ℕ → List CellSet → Type 0
-AreBadFrom g m h t [] = ⊤
-AreBadFrom g m h t (cells ∷ more) = AreBad g m h t cells × AreBadFrom g m h (t + 1) more
+abbrev pub AreBadFrom : Geometry → List Happening → ℕ → List CellSet → Type 0
+AreBadFrom g h t [] = ⊤
+AreBadFrom g h t (cells ∷ more) = AreBad g h t cells × AreBadFrom g h (t + 1) more
 
 abbrev pub cells_in : List CellSet → ℕ
 cells_in [] = 0
 cells_in (cells ∷ more) = cell_count cells + cells_in more
 
--- So many stripe cells couldn't be read at first, on slots that were live then. Each slot counts that stays whole, and is live at each
--- moment until something is written.
-pub record IsExact (g : Geometry) (first last : List Happening) (count : ℕ) : Type 0 where
-  pub member : Membership
-  pub live : (j : ℕ) → IsLiveIn member j → IsLiveAt g first j
-  pub all : (j : ℕ) → StaysWhole g first first last j → IsLiveUnwritten g first last j
-      → IsLiveIn member j
+-- So many stripe cells of live slots can't be read at h.
+pub record IsExact (g : Geometry) (h : List Happening) (count : ℕ) : Type 0 where
   pub bad : List CellSet
   pub stripes : length bad ≡ g.stripes
-  pub are : AreBadFrom g member first 0 bad
+  pub are : AreBadFrom g h 0 bad
   pub sum : count ≡ cells_in bad
 
 -- the outside damaged no sector, and pulled no medium of a slot that held one at first
@@ -79,9 +71,9 @@ PutsAlone line (HasPut bytes ∷ story) = (bytes ≡ line) × (story ≡ [])
 PutsAlone line (PutFailed part ∷ story) = ⊥
 PutsAlone line (deed ∷ story) = PutsAlone line story
 
--- A `scrub` that is done tells of such a rack the exact number.
+-- A `scrub` that is done tells of such a rack how many cells of live slots couldn't be read at first.
 abbrev pub TellsCount : {K : Type 0} → SinkView K → Status → K → K → List Happening → List Happening
     → Type 0
 TellsCount sink status old new first last = status ≡ Done → (s : State) → IsUndisturbed s first last
-    → (count : ℕ) × IsExact s.geometry first last count
+    → (count : ℕ) × IsExact s.geometry first count
     × Appends (sink.held old) (sink.held new) (scrubbed_line s.geometry.stripes count)
