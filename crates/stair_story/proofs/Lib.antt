@@ -44,6 +44,11 @@ pub mod PlannedSureLaws
 pub mod ServedLaws
 pub mod SureDeviceLaws
 pub mod LiveLaws
+pub mod StepPartLaws
+pub mod NamedLaws
+pub mod NamedStepLaws
+pub mod OwnNewLaws
+pub mod LeftOutLaws
 pub mod RebuiltLaws
 pub mod SoonerLaws
 pub mod PromotedLaws

@@ -72,7 +72,7 @@ admitted_free j (ReplaceSlot slot) was after answer x y does is =
 admitted_free j _ was after answer x y does is = absurd (cc)
 
 -- an open array that wasn't stopped keeps the rules of one
-abbrev KeepsArray : Session → Type 0
+abbrev pub KeepsArray : Session → Type 0
 KeepsArray session = (a : ArrayState) → session ≡ Opened a → a.stopped ≡ None → IsArray a
 
 -- a refusal for good stops the array
@@ -85,7 +85,7 @@ kept_unstopped {T} (Err refusal) is keeps none stops = final refusal keeps stops
     final EpochsSpent keeps stops = let never : Some keeps.0 ≡ None = sym keeps.1 ∙ none in cc
     final _ keeps stops = absurd stops
 
-ends_array : (step : Step) (answer : Answer step) (events : List Event) (x y : Seen) → Performs step answer events x y → KeepsArray y.session
+pub ends_array : (step : Step) (answer : Answer step) (events : List Event) (x y : Seen) → Performs step answer events x y → KeepsArray y.session
 ends_array step answer events x y does a opened unstopped =
     elim does.ends [
       | Ends is err closed ↦ let never : Closed ≡ Opened a = sym closed ∙ opened in absurd cc
@@ -100,7 +100,7 @@ module _ {R W : Type 0} (view : DeviceView R W) (honest : IsTrue view.rack.hones
   h_of x = view.rack.history x.rack
 
   -- The slot is live to the session, which holds it, and is there from a moment on at which it was so already.
-  record IsUp (last : List Happening) (m : Membership) (x : Devices R W) : Type 0 where
+  pub record IsUp (last : List Happening) (m : Membership) (x : Devices R W) : Type 0 where
     pub below : j < g.n
     pub here : why_of m j ≡ why.Here
     pub geometry : m.array.geometry ≡ g
@@ -111,7 +111,7 @@ module _ {R W : Type 0} (view : DeviceView R W) (honest : IsTrue view.rack.hones
     pub array : KeepsArray x.session
 
   -- it is so over a step
-  stays_here : (last : List Happening) (m : Membership) (x y : Devices R W) → IsUp last m x → (step : Step) (answer : Answer step) (events : List Event)
+  pub stays_here : (last : List Happening) (m : Membership) (x y : Devices R W) → IsUp last m x → (step : Step) (answer : Answer step) (events : List Event)
       (does : Performs step answer events (seen_of view x) (seen_of view y)) → does.was.member ≡ m → Ran any_call (h_of y) last → why_of does.is.member j ≡ why.Here
   stays_here last m x y up step answer events does known later = by (does.goes_on.whys j below)
     where
@@ -276,27 +276,25 @@ module _ {R W : Type 0} (view : DeviceView R W) (s : State) (j : ℕ) where
       live_then (done ++ later) x y (leads_then (WorksAll view) done later x mid y first then) stands b ended still up.0 up.1 (history_of view mid) (moment_last after.more after.is) stays
 
   -- from a session's beginning
-  record BeginsWhole (x y : Devices R W) : Type 0 where
-    stands : StandsOver view s x y
-    stays : StaysWhole s.geometry (history_of view x) (history_of view x) (history_of view y) j
-    live : IsLiveUnwritten s.geometry (history_of view x) (history_of view y) j
+  pub record BeginsWhole (x y : Devices R W) : Type 0 where
+    pub stands : StandsOver view s x y
+    pub stays : StaysWhole s.geometry (history_of view x) (history_of view x) (history_of view y) j
+    pub live : IsLiveUnwritten s.geometry (history_of view x) (history_of view y) j
 
   -- it was found
-  found_live : (m : Membership) (story : List Deed) (x mid y : Devices R W) → Surveys (Ok m) (told_of view.rack x.rack) (told_of view.rack mid.rack)
-      → mid.session ≡ Found m → Leads (WorksAll view) story mid y → BeginsWhole x y → (b : ArrayState) → y.session ≡ Opened b
-      → (why_of b.member j ≡ why.Here) × (b.member.array.geometry ≡ s.geometry)
-  found_live m story x mid y surveys is_found works begins b opened =
-      up_over view stands.honest s.geometry before j last story mid y works m (subst (λ (session : Session). HasMember session m) (sym is_found) refl)
-      (record {
-        below = begins.stays.below;
-        here = here;
-        geometry = geometry;
-        held = (surveys.found.each j small).held stands.honest not_lost before (ran_none before);
-        from = before;
-        since = ran_any asked;
-        there = begins.stays;
-        array = λ a session none. absurd (let never : Found m ≡ Opened a = sym is_found ∙ session in cc);
-      }) (ran_none last) b.member (subst (λ (session : Session). HasMember session b.member) (sym opened) refl)
+  pub found_up : (m : Membership) (story : List Deed) (x mid y : Devices R W) → Surveys (Ok m) (told_of view.rack x.rack) (told_of view.rack mid.rack)
+      → mid.session ≡ Found m → Leads (WorksAll view) story mid y → (begins : BeginsWhole x y)
+      → IsUp view begins.stands.honest s.geometry (history_of view x) j (history_of view y) m mid
+  found_up m story x mid y surveys is_found works begins = record {
+    below = begins.stays.below;
+    here = here;
+    geometry = geometry;
+    held = (surveys.found.each j small).held stands.honest not_lost before (ran_none before);
+    from = before;
+    since = ran_any asked;
+    there = begins.stays;
+    array = λ a session none. absurd (let never : Found m ≡ Opened a = sym is_found ∙ session in cc);
+  }
     where
       stands : StandsOver view s x y
       stands = begins.stands
@@ -353,6 +351,15 @@ module _ {R W : Type 0} (view : DeviceView R W) (s : State) (j : ℕ) where
 
       not_lost : ¬ HasSlot surveys.findings.gone j
       not_lost = (surveys.answered.0.reasons j below).first why.Gone (omega (arith, ap rank here))
+
+  -- and stays so
+  found_live : (m : Membership) (story : List Deed) (x mid y : Devices R W) → Surveys (Ok m) (told_of view.rack x.rack) (told_of view.rack mid.rack)
+      → mid.session ≡ Found m → Leads (WorksAll view) story mid y → BeginsWhole x y → (b : ArrayState) → y.session ≡ Opened b
+      → (why_of b.member j ≡ why.Here) × (b.member.array.geometry ≡ s.geometry)
+  found_live m story x mid y surveys is_found works begins b opened =
+      up_over view begins.stands.honest s.geometry (history_of view x) j (history_of view y) story mid y works m
+      (subst (λ (session : Session). HasMember session m) (sym is_found) refl) (found_up m story x mid y surveys is_found works begins)
+      (ran_none (history_of view y)) b.member (subst (λ (session : Session). HasMember session b.member) (sym opened) refl)
 
   begun_live : (story : List Deed) (x y : Devices R W) → Leads (WorksAll view) story x y → BeginsWhole x y → (b : ArrayState) → y.session ≡ Opened b
       → (why_of b.member j ≡ why.Here) × (b.member.array.geometry ≡ s.geometry)

@@ -33,5 +33,6 @@ pub mod Bounded
 pub mod Sure
 pub mod Served
 pub mod Living
+pub mod LeftOut
 pub mod Rebuilt
 pub mod Sound

@@ -2,6 +2,7 @@
 
 ghost use Rattle.stair_story.specs.Drawn.{DrawsAreFew, DrawsAreWithin, SpentAtTheEnd};
 ghost use Rattle.stair_story.specs.Kept.{NoneIsGivenUp, NoneIsLeftOut};
+ghost use Rattle.stair_story.specs.LeftOut.{LiveSlotsAreLeftOutByNone};
 ghost use Rattle.stair_story.specs.Living.{LiveSlotsAreKept, LiveSlotsStay};
 ghost use Rattle.stair_story.specs.Rebuilt.{ChunksInOrder, RunsAreWhole};
 
@@ -16,6 +17,8 @@ pub fn session_laws<R, W>()
     ensures stays { LiveSlotsStay R W }
     // and so is one that was live before anything was written, and stays whole in the whole session
     ensures live { LiveSlotsAreKept R W }
+    // and whatever comes of the call, its opening refused or its array stopped, no epoch that it begins leaves such a slot out
+    ensures left_out { LiveSlotsAreLeftOutByNone R W }
     // the chunks of a rebuild come in order, and a promotion with the last of them
     ensures rebuilt { ChunksInOrder R W }
     // so a chunk comes behind all that are below it, and a promotion behind all but the last

@@ -1,6 +1,7 @@
 -- Each law, by the induction on stories.
 use Rattle.stair_story.proofs.DrawnLaws.{drawn_few, drawn_within, spent_at_the_end}
 use Rattle.stair_story.proofs.KeptLaws.{none_is_given_up, none_is_left_out}
+use Rattle.stair_story.proofs.LeftOutLaws.{left_out_by_none}
 use Rattle.stair_story.proofs.LiveLaws.{live_slots_kept, live_slots_stay}
 use Rattle.stair_story.proofs.RebuiltLaws.{chunks_in_order, runs_are_whole}
 use Rattle.stair_story.proofs.session.session_laws.Goals as goal
@@ -11,6 +12,7 @@ returns g c = record {
   opened = λ view story old new works first last j. none_is_left_out view j story old new works first last;
   stays = live_slots_stay _ _;
   live = live_slots_kept _ _;
+  left_out = left_out_by_none _ _;
   rebuilt = chunks_in_order;
   whole = runs_are_whole;
   drawn = drawn_few;
