@@ -1,0 +1,9 @@
+-- Lemmas of this crate.
+pub mod Known
+pub mod NewestLemmas
+pub mod BehindPlaces
+pub mod SeatsKept
+pub mod SessionLine
+pub mod LivesLaws
+pub mod ReadsOf
+pub mod LeftOutAgain

@@ -1,0 +1,3 @@
+-- Which media an array leaves out, over its life.
+pub mod Stale
+pub mod Example

@@ -1,0 +1,34 @@
+//! Which media an array leaves out, over its life.
+
+ghost use Rattle.stair_state.specs.Blocks.{AreEncodingsOf, Codewords, zero_blocks};
+ghost use Rattle.stair_return.specs.Misled.{five};
+ghost use Rattle.stair_lives.specs.Example.{HaveAllBut, IsLeftOutAgain};
+ghost use Rattle.stair_lives.specs.Stale.{AllNameOnce, AllNameOnceWithin, LeftOutStays, NeverStale, NeverStaleWithin, NewestIsFound, OnlyLiveAreRead};
+
+/// What a medium that is reinserted can't bring about, over the calls of a life. It does nothing.
+pub fn stale_lives<R, W, S, K>()
+    // between two calls the newest epoch is one that was acknowledged, and no medium that it left out is live until one is admitted
+    ensures never { NeverStale R W S K }
+    // nor is one in a call, whether it ends or is cut, between two deeds
+    ensures within { NeverStaleWithin R W S K }
+    // and the survey of such a call finds the newest epoch
+    ensures found { NewestIsFound R W S K }
+    // so no medium of that name is, wherever it is put
+    ensures named { LeftOutStays }
+    // at each moment of a life, whole or cut, an epoch names one configuration, and a joined number of a slot one medium
+    ensures once { AllNameOnce R W S K }
+    ensures once_within { AllNameOnceWithin R W S K }
+{}
+
+/// Of which slots an array reads its gate, its journal and its chunks. It does nothing.
+pub fn stale_reads()
+    // of those that are live to the member with which the step began, and of one that is replaced
+    ensures live { OnlyLiveAreRead }
+{}
+
+/// A device that was pulled, that an epoch leaves out, and that is put back before the next opening. It does nothing.
+pub fn stale_example()
+    // the rack is the array still, the premise of an opening is met while it is only looked at, and the survey leaves the device out
+    ensures left_out { (now words : Codewords) → AreEncodingsOf five zero_blocks now →
+        HaveAllBut now words → IsLeftOutAgain words }
+{}
