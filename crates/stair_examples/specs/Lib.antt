@@ -1,0 +1,7 @@
+-- Of each definition what meets it, and what doesn't.
+pub mod Stripes
+pub mod Devices
+pub mod Journals
+pub mod Arrays
+pub mod Calls
+pub mod Histories

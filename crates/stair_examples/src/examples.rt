@@ -1,0 +1,62 @@
+//! Of each definition what meets it, and what doesn't.
+
+ghost use Rattle.stair_examples.specs.Arrays.{
+  ExamplesOfEncodes,
+  ExamplesOfIsCalm,
+  ExamplesOfIsConsistentUnderReassembly,
+  ExamplesOfIsWithinTolerance,
+  ExamplesOfRepresents,
+};
+ghost use Rattle.stair_examples.specs.Calls.{
+  ExamplesOfGoes,
+  ExamplesOfIsBorneOut,
+  ExamplesOfIsRun,
+  ExamplesOfIsSafe,
+  ExamplesOfMeans,
+};
+ghost use Rattle.stair_examples.specs.Devices.{ExamplesOfCrashMayLeave};
+ghost use Rattle.stair_examples.specs.Histories.{ExamplesOfLives};
+ghost use Rattle.stair_examples.specs.Journals.{
+  ExamplesOfGate,
+  ExamplesOfIsRedo,
+  ExamplesOfMembership,
+};
+ghost use Rattle.stair_examples.specs.Stripes.{ExamplesOfIsCovered};
+
+/// Stripes and devices. It does nothing.
+pub fn device_laws()
+    // which erased cells the code restores
+    ensures is_covered { ExamplesOfIsCovered }
+    // what a crash may leave
+    ensures crash_may_leave { ExamplesOfCrashMayLeave }
+    // what is to be done again, and which gates say so
+    ensures redo { ExamplesOfIsRedo }
+    ensures gate { ExamplesOfGate }
+    // what a session knows of an array
+    ensures membership { ExamplesOfMembership }
+{}
+
+/// Arrays. It does nothing.
+pub fn array_laws()
+    // an image that has the stripes
+    ensures encodes { ExamplesOfEncodes }
+    // what may fail, at a moment and in a session
+    ensures is_within_tolerance { ExamplesOfIsWithinTolerance }
+    ensures is_calm { ExamplesOfIsCalm }
+    // a rack that is an array in a state, and one that stays so however its media lie
+    ensures represents { ExamplesOfRepresents }
+    ensures is_consistent_under_reassembly { ExamplesOfIsConsistentUnderReassembly }
+{}
+
+/// Calls. It does nothing.
+pub fn call_laws()
+    // a story that follows a plan, and that the outside bears out
+    ensures means { ExamplesOfMeans }
+    ensures is_borne_out { ExamplesOfIsBorneOut }
+    // a deed, a run, and a run that a crash cuts
+    ensures goes { ExamplesOfGoes }
+    ensures is_run { ExamplesOfIsRun }
+    ensures is_safe { ExamplesOfIsSafe }
+    // session after session
+    ensures lives { ExamplesOfLives }
+{}
