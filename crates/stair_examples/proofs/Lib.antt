@@ -8,3 +8,4 @@ pub mod ToleranceLemmas
 pub mod RepresentsLemmas
 pub mod CallLemmas
 pub mod LifeLemmas
+pub mod CopyLemmas

@@ -5,3 +5,4 @@ pub mod Journals
 pub mod Arrays
 pub mod Calls
 pub mod Histories
+pub mod Copies

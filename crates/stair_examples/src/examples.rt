@@ -14,6 +14,7 @@ ghost use Rattle.stair_examples.specs.Calls.{
   ExamplesOfIsSafe,
   ExamplesOfMeans,
 };
+ghost use Rattle.stair_examples.specs.Copies.{ExamplesOfIsOlderCopy};
 ghost use Rattle.stair_examples.specs.Devices.{ExamplesOfCrashMayLeave};
 ghost use Rattle.stair_examples.specs.Histories.{ExamplesOfLives};
 ghost use Rattle.stair_examples.specs.Journals.{
@@ -46,6 +47,8 @@ pub fn array_laws()
     // a rack that is an array in a state, and one that stays so however its media lie
     ensures represents { ExamplesOfRepresents }
     ensures is_consistent_under_reassembly { ExamplesOfIsConsistentUnderReassembly }
+    // a device that was restored from a backup
+    ensures is_older_copy { ExamplesOfIsOlderCopy }
 {}
 
 /// Calls. It does nothing.
