@@ -1,13 +1,16 @@
 -- What becomes of volumes over a call of words that spell a command on them.
-use Rattle.std.proofs.Common.{ℕ, List, [], ◌∷◌, Option, None, Some, inl, inr, sym, ap, subst}
-use Rattle.stair_model.specs.Geometry.{IsWithinLimits}
+use Rattle.std.proofs.Common.{◌≡◌, ◌∙◌, ℕ, List, [], ◌∷◌, Option, None, Some, inl, inr, drop, map, refl, take, sym, ap, subst}
+use Rattle.std.specs.List.{concat}
+use Rattle.stair_model.specs.Geometry.{IsWithinLimits, block_count}
 use Rattle.stair_rack.specs.History.{Happening}
+use Rattle.stair_state.specs.Blocks.{Blocks}
 use Rattle.stair_state.specs.State.{State}
 use Rattle.stair_session.specs.Returning.{Returning}
 use Rattle.stair_conf.specs.Words.{Spells}
 use Rattle.stair_conf.specs.declared.job.Job.{Job}
 use Rattle.stair_conf.specs.declared.job.Job.TheVariants.{Volume}
 use Rattle.stair_conf.specs.declared.job.VolumeJob.{VolumeJob}
+use Rattle.stair_conf.specs.declared.job.VolumeJob.TheVariants as volume
 use Rattle.stair_conf.proofs.WordsLemmas.{spells_once}
 use Rattle.stair_story.specs.Devices.{devices as at}
 use Rattle.stair_story.specs.Plan.{Plan, Over, Ask}
@@ -17,9 +20,13 @@ use Rattle.stair_story.specs.Story.{Deed, Found, Grew, RanOut, Leads, Moves, put
 use Rattle.stair_status.specs.declared.status.Status.{Status}
 use Rattle.stair_status.specs.declared.status.Status.TheVariants.{OutOfMemory}
 use Rattle.stair_story.proofs.LifeLaws.{kept_whole}
-use Rattle.stair_volume.specs.Volumes.{IsCommand}
+use Rattle.stair_volume.specs.Table.{Table}
+use Rattle.stair_volume.specs.Volumes.{HasVolumes, IsAmong, IsCommand, IsFinished, Volume as Held, volume_at}
+use Rattle.stair_volume.proofs.AgreeLaws.{read_alike}
+use Rattle.stair_volume.proofs.ReadingLaws.{one_table}
 use Rattle.stair_volume.proofs.OpenedLaws.{Reached, before_at, cut_goes, finished, goes_so, over_before, reached}
-use Rattle.stair_engine.specs.Laws.{VolumesAreChanged}
+use Rattle.stair_engine.specs.Changed.{HoldsVolume}
+use Rattle.stair_engine.specs.Laws.{VolumesAreChanged, VolumesAreReadAlike}
 use Rattle.stair_engine.specs.Plans.{if_spelled, job_plan, plan_of}
 use Rattle.stair_engine.proofs.VolumesLaws.{spelled_command}
 
@@ -92,3 +99,36 @@ volumes_are_changed R W S K devices view words job status a b x y watchers left 
   where
     is_one : IsCommand job
     is_one = spelled_command words job spells
+
+-- what an array holds is one list of volumes
+one_list : (count : ℕ) (held : Blocks) (a b : List Held) → HasVolumes count held a → HasVolumes count held b → a ≡ b
+one_list count held a b first second =
+    first.are
+    ∙ ap (λ (t : Table). map (volume_at held) t.entries) (one_table count (held 0) first.table second.table first.is_table second.is_table)
+    ∙ sym second.are
+
+-- a read that is finished put out the bytes of the volume that its array held
+module _ (name : List ℕ) (block count : ℕ) (taken put : List ℕ) (s new : State) (finished : IsFinished (volume.Read name block count) taken put s new) where
+  reads_volume : (v : Held) → HoldsVolume (block_count s.geometry) finished.held name v → put ≡ concat (take count (drop block v.blocks))
+  reads_volume v holds =
+      let among : IsAmong finished.done.volumes name v =
+      subst (λ (volumes : List Held). IsAmong volumes name v)
+      (one_list (block_count s.geometry) finished.held holds.volumes finished.done.volumes holds.has finished.done.begins) holds.among in
+      let same : IsFinished (volume.Read name block count) taken (concat (take count (drop block v.blocks))) s new = record {
+        held = finished.held;
+        settled = finished.settled;
+        contents = finished.contents;
+        front = finished.front;
+        all = finished.all;
+        done = finished.done;
+        puts = (v, among, refl);
+        certain = finished.certain;
+      } in
+      read_alike name block count taken put taken (concat (take count (drop block v.blocks))) s new s new v finished same among among
+
+pub volumes_are_read_alike : (R W S K : Type 0) → VolumesAreReadAlike R W S K
+volumes_are_read_alike R W S K devices view words name block count status a b x y watchers left spells whole returning s limits run done =
+    let story = whole.with.means.story in
+    let finished =
+    ((volumes_are_changed R W S K devices view words (volume.Read name block count) status a b x y watchers left spells whole returning s limits).0 run).1 done in
+    (finished.held, finished.settled, reads_volume name block count (taken_in story) (put_in story) s run.state finished)

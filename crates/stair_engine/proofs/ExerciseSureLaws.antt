@@ -1,50 +1,68 @@
--- The steps of `exercise` are sure: each is of a stripe or a block that there is.
-use Rattle.std.proofs.Common.{◌≡◌, ◌∙◌, ◌==◌, ◌+◌, ◌%◌, ◌<◌, ◌≤◌, ℕ, zero, suc, Bool, false, nat_lt, List, [], Option, ap, arith, refl, subst, sym}
-use Rattle.std.proofs.lemmas.Bool.{lt-ltb}
+-- The steps of `exercise` are sure: each is of a stripe or a block that there is, and is no write where the array is frozen.
+use Rattle.std.specs.Prelude.{◌||◌}
+use Rattle.std.proofs.Common.{◌≡◌, ◌∙◌, ◌==◌, ◌+◌, ◌%◌, ◌<◌, ◌≤◌, ℕ, zero, suc, Bool, false, true, nat_lt, List, [], Option, ap, arith, refl, subst, sym}
+use Rattle.std.proofs.lemmas.Bool.{lt-ltb, ltb-false, or_left, or_right}
 use Rattle.stair_model.specs.Geometry.{Geometry, IsWithinLimits, block_count}
 use Rattle.stair_state.specs.State.{Content, State}
-use Rattle.stair_story.specs.Plan.{Plan}
+use Rattle.stair_story.specs.Plan.{Plan, if_so}
 use Rattle.stair_story.specs.Sure.{IsSure}
 use Rattle.stair_story.proofs.PieceLaws.{some_blocks}
 use Rattle.stair_engine.specs.declared.exercise.Exercised.{Exercised}
 use Rattle.stair_engine.specs.Complete.{IsThawed}
-use Rattle.stair_engine.specs.Exercise.{choice_of, exercise_plan, exercise_steps, exercises, if_few, kind_of, most_steps, next_number, none_exercised, step_one}
+use Rattle.stair_engine.specs.Exercise.{choice_of, exercise_plan, exercise_steps, exercises, has_write, if_few, kind_of, most_steps, next_number, none_exercised, read_one, scrub_one, step_one, write_one}
 use Rattle.stair_engine.proofs.OpenLaws.{left_so}
 use Rattle.stair_engine.proofs.ExercisedLaws.{tells_steps}
 use Rattle.stair_engine.proofs.SureLaws.{one_block, opens_sure, still_thawed}
 
 module _ (g : Geometry) (limits : IsWithinLimits g) (left : Option (List ℕ)) where
-  -- what is sure in each state of the array in which it isn't frozen
-  abbrev IsSureThawed : Plan → Type 0
-  IsSureThawed plan = (s : State) → s.geometry ≡ g → s.content.frozen ≡ false → IsSure [] plan s left
+  -- what is sure in each state of the array, which isn't frozen where a write comes
+  abbrev IsSureFor : Bool → Plan → Type 0
+  IsSureFor writes plan = (s : State) → s.geometry ≡ g → (writes ≡ true → s.content.frozen ≡ false) → IsSure [] plan s left
 
-  one_sure : (x : ℕ) (so_far : Exercised) (k : Exercised → Plan) → ((came : Exercised) → IsSureThawed (k came)) → IsSureThawed (step_one g x so_far k)
-  one_sure x so_far k behind s same thawed =
-      left_so (λ plan. IsSure [] plan s left) _ _ (
-        λ seats known free. subst (λ (of : Geometry). choice_of x % g.stripes < of.stripes) (sym same) (omega (arith, limits.size.0)),
-        λ cells gone later done. behind _ later (done.row.geometry ∙ same) (ap (λ (c : Content). c.frozen) done.row.holds.content ∙ thawed),
-      )
-      (left_so (λ plan. IsSure [] plan s left) _ _ (
-        λ seats known free. in_blocks,
-        λ contents gone later done. behind _ later (done.row.geometry ∙ same) (ap (λ (c : Content). c.frozen) done.row.holds.1.content ∙ thawed),
-      ) (
-        λ seats known free. (in_blocks, one_block s.geometry _ in_blocks, thawed),
-        λ done gone later did. behind _ later (did.row.geometry ∙ same) (ap (λ (c : Content). c.frozen) did.row.holds.content ∙ thawed),
-      ) (nat_lt (kind_of x) 4)) (kind_of x == 0)
-    where
-      in_blocks : choice_of x % block_count g < block_count s.geometry
-      in_blocks = subst (λ (of : Geometry). choice_of x % block_count g < block_count of) (sym same) (omega (arith, some_blocks g limits))
+  in_blocks : (x : ℕ) (s : State) → s.geometry ≡ g → choice_of x % block_count g < block_count s.geometry
+  in_blocks x s same = subst (λ (of : Geometry). choice_of x % block_count g < block_count of) (sym same) (omega (arith, some_blocks g limits))
 
-  -- nothing is asked of none
-  steps_sure : (count x : ℕ) (so_far : Exercised) (k : Exercised → Plan) → ((came : Exercised) (s : State) → IsSure [] (k came) s left) → (s : State)
-      → s.geometry ≡ g → (0 < count → s.content.frozen ≡ false) → IsSure [] (exercises g count x so_far k) s left
-  steps_sure zero x so_far k behind s same thawed = behind so_far s
-  steps_sure (suc count) x so_far k behind s same thawed =
-      one_sure (next_number x) so_far (λ later. exercises g count (next_number x) later k)
-      (λ came later also still. steps_sure count (next_number x) came k behind later also (λ some. still)) s same (thawed (omega arith))
+  module _ (x : ℕ) (so_far : Exercised) (writes : Bool) (k : Exercised → Plan) (behind : (came : Exercised) → IsSureFor writes (k came)) where
+    scrub_sure : IsSureFor writes (scrub_one g x so_far k)
+    scrub_sure s same thawed = (
+      λ seats known free. subst (λ (of : Geometry). choice_of x % g.stripes < of.stripes) (sym same) (omega (arith, limits.size.0)),
+      λ cells gone later done. behind _ later (done.row.geometry ∙ same) (λ some. ap (λ (c : Content). c.frozen) done.row.holds.content ∙ thawed some),
+    )
+
+    read_sure : IsSureFor writes (read_one g x so_far k)
+    read_sure s same thawed = (
+      λ seats known free. in_blocks x s same,
+      λ contents gone later done. behind _ later (done.row.geometry ∙ same) (λ some. ap (λ (c : Content). c.frozen) done.row.holds.1.content ∙ thawed some),
+    )
+
+    write_sure : (s : State) → s.geometry ≡ g → s.content.frozen ≡ false → IsSure [] (write_one g x so_far k) s left
+    write_sure s same thawed = (
+      λ seats known free. (in_blocks x s same, one_block s.geometry _ (in_blocks x s same), thawed),
+      λ done gone later did. behind _ later (did.row.geometry ∙ same) (λ some. ap (λ (c : Content). c.frozen) did.row.holds.content ∙ thawed),
+    )
+
+    -- by the kind of the step
+    kind_sure : (s : State) → s.geometry ≡ g → ((nat_lt 3 (kind_of x) || writes) ≡ true → s.content.frozen ≡ false) → (few : Bool)
+        → nat_lt (kind_of x) 4 ≡ few → IsSure [] (if_so few (read_one g x so_far k) (write_one g x so_far k)) s left
+    kind_sure s same thawed true is = read_sure s same (λ some. thawed (or_right (nat_lt 3 (kind_of x)) writes some))
+    kind_sure s same thawed false is =
+        write_sure s same (thawed (or_left (nat_lt 3 (kind_of x)) writes (lt-ltb 3 (kind_of x) (omega (arith, ltb-false (kind_of x) 4 is)))))
+
+    one_sure : IsSureFor (nat_lt 3 (kind_of x) || writes) (step_one g x so_far k)
+    one_sure s same thawed =
+        left_so (λ plan. IsSure [] plan s left) _ _ (scrub_sure s same (λ some. thawed (or_right (nat_lt 3 (kind_of x)) writes some)))
+        (kind_sure s same thawed (nat_lt (kind_of x) 4) refl) (kind_of x == 0)
+
+  -- nothing is asked of steps that don't write
+  steps_sure : (count x : ℕ) (so_far : Exercised) (k : Exercised → Plan) → ((came : Exercised) (s : State) → IsSure [] (k came) s left)
+      → IsSureFor (has_write x count) (exercises g count x so_far k)
+  steps_sure zero x so_far k behind = λ s same thawed. behind so_far s
+  steps_sure (suc count) x so_far k behind =
+      one_sure (next_number x) so_far (has_write (next_number x) count) (λ later. exercises g count (next_number x) later k)
+      (λ came. steps_sure count (next_number x) came k behind)
 
 pub exercise_sure : (number count : ℕ) (s : State) (left : Option (List ℕ)) → IsWithinLimits s.geometry → count ≤ most_steps
-    → (0 < count → IsThawed s) → IsSure [] (exercise_plan number count) s left
+    → (has_write number count ≡ true → IsThawed s) → IsSure [] (exercise_plan number count) s left
 exercise_sure number count s left limits few thawed =
     opens_sure (exercise_steps number count) s left
     (λ later decided same.

@@ -2,7 +2,7 @@
 use Rattle.std.proofs.Common.{◌≡◌, ◌≢◌, ◌≤◌, ℕ, Bool, List, Option, None, Some, Result, Ok, Err, arith, false, refl, true}
 use Rattle.stair_model.specs.Geometry.{Geometry}
 use Rattle.stair_array.specs.Draws.{allowance}
-use Rattle.stair_array.specs.Machine.{SetFrozen, SetLabel, Step}
+use Rattle.stair_array.specs.Machine.{Recover, ReplaceSlot, SetFrozen, SetLabel, Step}
 use Rattle.stair_array.specs.declared.fault.CreateFault.{CreateFault}
 use Rattle.stair_array.specs.declared.fault.CreateFault.TheVariants as create
 use Rattle.stair_monitor.specs.Reports.{report_plan}
@@ -18,18 +18,18 @@ use Rattle.stair_status.specs.declared.status.Status.{Status}
 use Rattle.stair_status.specs.declared.status.Status.TheVariants.{Done, NotCodeword, NoCodeword, Lost, OutOfMemory}
 use Rattle.stair_story.specs.Action.{status_of_create, status_of_survey}
 use Rattle.stair_story.specs.Answer.{Judges}
-use Rattle.stair_story.specs.Ending.{AdmitsNone, AllowsAtMost, AsksFirst, AsksForNone, AsksUnwritten, EachStep, EndsIn, IfNothingIsPutOut, IsNoFault, OnlyLooks, PutsLast, TakesNoStep, TakesNothing, TellsFaults}
+use Rattle.stair_story.specs.Ending.{AdmitsNone, AllowsAtMost, AsksFirst, AsksForNone, AsksUnwritten, CountsAtMost, EachStep, EndsIn, IfNothingIsPutOut, IsNoFault, OnlyLooks, PutsLast, TakesNoStep, TakesNothing, TellsFaults}
 use Rattle.stair_story.specs.Fault.{status_of_config}
 use Rattle.stair_story.specs.Means.{Means}
 use Rattle.stair_story.specs.Outside.{Outside, Views}
-use Rattle.stair_story.specs.Plan.{Plan, Over, answer, opens_array, watches_array}
+use Rattle.stair_story.specs.Plan.{Plan, Over, Ask, Take, Put, Allocate, Do, Try, RebuildAll, answer, opens_array, watches_array}
 use Rattle.stair_story.specs.Sure.{most_allowed}
 use Rattle.stair_story.proofs.DeviceLaws.{ActsOnce, calls_once, once_no_step}
 use Rattle.stair_story.proofs.EndingLaws.{nothing_put, tells_faults, weaker}
 use Rattle.stair_story.proofs.LookLaws.{calls_look, first_unwritten}
 use Rattle.stair_story.proofs.PlannedLaws.{none_counts, none_each}
 use Rattle.stair_engine.proofs.ExerciseLaws.{exercise_admits_none, exercise_allowed, exercise_last, exercise_none, exercise_own, exercise_untaken}
-use Rattle.stair_engine.proofs.LineLaws.{script_allowed, script_none, script_own}
+use Rattle.stair_engine.proofs.LineLaws.{allows_more, opens_or_stamps, script_allowed, script_counts, script_none, script_own}
 use Rattle.stair_nbd.specs.Client.{client_plan}
 use Rattle.stair_engine.proofs.ClientLaws.{client_admits_none, client_allowed, client_none, client_own}
 use Rattle.stair_engine.proofs.ReportLaws.{report_calls_none, report_first, report_last, report_own}
@@ -37,7 +37,7 @@ use Rattle.stair_engine.proofs.MendLaws.{done_own, replaces_allowed, replaces_la
 use Rattle.stair_engine.proofs.OpenLaws.{IsOfJob, opening_admits_none, opening_allowed, read_admits_none, read_allowed, read_none, read_own, read_untaken, refusal_own, unless_so, write_admits_none, write_allowed, write_last, write_none, write_own}
 use Rattle.stair_engine.specs.Exercise.{exercise_steps}
 use Rattle.stair_engine.specs.Mending.{scrubs, stamps}
-use Rattle.stair_engine.specs.Jobs.{MayAdmit, MayWrite, NotSpelled, OpensArray, PutsOnTheWay, TakesInput}
+use Rattle.stair_engine.specs.Jobs.{IsScripted, MayAdmit, MayWrite, NotSpelled, OpensArray, PutsOnTheWay, TakesInput}
 use Rattle.stair_engine.proofs.StripeLaws.{stripe_calls_none}
 use Rattle.stair_engine.specs.Plans.{create_plan, job_plan, making_plan, plan_of, planning_plan, show_plan, stripe_plan, tested_plan, within_limits}
 use Rattle.stair_engine.specs.Task.{one_stripe}
@@ -271,32 +271,68 @@ job_admits_none (job.Guard events fences) other = absurd (other tt)
 job_admits_none (job.Exercise number count) other =
     λ member. opening_admits_none member.array.geometry.n (exercise_steps number count) (exercise_admits_none number count)
 
-stamps_allowed : (step : Step) (line : List ℕ) → allowance step ≤ 3 → AllowsAtMost most_allowed (stamps step line)
+stamps_allowed : (step : Step) (line : List ℕ) → allowance step ≤ 3 → AllowsAtMost 4 (stamps step line)
 stamps_allowed step line few = λ member.
     opening_allowed member.array.geometry.n _ (λ g. (0, omega (arith, few), unless_so (AllowsAtMost 0) g.n _ (λ given left. tt) (λ refusal. tt)))
 
+-- those that open an array are allowed one for the opening, and three more where a slot is replaced
+job_draws_few : (of : Job) → ¬ IsScripted of → AllowsAtMost 4 (job_plan of)
+job_draws_few (job.OneStripe command n m r e) other =
+    none_counts allowance 4 (job_plan (job.OneStripe command n m r e)) (job_no_step (job.OneStripe command n m r e) (λ no. no))
+job_draws_few job.Create other = none_counts allowance 4 create_plan (job_no_step job.Create (λ no. no))
+job_draws_few job.Show other = none_counts allowance 4 show_plan (job_no_step job.Show (λ no. no))
+job_draws_few job.Report other = none_counts allowance 4 report_plan (job_no_step job.Report (λ no. no))
+job_draws_few job.Serve other = λ member. opening_allowed member.array.geometry.n client_plan (client_allowed 3)
+job_draws_few (job.Volume of) other = λ member. opening_allowed member.array.geometry.n (volume_plan of) (volume_allowed of 3)
+job_draws_few (job.Plan n m r e) other =
+    none_counts allowance 4 (job_plan (job.Plan n m r e)) (job_no_step (job.Plan n m r e) (λ no. no))
+job_draws_few (job.Read first count) other = λ member. opening_allowed member.array.geometry.n _ (read_allowed 3 first count)
+job_draws_few (job.Write first count) other = λ member. opening_allowed member.array.geometry.n _ (write_allowed 3 first count)
+job_draws_few job.Scrub other = λ member. opening_allowed member.array.geometry.n _ (λ g. scrubs_allowed 3 g 0 g.stripes 0)
+job_draws_few (job.Replace slot) other = λ member. opening_allowed member.array.geometry.n _ (λ g. replaces_allowed g slot)
+job_draws_few job.Rebuild other = λ member. opening_allowed member.array.geometry.n _ (λ g steps. tt)
+job_draws_few job.Freeze other = stamps_allowed (SetFrozen true) _ (omega arith)
+job_draws_few job.Thaw other = stamps_allowed (SetFrozen false) _ (omega arith)
+job_draws_few (job.Label text) other = stamps_allowed (SetLabel text) _ (omega arith)
+job_draws_few job.Run other = absurd (other tt)
+job_draws_few (job.Guard events fences) other = absurd (other tt)
+job_draws_few (job.Exercise number count) other =
+    λ member. opening_allowed member.array.geometry.n (exercise_steps number count) (exercise_allowed 3 number count)
+
 pub job_allowed : (of : Job) → AllowsAtMost most_allowed (job_plan of)
-job_allowed (job.OneStripe command n m r e) =
-    none_counts allowance most_allowed (job_plan (job.OneStripe command n m r e)) (job_no_step (job.OneStripe command n m r e) (λ no. no))
-job_allowed job.Create = none_counts allowance most_allowed create_plan (job_no_step job.Create (λ no. no))
-job_allowed job.Show = none_counts allowance most_allowed show_plan (job_no_step job.Show (λ no. no))
-job_allowed job.Report = none_counts allowance most_allowed report_plan (job_no_step job.Report (λ no. no))
-job_allowed job.Serve = λ member. opening_allowed member.array.geometry.n client_plan (client_allowed 3)
-job_allowed (job.Volume of) = λ member. opening_allowed member.array.geometry.n (volume_plan of) (volume_allowed of 3)
-job_allowed (job.Plan n m r e) =
-    none_counts allowance most_allowed (job_plan (job.Plan n m r e)) (job_no_step (job.Plan n m r e) (λ no. no))
-job_allowed (job.Read first count) = λ member. opening_allowed member.array.geometry.n _ (read_allowed 3 first count)
-job_allowed (job.Write first count) = λ member. opening_allowed member.array.geometry.n _ (write_allowed 3 first count)
-job_allowed job.Scrub = λ member. opening_allowed member.array.geometry.n _ (λ g. scrubs_allowed 3 g 0 g.stripes 0)
-job_allowed (job.Replace slot) = λ member. opening_allowed member.array.geometry.n _ (λ g. replaces_allowed g slot)
-job_allowed job.Rebuild = λ member. opening_allowed member.array.geometry.n _ (λ g steps. tt)
-job_allowed job.Freeze = stamps_allowed (SetFrozen true) _ (omega arith)
-job_allowed job.Thaw = stamps_allowed (SetFrozen false) _ (omega arith)
-job_allowed (job.Label text) = stamps_allowed (SetLabel text) _ (omega arith)
 job_allowed job.Run = λ member. script_allowed false member.array.geometry.n
 job_allowed (job.Guard events fences) = λ member. script_allowed true member.array.geometry.n
-job_allowed (job.Exercise number count) =
-    λ member. opening_allowed member.array.geometry.n (exercise_steps number count) (exercise_allowed 3 number count)
+job_allowed of = allows_more 4 most_allowed (omega arith) (job_plan of) (job_draws_few of (λ no. no))
+
+-- a step that opens an array or sets a stamp is allowed a draw
+counted_allowed : (step : Step) → opens_or_stamps step ≤ allowance step
+counted_allowed Recover = omega arith
+counted_allowed (ReplaceSlot j) = omega arith
+counted_allowed (SetFrozen frozen) = omega arith
+counted_allowed (SetLabel text) = omega arith
+counted_allowed _ = omega arith
+
+counts_less : (n : ℕ) (plan : Plan) → AllowsAtMost n plan → CountsAtMost opens_or_stamps n plan
+counts_less n (Over status) allows = tt
+counts_less n (Ask question k) allows = λ reply is. counts_less n (k reply) (allows reply is)
+counts_less n (Take least most k short) allows =
+    (λ bytes. counts_less n (k bytes) (allows.0 bytes), λ bytes. counts_less n (short bytes) (allows.1 bytes))
+counts_less n (Put bytes plan) allows = counts_less n plan allows
+counts_less n (Allocate plan) allows = counts_less n plan allows
+counts_less n (Do action k) allows = λ done. counts_less n (k done) (allows done)
+counts_less n (Try step k) allows =
+    (allows.0, omega (arith, allows.1, counted_allowed step), λ answer left. counts_less allows.0 (k answer left) (allows.2 answer left))
+counts_less n (RebuildAll slots done k) allows = λ steps. counts_less n (k steps) (allows steps)
+
+-- so there are few of these in any job
+job_counts : (of : Job) → CountsAtMost opens_or_stamps 4 (job_plan of)
+job_counts job.Run = λ member. script_counts false member.array.geometry.n
+job_counts (job.Guard events fences) = λ member. script_counts true member.array.geometry.n
+job_counts of = counts_less 4 (job_plan of) (job_draws_few of (λ no. no))
+
+pub words_count : (words : List (List ℕ)) → CountsAtMost opens_or_stamps 4 (plan_of words)
+words_count words None is = tt
+words_count words (Some of) spells = job_counts of
 
 -- ---- what takes no input takes nothing
 

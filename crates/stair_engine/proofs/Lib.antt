@@ -6,6 +6,7 @@ mod CameLaws
 mod RangeLaws
 mod OpenLaws
 mod JobLaws
+mod BoundsLaws
 mod WordLaws
 pub mod CellLaws
 pub mod BlockLaws

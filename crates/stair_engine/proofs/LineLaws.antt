@@ -1,6 +1,6 @@
 -- What the plan of a script does by itself.
 use Rattle.std.specs.Prelude.{◌||◌}
-use Rattle.std.proofs.Common.{◌≢◌, ◌+◌, ◌*◌, ◌≤◌, ◌++◌, ℕ, zero, suc, Bool, true, false, nat_lt, List, [], ◌∷◌, Option, None, Some, length, arith}
+use Rattle.std.proofs.Common.{◌≡◌, ◌≢◌, ◌+◌, ◌*◌, ◌≤◌, ◌++◌, ℕ, zero, suc, Bool, true, false, nat_lt, List, [], ◌∷◌, Option, None, Some, length, refl, arith}
 use Rattle.stair_model.specs.Geometry.{Geometry}
 use Rattle.stair_array.specs.Draws.{allowance}
 use Rattle.stair_array.specs.Machine.{Answer, Chunk, Dropped, GivenBy, Nothing, Progress, Promoted, ReadBlock, RebuildNext, Recover, ReplaceSlot, ScrubStripe, Step, WriteBlocks}
@@ -8,7 +8,8 @@ use Rattle.stair_script.specs.declared.line.Line.{Line}
 use Rattle.stair_script.specs.declared.line.Line.TheVariants.{Blank, Read, Write, Scrub, Replace, Rebuild}
 use Rattle.stair_status.specs.declared.status.Status.{Status}
 use Rattle.stair_status.specs.declared.status.Status.TheVariants.{BadLine, Done, Halted, OutOfMemory, OutOfRange}
-use Rattle.stair_story.specs.Ending.{AllowsAtMost, AsksForNone, EndsIn, TakesNothing}
+use Rattle.stair_story.specs.Drawn.{opens, stamps}
+use Rattle.stair_story.specs.Ending.{AllowsAtMost, AsksForNone, CountsAtMost, EndsIn, TakesNothing}
 use Rattle.stair_story.specs.Plan.{Plan, Over, Ask, Take, Put, Allocate, Do, Try, RebuildAll, watch_step}
 use Rattle.stair_story.specs.Question.{ScriptLine}
 use Rattle.stair_story.specs.Sure.{most_allowed}
@@ -48,33 +49,38 @@ module _ (IsSo : Plan → Type 0) where
 abbrev pub IsOfLine : Status → Type 0
 IsOfLine status = IsOfJob status × (status ≢ OutOfMemory)
 
--- What is so of what a line does, where it is so of each node of its plan by what comes behind.
+-- a number for each opening and each stamp
+abbrev pub opens_or_stamps : Step → ℕ
+opens_or_stamps step = opens step + stamps step
+
+-- What is so of what a line does, where it is so of each node of its plan by what comes behind. No step of it opens an array or sets
+-- a stamp.
 pub record IsOfNodes (IsSo : Plan → Type 0) : Type 0 where
   pub ends : (status : Status) → IsOfLine status → IsSo (Over status)
   pub asks : (bytes : List ℕ) (k : Option Line → Plan) → ((reply : Option Line) → IsSo (k reply)) → IsSo (Ask (ScriptLine bytes) k)
   pub puts : (bytes : List ℕ) (plan : Plan) → IsSo plan → IsSo (Put bytes plan)
-  pub tries : (step : Step) (k : Answer step → Bool → Plan) → ((answer : Answer step) (left : Bool) → IsSo (k answer left)) → IsSo (Try step k)
+  pub tries : (step : Step) → opens_or_stamps step ≡ 0 → (k : Answer step → Bool → Plan) → ((answer : Answer step) (left : Bool) → IsSo (k answer left)) → IsSo (Try step k)
 
 module _ (IsSo : Plan → Type 0) (nodes : IsOfNodes IsSo) where
-  step_so : (slots : ℕ) (step : Step) (k : GivenBy step → Bool → Plan) → ((given : GivenBy step) (left : Bool) → IsSo (k given left))
-      → IsSo (watch_step slots step k)
-  step_so slots step k behind =
-      nodes.tries step _ (unless_so IsSo slots k behind (λ refusal. nodes.ends _ (refusal_own slots refusal)))
+  step_so : (slots : ℕ) (step : Step) → opens_or_stamps step ≡ 0 → (k : GivenBy step → Bool → Plan)
+      → ((given : GivenBy step) (left : Bool) → IsSo (k given left)) → IsSo (watch_step slots step k)
+  step_so slots step none k behind =
+      nodes.tries step none _ (unless_so IsSo slots k behind (λ refusal. nodes.ends _ (refusal_own slots refusal)))
 
   range_own : (asked limit : ℕ) → IsSo (Over (OutOfRange asked limit))
   range_own asked limit = nodes.ends _ (((λ is. cc, λ is. cc), λ is. cc), λ is. cc)
 
   line_so : (g : Geometry) (said : Line) (rest : Bool → Plan) → ((left : Bool) → IsSo (rest left)) → IsSo (line_plan g said rest)
   line_so g Blank rest so = so false
-  line_so g (Read block) rest so = step_so g.n (ReadBlock block) _ (λ contents left. nodes.puts _ (rest left) (so left))
-  line_so g (Write block contents) rest so = step_so g.n (WriteBlocks block (contents ∷ [])) _ (λ done left. nodes.puts _ (rest left) (so left))
+  line_so g (Read block) rest so = step_so g.n (ReadBlock block) refl _ (λ contents left. nodes.puts _ (rest left) (so left))
+  line_so g (Write block contents) rest so = step_so g.n (WriteBlocks block (contents ∷ [])) refl _ (λ done left. nodes.puts _ (rest left) (so left))
   line_so g (Scrub stripe) rest so =
-      stripe_so IsSo g stripe _ (step_so g.n (ScrubStripe stripe) _ (λ cells left. nodes.puts _ (rest left) (so left))) (range_own stripe g.stripes)
+      stripe_so IsSo g stripe _ (step_so g.n (ScrubStripe stripe) refl _ (λ cells left. nodes.puts _ (rest left) (so left))) (range_own stripe g.stripes)
       (nat_lt stripe g.stripes)
   line_so g (Replace slot) rest so =
-      slot_so IsSo g slot _ (step_so g.n (ReplaceSlot slot) _ (λ done left. nodes.puts _ (rest left) (so left))) (range_own slot g.n) (nat_lt slot g.n)
+      slot_so IsSo g slot _ (step_so g.n (ReplaceSlot slot) refl _ (λ done left. nodes.puts _ (rest left) (so left))) (range_own slot g.n) (nat_lt slot g.n)
   line_so g (Rebuild steps) rest so =
-      rebuilds_so IsSo g.n (λ k behind. step_so g.n RebuildNext k behind) steps 0 false _ (λ done left. nodes.puts _ (rest left) (so left))
+      rebuilds_so IsSo g.n (λ k behind. step_so g.n RebuildNext refl k behind) steps 0 false _ (λ done left. nodes.puts _ (rest left) (so left))
 
   does_so : (g : Geometry) (number : ℕ) (line : List ℕ) (rest : Bool → Plan) → ((left : Bool) → IsSo (rest left)) → IsSo (does_line g number line rest)
   does_so g number line rest so = nodes.asks line (if_line g number rest) by
@@ -115,7 +121,7 @@ own_nodes = record {
   ends = λ status of. of.0;
   asks = λ bytes k behind reply is. behind reply;
   puts = λ bytes plan behind. behind;
-  tries = λ step k behind. behind;
+  tries = λ step none k behind. behind;
 }
 
 pub script_own : (guarded : Bool) (g : Geometry) (left : Bool) → EndsIn IsOfJob (if_halted guarded 0 (all_lines guarded g) left)
@@ -126,7 +132,7 @@ none_nodes = record {
   ends = λ status of. of.1;
   asks = λ bytes k behind reply is. behind reply;
   puts = λ bytes plan behind. behind;
-  tries = λ step k behind. behind;
+  tries = λ step none k behind. behind;
 }
 
 pub script_none : (guarded : Bool) (g : Geometry) (left : Bool) → AsksForNone (if_halted guarded 0 (all_lines guarded g) left)
@@ -139,7 +145,7 @@ untaken_nodes = record {
   ends = λ status of. of.0.0.0;
   asks = λ bytes k behind reply is. behind reply;
   puts = λ bytes plan behind. behind;
-  tries = λ step k behind. behind;
+  tries = λ step none k behind. behind;
 }
 
 pub last_untaken : (guarded : Bool) (g : Geometry) (number : ℕ) (line : List ℕ) → TakesNothing (last_line guarded g number line)
@@ -147,7 +153,7 @@ last_untaken = last_so TakesNothing untaken_nodes
 
 -- ---- how many draws its steps are allowed: those of a replacement for each line
 
-allows_more : (n m : ℕ) → n ≤ m → (plan : Plan) → AllowsAtMost n plan → AllowsAtMost m plan
+pub allows_more : (n m : ℕ) → n ≤ m → (plan : Plan) → AllowsAtMost n plan → AllowsAtMost m plan
 allows_more n m more (Over status) allows = tt
 allows_more n m more (Ask question k) allows = λ reply is. allows_more n m more (k reply) (allows reply is)
 allows_more n m more (Take least most k short) allows =
@@ -210,3 +216,22 @@ module _ (guarded : Bool) where
         (λ g left. halted_so (AllowsAtMost (3 * SCRIPT_LIMIT + 3)) guarded 0 (all_lines guarded g) tt
         (lines_within (3 * SCRIPT_LIMIT + 3) SCRIPT_LIMIT (omega arith) g 1 []) left) (λ refusal. tt),
   )
+
+-- ---- how often it opens an array or sets a stamp: once
+
+count_nodes : (n : ℕ) → IsOfNodes (CountsAtMost opens_or_stamps n)
+count_nodes n = record {
+  ends = λ status of. tt;
+  asks = λ bytes k behind reply is. behind reply;
+  puts = λ bytes plan behind. behind;
+  tries = λ step none k behind. (n, omega (arith, none), behind);
+}
+
+pub script_counts : (guarded : Bool) (slots : ℕ)
+    → CountsAtMost opens_or_stamps 4 (watch_step slots Recover (λ g left. if_halted guarded 0 (all_lines guarded g) left))
+script_counts guarded slots = (
+  3,
+  omega arith,
+  unless_so (CountsAtMost opens_or_stamps 3) slots (λ g left. if_halted guarded 0 (all_lines guarded g) left)
+      (script_so (CountsAtMost opens_or_stamps 3) (count_nodes 3) guarded (λ least most k short behind end. (behind, end))) (λ refusal. tt),
+)

@@ -12,7 +12,6 @@ use Rattle.stair_status.specs.declared.status.Status.TheVariants.{OutOfRange}
 use Rattle.stair_engine.specs.Blocks.{if_in_range, is_in_range, within_range}
 use Rattle.stair_story.specs.Pieces.{part_of}
 use Rattle.stair_story.specs.Transfers.{reads, writes, wrote}
-use Rattle.stair_story.specs.Sure.{most_allowed}
 use Rattle.std.specs.Prelude.{max}
 
 -- a fault, Usage and want of memory are none of a job's own
@@ -164,8 +163,8 @@ opening_admits_none n k none = (tt, unless_so (EachStep AdmitsNone) n (λ g left
 pub opening_once : (slot n : ℕ) (k : Geometry → Plan) → ((g : Geometry) → AdmitsOnce slot (k g)) → AdmitsOnce slot (take_step n Recover k)
 opening_once slot n k once = unless_so (AdmitsOnce slot) n (λ g left. k g) (λ g left. once g) (λ refusal. tt)
 
--- so many draws are more than enough for any command
-pub opening_allowed : (n : ℕ) (k : Geometry → Plan) → ((g : Geometry) → AllowsAtMost 3 (k g)) → AllowsAtMost most_allowed (take_step n Recover k)
+-- one draw for the opening
+pub opening_allowed : (n : ℕ) (k : Geometry → Plan) → ((g : Geometry) → AllowsAtMost 3 (k g)) → AllowsAtMost 4 (take_step n Recover k)
 opening_allowed n k allows = (3, omega arith, unless_so (AllowsAtMost 3) n (λ g left. k g) (λ g left. allows g) (λ refusal. tt))
 
 pub read_admits_none : (first count : ℕ) (g : Geometry) → EachStep AdmitsNone (within_range g first count (reads g first count))

@@ -1,8 +1,10 @@
 -- What becomes of the volumes of an array over a call.
-use Rattle.std.specs.Prelude.{◌≡◌, ℕ, List}
-use Rattle.stair_model.specs.Geometry.{IsWithinLimits}
+use Rattle.std.specs.Prelude.{◌≡◌, ℕ, List, drop, take}
+use Rattle.std.specs.List.{concat}
+use Rattle.stair_model.specs.Geometry.{IsWithinLimits, block_count}
 use Rattle.stair_rack.specs.Crash.{EachImage}
 use Rattle.stair_rack.specs.History.{Happening}
+use Rattle.stair_state.specs.Blocks.{Blocks}
 use Rattle.stair_state.specs.State.{State}
 use Rattle.stair_session.specs.Returning.{Returning, StandsForAlone}
 use Rattle.stair_array.specs.Promise.{Begun}
@@ -14,7 +16,7 @@ use Rattle.stair_story.specs.Run.{IsRun, IsSafe}
 use Rattle.stair_story.specs.Story.{put_in, taken_in}
 use Rattle.stair_status.specs.declared.status.Status.{Status}
 use Rattle.stair_status.specs.declared.status.Status.TheVariants.{Done}
-use Rattle.stair_volume.specs.Volumes.{Goes, IsFinished}
+use Rattle.stair_volume.specs.Volumes.{Goes, HasVolumes, IsAmong, IsFinished, IsSettled, Volume}
 use Rattle.stair_engine.specs.Plans.{plan_of}
 
 -- Along each story that bears out the call, from a state of an array: in the end of a run of the machine the volumes are those that the
@@ -34,3 +36,23 @@ ChangesVolumes job view streams words status old new first last watchers left =
     whole.with.means.story (devices first Begun watchers) (devices last whole.session left) c)
     → EachImage (λ image. (state : State) × StandsForAlone returning state image
     × Goes job (taken_in safe.done) s state) c)
+
+-- An array of so many blocks, which hold this, has this volume by that name.
+pub record HoldsVolume (count : ℕ) (held : Blocks) (name : List ℕ) (v : Volume) : Type 0 where
+  pub volumes : List Volume
+  pub has : HasVolumes count held volumes
+  pub among : IsAmong volumes name v
+
+-- A read of a volume that is done puts out those bytes of the volume. They depend on the volume alone, so two arrays that hold the same
+-- volume are read alike. The volume is the one that the array holds as it is opened, with what was in doubt made or not.
+abbrev pub ReadsAlike : {R W S K : Type 0} → (name : List ℕ) → (block count : ℕ) → DeviceView R W
+    → Views S K → List (List ℕ) → Status → Outside S K → Outside S K → R → R → List W → List W → Type 0
+ReadsAlike name block count view streams words status old new first last watchers left =
+    (whole : MeansWhole view streams (plan_of words) (Over status) old new first last watchers left)
+    (returning : Returning) (s : State) → IsWithinLimits s.geometry
+    → IsRun view returning (view.rack.history first) s whole.with.means.story
+    (devices first Begun watchers) (devices last whole.session left)
+    → status ≡ Done
+    → (held : Blocks) × IsSettled s held
+    × ((v : Volume) → HoldsVolume (block_count s.geometry) held name v
+    → put_in whole.with.means.story ≡ concat (take count (drop block v.blocks)))

@@ -1,5 +1,5 @@
 -- When a command is sure to be done.
-use Rattle.std.specs.Prelude.{◌≡◌, ◌⊎◌, ◌*◌, ◌<◌, ◌≤◌, ℕ, false, IsTrue, List, All, length, drop, take, Option, Some, Ok, ⊤}
+use Rattle.std.specs.Prelude.{◌≡◌, ◌⊎◌, ◌*◌, ◌<◌, ◌≤◌, ℕ, false, true, IsTrue, List, All, length, drop, take, Option, Some, Ok, ⊤}
 use Rattle.stair_model.specs.CellSet.{CellSet}
 use Rattle.stair_model.specs.Codeword.{IsCodeword}
 use Rattle.stair_model.specs.Coverage.{IsCovered}
@@ -26,7 +26,7 @@ use Rattle.stair_story.specs.Devices.{DeviceView, Devices, MeansWhole, WorksAll,
 use Rattle.stair_story.specs.Outside.{Outside, Views}
 use Rattle.stair_story.specs.Plan.{Over}
 use Rattle.stair_engine.specs.Blocks.{IsInRange}
-use Rattle.stair_engine.specs.Exercise.{most_steps}
+use Rattle.stair_engine.specs.Exercise.{has_write, most_steps}
 use Rattle.stair_engine.specs.Plans.{TEXT_LIMIT, plan_of}
 use Rattle.stair_story.specs.Rack.{RackView}
 use Rattle.stair_story.specs.Restore.{HoldsCells, IsErasedBy}
@@ -119,7 +119,7 @@ CanBeDone returning Serves rack (job.Write block count) told first last =
 CanBeDone returning Serves rack (job.Replace slot) told first last = (s : State) × Serves s
     × HasDevice returning s.geometry (rack.history first) (rack.history last) slot
 CanBeDone returning Serves rack (job.Exercise number count) told first last =
-    (s : State) × Serves s × (count ≤ most_steps) × (0 < count → IsThawed s)
+    (s : State) × Serves s × (count ≤ most_steps) × (has_write number count ≡ true → IsThawed s)
 CanBeDone returning Serves rack job.Run told first last = TellsInput told (λ input.
     (s : State) × Serves s × ((lines : List Line) × IsScriptOf s lines input × All PutsNoneIn lines))
 CanBeDone returning Serves rack (job.Guard events fences) told first last =

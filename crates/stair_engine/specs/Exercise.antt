@@ -1,5 +1,5 @@
 -- What `exercise` does: an array is opened, and steps are taken that a number gives.
-use Rattle.std.specs.Prelude.{◌==◌, ◌+◌, ◌*◌, ◌/◌, ◌%◌, ◌^◌, ℕ, zero, suc, Bool, true, false, nat_lt, List, [], ◌∷◌, ◌++◌, codes, replicate, slice_index}
+use Rattle.std.specs.Prelude.{◌==◌, ◌+◌, ◌*◌, ◌/◌, ◌%◌, ◌^◌, ◌||◌, ℕ, zero, suc, Bool, true, false, nat_lt, List, [], ◌∷◌, ◌++◌, codes, replicate, slice_index}
 use Rattle.std.specs.Fmt.{decimal}
 use Rattle.stair_model.specs.Geometry.{Geometry, block_count}
 use Rattle.stair_model.specs.Stripe.{SECTOR}
@@ -44,6 +44,12 @@ write_one g x so_far k =
 abbrev pub step_one : Geometry → ℕ → Exercised → (Exercised → Plan) → Plan
 step_one g x so_far k = if_so (kind_of x == 0) (scrub_one g x so_far k)
     (if_so (nat_lt (kind_of x) 4) (read_one g x so_far k) (write_one g x so_far k))
+
+-- one of so many steps, by the numbers behind this one, is a write
+abbrev pub has_write : (number count : ℕ) → Bool
+has_write number zero = false
+has_write number (suc count) =
+    nat_lt 3 (kind_of (next_number number)) || has_write (next_number number) count
 
 -- so many steps, by the numbers behind this one; the rest takes what they came to
 abbrev pub exercises : Geometry → (left number : ℕ) → Exercised → (Exercised → Plan) → Plan

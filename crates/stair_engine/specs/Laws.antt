@@ -10,6 +10,7 @@ use Rattle.stair_conf.specs.Words.{IsSpelled, Spells}
 use Rattle.stair_conf.specs.declared.job.Job.{Job}
 use Rattle.stair_conf.specs.declared.job.Job.TheVariants.{OneStripe, Create, Guard, Replace, Scrub, Serve, Show, Volume, Write}
 use Rattle.stair_conf.specs.declared.job.VolumeJob.{VolumeJob}
+use Rattle.stair_conf.specs.declared.job.VolumeJob.TheVariants as volume
 use Rattle.stair_conf.specs.declared.job.StripeCommand.{StripeCommand}
 use Rattle.stair_script.specs.declared.line.Line.{Line}
 use Rattle.stair_status.specs.declared.status.Status.{Status}
@@ -18,7 +19,8 @@ use Rattle.stair_story.specs.Answer.{map_bytes}
 use Rattle.stair_engine.specs.Cause.{Answers, IfRefusedAtOnce}
 use Rattle.stair_watch.specs.WatcherList.{AllStay}
 use Rattle.stair_engine.specs.Answered.{AnswersClient}
-use Rattle.stair_engine.specs.Changed.{ChangesVolumes}
+use Rattle.stair_engine.specs.Bounds.{BoundsDraws}
+use Rattle.stair_engine.specs.Changed.{ChangesVolumes, ReadsAlike}
 use Rattle.stair_engine.specs.Complete.{IsComplete, IsCompleteWherever, IsFinished, IsScriptOf}
 use Rattle.stair_engine.specs.Counted.{TellsCount}
 use Rattle.stair_engine.specs.Halts.{IsGuarded}
@@ -269,3 +271,16 @@ VolumesAreChanged R W S K = (view : DeviceView R W) (streams : Views S K) (words
     (job : VolumeJob) (status : Status) (old new : Outside S K) (first last : R)
     (watchers left : List W) → Spells words (Volume job)
     → ChangesVolumes job view streams words status old new first last watchers left
+
+-- A read of a volume puts out the bytes of the volume alone.
+abbrev pub VolumesAreReadAlike : (R W S K : Type 0) → Type 0
+VolumesAreReadAlike R W S K = (view : DeviceView R W) (streams : Views S K) (words : List (List ℕ))
+    (name : List ℕ) (block count : ℕ) (status : Status) (old new : Outside S K) (first last : R)
+    (watchers left : List W) → Spells words (Volume (volume.Read name block count))
+    → ReadsAlike name block count view streams words status old new first last watchers left
+
+-- no call raises the draws of an array by more than its replacements allow
+abbrev pub DrawsAreBounded : (R W S K : Type 0) → Type 0
+DrawsAreBounded R W S K = (view : DeviceView R W) (streams : Views S K) (words : List (List ℕ))
+    (status : Status) (old new : Outside S K) (first last : R) (watchers left : List W)
+    → BoundsDraws view streams words status old new first last watchers left

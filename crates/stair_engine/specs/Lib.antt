@@ -21,5 +21,6 @@ pub mod ShowSteps
 pub mod Taking
 pub mod Cause
 pub mod Does
+pub mod Bounds
 pub mod Laws
 pub mod Changed

@@ -14,6 +14,7 @@ ghost use Rattle.stair_engine.specs.Laws.{
   BytesAreAnswered,
   ClientsAreAnswered,
   DifferAtErased,
+  DrawsAreBounded,
   GuardsHalt,
   MemoryComesFirst,
   PlanIsDone,
@@ -28,6 +29,7 @@ ghost use Rattle.stair_engine.specs.Laws.{
   WholeBlocksStand,
   WordsAreDone,
   VolumesAreChanged,
+  VolumesAreReadAlike,
 };
 ghost use Rattle.stair_story.specs.Outside.{views};
 ghost use Rattle.stair_status.specs.declared.status.Status.{Status};
@@ -79,6 +81,10 @@ pub fn plan_laws<R, W, S: Source, K: Sink>()
     ensures answered { ClientsAreAnswered R W S K }
     // a command on volumes makes of them what it is to make, and of no other
     ensures changed { VolumesAreChanged R W S K }
+    // a read of a volume puts out the bytes of the volume alone, so two arrays that hold the same volume are read alike
+    ensures alike { VolumesAreReadAlike R W S K }
+    // how far the draws of superblocks rise in a call
+    ensures bounded { DrawsAreBounded R W S K }
     // what a scrub, a replacement and a rebuild leave good
     ensures mended { ArrayIsMended R W S K }
     // and to the session, whatever the rack was before

@@ -26,14 +26,16 @@ mod task;
 mod volumes;
 mod write;
 
-ghost use Rattle.std.specs.Prelude.{◌≡◌, ℕ, IsTrue, map, string_bytes};
+ghost use Rattle.std.specs.Prelude.{◌≡◌, ℕ, IsTrue, List, map, string_bytes};
 ghost use Rattle.stair_conf.specs.Words.{IsCommandLine, Spells};
 ghost use Rattle.stair_conf.specs.declared.job.Job.{Job as Jobs};
 ghost use Rattle.stair_conf.specs.declared.job.Job.TheVariants.{Create, Guard, Scrub, Serve, Volume};
 ghost use Rattle.stair_conf.specs.declared.job.VolumeJob.{VolumeJob as VolumeJobs};
+ghost use Rattle.stair_conf.specs.declared.job.VolumeJob.TheVariants.{Read};
 ghost use Rattle.stair_session.specs.Returning.{AnyReturns, Returning};
 ghost use Rattle.stair_engine.specs.Answered.{AnswersClient};
-ghost use Rattle.stair_engine.specs.Changed.{ChangesVolumes};
+ghost use Rattle.stair_engine.specs.Bounds.{BoundsDraws};
+ghost use Rattle.stair_engine.specs.Changed.{ChangesVolumes, ReadsAlike};
 ghost use Rattle.stair_engine.specs.Complete.{IsComplete, IsCompleteWherever};
 ghost use Rattle.stair_engine.specs.Counted.{TellsCount};
 ghost use Rattle.stair_engine.specs.Create.{IsOnceMade, MakesArray, SparesArrays};
@@ -188,6 +190,21 @@ pub fn stair<R: Rack, S: Source, K: Sink, L: Ledger>(
     // are those after, and `vread` put out what its volume holds.
     ensures volumes { (job : VolumeJobs) → Spells (map string_bytes words.now) (Volume job) →
         ChangesVolumes job
+        (device_view (rack_view R.Rack) hears) (views S.Source K.Sink) (map string_bytes words.now) result
+        (outside input.old output.old steps.old) (outside input.new output.new steps.new)
+        rack.old rack.new watchers.old.items watchers.new.items }
+
+    // What `vread` puts out depends on its volume alone: two arrays that hold the same volume are read alike.
+    ensures alike { (name : List ℕ) (block count : ℕ) → Spells (map string_bytes words.now) (Volume (Read name block count)) →
+        ReadsAlike name block count
+        (device_view (rack_view R.Rack) hears) (views S.Source K.Sink) (map string_bytes words.now) result
+        (outside input.old output.old steps.old) (outside input.new output.new steps.new)
+        rack.old rack.new watchers.old.items watchers.new.items }
+
+    // On an honest rack that is an array in a state, within tolerance to the end and to which no medium comes back: the draws of its
+    // superblocks rise by at most 100, and five for each replacement in the call. This holds at every moment of the call, and after a
+    // crash then.
+    ensures bounded { BoundsDraws
         (device_view (rack_view R.Rack) hears) (views S.Source K.Sink) (map string_bytes words.now) result
         (outside input.old output.old steps.old) (outside input.new output.new steps.new)
         rack.old rack.new watchers.old.items watchers.new.items }

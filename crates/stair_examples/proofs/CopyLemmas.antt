@@ -26,7 +26,6 @@ use Rattle.stair_examples.specs.Copies.{ExamplesOfIsOlderCopy, fifth, restored, 
 live_up : Live ≢ Down
 live_up same = cc
 
-
 older_formed : IsSuperblock (copy_of all_live 3)
 older_formed =
     named_super 4 Live Live Live Live Live 1 1 1 1 1 (omega arith) (omega arith, omega arith) (omega arith, omega arith) (omega arith, omega arith)

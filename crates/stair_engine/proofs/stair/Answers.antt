@@ -2,6 +2,7 @@
 use Rattle.std.proofs.Common.{◌≡◌, inl, inr, Err, None, Some, map, string_bytes, subst}
 use Rattle.stair_conf.proofs.WordsLemmas.{job_line}
 use Rattle.stair_conf.specs.declared.job.Job.TheVariants.{Guard, Serve, Volume}
+use Rattle.stair_conf.specs.declared.job.VolumeJob.TheVariants.{Read}
 use Rattle.stair_conf.specs.declared.fault.WordsFault.{WordsFault}
 use Rattle.stair_conf.specs.declared.fault.WordsFault.TheVariants.{Usage}
 use Rattle.stair_array.specs.Promise.{Begun}
@@ -9,6 +10,7 @@ use Rattle.stair_status.specs.declared.status.Status.TheVariants as status
 use Rattle.stair_story.specs.Devices.{device_view}
 use Rattle.stair_story.specs.Outside.{outside, views}
 use Rattle.stair_story.specs.Rack.{rack_view}
+use Rattle.stair_engine.proofs.BoundsLaws.{draws_are_bounded}
 use Rattle.stair_engine.proofs.CallLaws.{array_is_left, array_is_made, arrays_are_spared, still_spared}
 use Rattle.stair_session.specs.Returning.{AnyReturns}
 use Rattle.stair_engine.proofs.CompleteLaws.{all_is_complete, all_is_complete_wherever}
@@ -16,7 +18,7 @@ use Rattle.stair_engine.proofs.CountedLaws.{scrubs_are_counted}
 use Rattle.stair_engine.proofs.HaltLaws.{guards_halt}
 use Rattle.stair_engine.proofs.MadeLaws.{is_made}
 use Rattle.stair_engine.proofs.MendedLaws.{array_is_mended}
-use Rattle.stair_engine.proofs.ChangedLaws.{volumes_are_changed}
+use Rattle.stair_engine.proofs.ChangedLaws.{volumes_are_changed, volumes_are_read_alike}
 use Rattle.stair_engine.proofs.ServeLaws.{clients_are_answered}
 use Rattle.stair_engine.proofs.SpelledLaws.{call_borne, job_done, short_borne, spelled}
 use Rattle.stair_engine.proofs.StandLaws.{still_stands}
@@ -42,6 +44,8 @@ returns-in-Ok g c =
       halted = λ events fences spells. guards_halt _ _ _ _ devices view words events fences c.work.result old _ c.args.rack.now _ _ _ spells c.requires;
       answered = λ spells returning. clients_are_answered _ _ _ _ returning devices view words c.work.result old _ c.args.rack.now _ _ _ spells;
       volumes = λ job spells. volumes_are_changed _ _ _ _ devices view words job c.work.result old _ c.args.rack.now _ _ _ spells;
+      alike = λ name block count spells. volumes_are_read_alike _ _ _ _ devices view words name block count c.work.result old _ c.args.rack.now _ _ _ spells;
+      bounded = draws_are_bounded _ _ _ _ devices view words c.work.result old _ c.args.rack.now _ _ _;
       mended = λ job spells honest. array_is_mended _ _ _ _ devices view words job c.work.result old _ c.args.rack.now _ _ _ spells whole honest;
       counted = λ honest spells. scrubs_are_counted _ _ _ _ devices view words c.work.result old _ c.args.rack.now _ _ _ spells whole honest;
     }
@@ -105,6 +109,31 @@ returns-in-Err-Usage-clause-volumes g c job spells =
     subst (λ (fault : WordsFault). c.read_words.result ≡ Err fault) c.in-Err-Usage.field-0-is c.in-Err-Usage.is
     in
     absurd (c.read_words.ensures.usage usage (Volume job) spells)
+
+pub returns-in-Err-Memory-clause-alike : goal.returns-in-Err-Memory-clause-alike
+returns-in-Err-Memory-clause-alike g c name block count spells =
+    let view = views g.S.Source g.K.Sink in
+    let devices = device_view (rack_view g.R.Rack) (λ b. (goal.Watcher-dyn g (b.vtable, b.value)).hears b.value) in
+    volumes_are_read_alike _ _ _ _ devices view (map string_bytes c.args.words.now) name block count status.OutOfMemory _ _ _ _ _ _ spells
+
+pub returns-in-Err-Usage-clause-alike : goal.returns-in-Err-Usage-clause-alike
+returns-in-Err-Usage-clause-alike g c name block count spells =
+    let usage : c.read_words.result ≡ Err Usage =
+    subst (λ (fault : WordsFault). c.read_words.result ≡ Err fault) c.in-Err-Usage.field-0-is c.in-Err-Usage.is
+    in
+    absurd (c.read_words.ensures.usage usage (Volume (Read name block count)) spells)
+
+pub returns-in-Err-Memory-clause-bounded : goal.returns-in-Err-Memory-clause-bounded
+returns-in-Err-Memory-clause-bounded g c =
+    let view = views g.S.Source g.K.Sink in
+    let devices = device_view (rack_view g.R.Rack) (λ b. (goal.Watcher-dyn g (b.vtable, b.value)).hears b.value) in
+    draws_are_bounded _ _ _ _ devices view (map string_bytes c.args.words.now) status.OutOfMemory _ _ _ _ _ _
+
+pub returns-in-Err-Usage-clause-bounded : goal.returns-in-Err-Usage-clause-bounded
+returns-in-Err-Usage-clause-bounded g c =
+    let view = views g.S.Source g.K.Sink in
+    let devices = device_view (rack_view g.R.Rack) (λ b. (goal.Watcher-dyn g (b.vtable, b.value)).hears b.value) in
+    draws_are_bounded _ _ _ _ devices view (map string_bytes c.args.words.now) status.Usage _ _ _ _ _ _
 
 pub returns-in-Err-Memory-clause-answered : goal.returns-in-Err-Memory-clause-answered
 returns-in-Err-Memory-clause-answered g c spells returning =

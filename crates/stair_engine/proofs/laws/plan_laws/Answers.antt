@@ -2,8 +2,9 @@
 use Rattle.stair_story.specs.Outside.{views}
 use Rattle.stair_engine.proofs.MeaningLaws.{bytes_are_answered, words_are_done}
 use Rattle.stair_engine.proofs.CallLaws.{all_is_kept, array_is_left, array_is_made, arrays_are_spared, memory_comes_first, rack_is_left, show_only_looks, source_is_left, usage_is_exact}
+use Rattle.stair_engine.proofs.BoundsLaws.{draws_are_bounded}
 use Rattle.stair_engine.proofs.CameLaws.{whole_blocks_stand}
-use Rattle.stair_engine.proofs.ChangedLaws.{volumes_are_changed}
+use Rattle.stair_engine.proofs.ChangedLaws.{volumes_are_changed, volumes_are_read_alike}
 use Rattle.stair_engine.proofs.CompleteLaws.{all_is_complete, all_is_complete_wherever, replacement_is_done, script_is_done}
 use Rattle.stair_engine.proofs.ConstantLaws.{plan_is_done}
 use Rattle.stair_engine.proofs.CountedLaws.{scrubs_are_counted}
@@ -38,5 +39,7 @@ returns g c =
       halted = guards_halt _ _ _ _;
       answered = clients_are_answered _ _ _ _;
       changed = volumes_are_changed _ _ _ _;
+      alike = volumes_are_read_alike _ _ _ _;
+      bounded = draws_are_bounded _ _ _ _;
       counted = scrubs_are_counted _ _ _ _;
     }
