@@ -210,6 +210,14 @@ class Array:
         """Returns the lines of `show` for the slots: all live since epoch 1, except those that are named, as slot2="down"."""
         return [f"slot {slot} " + changed.get(f"slot{slot}", "live 1") for slot in range(self.n)]
 
+    def left(self, epoch, missing=(), down=None):
+        """Returns the lines of standard error on an array of which too few devices are left: slots that are missing, and those that are
+        down, each with the last epoch in which it was live."""
+        shape = " ".join(map(str, self.e))
+        head = f"array {self.identity}: n {self.n} m {self.m} r {self.r} e {shape} stripes {self.stripes}, epoch {epoch}"
+        lives = {**{slot: ("missing", epoch) for slot in missing}, **{slot: ("down", last) for slot, last in (down or {}).items()}}
+        return [head, *(f"{what}: slot {slot}, last live in epoch {last}" for slot, (what, last) in sorted(lives.items()))]
+
     def made(self, name, make):
         folder = shared() / f"{self.number} {self.words} {self.stripes} {name}"
         if not folder.exists():

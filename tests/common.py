@@ -23,6 +23,16 @@ def events(fenced=0, repaired=0, admitted=0, promoted=0):
     return f"events: fenced {fenced} repaired {repaired} admitted {admitted} promoted {promoted}"
 
 
+def bad(slot, count):
+    """Returns the line on standard error on the bad sectors of a device."""
+    return f"dev{slot:02}.img: {count} bad sector{'' if count == 1 else 's'}"
+
+
+def short(slot, sectors, array):
+    """Returns the line on an image file that has so many sectors, fewer than the array needs."""
+    return f"dev{slot:02}.img: {SEALED * sectors} bytes, and the array needs {SEALED * array.sectors}"
+
+
 def table(*volumes):
     """Returns the block that is the table of these volumes, each of which is its name, its first block and how many it has."""
     block = b"STAIRVT1" + bytes([len(volumes)]) + bytes(23)

@@ -176,10 +176,12 @@ class Create(Cut):
         counted = self.array.n - len(with_none)
         # more than m devices have to count for an array, and at most m may be lost
         if counted <= self.array.m:
-            self.expect_shown(folder, "no array", 7, "no array")
+            left = self.array.left(1, with_none) if counted else []
+            self.expect_shown(folder, "no array", 7, [*left, "no array"])
         elif len(with_none) > self.array.m:
             whys = ", ".join(f"{slot} no superblock" for slot in with_none)
-            self.expect_shown(folder, "too few devices", 9, f"too few devices: {whys}")
+            says = [*self.array.left(1, with_none), f"too few devices: {whys}"]
+            self.expect_shown(folder, "too few devices", 9, says)
         else:
             slots = self.array.slots(**{f"slot{slot}": "live 1 no superblock" for slot in with_none})
             self.expect_shown(folder, "the array", 0, "", self.array.shown(1, *slots))

@@ -56,6 +56,15 @@ USAGE = (
     "|serve|vinit|vmake|vdrop|vlist|vread|vwrite|plan"
 )
 
+# The lines of standard error if standard input or output fails. A closed input is the directory `/`.
+INPUT_CLOSED = ["standard input: closed, or a directory", "input failed"]
+INPUT_FAILED = ["standard input: Input/output error", "input failed"]
+OUTPUT_CLOSED = ["standard output: Bad file descriptor", "output failed"]
+OUTPUT_FULL = ["standard output: No space left on device", "output failed"]
+OUTPUT_LEFT = ["standard output: Broken pipe", "output failed"]
+OUTPUT_LIMITED = ["standard output: File too large", "output failed"]
+NOWHERE = "nowhere: No such file or directory"
+
 LIMIT = int(os.environ.get("STAIR_LIMIT", 60))  # seconds; a call that has not ended by then has failed
 
 Ended = collections.namedtuple("Ended", "status out err left")

@@ -84,7 +84,7 @@ class Failing(Sessions):
     def test_blocks(self):
         # Of a part of the second block the first one is written.
         how = self.input_failing(BLOCKS[:700], "read:error=EIO:when=2")
-        self.expect_in(FOUR.fresh, written(), "write 0 2", 5, "input failed", case="an input that fails", **how)
+        self.expect_in(FOUR.fresh, written(), "write 0 2", 5, INPUT_FAILED, case="an input that fails", **how)
         how = self.input_failing(ONE, "read:error=EINTR:when=1")
         self.expect_in(FOUR.fresh, written(), "write 0 1", puts=wrote(1), case="an input that is interrupted", **how)
         how = {"wrap": failing("read:error=EIO:when=6")}
@@ -113,7 +113,7 @@ class Failing(Sessions):
     def test_the_input_of_a_session(self):
         read = request(READ, 510, 3)
         how = self.input_failing(BEGUN + read * 2, "read:error=EIO:when=4")
-        self.expect_session(GREETED + reply() + spelt("010100"), 5, "input failed", case="it fails", **how)
+        self.expect_session(GREETED + reply() + spelt("010100"), 5, INPUT_FAILED, case="it fails", **how)
         how = self.input_failing(BEGUN + read * 2, "read:error=EINTR:when=3")
         self.expect_session(GREETED + (reply() + spelt("010100")) * 2, case="it is interrupted", **how)
 
@@ -122,11 +122,11 @@ class Failing(Sessions):
         self.begin(FOUR.fresh)
         self.damage(0, 11)
         self.damage(1, 11)
-        says = [*self.says_lost, "lost: stripe 0 counts 1 1 2 0", events(fenced=1)]
+        says = [*self.says_lost, bad(0, 1), bad(1, 1), "lost: stripe 0 counts 1 1 2 0", events(fenced=1)]
         given, wrap = Pipe(lines("read 3", "read 0", "read 3")), failing("read:error=ENODEV:when=6+")
         self.step("run", 10, says, lines(f"3 {digits('00')}"), input=given, wrap=wrap, case="the events of the line")
 
     def test_the_input_of_a_script(self):
         # The file ends within its second line.
         how = self.input_failing(f"write 0 {digits('01')}\nread 0".encode(), "read:error=EIO:when=2")
-        self.expect_in(FOUR.fresh, written(), "run", 5, ["input failed", events()], lines("wrote 0"), case="it fails", **how)
+        self.expect_in(FOUR.fresh, written(), "run", 5, [*INPUT_FAILED, events()], lines("wrote 0"), case="it fails", **how)

@@ -40,17 +40,18 @@ class Scrubs(Written):
         # They are written anew, once.
         for slot, number, at in (3, 14, 543), (2, 11, 0), (0, 12, 20):
             self.damage(slot, number, at)
-        said = ["repaired stripe 0 cells 2", "repaired stripe 1 cells 1"]
+        said = ["repaired stripe 0 cells 2", "repaired stripe 1 cells 1", bad(0, 1), bad(2, 1), bad(3, 1)]
         self.step("scrub", says=said, puts=lines("scrubbed 3 stripes cells 3"), case="a scrub")
         self.step("scrub", puts=lines("scrubbed 3 stripes cells 0"), case="a scrub again")
         self.lose(1)
         self.step("read 0 15", says="fenced 1", puts=self.data, case="all blocks, without a device")
         self.damage(2, 13)
         self.damage(3, 13)
-        self.step("scrub", 10, "lost: stripe 1 counts 0 2 1 1", case="a scrub of a lost stripe")
+        said = [bad(2, 1), bad(3, 1), "lost: stripe 1 counts 0 2 1 1"]
+        self.step("scrub", 10, said, case="a scrub of a lost stripe")
 
     def test_a_full_output(self):
-        self.step("scrub", 6, "output failed", out=FULL)
+        self.step("scrub", 6, OUTPUT_FULL, out=FULL)
 
 
 class NotReplaced(Story):
@@ -68,7 +69,8 @@ class NotReplaced(Story):
         self.lose(2)
         self.step("replace 2", 15, ["fenced 2", "gone: slot 2"], case="no device")
         self.insert(2, 16)
-        self.step("replace 2", 13, "small device: slot 2 has 16 of 17 sectors", case="a small device")
+        says = [short(2, 16, FOUR), "small device: slot 2 has 16 of 17 sectors"]
+        self.step("replace 2", 13, says, case="a small device")
         stranger = copy(image(OTHER.fresh, 2), image(self.work, 2)).read_bytes()
         self.step("replace 2", 12, "array already: slot 2", case="a device of another array")
         self.same(stranger, image(self.work, 2).read_bytes(), "the device of another array is as it was")
@@ -102,8 +104,8 @@ class Large(Story):
         self.lose(0)
         self.step(f"read {LAST} 1", says="fenced 0", puts=ONE, case="the last block without a device")
         self.damage(1, LAST_ROW)
-        self.reads_all("all blocks without it, and a bad sector of another one")
-        said = f"repaired stripe {LAST} cells 1"
+        self.reads_all("all blocks without it, and a bad sector of another one", says=bad(1, 1))
+        said = [f"repaired stripe {LAST} cells 1", bad(1, 1)]
         self.step("scrub", says=said, puts=lines(f"scrubbed {LARGE.stripes} stripes cells 1"), case="a scrub")
         self.writes_the_last(FF, case="a write without the device")
         self.insert(0, LARGE.sectors)
@@ -117,10 +119,10 @@ class Large(Story):
 
     def test_a_device_that_was_cut_short(self):
         os.truncate(image(self.work, 0), SEALED * LAST_ROW)
-        self.step(f"read {LAST - 1} 2", puts=FF + ONE, case="the last two blocks")
+        self.step(f"read {LAST - 1} 2", says=[bad(0, 1), short(0, LAST_ROW, LARGE)], puts=FF + ONE, case="the last two blocks")
         self.writes_the_last(AA, says="fenced 0", case="a write past its end")
         small = f"small device: slot 0 has {LAST_ROW} of {LARGE.sectors} sectors"
-        self.step("replace 0", 13, small, case="it is too small")
+        self.step("replace 0", 13, [short(0, LAST_ROW, LARGE), small], case="it is too small")
         self.insert(0, LARGE.sectors)
         # The slot is live with the last stripe, and not before.
         script = lines("replace 0", f"rebuild {LAST}", f"scrub {LAST}", "rebuild 9", f"scrub {LARGE.stripes}")
@@ -130,6 +132,6 @@ class Large(Story):
         self.step("run", 11, said, replies, input=script, case="it is replaced and rebuilt by a script")
         self.has_cells("the last stripe")
         self.damage(2, LAST_ROW)
-        said = [f"repaired stripe {LAST} cells 1", events(repaired=1)]
+        said = [f"repaired stripe {LAST} cells 1", bad(2, 1), events(repaired=1)]
         self.step("run", says=said, puts=lines(f"scrubbed stripe {LAST} cells 1"), input=lines(f"scrub {LAST}"), case="a scrub of it")
         self.reads_all("all blocks")

@@ -100,7 +100,7 @@ class OfLiveDevices(Copies):
         self.step("read 0 1", 15, [*older(1, 2, few=False), "gone: slot 1"], case="one lost, and two copies")
         self.lose(3, 4)
         whys = ", ".join(f"{slot} gone" for slot in (0, 3, 4))
-        self.step("read 0 1", 9, f"too few devices: {whys}", case="three lost")
+        self.step("read 0 1", 9, [*EIGHTS.left(3, [0, 3, 4]), f"too few devices: {whys}"], case="three lost")
 
 
 class Mended(Copies):
@@ -189,7 +189,9 @@ class OfDevicesThatAreDown(Copies):
         self.lose(other)
         whys = {**{slot: "marked down" for slot in slots}, other: "gone"}
         says = "too few devices: " + ", ".join(f"{slot} {why}" for slot, why in sorted(whys.items()))
-        self.step(f"read 0 {self.array.blocks}", 9, says)
+        # By the copies their slots were live in epoch 2, in which the old blocks were written.
+        left = self.array.left(4, [other], {slot: 2 for slot in slots})
+        self.step(f"read 0 {self.array.blocks}", 9, [*left, says])
 
 
 class OfOneOfFour(OfDevicesThatAreDown):

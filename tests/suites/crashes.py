@@ -42,10 +42,10 @@ class Journal(Case):
 
     def test_gates_that_are_torn(self):
         torn = spoil(self.folder("torn", before_the_gate()), SEALED * 2 + 20)
-        self.expect_in(torn, bodies(), "read 0 1", puts=ZERO)
+        self.expect_in(torn, bodies(), "read 0 1", says=[bad(slot, 1) for slot in range(4)], puts=ZERO)
 
     def test_a_body_that_is_lost(self):
-        how = {"status": 19, "says": "journal lost: sector 3"}
+        how = {"status": 19, "says": [*(bad(slot, 1) for slot in range(4)), "journal lost: sector 3"]}
         self.expect_in(lost_body(), lost_body_opened(), "read 0 1", **how, case="a read")
         self.expect_in(lost_body(), lost_body_opened(), "write 0 1", **how, input=ONE, left=512, case="a write")
 

@@ -3,8 +3,18 @@ import os
 
 from fixture import *
 
-# What a geometry text with too many stripes is told, with the key `large` and without it.
-LIMIT_8 = ["geometry: with `large = true` limit 8 is 3 + n*r + r*stripes <= 4294967295", "geometry: limit 8"]
+# What standard error has if a geometry text breaks limit 3.
+LIMIT_3 = ["geometry: n > 2m is needed: n = 4, m = 2", "geometry: limit 3"]
+
+
+def limit_8(stripes, n=4, r=1, large=False):
+    """Returns what standard error has if a geometry text has too many stripes, with the key `large` and without it."""
+    asked = "stripes >= 1 and 3 + n*r + r*stripes <= 4294967295" if large else "1 <= stripes <= 65536 and n*r*stripes <= 4194304"
+    return [
+        f"geometry: {asked} are needed: n = {n}, r = {r}, stripes = {stripes}",
+        "geometry: with `large = true` limit 8 is 3 + n*r + r*stripes <= 4294967295",
+        "geometry: limit 8",
+    ]
 
 
 def of_stripes(stripes, n=4, m=1, r=1, e=(1,)):
@@ -40,7 +50,7 @@ class LargeArray(Case):
     """An array with a stripe more than it may have without the key `large`."""
 
     def test_without_the_key(self):
-        self.expect_in(LARGE.blank, LARGE.blank, "create", 3, LIMIT_8, input=LARGE.text.replace(LARGE_KEY, b""))
+        self.expect_in(LARGE.blank, LARGE.blank, "create", 3, limit_8(LARGE.stripes, 3), input=LARGE.text.replace(LARGE_KEY, b""))
 
     def test_with_the_key(self):
         self.expect_in(LARGE.blank, LARGE.fresh, "create", puts=LARGE.created, input=LARGE.text)
@@ -48,7 +58,8 @@ class LargeArray(Case):
     def test_a_device_of_a_sector_too_few(self):
         small = blank(self.folder("small"), 3, LARGE.sectors)
         os.truncate(image(small, 2), SEALED * LARGE.sectors - 1)
-        says = "small device: slot 2 has 65542 of 65543 sectors"
+        length = f"dev02.img: {SEALED * 65543 - 1} bytes, and the array needs {SEALED * 65543}"
+        says = [length, "small device: slot 2 has 65542 of 65543 sectors"]
         self.expect_in(small, small, "create", 13, says, input=LARGE.text)
 
     def test_an_array_again(self):
@@ -66,7 +77,8 @@ class Refused(Case):
     def test_a_device_of_a_sector_too_few(self):
         small = self.folder("small", EIGHT.blank)
         os.truncate(image(small, 5), SEALED * 291 - 1)
-        self.refused(small, 13, "small device: slot 5 has 290 of 291 sectors", EIGHT)
+        says = [f"dev05.img: {SEALED * 291 - 1} bytes, and the array needs {SEALED * 291}", "small device: slot 5 has 290 of 291 sectors"]
+        self.refused(small, 13, says, EIGHT)
 
     def test_devices_that_are_not_there(self):
         gone = self.folder("gone", FOUR.blank)
@@ -74,7 +86,7 @@ class Refused(Case):
         self.refused(gone, 15, "gone: slot 1", case="a device that is not there")
         image(gone, 1).mkdir()
         self.refused(gone, 15, ["dev01.img: no file and no block device", "gone: slot 1"], case="a folder as a device")
-        self.expect("create", 15, "gone: slot 0", at="nowhere", input=FOUR.text, case="a folder of devices that is not there")
+        self.expect("create", 15, [NOWHERE, "gone: slot 0"], at="nowhere", input=FOUR.text, case="a folder of devices that is not there")
 
 
 class OtherArrays(Case):
@@ -119,6 +131,7 @@ class Text(Case):
     """A fault of the geometry text is reported before any device is opened."""
 
     def refused(self, text, status, says, **how):
+        says = [NOWHERE, *([says] if isinstance(says, str) else says)]
         self.expect("create", status, says, at="nowhere", input=Pipe(text), **how)
 
     def nested(self, depth):
@@ -126,7 +139,7 @@ class Text(Case):
 
     def test_keys(self):
         self.refused(FOUR.text.replace(b"m = 1\n", b""), 3, "geometry: key m", case="a key that is missing")
-        self.refused(FOUR.text.replace(b"m = 1\n", b"m = 2\n"), 3, "geometry: limit 3", case="a broken limit")
+        self.refused(FOUR.text.replace(b"m = 1\n", b"m = 2\n"), 3, LIMIT_3, case="a broken limit")
         self.refused(b"", 3, "geometry: key n", case="no text")
 
     def test_no_toml(self):
@@ -139,17 +152,17 @@ class Text(Case):
 
     def test_the_key_large(self):
         text = of_stripes(65537)
-        self.refused(text, 3, LIMIT_8, case="without the key")
+        self.refused(text, 3, limit_8(65537), case="without the key")
         self.refused(text + LARGE_KEY, 15, "gone: slot 0", case="with it")
         for value in "false", "1", '"true"', "[true]", "{ large = true }":
-            self.refused(text + lines(f"large = {value}"), 3, LIMIT_8, case=f"large = {value}")
+            self.refused(text + lines(f"large = {value}"), 3, limit_8(65537), case=f"large = {value}")
         for key in "Large = true", "[x]\nlarge = true":
-            self.refused(text + lines(key), 3, LIMIT_8, case=f"another key: {key!r}")
+            self.refused(text + lines(key), 3, limit_8(65537), case=f"another key: {key!r}")
 
     def test_limit_8_without_the_key(self):
         for case, most, shape in (("of all", 65536, {}), ("of many cells", 4096, {"n": 32, "r": 32})):
             self.refused(of_stripes(most, **shape), 15, "gone: slot 0", case=f"the most stripes {case}")
-            self.refused(of_stripes(most + 1, **shape), 3, LIMIT_8, case=f"a stripe more {case}")
+            self.refused(of_stripes(most + 1, **shape), 3, limit_8(most + 1, **shape), case=f"a stripe more {case}")
             self.refused(of_stripes(most + 1, **shape) + LARGE_KEY, 15, "gone: slot 0", case=f"a stripe more {case}, with the key")
 
     def test_limit_8_with_the_key(self):
@@ -157,7 +170,8 @@ class Text(Case):
         for n, r, most in (4, 1, 4294967288), (32, 32, 134217695):
             self.refused(of_stripes(most, n=n, r=r) + LARGE_KEY, 15, "gone: slot 0", case=f"the most stripes of {r} rows")
             for stripes in most + 1, 2**32, 2**59, 2**63 - 1, 0:
-                self.refused(of_stripes(stripes, n=n, r=r) + LARGE_KEY, 3, LIMIT_8, case=f"{stripes} stripes of {r} rows")
+                says = limit_8(stripes, n, r, large=True)
+                self.refused(of_stripes(stripes, n=n, r=r) + LARGE_KEY, 3, says, case=f"{stripes} stripes of {r} rows")
 
     def test_the_key_large_beside_a_fault(self):
         def large(old, new):
@@ -169,7 +183,7 @@ class Text(Case):
         self.refused(large(b"65537", b"-1"), 3, "geometry: key stripes", case="a number below zero")
         self.refused(large(b"65537", b"9223372036854775808"), 3, "geometry: not TOML", case="a number of 64 bits without a sign")
         self.refused(large(b"000004", b"00004"), 3, "geometry: key id", case="an identity of 31 digits")
-        self.refused(large(b"m = 1\n", b"m = 2\n"), 3, "geometry: limit 3", case="a broken limit")
+        self.refused(large(b"m = 1\n", b"m = 2\n"), 3, LIMIT_3, case="a broken limit")
         self.refused(text + LARGE_KEY + LARGE_KEY, 3, "geometry: not TOML", case="the key twice")
 
     def test_lengths(self):

@@ -6,7 +6,7 @@ import os
 import subprocess
 import time
 
-from common import events, wrote
+from common import bad, events, wrote
 from fixture import *
 from messages import BEGUN, GREETED, READ, WRITE, reply, request
 from rounds import *
@@ -91,10 +91,10 @@ class OnLoops(Case):
         with open(self.loops[slot].path, "rb") as device:
             fcntl.ioctl(device, BLKFLSBUF)
 
-    def both(self, words, status=0, says="", puts=b"", input=b""):
-        """The program ends, says and puts out the same in both folders, and leaves the same bytes."""
-        for folder in self.work, self.plain:
-            self.runs(folder, words, status, says, puts, input)
+    def both(self, words, status=0, says="", puts=b"", input=b"", of_files=()):
+        """The program ends, says and puts out the same in both folders, and leaves the same bytes. It says these lines of files before."""
+        self.runs(self.work, words, status, says, puts, input)
+        self.runs(self.plain, words, status, [*of_files, says] if of_files else says, puts, input)
         self.compare()
 
     def runs(self, folder, words, status=0, says="", puts=b"", input=b""):
@@ -163,8 +163,8 @@ class Lives(OnLoops):
         self.write(OLD)
         self.damage(2, 12)
         self.damage(0, 15)
-        self.both("read 0 15", puts=OLD)
-        repaired = ["repaired stripe 0 cells 1", "repaired stripe 2 cells 1"]
+        self.both("read 0 15", says=bad(0, 1), puts=OLD)
+        repaired = ["repaired stripe 0 cells 1", "repaired stripe 2 cells 1", bad(0, 1), bad(2, 1)]
         self.both("scrub", says=repaired, puts=b"scrubbed 3 stripes cells 2\n")
         self.both("scrub", puts=b"scrubbed 3 stripes cells 0\n")
         self.lose(3)
@@ -176,7 +176,7 @@ class Lives(OnLoops):
         self.write(OLD)
         os.truncate(self.loops[2].file, 8192)
         self.flush(2)
-        self.runs(self.work, "read 0 15", puts=OLD)
+        self.runs(self.work, "read 0 15", says=bad(2, 2), puts=OLD)
         self.runs(self.work, "show", puts=show_lines(3))
 
     def test_a_script_and_a_session(self):
@@ -191,10 +191,13 @@ class Lives(OnLoops):
 class Sizes(OnLoops):
     """18 blocks are 9,216 bytes, which have 16 whole sectors of 17: the loop device of a file of 9,248 bytes has so many."""
 
+    def length(self, slot):
+        return f"dev{slot:02}.img: 9216 bytes, and the array needs 9248"
+
     def test_a_create_on_a_small_device(self):
         self.lose(2)
         self.insert(2, 18)
-        self.both("create", 13, "small device: slot 2 has 16 of 17 sectors", input=FOUR.text)
+        self.both("create", 13, "small device: slot 2 has 16 of 17 sectors", input=FOUR.text, of_files=[self.length(2)])
 
     def test_a_file_that_has_no_whole_blocks(self):
         self.lose(0)
@@ -203,14 +206,14 @@ class Sizes(OnLoops):
         self.loops[0] = Loop(self.attached(file), file, noise("part", NEEDED)[18 * BLOCK :])
         image(self.work, 0).symlink_to(self.loops[0].path)
         image(self.plain, 0).write_bytes(noise("part", NEEDED)[: 18 * BLOCK])
-        self.both("create", 13, "small device: slot 0 has 16 of 17 sectors", input=FOUR.text)
+        self.both("create", 13, "small device: slot 0 has 16 of 17 sectors", input=FOUR.text, of_files=[self.length(0)])
 
     def test_a_replacement_by_a_small_device(self):
         self.create()
         self.lose(1)
         self.both("read 0 0", says="fenced 1")
         self.insert(1, 18)
-        self.both("replace 1", 13, "small device: slot 1 has 16 of 17 sectors")
+        self.both("replace 1", 13, "small device: slot 1 has 16 of 17 sectors", of_files=[self.length(1)])
 
 
 class Detached(OnLoops):
@@ -253,7 +256,8 @@ class Detached(OnLoops):
         for folder in self.work, self.plain:
             self.runs(folder, "show", puts=show_lines(2, slot1="live 1 no superblock"))
             self.runs(folder, "read 0 15", says="fenced 1", puts=OLD)
-            self.runs(folder, "replace 1", 13, "small device: slot 1 has 0 of 17 sectors")
+            length = ["dev01.img: 0 bytes, and the array needs 9248"] if folder == self.plain else []
+            self.runs(folder, "replace 1", 13, [*length, "small device: slot 1 has 0 of 17 sectors"])
         self.assertEqual(links, contents(self.work))
         for folder in self.work, self.plain:
             image(folder, 1).unlink()

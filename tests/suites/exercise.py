@@ -50,12 +50,12 @@ class FewSteps(Story):
         self.step("read 694 3", puts=filled(0, 84, 0), case="the block that it wrote")
 
     def test_a_full_output(self):
-        self.step("exercise 0 1", 6, "output failed", out=FULL, case="a step")
+        self.step("exercise 0 1", 6, OUTPUT_FULL, out=FULL, case="a step")
         self.step("read 694 3", puts=filled(0, 84, 0), case="the block that it wrote all the same")
 
     def test_two_steps(self):
         self.damage(5, 35 + 4 * 33)
-        self.step("exercise 0 2", says="repaired stripe 33 cells 1", puts=came_to(0, 2, writes=1, scrubs=1))
+        self.step("exercise 0 2", says=["repaired stripe 33 cells 1", bad(5, 1)], puts=came_to(0, 2, writes=1, scrubs=1))
 
     def test_no_step(self):
         self.expect_in(EIGHT.fresh, EIGHT.opened, "exercise 7 0", puts=came_to(7, 0), input=CLOSED)

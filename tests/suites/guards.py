@@ -19,25 +19,25 @@ class Flawed(Guarded):
         self.begin_flawed()
 
     def test_a_halt_at_the_first_event(self):
-        said = [REPAIRED_0, "halted after line 1"]
+        said = [REPAIRED_0, bad(3, 1), "halted after line 1"]
         self.guard("1 9", lines("scrub 0", "scrub 1"), [SCRUBBED_0], 21, said, events(repaired=1), case="a guard")
-        said, script = [REPAIRED_1, events(repaired=1)], Pipe(lines("scrub 1"))
+        said, script = [REPAIRED_1, bad(2, 1), events(repaired=1)], Pipe(lines("scrub 1"))
         self.step("run", 0, said, lines(SCRUBBED_1), input=script, case="the other stripe is as it was")
 
     def test_a_halt_at_the_last_line(self):
-        said = [REPAIRED_0, REPAIRED_1, "halted after line 3"]
+        said = [REPAIRED_0, REPAIRED_1, bad(2, 1), bad(3, 1), "halted after line 3"]
         self.guard("2 1", b"scrub 0\n\nscrub 1", [SCRUBBED_0, SCRUBBED_1], 21, said, events(repaired=2))
 
     def test_no_halt(self):
-        said = [REPAIRED_0, REPAIRED_1]
+        said = [REPAIRED_0, REPAIRED_1, bad(2, 1), bad(3, 1)]
         self.guard("3 1", lines("scrub 0", "scrub 1"), [SCRUBBED_0, SCRUBBED_1], 0, said, events(repaired=2))
 
     def test_a_line_that_is_refused(self):
-        said = [REPAIRED_0, "out of range: 3 of 3"]
+        said = [REPAIRED_0, bad(3, 1), "out of range: 3 of 3"]
         self.guard("2 1", lines("scrub 0", "scrub 3", "scrub 1"), [SCRUBBED_0], 11, said, events(repaired=1))
 
     def test_a_full_output_in_place_of_a_halt(self):
-        said = [REPAIRED_0, "output failed"]
+        said = [REPAIRED_0, bad(3, 1), *OUTPUT_FULL]
         self.guard("1 1", lines("scrub 0", "scrub 1"), [], 6, said, events(repaired=1), out=FULL)
 
 
@@ -59,7 +59,9 @@ class Fences(Guarded):
         said, counted = ["fenced 0", "fenced 0"], events(fenced=1)
         self.guard("5 2", self.SCRIPT, [f"0 {digits('00')}"], 0, said, counted, case="the first fence")
         self.lose(1)
-        self.guard("5 2", self.SCRIPT, [], 9, ["too few devices: 0 gone, 1 gone"], events(), case="too few devices")
+        # The opening before left slot 0 out, by epoch 2.
+        said = [*FOUR.left(2, [1], {0: 1}), "too few devices: 0 gone, 1 gone"]
+        self.guard("5 2", self.SCRIPT, [], 9, said, events(), case="too few devices")
 
 
 class Others(Case):

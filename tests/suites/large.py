@@ -75,7 +75,8 @@ class Blocks(Largest):
             self.step(f"read {2 * stripe} 2", puts=blocks_of(stripe), case=f"stripe {stripe}")
         self.step(f"read {FIRST_OF_LAST + 1} 1", puts=blocks_of(LAST)[512:], case="the last block")
         self.step(f"read {FIRST_OF_LAST + 1} 2", 11, "out of range: 8589934576 of 8589934576", case="a block more")
-        self.step(f"read {FIRST_OF_LAST - 1} 1", 10, f"lost: stripe {LAST - 1} counts 1 1 1 1", case="a stripe that was never written")
+        says = [*(bad(slot, 1) for slot in range(4)), f"lost: stripe {LAST - 1} counts 1 1 1 1"]
+        self.step(f"read {FIRST_OF_LAST - 1} 1", 10, says, case="a stripe that was never written")
 
     def test_writes(self):
         changed = ONE + blocks_of(LAST)[512:]
@@ -108,14 +109,15 @@ class Blocks(Largest):
             path.unlink()
         blank(self.work, 4, LARGEST.sectors)
         os.truncate(image(self.work, 3), SEALED * LARGEST.sectors - 1)
+        length = f"dev03.img: {SEALED * LARGEST.sectors - 1} bytes, and the array needs {SEALED * LARGEST.sectors}"
         small = f"small device: slot 3 has {LARGEST.sectors - 1} of {LARGEST.sectors} sectors"
-        self.step("create", 13, small, input=text, wrap=STOPPED, case="a device of a sector too few")
+        self.step("create", 13, [length, small], input=text, wrap=STOPPED, case="a device of a sector too few")
 
 
 class Damage(Largest):
     def test_a_bad_sector(self):
         self.damage(2, CHUNKS + LAST)
-        self.step("run", says=[EVENT, events(repaired=1)], puts=self.scrubbed(1), input=lines(f"scrub {LAST}"), case="it is mended")
+        self.step("run", says=[EVENT, bad(2, 1), events(repaired=1)], puts=self.scrubbed(1), input=lines(f"scrub {LAST}"), case="it is mended")
         self.step("run", says=events(), puts=self.scrubbed(0), input=lines(f"scrub {LAST}"), case="it is right")
         self.has_cells(LAST, blocks_of(LAST), "its cells")
         self.expect("report", puts=lines(events(repaired=1)), input=lines(EVENT), case="`report` counts the event")
@@ -129,26 +131,28 @@ class Damage(Largest):
         self.lose(0)
         self.step(f"read {FIRST_OF_LAST} 2", says="fenced 0", puts=blocks_of(LAST), case="the last stripe")
         self.damage(1, CHUNKS + LAST)
-        self.step(f"read {FIRST_OF_LAST} 2", puts=blocks_of(LAST), case="a bad sector of another device, too")
-        self.step(f"write {FIRST_OF_LAST} 1", puts=wrote(1), input=ONE, case="a write")
-        self.step(f"read {FIRST_OF_LAST} 2", puts=ONE + blocks_of(LAST)[512:], case="what was written")
+        self.step(f"read {FIRST_OF_LAST} 2", says=bad(1, 1), puts=blocks_of(LAST), case="a bad sector of another device, too")
+        self.step(f"write {FIRST_OF_LAST} 1", says=bad(1, 1), puts=wrote(1), input=ONE, case="a write")
+        self.step(f"read {FIRST_OF_LAST} 2", says=bad(1, 1), puts=ONE + blocks_of(LAST)[512:], case="what was written")
         self.damage(1, CHUNKS + LAST, 5)
         self.damage(2, CHUNKS + LAST)
-        self.step(f"read {FIRST_OF_LAST} 1", 10, f"lost: stripe {LAST} counts 1 1 1 0", case="two bad sectors")
+        says = [bad(1, 1), bad(2, 1), f"lost: stripe {LAST} counts 1 1 1 0"]
+        self.step(f"read {FIRST_OF_LAST} 1", 10, says, case="two bad sectors")
 
     def test_a_device_that_was_cut_short(self):
         os.truncate(image(self.work, 0), SEALED * (CHUNKS + LAST))
-        self.step(f"read {FIRST_OF_LAST} 2", puts=blocks_of(LAST), case="a read past its end")
-        self.step(f"write {FIRST_OF_LAST} 1", says="fenced 0", puts=wrote(1), input=ONE, case="a write past its end")
+        is_short = short(0, CHUNKS + LAST, LARGEST)
+        self.step(f"read {FIRST_OF_LAST} 2", says=[bad(0, 1), is_short], puts=blocks_of(LAST), case="a read past its end")
+        self.step(f"write {FIRST_OF_LAST} 1", says=["fenced 0", bad(0, 1), is_short], puts=wrote(1), input=ONE, case="a write past its end")
         small = f"small device: slot 0 has {LARGEST.sectors - 1} of {LARGEST.sectors} sectors"
-        self.step("replace 0", 13, small, case="it is too small")
+        self.step("replace 0", 13, [is_short, small], case="it is too small")
 
     def test_a_device_that_is_rebuilt(self):
         # What is written in the meantime reaches it too. No stripe but the first one can be rebuilt here.
         self.lose(0)
         self.insert(0, LARGEST.sectors)
         script = lines("replace 0", "rebuild 1", f"write {FIRST_OF_LAST} {ONE.hex()}", "rebuild 1")
-        said = ["fenced 0", "admitted 0", "lost: stripe 1 counts 1 1 1 1", events(fenced=1, admitted=1)]
+        said = ["fenced 0", "admitted 0", bad(1, 1), bad(2, 1), bad(3, 1), "lost: stripe 1 counts 1 1 1 1", events(fenced=1, admitted=1)]
         replies = lines("admitted 0", "rebuild 1 steps", f"wrote {FIRST_OF_LAST}")
         self.step("run", 10, said, replies, input=script, case="a script")
         self.has_cells(0, blocks_of(0), "the first stripe")

@@ -32,8 +32,8 @@ class Four(Story):
         # What is past its end is bad, and a write there loses the device.
         self.begin(FOUR.fresh)
         os.truncate(image(self.work, 2), SEALED * 12)
-        self.step("read 7 1", puts=ZERO, case="a read")
-        self.step("write 0 1", says="fenced 2", puts=wrote(1), input=ONE, case="a write past its end")
+        self.step("read 7 1", says=[bad(2, 2), short(2, 12, FOUR)], puts=ZERO, case="a read")
+        self.step("write 0 1", says=["fenced 2", bad(2, 1), short(2, 12, FOUR)], puts=wrote(1), input=ONE, case="a write past its end")
         self.step("read 0 1", puts=ONE, case="the block")
 
     def test_a_lost_device_and_damaged_sectors(self):
@@ -43,11 +43,13 @@ class Four(Story):
         self.step("write 0 15", puts=wrote(15), input=data, case="all blocks")
         self.lose(1)
         self.damage(2, 11, 5)
-        self.step("read 0 15", says="fenced 1", puts=data, case="a lost device, and a bad sector of another one in the same stripe")
+        says = ["fenced 1", bad(2, 1)]
+        self.step("read 0 15", says=says, puts=data, case="a lost device, and a bad sector of another one in the same stripe")
         self.damage(3, 14, 543)
-        self.step("read 0 15", puts=data, case="a bad sector in the next stripe")
+        self.step("read 0 15", says=[bad(2, 1), bad(3, 1)], puts=data, case="a bad sector in the next stripe")
         self.damage(2, 14)
-        self.step("read 0 8", 10, "lost: stripe 1 counts 0 2 1 1", data[:3072], case="two bad sectors in a row")
+        says = [bad(2, 2), bad(3, 1), "lost: stripe 1 counts 0 2 1 1"]
+        self.step("read 0 8", 10, says, data[:3072], case="two bad sectors in a row")
 
 
 class AnotherThing(Story):
@@ -105,9 +107,10 @@ class Eight(Story):
         self.lose(2, 7)
         for slot, row, at in (0, 35, 9), (1, 36, 9), (3, 38, 9), (3, 35, 0):
             self.damage(slot, row, at)
-        said = ["fenced 2", "fenced 7"]
+        of_stripe_0 = [bad(0, 1), bad(1, 1), bad(3, 2)]
+        said = ["fenced 2", "fenced 7", *of_stripe_0]
         self.step("read 0 40", says=said, puts=self.changed, case="two lost devices, and four bad sectors of three others")
-        self.step("write 0 1", puts=wrote(1), input=ONE, case="a block is written")
+        self.step("write 0 1", says=of_stripe_0, puts=wrote(1), input=ONE, case="a block is written")
         self.step("read 0 1", puts=ONE, case="the block")
 
     def test_a_stripe_that_is_lost(self):
@@ -116,7 +119,7 @@ class Eight(Story):
         for slot in 0, 1, 2:
             for row in range(35, 39):
                 self.damage(slot, row, 300)
-        before, lost = self.past_superblocks(), "lost: stripe 0 counts 4 4 4 0 0 0 0 0"
+        before, lost = self.past_superblocks(), [bad(0, 4), bad(1, 4), bad(2, 4), "lost: stripe 0 counts 4 4 4 0 0 0 0 0"]
         self.step("read 0 1", 10, lost, case="a block that is lost")
         self.step("read 3 5", 10, lost, self.data[3 * 512 : 6 * 512], case="blocks before a lost one")
         self.step("write 0 1", 10, lost, input=ONE, case="a write of a block that is lost")

@@ -18,7 +18,7 @@ class Plan(Case):
         self.expect_in(FOUR.fresh, FOUR.fresh, "plan 4 1 2 1", puts=WANTED, wrap=["flock", "."])
 
     def test_a_full_output(self):
-        self.expect("plan 4 1 2 1", 6, "output failed", out=FULL)
+        self.expect("plan 4 1 2 1", 6, OUTPUT_FULL, out=FULL)
 
     def test_known_geometries(self):
         for geometry in tool("factors").GEOMETRIES:

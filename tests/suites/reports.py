@@ -67,5 +67,5 @@ class Refused(Reports):
         self.refused(b"fenced %058d" % 1, 1, case="65 bytes, whose end is not seen")
 
     def test_streams_that_fail(self):
-        self.expect("report", 5, "input failed", input=CLOSED, case="a closed log")
-        self.expect("report", 6, "output failed", input=Pipe(lines("fenced 1")), out=FULL, case="a full output")
+        self.expect("report", 5, INPUT_CLOSED, input=CLOSED, case="a closed log")
+        self.expect("report", 6, OUTPUT_FULL, input=Pipe(lines("fenced 1")), out=FULL, case="a full output")

@@ -119,7 +119,7 @@ class Lost(Salvaged):
         for slots in (0, 1, 2, 3), (3, 4, 5, 6), (0, 2, 4, 6):
             self.begin_written(array)
             self.lose(*slots)
-            self.step("read 0 1", 7, "no array")
+            self.step("read 0 1", 7, [*array.left(3, slots), "no array"])
             self.gives(new_blocks(array), says=gone(*slots), case=f"slots {slots}")
 
     def test_a_lost_stripe_with_rows_that_are_not(self):
@@ -129,7 +129,8 @@ class Lost(Salvaged):
             self.damage(slot, sector_of(WIDE, 2, 0))
         for slot in 0, 5:
             self.damage(slot, sector_of(WIDE, 2, 1))
-        self.step("read 46 1", 10, "lost: stripe 2 counts 2 1 1 1 1 2 0 0", case="the program refuses a block of row 1")
+        says = [*(bad(slot, count) for slot, count in enumerate((2, 1, 1, 1, 1, 2))), "lost: stripe 2 counts 2 1 1 1 1 2 0 0"]
+        self.step("read 46 1", 10, says, case="the program refuses a block of row 1")
         self.gives(new_blocks(WIDE), range(40, 46))
 
     def test_parity_alone(self):

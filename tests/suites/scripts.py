@@ -134,7 +134,8 @@ class Refused(Script):
         self.lose(1)
         self.run_step(["replace 1"], [], 15, ["fenced 1", "gone: slot 1"], events(fenced=1), case="no device")
         self.insert(1, 16)
-        self.run_step(["replace 1"], [], 13, ["small device: slot 1 has 16 of 17 sectors"], case="a small device")
+        said = [short(1, 16, FOUR), "small device: slot 1 has 16 of 17 sectors"]
+        self.run_step(["replace 1"], [], 13, said, case="a small device")
         copy(image(OTHER.fresh, 1), image(self.work, 1))
         self.run_step(["replace 1"], [], 12, ["array already: slot 1"], case="a device of another array")
 
@@ -160,7 +161,7 @@ class Repairs(Script):
         for slot, number, at in (3, 11, 543), (2, 13, 0), (3, 13, 0):
             self.damage(slot, number, at)
         self.lose(1)
-        said = ["fenced 1", "repaired stripe 0 cells 1", "lost: stripe 1 counts 0 2 1 1"]
+        said = ["fenced 1", "repaired stripe 0 cells 1", bad(2, 1), bad(3, 2), "lost: stripe 1 counts 0 2 1 1"]
         replies = ["scrubbed stripe 0 cells 1", f"5 {digits('06')}"]
         self.run_step(["scrub 0", "read 5", "scrub 1", "read 0"], replies, 10, said, events(fenced=1, repaired=1), case="a script")
 
@@ -187,14 +188,13 @@ class Streams(Script):
     TWO = lines(f"write 0 {digits('01')}", f"write 1 {digits('02')}")
 
     def test_inputs(self):
-        how = {"status": 5, "says": ["input failed", events()]}
+        how = {"status": 5, "says": [*INPUT_CLOSED, events()]}
         self.expect_in(FOUR.fresh, FOUR.opened, "run", **how, input=CLOSED, case="a closed script")
         self.expect_in(FOUR.fresh, FOUR.opened, "run", **how, input=self.room, case="a folder")
 
     def test_outputs(self):
-        how = {"status": 6, "says": ["output failed", events()], "input": self.TWO}
-        self.expect_in(FOUR.fresh, written(), "run", **how, out=CLOSED, case="a closed output")
-        self.expect_in(FOUR.fresh, written(), "run", **how, out=FULL, case="a full output")
+        for case, out, says in ("a closed output", CLOSED, OUTPUT_CLOSED), ("a full output", FULL, OUTPUT_FULL):
+            self.expect_in(FOUR.fresh, written(), "run", 6, [*says, events()], input=self.TWO, out=out, case=case)
 
     def test_a_closed_standard_error(self):
         script, replies = lines(f"write 0 {digits('01')}", "read 0"), lines("wrote 0", f"0 {digits('01')}")
@@ -204,7 +204,7 @@ class Streams(Script):
         # A file may have 10 KiB, so the output is full within the reply to the tenth read.
         script = lines(f"write 0 {digits('01')}", *["read 0"] * 16, f"write 1 {digits('02')}")
         replies = lines("wrote 0", *[f"0 {digits('01')}"] * 16)[:10240]
-        said = ["output failed", events()]
+        said = [*OUTPUT_LIMITED, events()]
         self.expect_in(FOUR.fresh, written(), "run", 6, said, replies, input=Pipe(script), wrap=LIMITED)
 
 
@@ -255,7 +255,7 @@ class Dialogues(Script):
         self.replies("wrote 0", lines(f"write 0 {digits('01')}"), case="a line before")
         self.dialogue.close_output()
         self.dialogue.send(lines(f"write 1 {digits('FF')}", f"write 2 {digits('AA')}"))
-        self.ends(6, "output failed", events(), case="the end")
+        self.ends(6, *OUTPUT_LEFT, events(), case="the end")
         self.step("read 0 3", puts=ONE + FF + ZERO, case="the lines up to there")
 
     def test_a_script_that_is_killed(self):

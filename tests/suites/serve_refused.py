@@ -134,14 +134,16 @@ class NotServed(Sessions):
         self.expect_in(folder, after or folder, "serve", status, says, left=left, case=case, input=self.GIVEN, **how)
 
     def test_no_array(self):
-        for case, folder in ("blank devices", FOUR.blank), ("no device", empty()), ("one device of four", one_left()):
+        for case, folder in ("blank devices", FOUR.blank), ("no device", empty()):
             self.not_served(case, folder, 7, "no array")
+        self.not_served("one device of four", one_left(), 7, [*FOUR.left(1, [0, 1, 2]), "no array"])
 
     def test_other_arrays(self):
         self.not_served("two arrays", two_arrays(), 8, f"two arrays: {8:032x} {9:032x}")
-        self.not_served("too few devices", two_left(), 9, "too few devices: 0 gone, 1 gone")
+        self.not_served("too few devices", two_left(), 9, [*FOUR.left(1, [0, 1]), "too few devices: 0 gone, 1 gone"])
         self.not_served("no epoch left", spent(), 16, "epochs spent")
-        self.not_served("a body that is lost", cut_and_damaged(), 19, "journal lost: sector 3", journal_lost())
+        says = [*(bad(slot, 1) for slot in range(4)), "journal lost: sector 3"]
+        self.not_served("a body that is lost", cut_and_damaged(), 19, says, journal_lost())
 
     def test_what_is_in_use(self):
         self.not_served("a folder in use", FOUR.fresh, 75, ".: in use", wrap=["flock", "."])
@@ -160,14 +162,14 @@ class Streams(Sessions):
     """Streams that fail."""
 
     def test_inputs(self):
-        self.expect_session(GREETING, 5, "input failed", input=CLOSED, case="a closed input")
-        self.expect_session(GREETING, 5, "input failed", input=self.room, case="a folder as an input")
+        self.expect_session(GREETING, 5, INPUT_CLOSED, input=CLOSED, case="a closed input")
+        self.expect_session(GREETING, 5, INPUT_CLOSED, input=self.room, case="a folder as an input")
         self.expect_session(GREETING, input=b"", case="no message")
 
     def test_outputs(self):
         given = NotServed.GIVEN
-        self.expect_session(b"", 6, "output failed", input=given, out=CLOSED, case="a closed output")
-        self.expect_session(b"", 6, "output failed", input=given, out=FULL, case="a full output")
+        self.expect_session(b"", 6, OUTPUT_CLOSED, input=given, out=CLOSED, case="a closed output")
+        self.expect_session(b"", 6, OUTPUT_FULL, input=given, out=FULL, case="a full output")
 
     def test_standard_error(self):
         self.expect_session(b"", 6, input=CLOSED, out=CLOSED, err=CLOSED, case="three closed streams")

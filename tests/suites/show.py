@@ -22,19 +22,19 @@ class Arrays(Shown):
         self.shown(FOUR.fresh, 1, *FOUR.slots(), input=STRIPE, left=4096, case="an input that stays")
 
     def test_outputs_that_fail(self):
-        self.not_shown(FOUR.fresh, 6, "output failed", out=FULL, case="a full output")
-        self.not_shown(FOUR.fresh, 6, "output failed", out=CLOSED, case="a closed output")
+        self.not_shown(FOUR.fresh, 6, OUTPUT_FULL, out=FULL, case="a full output")
+        self.not_shown(FOUR.fresh, 6, OUTPUT_CLOSED, out=CLOSED, case="a closed output")
 
     def test_no_array(self):
         self.not_shown(FOUR.blank, 7, "no array", case="blank devices")
-        self.expect("show", 7, "no array", at="nowhere", case="a folder that is not there")
+        self.expect("show", 7, [NOWHERE, "no array"], at="nowhere", case="a folder that is not there")
 
     def test_empty_slots(self):
         thin = self.folder("thin", FOUR.fresh)
         image(thin, 0).unlink()
         self.shown(thin, 1, *FOUR.slots(slot0="live 1 gone"), case="one")
-        self.not_shown(two_left(), 9, "too few devices: 0 gone, 1 gone", case="two")
-        self.not_shown(one_left(), 7, "no array", case="three")
+        self.not_shown(two_left(), 9, [*FOUR.left(1, [0, 1]), "too few devices: 0 gone, 1 gone"], case="two")
+        self.not_shown(one_left(), 7, [*FOUR.left(1, [0, 1, 2]), "no array"], case="three")
 
     def test_two_arrays(self):
         # Five devices of one array and three of another one with the same geometry.

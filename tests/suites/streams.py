@@ -8,17 +8,17 @@ BROKEN = with_byte(STRIPE, 3 * 512, 0xF5)
 
 class Stripes(Case):
     def test_inputs(self):
-        self.expect("check 4 1 2 1", 5, "input failed", input=self.room, case="a folder as input")
-        self.expect("check 4 1 2 1", 5, "input failed", input=CLOSED, case="a closed input")
-        self.expect("restore 4 1 2 1", 5, "input failed", input=self.room, case="a folder as input of restore")
+        self.expect("check 4 1 2 1", 5, INPUT_CLOSED, input=self.room, case="a folder as input")
+        self.expect("check 4 1 2 1", 5, INPUT_CLOSED, input=CLOSED, case="a closed input")
+        self.expect("restore 4 1 2 1", 5, INPUT_CLOSED, input=self.room, case="a folder as input of restore")
 
     def test_outputs(self):
-        self.expect("check 4 1 2 1", 6, "output failed", input=STRIPE, out=CLOSED, case="a closed output")
-        self.expect("check 4 1 2 1", 6, "output failed", input=STRIPE, out=FULL, case="a full output")
+        self.expect("check 4 1 2 1", 6, OUTPUT_CLOSED, input=STRIPE, out=CLOSED, case="a closed output")
+        self.expect("check 4 1 2 1", 6, OUTPUT_FULL, input=STRIPE, out=FULL, case="a full output")
 
     def test_a_reader_that_closes(self):
         given = Pipe(bytes(921 * 512))
-        self.expect("stripe up 32 3 32 1 2 4", 6, "output failed", bytes(100), input=given, out=Reader(100))
+        self.expect("stripe up 32 3 32 1 2 4", 6, OUTPUT_LEFT, bytes(100), input=given, out=Reader(100))
 
     def test_a_closed_standard_error(self):
         self.expect("check 4 1 2 1", 1, input=BROKEN, err=CLOSED)
@@ -35,12 +35,12 @@ class Arrays(Case):
         self.expect_in(before, before, "create", status, says, input=input, **how)
 
     def test_inputs(self):
-        self.not_created(5, "input failed", input=self.room, case="a folder as a text")
-        self.not_created(5, "input failed", input=CLOSED, case="a closed text")
+        self.not_created(5, INPUT_CLOSED, input=self.room, case="a folder as a text")
+        self.not_created(5, INPUT_CLOSED, input=CLOSED, case="a closed text")
 
     def test_outputs(self):
-        self.created(6, "output failed", out=CLOSED, case="an array and a closed output")
-        self.created(6, "output failed", out=FULL, case="an array and a full output")
+        self.created(6, OUTPUT_CLOSED, out=CLOSED, case="an array and a closed output")
+        self.created(6, OUTPUT_FULL, out=FULL, case="an array and a full output")
 
     def test_a_closed_standard_error(self):
         self.created(puts=FOUR.created, err=CLOSED, case="an array")
@@ -51,7 +51,7 @@ class Arrays(Case):
         self.not_created(5, input=CLOSED, out=CLOSED, err=CLOSED)
 
     def test_too_few_files_at_once(self):
-        self.not_created(5, "input failed", wrap=ulimit("-n", 5))
+        self.not_created(5, ["/: Too many open files", "input failed"], wrap=ulimit("-n", 5))
 
     def test_a_codeword_in_a_folder_of_devices(self):
         self.expect_in(FOUR.blank, FOUR.blank, "check 4 1 2 1", puts=CODEWORD, input=STRIPE)
@@ -71,8 +71,8 @@ class Script(Case):
     def test_streams(self):
         self.expect("check 4 1 2 1", puts=CODEWORD, input=STRIPE, case="a codeword")
         self.expect("check 4 1 2 1", 1, "not a codeword: row 0 parity 0 byte 0", input=BROKEN, case="no codeword")
-        self.expect("check 4 1 2 1", 5, "input failed", input=CLOSED, case="a closed input")
-        self.expect("check 4 1 2 1", 6, "output failed", input=STRIPE, out=CLOSED, case="a closed output")
+        self.expect("check 4 1 2 1", 5, INPUT_CLOSED, input=CLOSED, case="a closed input")
+        self.expect("check 4 1 2 1", 6, OUTPUT_CLOSED, input=STRIPE, out=CLOSED, case="a closed output")
         self.expect("check 4 1 2 1", 1, input=BROKEN, err=CLOSED, case="a closed standard error")
         self.expect_in(FOUR.blank, FOUR.blank, "create", 5, input=CLOSED, out=CLOSED, err=CLOSED, case="three closed streams")
 

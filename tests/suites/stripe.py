@@ -89,25 +89,26 @@ class Restore(Case):
 class Limits(Case):
     """Each limit of a geometry that a single stripe can break. No input is taken."""
 
-    def refused(self, limit, words):
+    def refused(self, limit, words, asked):
+        says = [f"geometry: {asked}", f"geometry: limit {limit}"]
         for command in "check", "stripe up", "restore", "plan":
-            self.expect(
-                f"{command} {words}", 3, f"geometry: limit {limit}", input=STRIPE, left=4096, case=f"limit {limit} by {words}: {command}"
-            )
+            self.expect(f"{command} {words}", 3, says, input=STRIPE, left=4096, case=f"limit {limit} by {words}: {command}")
 
     def test_limits(self):
-        for limit, words in (
-            (1, "2 1 2 1"),
-            (1, "33 1 2 1"),
-            (2, "4 0 2 1"),
-            (3, "4 2 2 1"),
-            (4, "3 1 2 1 1 1"),
-            (5, "4 1 33 1"),
-            (6, "4 1 2 2 1"),
-            (6, "4 1 2 0"),
-            (7, "3 1 1 1 1"),
+        entries = "entries of e from 1 to r are needed, none below the one before"
+        for limit, words, asked in (
+            (1, "2 1 2 1", "3 <= n <= 32 is needed: n = 2"),
+            (1, "33 1 2 1", "3 <= n <= 32 is needed: n = 33"),
+            (2, "4 0 2 1", "m >= 1 is needed: m = 0"),
+            (3, "4 2 2 1", "n > 2m is needed: n = 4, m = 2"),
+            (4, "3 1 2 1 1 1", "1 to n-m entries of e are needed: n = 3, m = 1, entries of e = 3"),
+            (4, f"32 15 1{' 1' * 40}", "1 to n-m entries of e are needed: n = 32, m = 15, entries of e = 40"),
+            (5, "4 1 33 1", "1 <= r <= 32 is needed: r = 33"),
+            (6, "4 1 2 2 1", f"{entries}: r = 2, e = [2, 1]"),
+            (6, "4 1 2 0", f"{entries}: r = 2, e = [0]"),
+            (7, "3 1 1 1 1", "r(n-m) > sum(e) is needed: n = 3, m = 1, r = 1, e = [1, 1]"),
         ):
-            self.refused(limit, words)
+            self.refused(limit, words, asked)
 
 
 class Lengths(Case):

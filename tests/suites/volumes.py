@@ -106,17 +106,17 @@ class TwoVolumes(Volumes):
         self.step("vread home 0 4", puts=file[:512] + FF + FF + file[1536:], case="the blocks that they are")
         self.step("vwrite home 1 1", 4, "input: needed 512, took 513", input=BLOCKS, left=2047, case="bytes too many")
         self.step("vread home 1 1", puts=ONE, case="the block before them")
-        self.step("vwrite home 0 1", 5, "input failed", input=self.room, case="a folder as blocks")
-        self.step("vwrite home 0 1", 5, "input failed", input=CLOSED, case="closed blocks")
+        self.step("vwrite home 0 1", 5, INPUT_CLOSED, input=self.room, case="a folder as blocks")
+        self.step("vwrite home 0 1", 5, INPUT_CLOSED, input=CLOSED, case="closed blocks")
 
     def test_outputs_that_fail(self):
         # What cannot be put out is done all the same.
         self.begin_two()
-        self.step("vlist", 6, "output failed", out=FULL, case="a full output of vlist")
-        self.step("vread home 0 1", 6, "output failed", out=CLOSED, case="a closed output of vread")
-        self.step("vmake c 7", 6, "output failed", out=FULL, case="a full output of vmake")
+        self.step("vlist", 6, OUTPUT_FULL, out=FULL, case="a full output of vlist")
+        self.step("vread home 0 1", 6, OUTPUT_CLOSED, out=CLOSED, case="a closed output of vread")
+        self.step("vmake c 7", 6, OUTPUT_FULL, out=FULL, case="a full output of vmake")
         self.step("vlist", puts=listed("home 1 4", "b_2 5 3", "c 8 7"), case="the volume is made")
-        self.step("vwrite c 6 1", 6, "output failed", input=FF, out=FULL, case="a full output of vwrite")
+        self.step("vwrite c 6 1", 6, OUTPUT_FULL, input=FF, out=FULL, case="a full output of vwrite")
         self.step("vread c 5 2", puts=ZERO + FF, case="the block is written")
 
     def test_room_and_frozen_arrays(self):
@@ -156,9 +156,9 @@ class TwoVolumes(Volumes):
         self.lose(0)
         self.step("vread e 0 1", says="fenced 0", puts=AA, case="a volume, and another device less")
         self.damage(1, 12)
-        self.step("vread e 0 1", puts=AA, case="a damaged sector of it")
+        self.step("vread e 0 1", says=bad(1, 1), puts=AA, case="a damaged sector of it")
         self.damage(2, 11)
-        self.refused("vlist", 10, "lost: stripe 0 counts 2 1 1 0", "a table that is lost")
+        self.refused("vlist", 10, [bad(1, 1), bad(2, 1), "lost: stripe 0 counts 2 1 1 0"], "a table that is lost")
 
 
 class ManyVolumes(Volumes):

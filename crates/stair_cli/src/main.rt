@@ -4,7 +4,7 @@
 use stair_engine::stair;
 use stair_gf::Steps;
 use stair_rack::{Counts, Rack, Sink, Source, Watcher};
-use stair_shell::{Outcome, Refusal, TopCall, run};
+use stair_shell::{Outcome, Refusal, TopCall, report_fault, run};
 use stair_status::Status;
 use std::alloc::Global;
 use std::fs::File;
@@ -65,7 +65,8 @@ fn tell_counts(rt: &HostRuntime, events: Counts) {
 fn main(rt: HostRuntime) -> ExitCode {
     // They are held until the end. Where the directory can't be opened nothing is done, as where the input failed.
     let streams = hold_streams(&rt);
-    if streams.is_err() {
+    if let Err(error) = &streams {
+        report_fault(&rt, "/", *error);
         return end(&rt, Status::InputFault);
     }
     let Outcome { ended, events } = run::<Engine, Brand>(&rt, &Engine, Blank::new(1));

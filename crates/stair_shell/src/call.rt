@@ -3,9 +3,13 @@ ghost use Rattle.stair_monitor.specs.Quotas.{quota_left};
 ghost use Rattle.stair_watch.specs.WatcherList.{AllStay};
 ghost use Rattle.stair_watch.specs.Watchers.{printer_left, tally_left};
 
-use crate::devices::tell_reasons;
-use crate::hearing::Hearing;
-use crate::progress::{Cleared, Measure, Screen, Showing};
+use crate::devices::DeviceUse;
+use crate::hearing::{HeardText, Hearing};
+use crate::limits::GivenNumbers;
+use crate::progress::{Gauges, Measure, Showing};
+use crate::screen::{Cleared, Screen};
+use crate::sectors::BadSectors;
+use crate::streams::Noting;
 use stair_base::Geometry;
 use stair_conf::Job;
 use stair_filerack::FileRack;
@@ -16,6 +20,7 @@ use stair_status::Status;
 use stair_watch::{Printer, Tally, add};
 use std::alloc::{AllocError, Global};
 use std::cell::Cell;
+use std::io;
 use std::io::{BufReader, IsTerminal, Stderr, Stdin, Stdout};
 use std::rc::Rc;
 use std::sync::ledger::{Blank, Ledger};
@@ -57,35 +62,71 @@ pub(crate) fn limits_of(job: &Job) -> Option<Limits>
     }
 }
 
-/// Makes the call, and says of each device that was gone why. Events of the array are printed on standard error as they happen, and
-/// counted; while the call runs, a terminal shows how far it is. At most `ahead` bytes of the input are read ahead. Of a guarded
-/// script two more watchers, with these limits, come after those two. The only error is out of memory, before the call.
-pub(crate) fn call<T: TopCall, L: Ledger>(
-    rt: &HostRuntime,
+/// How a call is made.
+#[derive(Clone, Copy, Debug, Drop)]
+pub(crate) struct Manner {
+    /// What its command does with the devices.
+    pub(crate) usage: DeviceUse,
+    /// By what a terminal shows how far it is. Where there is none nothing is shown.
+    pub(crate) measure: Option<Measure>,
+    /// How many bytes of the input are read ahead at most.
+    pub(crate) ahead: usize,
+}
+
+/// What a call left.
+#[derive(Drop)]
+pub(crate) struct Called<'a> {
+    /// Its status.
+    pub(crate) status: Status,
+    /// The devices.
+    pub(crate) rack: FileRack<&'a HostRuntime>,
+    /// Their bad sectors.
+    pub(crate) bad: BadSectors,
+    /// The geometry of the array that was made or opened.
+    pub(crate) geometry: Option<Geometry>,
+    /// The numbers of a geometry text that breaks a limit.
+    pub(crate) given: Option<GivenNumbers>,
+    /// Why standard input failed last, and standard output.
+    pub(crate) input: Option<io::Error>,
+    pub(crate) output: Option<io::Error>,
+}
+
+/// Makes the call. Events of the array are printed on standard error as they happen, and counted; while the call runs, a terminal
+/// shows how far it is. Of a guarded script two more watchers, with these limits, come after those two. The only error is out of
+/// memory, before the call.
+pub(crate) fn call<'a, T: TopCall, L: Ledger>(
+    rt: &'a HostRuntime,
     top: &T,
-    rack: FileRack<&HostRuntime>,
-    measure: Option<Measure>,
-    ahead: usize,
+    rack: FileRack<&'a HostRuntime>,
+    manner: Manner,
     limits: Option<Limits>,
     command: &[String],
     blank: Blank,
-    told: &mut Counts,
-) -> Result<Status, AllocError>
+    counts: &mut Counts,
+) -> Result<Called<'a>, AllocError>
     requires name { blank.name ≡ L.name }
     requires parts { blank.parts ≡ L.parts }
     requires some { 0 < L.parts }
     requires limits { IfSome limits (λ l. (1 ≤ l.events) × (1 ≤ l.fences)) }
 {
     let screen = Rc::new(rt.alloc(), Screen::new(rt.stderr()))?;
-    let geometry = Cell::new(None);
-    let mut input = input_of(rt, ahead, measure, &geometry)?;
-    let mut output = output_of(rt, &screen)?;
+    let (geometry, given) = (Cell::new(None), Cell::new(None));
+    let (input_fault, output_fault) = (Cell::new(None), Cell::new(None));
+    let taken = Cell::new(0);
+    let heard = HeardText::new(rt.alloc(), &geometry, &given);
+    let mut input = input_of(rt, manner, heard, &taken, &input_fault)?;
+    let mut output = output_of(rt, &screen, &output_fault)?;
     let Observers {
         printer,
         tally,
         bounds,
     } = observers_of(rt, &screen, limits)?;
-    let mut rack = Showing::new(rack, rt, screen.clone()?, &geometry, measure);
+    let bad = BadSectors::new(rt.alloc())?;
+    let gauges = Gauges {
+        geometry: &geometry,
+        taken: &taken,
+    };
+    let mut rack = Showing::new(rack, bad, rt, screen.clone()?, gauges, manner.measure);
     let mut watchers = Vec::new(rt.alloc());
     add_two(&mut watchers, printer, tally)?;
     if let Some((events, fences)) = bounds {
@@ -102,42 +143,60 @@ pub(crate) fn call<T: TopCall, L: Ledger>(
         &mut steps,
     );
     screen.clear();
-    tell_reasons(rt, &rack.into_inner());
-    // the tally behind the printer never leaves, and counts them all
+    // the tally after the printer never leaves, and counts them all
     if let Some(tally) = watchers.get(1) {
-        *told = tally.counts();
+        *counts = tally.counts();
     }
-    Ok(status)
-}
-
-// Standard input, of which at most `ahead` bytes are read ahead. For a new array its geometry is read from it as well.
-fn input_of<'a>(
-    rt: &HostRuntime,
-    ahead: usize,
-    measure: Option<Measure>,
-    geometry: &'a Cell<Option<Geometry>>,
-) -> Result<Hearing<'a, FromRead<BufReader<Stdin>>>, AllocError> {
-    let Ok(input) = BufReader::with_capacity(rt.alloc(), ahead, rt.stdin()) else {
-        return Err(AllocError);
-    };
-    let input = FromRead::new(input);
-    Ok(match measure {
-        Some(Measure::StripesWritten) => Hearing::new(input, rt.alloc(), geometry),
-        Some(Measure::Sectors | Measure::StripesRead) | None => Hearing::deaf(input),
+    let (rack, bad) = rack.into_parts();
+    Ok(Called {
+        status,
+        rack,
+        bad,
+        geometry: geometry.get(),
+        given: given.get(),
+        input: input_fault.get(),
+        output: output_fault.get(),
     })
 }
 
+/// Standard input.
+type Input<'f> = FromRead<BufReader<Noting<'f, Stdin>>>;
+
+// Standard input. For a new array its geometry is read from it as well.
+fn input_of<'g, 'f>(
+    rt: &HostRuntime,
+    manner: Manner,
+    heard: HeardText<'g>,
+    taken: &'g Cell<u64>,
+    fault: &'f Cell<Option<io::Error>>,
+) -> Result<Hearing<'g, Input<'f>>, AllocError> {
+    let input = Noting::new(rt.stdin(), fault);
+    let Ok(input) = BufReader::with_capacity(rt.alloc(), manner.ahead, input) else {
+        return Err(AllocError);
+    };
+    let input = FromRead::new(input);
+    Ok(match manner.usage {
+        DeviceUse::Made => Hearing::new(input, taken, heard),
+        DeviceUse::Unused | DeviceUse::Shown | DeviceUse::Opened => Hearing::deaf(input, taken),
+    })
+}
+
+/// Standard output.
+type Output<'f> = FromWrite<Noting<'f, Cleared<Stdout>>>;
+
 // Standard output, which clears what is shown on the screen where it goes to a terminal.
-fn output_of(
+fn output_of<'f>(
     rt: &HostRuntime,
     screen: &Rc<Screen>,
-) -> Result<FromWrite<Cleared<Stdout>>, AllocError> {
+    fault: &'f Cell<Option<io::Error>>,
+) -> Result<Output<'f>, AllocError> {
     let over = if rt.stdout().is_terminal() {
         Some(screen.clone()?)
     } else {
         None
     };
-    Ok(FromWrite::new(Cleared::new(rt.stdout(), over)))
+    let output = Cleared::new(rt.stdout(), over);
+    Ok(FromWrite::new(Noting::new(output, fault)))
 }
 
 /// A writer to standard error for a watcher.

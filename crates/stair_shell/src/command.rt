@@ -1,9 +1,10 @@
 ghost use Rattle.std.specs.Prelude.{◌≡◌, ◌<◌};
 
-use crate::call::{TopCall, call, limits_of};
+use crate::after::report_after;
+use crate::call::{Manner, TopCall, call, limits_of};
 use crate::copies::refuse_copies;
-use crate::devices::{InUse, access_of, ahead_of, lock_folder, measure_of, tell_reason};
-use crate::progress::Measure;
+use crate::devices::{DeviceUse, ahead_of, measure_of, report_reason, use_of};
+use crate::folder::{InUse, lock_folder, look_at_folder};
 use stair_conf::{Job, WordsFault};
 use stair_filerack::{Access, FileRack};
 use stair_rack::Counts;
@@ -24,7 +25,7 @@ struct Words {
 pub enum Refusal {
     /// As this status says.
     Status(Status),
-    /// Another program has the folder, which was told.
+    /// Another program has the folder, which was reported.
     InUse,
 }
 
@@ -64,7 +65,7 @@ fn read_words(rt: &HostRuntime) -> Result<Words, Status> {
 #[derive(Debug, Drop)]
 pub struct Outcome {
     pub ended: Result<Status, Refusal>,
-    /// How many events of each kind were told, of a command whose events are counted on standard error.
+    /// How many events of each kind were reported, of a command whose events are counted on standard error.
     pub events: Option<Counts>,
 }
 
@@ -91,14 +92,14 @@ pub fn run<T: TopCall, L: Ledger>(rt: &HostRuntime, top: &T, blank: Blank) -> Ou
             events: None,
         };
     }
-    let mut told = Counts {
+    let mut counts = Counts {
         fenced: 0,
         repaired: 0,
         admitted: 0,
         promoted: 0,
     };
-    let ended = run_words::<T, L>(rt, top, &words, &job, blank, &mut told);
-    let events = matches!(job, Ok(Job::Run | Job::Guard { .. })).then_some(told);
+    let ended = run_words::<T, L>(rt, top, &words, &job, blank, &mut counts);
+    let events = matches!(job, Ok(Job::Run | Job::Guard { .. })).then_some(counts);
     Outcome { ended, events }
 }
 
@@ -110,57 +111,61 @@ fn run_words<T: TopCall, L: Ledger>(
     words: &Words,
     job: &Result<Job, WordsFault>,
     blank: Blank,
-    told: &mut Counts,
+    counts: &mut Counts,
 ) -> Result<Status, Refusal>
     requires name { blank.name ≡ L.name }
     requires parts { blank.parts ≡ L.parts }
     requires some { 0 < L.parts }
 {
-    let access = job.as_ref().map_or(Access::Reading, access_of);
-    let measure = job.as_ref().map_or(Measure::Sectors, measure_of);
-    let measure = rt.stderr().is_terminal().then_some(measure);
-    let ahead = job.as_ref().map_or(0, ahead_of);
+    let manner = manner_of(rt, job);
+    let folder = words.folder.as_str();
     let limits = match job {
         Ok(job) => limits_of(job),
         Err(_) => None,
     };
-    let _lock = match access {
-        Access::Writing => lock_folder(rt, words.folder.as_str())?,
-        Access::Reading => None,
+    let _lock = match manner.usage {
+        DeviceUse::Made | DeviceUse::Opened => lock_folder(rt, folder)?,
+        DeviceUse::Shown => {
+            look_at_folder(rt, folder);
+            None
+        }
+        DeviceUse::Unused => None,
     };
-    let Ok(mut rack) = FileRack::at(rt, rt.alloc(), words.folder.as_str(), access) else {
+    let access = manner.usage.access();
+    let Ok(mut rack) = FileRack::at(rt, rt.alloc(), folder, access) else {
         return Ok(Status::OutOfMemory);
     };
     if access == Access::Writing
         && let Err(refused) = rack.probe()
     {
-        tell_reason(rt, &refused);
+        report_reason(rt, &refused);
         return Ok(Status::Gone(refused.slot));
     }
-    if let Ok(job) = job {
-        refuse_copies(rt, words.folder.as_str(), job)?;
-    }
-    let called = call::<T, L>(
-        rt,
-        top,
-        rack,
-        measure,
-        ahead,
-        limits,
-        &words.command,
-        blank,
-        told,
-    );
-    let status = called.unwrap_or(Status::OutOfMemory);
-    if status == Status::Limit(8) && matches!(job, Ok(Job::Create)) {
-        tell_large(rt);
-    }
-    Ok(status)
+    refuse_copies(rt, folder, manner.usage)?;
+    let called = call::<T, L>(rt, top, rack, manner, limits, &words.command, blank, counts);
+    let Ok(called) = called else {
+        return Ok(Status::OutOfMemory);
+    };
+    report_after(rt, folder, job, manner.usage, &called);
+    Ok(called.status)
 }
 
-/// Tells how a geometry text gets an array of more stripes.
-fn tell_large(rt: &HostRuntime) {
-    let _ = eprintln!(rt;
-        "geometry: with `large = true` limit 8 is 3 + n*r + r*stripes <= 4294967295"
-    );
+// How a call is made for these words. Words that are none of a command look at no device.
+fn manner_of(rt: &HostRuntime, job: &Result<Job, WordsFault>) -> Manner {
+    match job {
+        Ok(job) => Manner {
+            usage: use_of(job),
+            measure: if rt.stderr().is_terminal() {
+                measure_of(rt, job)
+            } else {
+                None
+            },
+            ahead: ahead_of(job),
+        },
+        Err(_) => Manner {
+            usage: DeviceUse::Unused,
+            measure: None,
+            ahead: 0,
+        },
+    }
 }

@@ -1,17 +1,40 @@
-// What the program does about devices beside the call: whether they can be had, and why they were gone.
-use crate::progress::Measure;
+// What the program does about devices apart from the call: whether they can be opened, and why they were gone.
+use crate::progress::{Measure, Span};
+use crate::report::{Device, report};
 use stair_conf::Job;
-use stair_filerack::{Access, FileRack, Lock, Locking, Refused};
-use std::fmt::Display;
+use stair_filerack::{Access, FileRack, Refused};
 use std::fs;
-use std::fs::File;
 
-/// What a command opens the image files for.
-pub(crate) fn access_of(job: &Job) -> Access {
+/// What a command does with the devices of its folder.
+#[derive(Clone, Copy, Debug, PartialEq, Eq, Drop)]
+pub(crate) enum DeviceUse {
+    /// It looks at none.
+    Unused,
+    /// It makes an array of them.
+    Made,
+    /// It looks for an array, and writes nothing.
+    Shown,
+    /// It opens an array, which may write, also for a read.
+    Opened,
+}
+
+impl DeviceUse {
+    /// What the image files are opened for.
+    pub(crate) fn access(self) -> Access {
+        match self {
+            DeviceUse::Made | DeviceUse::Opened => Access::Writing,
+            DeviceUse::Unused | DeviceUse::Shown => Access::Reading,
+        }
+    }
+}
+
+/// Returns what a command does with the devices of its folder.
+pub(crate) fn use_of(job: &Job) -> DeviceUse {
     match job {
-        // An opening may write, that of a read too.
-        Job::Create
-        | Job::Read { .. }
+        Job::OneStripe { .. } | Job::Report | Job::Plan { .. } => DeviceUse::Unused,
+        Job::Create => DeviceUse::Made,
+        Job::Show => DeviceUse::Shown,
+        Job::Read { .. }
         | Job::Write { .. }
         | Job::Scrub
         | Job::Replace { .. }
@@ -23,8 +46,7 @@ pub(crate) fn access_of(job: &Job) -> Access {
         | Job::Exercise { .. }
         | Job::Guard { .. }
         | Job::Serve
-        | Job::Volume(_) => Access::Writing,
-        Job::Show | Job::OneStripe { .. } | Job::Report | Job::Plan { .. } => Access::Reading,
+        | Job::Volume(_) => DeviceUse::Opened,
     }
 }
 
@@ -37,74 +59,51 @@ pub(crate) fn ahead_of(job: &Job) -> usize {
     }
 }
 
-/// By what it is told how far a command is.
-pub(crate) fn measure_of(job: &Job) -> Measure {
+/// Returns by what a terminal shows how far a command is. A session of `serve` shows nothing, since it may run in the background of a
+/// shell. The length of a script is known if it is a file.
+pub(crate) fn measure_of(rt: &HostRuntime, job: &Job) -> Option<Measure> {
     match job {
-        Job::Create => Measure::StripesWritten,
-        Job::Scrub | Job::Replace { .. } | Job::Rebuild => Measure::StripesRead,
+        Job::Serve => None,
+        Job::Create => Some(Measure::StripesWritten(Span::Whole)),
+        Job::Scrub | Job::Replace { .. } | Job::Rebuild => Some(Measure::StripesRead(Span::Whole)),
+        Job::Read { block, count } => Some(Measure::StripesRead(blocks(*block, *count))),
+        Job::Write { block, count } => Some(Measure::StripesWritten(blocks(*block, *count))),
+        Job::Run | Job::Guard { .. } => Some(script_length(rt).map_or(
+            Measure::Sectors,
+            Measure::Script,
+        )),
         Job::OneStripe { .. }
         | Job::Show
-        | Job::Read { .. }
-        | Job::Write { .. }
         | Job::Freeze
         | Job::Thaw
         | Job::Label { .. }
-        | Job::Run
         | Job::Exercise { .. }
-        | Job::Guard { .. }
         | Job::Report
-        | Job::Serve
         | Job::Volume(_)
-        | Job::Plan { .. } => Measure::Sectors,
+        | Job::Plan { .. } => Some(Measure::Sectors),
     }
 }
 
-/// The folder is in use by another program that may write.
-#[derive(Clone, Copy, Debug, Drop)]
-pub(crate) struct InUse;
-
-/// Takes the advisory lock of the folder, which goes with the file that is answered: the devices of a folder are used by one
-/// program at a time. A folder that can't be opened shows when its devices are looked for; one without locks is told.
-pub(crate) fn lock_folder(rt: &HostRuntime, folder: &str) -> Result<Option<File>, InUse> {
-    let Some(file) = open_folder(rt, folder) else {
-        return Ok(None);
-    };
-    match file.take_lock() {
-        Locking::Taken => {}
-        Locking::NoLocks => tell(rt, folder, "no locks"),
-        Locking::InUse => {
-            tell(rt, folder, "in use");
-            return Err(InUse);
-        }
-    }
-    Ok(Some(file))
+fn blocks(block: u64, count: u64) -> Span {
+    Span::Blocks { block, count }
 }
 
-// A pipe in the folder's place isn't opened, since that may wait for another program.
-fn open_folder(rt: &HostRuntime, folder: &str) -> Option<File> {
-    if !fs::metadata(rt, folder).ok()?.is_dir() {
-        return None;
-    }
-    fs::open(rt, folder).ok()
+// The length of standard input, if it is a file.
+fn script_length(rt: &HostRuntime) -> Option<u64> {
+    let metadata = fs::metadata(rt, "/dev/stdin").ok()?;
+    metadata.is_file().then_some(metadata.len())
 }
 
-/// Tells of each slot the first reason for which it was gone.
-pub(crate) fn tell_reasons(rt: &HostRuntime, rack: &FileRack<&HostRuntime>) {
+/// Reports for each slot the first reason for which it was gone.
+pub(crate) fn report_reasons(rt: &HostRuntime, rack: &FileRack<&HostRuntime>) {
     for slot in 0..32 {
         if let Some(reason) = rack.reason(slot) {
-            tell_reason(rt, &Refused { slot, reason });
+            report_reason(rt, &Refused { slot, reason });
         }
     }
 }
 
-/// Tells why a device was gone or can't be had.
-pub(crate) fn tell_reason(rt: &HostRuntime, refused: &Refused) {
-    let tens = refused.slot / 10;
-    let ones = refused.slot % 10;
-    tell(rt, format_args!("dev{tens}{ones}.img"), refused.reason);
-}
-
-// A line on standard error. Where that can't be written, the exit status still tells.
-fn tell(rt: &HostRuntime, of: impl Display + Drop, what: impl Display + Drop) {
-    let _ = eprintln!(rt; "{of}: {what}");
+/// Reports why a device was gone or can't be opened.
+pub(crate) fn report_reason(rt: &HostRuntime, refused: &Refused) {
+    report(rt, Device { slot: refused.slot }, refused.reason);
 }

@@ -1,21 +1,39 @@
 // The geometry of an array that is made is known from its text alone, since its superblocks are written last.
+use crate::limits::{GivenNumbers, numbers_in};
 use stair_base::Geometry;
-use stair_conf::read_config;
+use stair_conf::{ConfigFault, read_config};
 use stair_rack::{Source, Taken};
 use std::alloc::Global;
 use std::cell::Cell;
 
-/// What was taken of a geometry text.
+/// What was taken of a geometry text, and cells for what it says.
 #[derive(Drop)]
-struct Heard<'a> {
+pub(crate) struct HeardText<'a> {
     alloc: Global,
     text: Vec<u8>,
     // Whether there was memory for all of it.
     whole: bool,
     geometry: &'a Cell<Option<Geometry>>,
+    given: &'a Cell<Option<GivenNumbers>>,
 }
 
-impl Heard<'_> {
+impl<'a> HeardText<'a> {
+    /// Nothing was taken yet. Once the text has ended, one cell has its geometry, or the other one the numbers of a text that breaks a
+    /// limit.
+    pub(crate) fn new(
+        alloc: Global,
+        geometry: &'a Cell<Option<Geometry>>,
+        given: &'a Cell<Option<GivenNumbers>>,
+    ) -> HeardText<'a> {
+        HeardText {
+            alloc,
+            text: Vec::new(alloc),
+            whole: true,
+            geometry,
+            given,
+        }
+    }
+
     fn keep(&mut self, piece: &[u8]) {
         if self.text.extend_from_slice(piece).is_err() {
             self.whole = false;
@@ -23,44 +41,42 @@ impl Heard<'_> {
     }
 
     fn learn(&self) {
-        if self.whole
-            && let Ok(geometry) = read_config(self.alloc, self.text.as_slice())
-        {
-            self.geometry.set(Some(geometry));
+        if !self.whole {
+            return;
+        }
+        match read_config(self.alloc, self.text.as_slice()) {
+            Ok(geometry) => self.geometry.set(Some(geometry)),
+            Err(ConfigFault::Limit(_)) => {
+                self.given.set(numbers_in(self.alloc, self.text.as_slice()));
+            }
+            Err(_) => {}
         }
     }
 }
 
-/// A source that gives what its inner one does, and may listen for a geometry text.
+/// A source that gives what its inner one does and counts the bytes, and may listen for a geometry text.
 #[derive(Drop)]
 pub(crate) struct Hearing<'a, S: Source> {
     source: S,
-    heard: Option<Heard<'a>>,
+    taken: &'a Cell<u64>,
+    heard: Option<HeardText<'a>>,
 }
 
 impl<'a, S: Source + Drop> Hearing<'a, S> {
     /// A source that doesn't listen.
-    pub(crate) fn deaf(source: S) -> Hearing<'a, S> {
+    pub(crate) fn deaf(source: S, taken: &'a Cell<u64>) -> Hearing<'a, S> {
         Hearing {
             source,
+            taken,
             heard: None,
         }
     }
 
-    /// A source of a geometry text, whose geometry is in the cell once the text has ended.
-    pub(crate) fn new(
-        source: S,
-        alloc: Global,
-        geometry: &'a Cell<Option<Geometry>>,
-    ) -> Hearing<'a, S> {
-        let heard = Heard {
-            alloc,
-            text: Vec::new(alloc),
-            whole: true,
-            geometry,
-        };
+    /// A source of a geometry text.
+    pub(crate) fn new(source: S, taken: &'a Cell<u64>, heard: HeardText<'a>) -> Hearing<'a, S> {
         Hearing {
             source,
+            taken,
             heard: Some(heard),
         }
     }
@@ -75,6 +91,10 @@ impl<S: Source + Drop> Source for Hearing<'_, S> {
 
     fn take(&mut self, into: &mut [u8]) -> Taken {
         let taken = self.source.take(into);
+        if let Taken::Bytes(count) = taken {
+            self.taken
+                .set(self.taken.get().saturating_add(count as u64));
+        }
         if let Some(heard) = &mut self.heard {
             match taken {
                 Taken::Bytes(count) => heard.keep(&into[..count]),

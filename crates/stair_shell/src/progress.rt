@@ -1,11 +1,11 @@
-// How far a command is, on a terminal: one line on standard error, which is written over as it goes on and cleared at the end.
+// How far a command is: how much of it is done, how fast it goes on, and how long it takes yet.
+use crate::pace::{Pace, Reach, Start};
+use crate::screen::Screen;
+use crate::sectors::BadSectors;
 use stair_base::{FIRST_PLACE, Geometry, SECOND_PLACE, SECTOR};
-use stair_rack::{FromWrite, Got, Rack, Reply};
+use stair_rack::{Got, Rack, Reply};
 use stair_super::read_super;
-use stair_watch::{Line, put_until_fault};
 use std::cell::Cell;
-use std::io;
-use std::io::{Stderr, Write};
 use std::rc::Rc;
 use std::time::{Duration, Instant};
 
@@ -15,87 +15,40 @@ const FIRST: u64 = 1000;
 // For so many the line stays as it is.
 const AGAIN: u64 = 100;
 
-// Back to the beginning of the line, and what erases from there to its end.
-const RETURN: &[u8] = b"\r";
-
-const ERASE: &[u8] = b"\x1b[K";
-
-/// Standard error, and whether the line is on it.
-#[derive(Drop)]
-pub(crate) struct Screen {
-    stderr: Stderr,
-    shown: Cell<bool>,
-}
-
-impl Screen {
-    /// Nothing is shown yet.
-    pub(crate) fn new(stderr: Stderr) -> Screen {
-        Screen {
-            stderr,
-            shown: Cell::new(false),
-        }
-    }
-
-    /// Puts this line in the place of the one that is shown.
-    fn show(&self, line: &Line) {
-        self.put(line);
-        self.shown.set(true);
-    }
-
-    /// Clears the line where it is shown.
-    pub(crate) fn clear(&self) {
-        if self.shown.replace(false) {
-            let mut line = Line::new();
-            line.push(RETURN);
-            line.push(ERASE);
-            self.put(&line);
-        }
-    }
-
-    // Where the terminal can't be written, the command goes on.
-    fn put(&self, line: &Line) {
-        put_until_fault(&mut FromWrite::new(self.stderr), line.bytes());
-    }
-}
-
-/// A writer to the terminal, or to something else, that clears the line first where it writes to the terminal.
-#[derive(Drop)]
-pub(crate) struct Cleared<W: Write> {
-    writer: W,
-    screen: Option<Rc<Screen>>,
-}
-
-impl<W: Write + Drop> Cleared<W> {
-    /// A writer that clears the line of this screen, where it writes to one.
-    pub(crate) fn new(writer: W, screen: Option<Rc<Screen>>) -> Cleared<W> {
-        Cleared { writer, screen }
-    }
-}
-
-impl<W: Write + Drop> Write for Cleared<W> {
-    ghost contents = { λ s. W.contents s.writer };
-
-    fn write(&mut self, buf: &[u8]) -> io::Result<usize> {
-        if let Some(screen) = &self.screen {
-            screen.clear();
-        }
-        self.writer.write(buf)
-    }
-
-    fn flush(&mut self) -> io::Result<()> {
-        self.writer.flush()
-    }
-}
-
-/// By what a command is told.
+/// By what a terminal shows how far a command is.
 #[derive(Clone, Copy, Debug, PartialEq, Eq, Drop)]
 pub(crate) enum Measure {
     /// How many sectors were read and written.
     Sectors,
     /// The stripe whose cells are read: those before it are done.
-    StripesRead,
+    StripesRead(Span),
     /// The stripe whose cells are written: those before it are done.
-    StripesWritten,
+    StripesWritten(Span),
+    /// How many bytes of a script were taken, which has so many.
+    Script(u64),
+}
+
+/// The stripes that a command goes through.
+#[derive(Clone, Copy, Debug, PartialEq, Eq, Drop)]
+pub(crate) enum Span {
+    /// All of the array.
+    Whole,
+    /// Those of some blocks.
+    Blocks {
+        /// The first block.
+        block: u64,
+        /// How many.
+        count: u64,
+    },
+}
+
+/// Where the numbers come from that are shown.
+#[derive(Clone, Copy, Drop)]
+pub(crate) struct Gauges<'a> {
+    /// The geometry of the array that is made or open, once that is known.
+    pub(crate) geometry: &'a Cell<Option<Geometry>>,
+    /// How many bytes of the input were taken.
+    pub(crate) taken: &'a Cell<u64>,
 }
 
 /// How far a command is.
@@ -104,24 +57,26 @@ struct Progress<'a> {
     clock: &'a HostRuntime,
     screen: Rc<Screen>,
     measure: Measure,
-    geometry: &'a Cell<Option<Geometry>>,
-    // The sector that was asked for last, of those that tell the stripe.
-    sector: u32,
+    gauges: Gauges<'a>,
+    // The stripe that was read or written last.
+    stripe: Option<u64>,
     read: u64,
     written: u64,
     // Counts calls up to 256, and then from 0 on.
     calls: u8,
+    // Where the pace is measured from.
+    start: Option<Start>,
     // When the line was shown last, or else when the command began, and how many milliseconds ago that is to be.
     since: Instant,
     wait: u64,
 }
 
 impl Progress<'_> {
-    // A command of which nothing was done. Nothing is told where the clock fails.
+    // A command of which nothing was done. Nothing is shown where the clock fails.
     fn begin<'a>(
         clock: &'a HostRuntime,
         screen: Rc<Screen>,
-        geometry: &'a Cell<Option<Geometry>>,
+        gauges: Gauges<'a>,
         measure: Option<Measure>,
     ) -> Option<Progress<'a>> {
         let measure = measure?;
@@ -130,11 +85,12 @@ impl Progress<'_> {
             clock,
             screen,
             measure,
-            geometry,
-            sector: 0,
+            gauges,
+            stripe: None,
             read: 0,
             written: 0,
             calls: 0,
+            start: None,
             since,
             wait: FIRST,
         })
@@ -144,29 +100,28 @@ impl Progress<'_> {
         if got == Got::Good {
             self.read = self.read.saturating_add(1);
         }
-        if self.measure == Measure::StripesRead {
-            self.sector = sector;
+        if matches!(self.measure, Measure::StripesRead(_)) {
+            self.note(sector);
         }
         self.saw_call();
     }
 
-    fn saw_write(&mut self, sector: u32, from: &[u8; SECTOR], reply: Reply) {
+    fn saw_write(&mut self, sector: u32, reply: Reply) {
         if reply == Reply::Done {
             self.written = self.written.saturating_add(1);
         }
-        if self.measure == Measure::StripesWritten {
-            self.sector = sector;
-        }
-        if sector == FIRST_PLACE || sector == SECOND_PLACE {
-            self.learn(from);
+        if matches!(self.measure, Measure::StripesWritten(_)) {
+            self.note(sector);
         }
         self.saw_call();
     }
 
-    // Superblocks are written of the array alone that is open, and may be read of others too.
-    fn learn(&mut self, place: &[u8; SECTOR]) {
-        if let Some(block) = read_super(place) {
-            self.geometry.set(Some(block.geometry()));
+    // Superblocks and the journal are of no stripe.
+    fn note(&mut self, sector: u32) {
+        if let Some(geometry) = self.gauges.geometry.get()
+            && let Some(stripe) = stripe_at(&geometry, sector)
+        {
+            self.stripe = Some(stripe);
         }
     }
 
@@ -183,73 +138,130 @@ impl Progress<'_> {
             self.screen.clear();
             return;
         };
+        let reach = self.reach();
+        self.start_from(reach, now);
         if now.duration_since(self.since) > Duration::from_millis(self.wait) {
             self.since = now;
             self.wait = AGAIN;
-            self.screen.show(&self.line());
+            self.show(reach, now);
         }
     }
 
-    fn line(&self) -> Line {
-        let mut line = Line::new();
-        line.push(RETURN);
-        match self.stripes() {
-            Some((done, stripes)) => {
-                line.push_named(b"", u64::from(done));
-                line.push_named(b" of ", u64::from(stripes));
-                line.push(b" stripes");
-            }
-            None => {
-                line.push_named(b"read ", self.read);
-                line.push_named(b" written ", self.written);
-                line.push(b" sectors");
-            }
+    // The pace is measured from the first look on, and anew where a command begins again with the first stripe.
+    fn start_from(&mut self, reach: Option<Reach>, now: Instant) {
+        if let Some(reach) = reach
+            && !matches!(self.start, Some(start) if start.done <= reach.done)
+        {
+            self.start = Some(Start {
+                done: reach.done,
+                at: now,
+            });
         }
-        line.push(ERASE);
-        line
     }
 
-    // How many stripes are done of how many, where that is known.
-    fn stripes(&self) -> Option<(u32, u32)> {
-        let geometry = self.geometry.get()?;
-        let rows = u32::from(geometry.r());
-        let stripes = geometry.stripes();
-        let done = self.sector.checked_sub(geometry.cell_sector(0, 0))? / rows;
-        if done < stripes {
-            Some((done, stripes))
-        } else {
-            None
+    fn show(&self, reach: Option<Reach>, now: Instant) {
+        match (reach, self.start) {
+            (Some(reach), Some(start)) => self.screen.show(Pace { reach, start, now }),
+            (_, _) => {
+                let (read, written) = (self.read, self.written);
+                self.screen
+                    .show(format_args!("read {read} written {written} sectors"));
+            }
+        }
+    }
+
+    // How much of the command is done, where that is known.
+    fn reach(&self) -> Option<Reach> {
+        match self.measure {
+            Measure::Sectors => None,
+            Measure::Script(bytes) => Some(Reach {
+                done: self.gauges.taken.get(),
+                whole: bytes,
+                unit: "bytes of the script",
+            }),
+            Measure::StripesRead(span) | Measure::StripesWritten(span) => self.stripes(span),
+        }
+    }
+
+    // How many of these stripes are done.
+    fn stripes(&self, span: Span) -> Option<Reach> {
+        let geometry = self.gauges.geometry.get()?;
+        let (first, stripes) = stripes_of(&geometry, span)?;
+        let done = self.stripe?.checked_sub(first)?;
+        (done < stripes).then_some(Reach {
+            done,
+            whole: stripes,
+            unit: "stripes",
+        })
+    }
+}
+
+// The stripe that has cells in this sector, if it is not one of those before all stripes.
+fn stripe_at(geometry: &Geometry, sector: u32) -> Option<u64> {
+    let rows = u32::from(geometry.r());
+    let row = sector.checked_sub(geometry.cell_sector(0, 0))?;
+    Some(u64::from(row / rows))
+}
+
+// The first of the stripes that a command goes through, and how many there are.
+fn stripes_of(geometry: &Geometry, span: Span) -> Option<(u64, u64)> {
+    match span {
+        Span::Whole => Some((0, u64::from(geometry.stripes()))),
+        Span::Blocks { block, count } => {
+            let blocks = u64::from(geometry.u());
+            let first = block.checked_div(blocks)?;
+            let end = block
+                .checked_add(count)?
+                .checked_sub(1)?
+                .checked_div(blocks)?;
+            Some((first, end.checked_sub(first)?.checked_add(1)?))
         }
     }
 }
 
-/// A rack that shows how far a command is, and answers as its inner one.
+/// A rack that shows how far a command is and counts bad sectors, and answers as its inner one.
 #[derive(Drop)]
 pub(crate) struct Showing<'a, R: Rack> {
     rack: R,
+    bad: BadSectors,
+    geometry: &'a Cell<Option<Geometry>>,
     progress: Option<Progress<'a>>,
 }
 
 impl<'a, R: Rack + Drop> Showing<'a, R> {
-    /// Shows it from here on, by this measure, or where there is none not at all. The cell has the geometry of the array that
-    /// is made or open, once that is known.
+    /// Shows it from here on, by this measure, or where there is none not at all.
     pub(crate) fn new(
         rack: R,
+        bad: BadSectors,
         rt: &'a HostRuntime,
         screen: Rc<Screen>,
-        geometry: &'a Cell<Option<Geometry>>,
+        gauges: Gauges<'a>,
         measure: Option<Measure>,
     ) -> Showing<'a, R> {
         Showing {
             rack,
-            progress: Progress::begin(rt, screen, geometry, measure),
+            bad,
+            geometry: gauges.geometry,
+            progress: Progress::begin(rt, screen, gauges, measure),
         }
     }
 
-    /// The inner rack, which shows nothing.
-    pub(crate) fn into_inner(self) -> R {
-        let Showing { rack, progress: _ } = self;
-        rack
+    /// The inner rack, which shows nothing, and the bad sectors.
+    pub(crate) fn into_parts(self) -> (R, BadSectors) {
+        let Showing {
+            rack,
+            bad,
+            geometry: _,
+            progress: _,
+        } = self;
+        (rack, bad)
+    }
+
+    // Superblocks are written of the array alone that is open, and may be read of others too.
+    fn learn(&self, place: &[u8; SECTOR]) {
+        if let Some(block) = read_super(place) {
+            self.geometry.set(Some(block.geometry()));
+        }
     }
 }
 
@@ -278,6 +290,7 @@ impl<R: Rack + Drop> Rack for Showing<'_, R> {
 
     fn read(&mut self, slot: u8, sector: u32, into: &mut [u8; SECTOR]) -> Got {
         let got = self.rack.read(slot, sector, into);
+        self.bad.saw_read(slot, sector, got);
         if let Some(progress) = &mut self.progress {
             progress.saw_read(sector, got);
         }
@@ -286,8 +299,11 @@ impl<R: Rack + Drop> Rack for Showing<'_, R> {
 
     fn write(&mut self, slot: u8, sector: u32, from: &[u8; SECTOR]) -> Reply {
         let reply = self.rack.write(slot, sector, from);
+        if sector == FIRST_PLACE || sector == SECOND_PLACE {
+            self.learn(from);
+        }
         if let Some(progress) = &mut self.progress {
-            progress.saw_write(sector, from, reply);
+            progress.saw_write(sector, reply);
         }
         reply
     }
