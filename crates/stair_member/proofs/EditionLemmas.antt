@@ -23,7 +23,6 @@ use Rattle.stair_rack.proofs.StepLemmas.{slot_act_cases, slot_call_cases}
 use Rattle.stair_rack.proofs.StretchLemmas.{KeepsWhere, kept_where}
 use Rattle.stair_super.specs.Spelling.{SpellsSuperblock, spelled}
 use Rattle.stair_super.specs.Superblock.{Superblock, IsSuperblock}
-use Rattle.stair_super.specs.declared.version.Version.TheVariants.{Two}
 use Rattle.stair_super.proofs.SpellsLaws.{spells}
 use Rattle.stair_member.specs.Editions.{Edition, copy_of}
 use Rattle.stair_member.specs.Epochs.{IsIssuing, AWrite, ASync}

@@ -6,6 +6,7 @@ pub mod StandingLemmas
 pub mod NewestLemmas
 pub mod JudgeLemmas
 pub mod SightLemmas
+pub mod ProbeLemmas
 pub mod ReasonLemmas
 pub mod SurveyLemmas
 pub mod AskedLemmas

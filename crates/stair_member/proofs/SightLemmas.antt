@@ -4,94 +4,29 @@ use Rattle.std.specs.Prelude.{◌⊎◌, ◌==◌, IsTrue, slice_index, if◌the
 use Rattle.std.proofs.lemmas.Bool.{cases_Bool, cases_eq, cases_lt, false≢true}
 use Rattle.stair_model.specs.Slots.{Slots, HasSlot, IsSlotSet, has_slot}
 use Rattle.stair_model.proofs.SetLaws.{same_test}
-use Rattle.stair_rack.specs.Answers.{Calls, IsHistory, Ran, any_call, is_ready}
-use Rattle.stair_rack.specs.Count.{Rose, kept-Rose}
-use Rattle.stair_rack.specs.History.{Happening, Attach, Read, slot_state}
+use Rattle.stair_rack.specs.Answers.{IsHistory, Ran, any_call}
+use Rattle.stair_rack.specs.History.{Happening, Attach, Read}
 use Rattle.stair_rack.specs.Media.{Image}
-use Rattle.stair_rack.specs.Offline.{IsHeld, IsOffline}
+use Rattle.stair_rack.specs.Offline.{IsHeld}
 use Rattle.stair_rack.specs.RackCounts.{NoneFalls, RisesAtMost}
-use Rattle.stair_rack.specs.Sector.{Cell, Good, Damaged, content}
-use Rattle.stair_rack.specs.declared.rack.Got.{Got}
-use Rattle.stair_rack.specs.declared.rack.Got.TheVariants as got
+use Rattle.stair_rack.specs.Sector.{Cell, Damaged}
 use Rattle.stair_rack.specs.declared.rack.Reply.TheVariants as reply
-use Rattle.stair_rack.proofs.CallLemmas.{attach_done, attach_gone}
 use Rattle.stair_rack.proofs.PassCounts.{rises_more, rises_none}
-use Rattle.stair_rack.proofs.MomentLemmas.{IsThis, at_end, calls_ran, ran_any, ran_join, ran_none}
-use Rattle.stair_rack.proofs.OfflineLemmas.{held_on, offline_from_unready, offline_now, pulls_on}
-use Rattle.stair_rack.proofs.ReadLemmas.{was_read_gone}
+use Rattle.stair_rack.proofs.MomentLemmas.{IsThis, calls_ran, ran_any, ran_join}
+use Rattle.stair_rack.proofs.OfflineLemmas.{held_on}
 use Rattle.stair_super.specs.Newer.{IsOlder, is_older, newer_super}
-use Rattle.stair_super.specs.Spelling.{SpellsSuperblock}
 use Rattle.stair_super.proofs.Order.{older_is}
 use Rattle.stair_super.specs.Superblock.{Superblock}
-use Rattle.stair_member.specs.Asked.{AsksBelow, AsksSlot, FindsWithin, IsWhatWasRead, FoundBoth, FoundNone}
+use Rattle.stair_member.specs.Asked.{AsksBelow, AsksSlot, FindsWithin}
 use Rattle.stair_member.specs.Findings.{Findings, IsPlaceFound}
-use Rattle.stair_member.specs.JudgeSteps.{AreSights, IsNewest, IsSeen, IsSight, block_in, newest_at}
-use Rattle.stair_member.specs.Superblocks.{HoldsThis, HasSuper, IsSuperOf, First, Second}
+use Rattle.stair_member.specs.JudgeSteps.{AreSights, IsNewest, IsSight, newest_at}
+use Rattle.stair_member.specs.Superblocks.{HoldsThis, IsSuperOf, First, Second}
 use Rattle.stair_member.specs.Survey.{IsNextPlace, IsPlaceOf, InFirst, InSecond}
-use Rattle.stair_rack.specs.Telling.{IsFoundGone, IsLater, IsReading, Telling, telling}
-use Rattle.stair_member.specs.declared.look.Seen.{Seen}
-use Rattle.stair_member.specs.declared.look.Seen.TheVariants as seen
+use Rattle.stair_rack.specs.Telling.{IsFoundGone, IsLater, IsReading, Telling}
 use Rattle.stair_member.specs.declared.surveying.Sights.{Sights}
-use Rattle.stair_member.proofs.DecisionLemmas.{no_super, none_held, spelled_here}
+use Rattle.stair_member.proofs.DecisionLemmas.{none_held}
 use Rattle.stair_member.proofs.SuperLemmas.{holds_once, one_super, super_held}
-use Rattle.stair_rack.proofs.TellingLemmas.{gone_wider, later_called, later_join, later_none, reading_bad, reading_good, reading_wider}
-
--- ONE READ
-
-module _ (honest : Bool) (old new : List Happening) (bads bads' : ℕ) (gones gones' : ℕ → ℕ) (j k : ℕ) where
-  pub seen_block : (bytes : List ℕ) (s : Superblock) → (IsTrue honest → Calls old new j (Read k got.Good))
-      → (IsTrue honest → content ((slot_state new j).sector k) ≡ Good bytes) → SpellsSuperblock bytes s
-      → IsSeen j k (telling honest old bads gones) (telling honest new bads' gones') (seen.Block s)
-  seen_block bytes s told good spells = record {
-    cell = Good bytes;
-    answer = got.Good;
-    called = told;
-    finds = λ honest. sym (good honest);
-    unread = λ is. absurd (cc);
-    found = IsPlaceFound.Read (reading_good honest old new bads bads' gones gones' j k bytes told good);
-    holds = record { bytes = bytes; good = refl; spells = spells };
-    gone = λ is. absurd (cc);
-  }
-
-  pub seen_nothing : (bytes : List ℕ) → (IsTrue honest → Calls old new j (Read k got.Good))
-      → (IsTrue honest → content ((slot_state new j).sector k) ≡ Good bytes) → ((s : Superblock) → ¬ SpellsSuperblock bytes s)
-      → IsSeen j k (telling honest old bads gones) (telling honest new bads' gones') seen.Nothing
-  seen_nothing bytes told good none = record {
-    cell = Good bytes;
-    answer = got.Good;
-    called = told;
-    finds = λ honest. sym (good honest);
-    unread = λ is. absurd (cc);
-    found = IsPlaceFound.Read (reading_good honest old new bads bads' gones gones' j k bytes told good);
-    holds = λ s holds. none s (spelled_here bytes s holds);
-    gone = λ is. absurd (cc);
-  }
-
-  pub seen_bad : (IsTrue honest → IsHistory old) → (IsTrue honest → Calls old new j (Read k got.Bad)) → Rose bads bads'
-      → IsSeen j k (telling honest old bads gones) (telling honest new bads' gones') seen.Nothing
-  seen_bad began told rose = record {
-    cell = Damaged;
-    answer = got.Bad;
-    called = told;
-    finds = λ honest. refl;
-    unread = λ is. absurd (cc);
-    found = IsPlaceFound.Read (reading_bad honest old new bads bads' gones gones' j k began told rose);
-    holds = λ s. no_super Damaged s refl;
-    gone = λ is. absurd (cc);
-  }
-
-  pub seen_gone : (IsTrue honest → Calls old new j (Read k got.Gone)) → Rose (gones j) (gones' j)
-      → IsSeen j k (telling honest old bads gones) (telling honest new bads' gones') seen.Gone
-  seen_gone told rose = record {
-    cell = Damaged;
-    answer = got.Gone;
-    called = told;
-    finds = λ honest. (refl, refl);
-    unread = λ is. refl;
-    found = IsPlaceFound.Unread refl refl;
-    holds = λ s. no_super Damaged s refl;
-    gone = λ is. record { gone = rose; unready = λ is. was_read_gone (told is) };
-  }
+use Rattle.stair_rack.proofs.TellingLemmas.{gone_wider, later_join, later_none, reading_wider}
 
 -- BOTH PLACES
 
@@ -163,148 +98,12 @@ module _ (cell : ℕ → Cell) where
       next_in 0 t (omega arith) (newest_only_second t first second)
       (λ u same. subst (λ (v : Superblock). IsPlaceOf cell v 1) (sym same) (InSecond second (λ holds. first t holds)))
 
--- ONE SLOT
+-- ALL SLOTS
 
--- a medium of which nothing could be read has no superblock
-damaged_bare : ¬ HasSuper (λ k. Damaged)
-damaged_bare has = no_super Damaged has.super refl has.holds
-
-pub sight_gone : (honest : Bool) (old new : List Happening) (bads bads' : ℕ) (gones gones' : ℕ → ℕ) (j : ℕ)
-    → (IsTrue honest → Calls old new j (Attach reply.Gone)) → Rose (gones j) (gones' j)
-    → IsSight j (telling honest old bads gones) (telling honest new bads' gones') None 0 true
-sight_gone honest old new bads bads' gones gones' j told rose = record {
-  cell = λ k. Damaged;
-  places = λ k below. IsPlaceFound.Unread refl refl;
-  finds = λ on. record { from = old; to = new; sooner = ran_none old; finds = FoundNone (told on) refl refl refl; later = ran_none new };
-  newest = damaged_bare;
-  next = record { below = omega arith; other = λ s of. absurd (damaged_bare (super_held (λ k. Damaged) s of)) };
-  gone = λ is. (
-    rose,
-    λ on.
-        at_end {a = IsThis j (Attach reply.Gone)} {P = λ h. IsOffline old h j} (calls_ran (told on))
-        (elim (attach_gone old new j (told on)) [ inl none ↦ IsOffline.NoMedium none | inr stop ↦ IsOffline.RackStopped stop ]),
-  );
-  held = λ on not_lost. absurd (not_lost refl);
-}
-
-read_mapped : (gone gone' : Type 0) (answer : Got) (h : List Happening) (j k : ℕ) (cell : Cell) → (gone → gone') → IsWhatWasRead gone answer h j k cell
-    → IsWhatWasRead gone' answer h j k cell
-read_mapped gone gone' got.Good h j k cell into is = is
-read_mapped gone gone' got.Bad h j k cell into is = is
-read_mapped gone gone' got.Gone h j k cell into is = (is.0, into is.1)
-
--- a read of this place, where it is told
-abbrev pub WasAsked : Bool → List Happening → List Happening → ℕ → ℕ → Type 0
-WasAsked honest old new j k = (answer : Got) × (IsTrue honest → Calls old new j (Read k answer))
-
-asked_later : (honest : Bool) (old new : List Happening) (bads bads' : ℕ) (gones gones' : ℕ → ℕ) (j k : ℕ) → WasAsked honest old new j k
-    → NoneFalls bads bads' gones gones' → IsLater (telling honest old bads gones) (telling honest new bads' gones')
-asked_later honest old new bads bads' gones gones' j k asked counts =
-    later_called honest old new bads bads' gones gones' j (Read k asked.0) asked.1 counts
-
--- A slot that an attach found is gone to a call after it: it is offline.
-gone_after : (old att new : Telling) (j : ℕ) → IsLater old att → IsLater att new → Rose (att.gones j) (new.gones j)
-    → (IsTrue new.honest → Calls old.history att.history j (Attach reply.Done)) → (IsTrue new.honest → is_ready new.history j ≡ false)
-    → IsFoundGone j old new
-gone_after old att new j first second rose attached unready = (
-  kept-Rose (old.gones j) (att.gones j) (new.gones j) (first.counts.gone j).not_less (second.counts.gone j).not_less rose,
-  λ is.
-      at_end {a = any_call} {P = λ h. IsOffline old.history h j} (ran_join (first.ran (second.honest ∙ is)) (second.ran is))
-      (offline_now
-      (offline_from_unready
-      (held_on {allowed = any_call} j (second.ran is) (attach_done old.history att.history j old.history (omega arith) (attached is))) (unready is))),
-)
-
-place_found_mapped : (gone gone' : Type 0) (j k : ℕ) (mid new old later : Telling) (cell : Cell) → (gone → gone')
+pub place_found_mapped : (gone gone' : Type 0) (j k : ℕ) (mid new old later : Telling) (cell : Cell) → (gone → gone')
     → (IsReading j k mid new cell → IsReading j k old later cell) → IsPlaceFound gone j k mid new cell → IsPlaceFound gone' j k old later cell
 place_found_mapped gone gone' j k mid new old later cell on wider (IsPlaceFound.Read reading) = IsPlaceFound.Read (wider reading)
 place_found_mapped gone gone' j k mid new old later cell on wider (IsPlaceFound.Unread is lost) = IsPlaceFound.Unread (on is) lost
-
--- The slot was attached, and both places were looked at.
-module _ (honest : Bool) (old att mid new : List Happening) (bads bads₁ bads₂ bads₃ : ℕ) (gones gones₁ gones₂ gones₃ : ℕ → ℕ) (j : ℕ)
-    (attached : IsTrue honest → Calls old att j (Attach reply.Done)) (counts₁ : NoneFalls bads bads₁ gones gones₁)
-    (asked₂ : WasAsked honest att mid j 0)
-    (counts₂ : NoneFalls bads₁ bads₂ gones₁ gones₂) (asked₃ : WasAsked honest mid new j 1) (counts₃ : NoneFalls bads₂ bads₃ gones₂ gones₃) where
-  at_attach : IsLater (telling honest old bads gones) (telling honest att bads₁ gones₁)
-  at_attach = later_called honest old att bads bads₁ gones gones₁ j (Attach reply.Done) attached counts₁
-
-  at_first : IsLater (telling honest att bads₁ gones₁) (telling honest mid bads₂ gones₂)
-  at_first = asked_later honest att mid bads₁ bads₂ gones₁ gones₂ j 0 asked₂ counts₂
-
-  at_second : IsLater (telling honest mid bads₂ gones₂) (telling honest new bads₃ gones₃)
-  at_second = asked_later honest mid new bads₂ bads₃ gones₂ gones₃ j 1 asked₃ counts₃
-
-  pub asks_slot : IsTrue honest → AsksSlot j old new
-  asks_slot is = AsksSlot.There att mid asked₂.0 asked₃.0 (attached is) (asked₂.1 is) (asked₃.1 is)
-
-  held_now : IsTrue honest → (before : List Happening) → Ran any_call before old → IsHeld before new j
-  held_now is before ran =
-      held_on {allowed = any_call} j (ran_join (at_first.ran is) (at_second.ran is))
-      (attach_done old att j before (pulls_on {allowed = any_call} j ran) (attached is))
-
-  module _ (a b : Seen) (first : IsSeen j 0 (telling honest att bads₁ gones₁) (telling honest mid bads₂ gones₂) a)
-      (second : IsSeen j 1 (telling honest mid bads₂ gones₂) (telling honest new bads₃ gones₃) b) where
-    first_gone : a ≡ seen.Gone → IsFoundGone j (telling honest old bads gones) (telling honest new bads₃ gones₃)
-    first_gone is =
-        gone_wider (telling honest old bads gones) (telling honest old bads gones) (telling honest mid bads₂ gones₂) (telling honest new bads₃ gones₃)
-        (later_none (telling honest old bads gones)) refl (later_join at_attach at_first).counts at_second j
-        (gone_after (telling honest old bads gones) (telling honest att bads₁ gones₁) (telling honest mid bads₂ gones₂) j at_attach at_first
-        (first.gone is).gone attached (first.gone is).unready)
-
-    second_gone : b ≡ seen.Gone → IsFoundGone j (telling honest old bads gones) (telling honest new bads₃ gones₃)
-    second_gone is =
-        gone_after (telling honest old bads gones) (telling honest att bads₁ gones₁) (telling honest new bads₃ gones₃) j at_attach
-        (later_join at_first at_second)
-        (kept-Rose (gones₁ j) (gones₂ j) (gones₃ j) (counts₂.gone j).not_less (counts₃.gone j).not_less (second.gone is).gone) attached
-        (second.gone is).unready
-
-    places : (lost : Bool) → (IsTrue lost ↔ ((a ≡ seen.Gone) ⊎ (b ≡ seen.Gone))) → (k : ℕ) → k < 2
-        → IsPlaceFound (IsTrue lost) j k (telling honest old bads gones) (telling honest new bads₃ gones₃) (both first.cell second.cell k)
-    places lost either k below =
-        elim (place_cases k below) [
-          | inl is ↦
-              subst (λ l. IsPlaceFound (IsTrue lost) j l (telling honest old bads gones) (telling honest new bads₃ gones₃)
-              (both first.cell second.cell l)) (sym is)
-              (place_found_mapped (a ≡ seen.Gone) (IsTrue lost) j 0 (telling honest att bads₁ gones₁) (telling honest mid bads₂ gones₂)
-              (telling honest old bads gones) (telling honest new bads₃ gones₃) first.cell (λ gone. either.1 (inl gone))
-              (reading_wider (telling honest old bads gones) (telling honest att bads₁ gones₁) (telling honest mid bads₂ gones₂)
-              (telling honest new bads₃ gones₃) at_attach refl counts₂ at_second j 0 first.cell) first.found)
-          | inr is ↦
-              subst (λ l. IsPlaceFound (IsTrue lost) j l (telling honest old bads gones) (telling honest new bads₃ gones₃)
-              (both first.cell second.cell l)) (sym is)
-              (place_found_mapped (b ≡ seen.Gone) (IsTrue lost) j 1 (telling honest mid bads₂ gones₂) (telling honest new bads₃ gones₃)
-              (telling honest old bads gones) (telling honest new bads₃ gones₃) second.cell (λ gone. either.1 (inr gone))
-              (reading_wider (telling honest old bads gones) (telling honest mid bads₂ gones₂) (telling honest new bads₃ gones₃)
-              (telling honest new bads₃ gones₃) (later_join at_attach at_first) refl counts₃ (later_none (telling honest new bads₃ gones₃)) j 1
-              second.cell)
-              second.found)
-        ]
-
-    pub sight_read : (block : Option Superblock) (next : ℕ) (lost : Bool)
-        → ((cell : ℕ → Cell) → HoldsThis (cell 0) (block_in a) → HoldsThis (cell 1) (block_in b) → IsNewest cell block)
-        → ((cell : ℕ → Cell) → HoldsThis (cell 0) (block_in a) → HoldsThis (cell 1) (block_in b) → IsNextPlace cell next)
-        → (IsTrue lost ↔ ((a ≡ seen.Gone) ⊎ (b ≡ seen.Gone)))
-        → IsSight j (telling honest old bads gones) (telling honest new bads₃ gones₃) block next lost
-    sight_read block next lost newest place either = record {
-      cell = both first.cell second.cell;
-      places = places lost either;
-      finds = λ is. record {
-        from = old;
-        to = new;
-        sooner = ran_none old;
-        finds = FoundBoth att mid first.answer second.answer (attached is) (first.called is) (second.called is)
-            (read_mapped (a ≡ seen.Gone) (IsTrue lost) first.answer mid j 0 first.cell (λ gone. either.1 (inl gone)) (first.finds is))
-            (read_mapped (b ≡ seen.Gone) (IsTrue lost) second.answer new j 1 second.cell (λ gone. either.1 (inr gone)) (second.finds is))
-            (λ lost_is. elim (either.0 lost_is) [ inl gone ↦ inl (first.unread gone) | inr gone ↦ inr (second.unread gone) ]);
-        later = ran_none new;
-      };
-      newest = newest (both first.cell second.cell) first.holds second.holds;
-      next = place (both first.cell second.cell) first.holds second.holds;
-      gone = λ is. elim (either.0 is) [ inl gone ↦ first_gone gone | inr gone ↦ second_gone gone ];
-      held = λ is not_lost before ran. held_now is before ran;
-    }
-
--- ALL SLOTS
 
 -- the calls on a slot are calls
 pub asks_ran : {old new : List Happening} {j : ℕ} → AsksSlot j old new → Ran any_call old new

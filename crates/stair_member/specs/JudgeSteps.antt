@@ -1,50 +1,22 @@
 -- What is kept of what was seen of the slots, and what bears it out.
-use Rattle.std.specs.Prelude.{◌≡◌, ◌≢◌, ◌⊎◌, ◌<◌, ◌≤◌, ℕ, Bool, false, IsTrue, List, Option, None, Some, if◌then◌else◌, length, nat_le, slice_index, slice_index_or}
+use Rattle.std.specs.Prelude.{◌≡◌, ◌≢◌, ◌⊎◌, ◌<◌, ◌≤◌, ℕ, Bool, IsTrue, List, Option, None, Some, if◌then◌else◌, length, nat_le, slice_index, slice_index_or}
 use Rattle.stair_model.specs.Geometry.{Geometry}
-use Rattle.stair_rack.specs.Answers.{Calls, Ran, any_call, is_ready}
-use Rattle.stair_rack.specs.Count.{Rose}
-use Rattle.stair_rack.specs.History.{Happening, Read}
+use Rattle.stair_rack.specs.Answers.{Ran, any_call}
+use Rattle.stair_rack.specs.History.{Happening}
 use Rattle.stair_rack.specs.Media.{Image}
 use Rattle.stair_rack.specs.Offline.{IsHeld}
 use Rattle.stair_rack.specs.Sector.{Cell}
 use Rattle.stair_super.specs.Superblock.{Superblock, joined_at, mark_at}
 use Rattle.stair_super.specs.declared.mark.Mark.TheVariants as mark
 use Rattle.stair_member.specs.Current.{IsCurrent}
-use Rattle.stair_rack.specs.declared.rack.Got.{Got}
-use Rattle.stair_rack.specs.declared.rack.Got.TheVariants as got
-use Rattle.stair_member.specs.Asked.{FindsWithin, IsWhatWasRead}
+use Rattle.stair_member.specs.Asked.{FindsWithin}
 use Rattle.stair_member.specs.Findings.{Findings, AreFound, IsPlaceFound}
-use Rattle.stair_member.specs.Superblocks.{HoldsThis, HasSuper, IsSuperOf, Counts, CountsFor, Identifies}
+use Rattle.stair_member.specs.Superblocks.{HasSuper, IsSuperOf, Counts, CountsFor, Identifies}
 use Rattle.stair_member.specs.Survey.{IsNextPlace, IsLowestOf}
 use Rattle.stair_rack.specs.Telling.{Telling, IsFoundGone}
-use Rattle.stair_member.specs.declared.look.Seen.{Seen}
-use Rattle.stair_member.specs.declared.look.Seen.TheVariants as seen
 use Rattle.stair_member.specs.declared.surveying.Sights.{Sights}
 use Rattle.stair_member.specs.declared.why.Why.{Why}
 use Rattle.stair_member.specs.declared.why.Why.TheVariants.{Here, Gone, NoSuper, OtherArray, OtherSlot, MarkedDown, OtherJoined, Rebuilding}
-
--- ONE PLACE
-
-abbrev pub block_in : Seen → Option Superblock
-block_in (seen.Block s) = Some s
-block_in seen.Nothing = None
-block_in seen.Gone = None
-
--- the slot was gone to a read, and isn't in use
-pub record WasGoneToRead (j : ℕ) (old new : Telling) : Type 0 where
-  pub gone : Rose (old.gones j) (new.gones j)
-  pub unready : IsTrue new.honest → is_ready new.history j ≡ false
-
--- what place k was found to hold
-pub record IsSeen (j k : ℕ) (old new : Telling) (sort : Seen) : Type 0 where
-  pub cell : Cell
-  pub answer : Got
-  pub called : IsTrue new.honest → Calls old.history new.history j (Read k answer)
-  pub finds : IsTrue new.honest → IsWhatWasRead (sort ≡ seen.Gone) answer new.history j k cell
-  pub unread : sort ≡ seen.Gone → answer ≡ got.Gone
-  pub found : IsPlaceFound (sort ≡ seen.Gone) j k old new cell
-  pub holds : HoldsThis cell (block_in sort)
-  pub gone : sort ≡ seen.Gone → WasGoneToRead j old new
 
 -- ONE SLOT
 

@@ -6,6 +6,7 @@ pub mod Current
 pub mod Reserve
 pub mod Asked
 pub mod Findings
+pub mod Probing
 pub mod Reasons
 pub mod Membership
 pub mod StoredMember

@@ -1,20 +1,20 @@
 // What is looked at in a slot.
 ghost use Rattle.std.specs.Prelude.{◌≡◌, ◌<◌, ◌⊎◌, ◌↔◌, ℕ, IsTrue};
 ghost use Rattle.stair_model.specs.Device.{first_place, second_place};
-ghost use Rattle.stair_rack.specs.Answers.{Calls, IsHistory};
-ghost use Rattle.stair_rack.specs.History.{Read};
+ghost use Rattle.stair_rack.specs.Answers.{IsHistory};
 ghost use Rattle.stair_rack.specs.RackCounts.{NoneFalls, RisesAtMost};
 ghost use Rattle.stair_rack.specs.Sector.{Cell};
-ghost use Rattle.stair_rack.specs.declared.rack.Got.{Got as Answer};
 ghost use Rattle.stair_member.specs.Asked.{AsksSlot};
-ghost use Rattle.stair_member.specs.JudgeSteps.{IsNewest, IsSeen, IsSight, block_in};
+ghost use Rattle.stair_member.specs.JudgeSteps.{IsNewest, IsSight};
+ghost use Rattle.stair_member.specs.Probing.{block_in};
 ghost use Rattle.stair_member.specs.Superblocks.{HoldsThis};
 ghost use Rattle.stair_member.specs.Survey.{IsNextPlace};
 ghost use Rattle.stair_rack.specs.Told.{told};
 
-use stair_base::{FIRST_PLACE, SECOND_PLACE, SECTOR};
-use stair_rack::{Got, Rack, Reply};
-use stair_super::{Super, is_older, newer_of, read_super};
+use crate::probe::{PlaceProbe, probe_slot};
+use stair_base::{FIRST_PLACE, SECOND_PLACE};
+use stair_rack::{Rack, Reply};
+use stair_super::{Super, is_older, newer_of};
 
 // What was found of a slot.
 #[derive(Clone, Copy, Drop)]
@@ -25,14 +25,6 @@ pub(crate) struct Sight {
     pub(crate) next: u32,
     /// The slot was gone to a call.
     pub(crate) gone: bool,
-}
-
-// What a superblock place was found to hold.
-#[derive(Clone, Copy, Drop)]
-enum Seen {
-    Block(Super),
-    Nothing,
-    Gone,
 }
 
 /// Attaches the slot, and reads its two superblock places once each where it is there.
@@ -54,59 +46,23 @@ pub(crate) fn look_at<R: Rack>(rack: &mut R, slot: u8) -> Sight
             gone: true,
         };
     }
-    let first = read_place(rack, slot, FIRST_PLACE);
-    let second = read_place(rack, slot, SECOND_PLACE);
-    sight_of(first, second)
+    let probe = probe_slot(rack, slot);
+    sight_of(probe.first, probe.second)
 }
 
-fn read_place<R: Rack>(rack: &mut R, slot: u8, place: u32) -> Seen
-    requires { slot < 32 }
-    ensures asked { (answer : Answer) × (IsTrue R.is_honest →
-        Calls (R.history rack.old) (R.history rack.new) slot (Read place answer)) }
-    ensures told { IsSeen slot place (told R.Rack rack.old) (told R.Rack rack.new) result }
-    ensures counts { NoneFalls (R.bads rack.old) (R.bads rack.new) (R.gones rack.old)
-        (R.gones rack.new) }
-    ensures reads { RisesAtMost 1 (R.reads rack.old) (R.reads rack.new) }
-{
-    let mut bytes = [0; SECTOR];
-    match rack.read(slot, place, &mut bytes) {
-        Got::Good => match read_super(&bytes) {
-            Some(block) => Seen::Block(block),
-            None => Seen::Nothing,
-        },
-        Got::Bad => Seen::Nothing,
-        Got::Gone => Seen::Gone,
-    }
-}
-
-fn sight_of(first: Seen, second: Seen) -> Sight
+fn sight_of(first: PlaceProbe, second: PlaceProbe) -> Sight
     ensures newest { (cell : ℕ → Cell) → HoldsThis (cell first_place) (block_in first) →
         HoldsThis (cell second_place) (block_in second) → IsNewest cell result.newest }
     ensures next { (cell : ℕ → Cell) → HoldsThis (cell first_place) (block_in first) →
         HoldsThis (cell second_place) (block_in second) → IsNextPlace cell result.next }
-    ensures gone { IsTrue result.gone ↔ ((first ≡ Seen.Gone) ⊎ (second ≡ Seen.Gone)) }
+    ensures gone { IsTrue result.gone ↔ ((first ≡ PlaceProbe.Gone) ⊎ (second ≡ PlaceProbe.Gone)) }
 {
-    let one = block_of(first);
-    let other = block_of(second);
+    let one = first.block();
+    let other = second.block();
     Sight {
         newest: newer_of(one, other),
         next: next_place(one, other),
-        gone: is_gone(first) || is_gone(second),
-    }
-}
-
-fn is_gone(seen: Seen) -> bool
-    ensures { IsTrue result ↔ (seen ≡ Seen.Gone) }
-{
-    matches!(seen, Seen::Gone)
-}
-
-fn block_of(seen: Seen) -> Option<Super>
-    ensures { result ≡ block_in seen }
-{
-    match seen {
-        Seen::Block(block) => Some(block),
-        Seen::Nothing | Seen::Gone => None,
+        gone: first.is_gone() || second.is_gone(),
     }
 }
 

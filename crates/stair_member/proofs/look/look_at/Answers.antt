@@ -1,9 +1,12 @@
--- Gone at the attach, or both places were looked at.
+-- Gone at the attach, or both places were read.
 use Rattle.std.proofs.Common.{◌≡◌, sym, ◌∙◌}
+use Rattle.stair_rack.specs.History.{Attach}
+use Rattle.stair_rack.specs.Told.{told}
 use Rattle.stair_rack.specs.declared.rack.Reply.TheVariants as reply
 use Rattle.stair_rack.proofs.PassCounts.{Done-compared, Gone-compared}
+use Rattle.stair_rack.proofs.TellingLemmas.{later_called}
 use Rattle.stair_member.specs.Asked.{AsksSlot}
-use Rattle.stair_member.proofs.SightLemmas.{asks_slot, sight_gone, sight_read}
+use Rattle.stair_member.proofs.ProbeLemmas.{asks_slot, sight_gone, sight_read}
 use Rattle.stair_member.proofs.look.look_at.Goals as goal
 
 pub returns-then-eq-clause-asked : goal.returns-then-eq-clause-asked
@@ -21,23 +24,14 @@ returns-then-eq-clause-told g c =
 pub returns-clause-asked : goal.returns-clause-asked
 returns-clause-asked g c =
     let done : c.attach.result ≡ reply.Done = Done-compared c.attach.result (sym c.eq.ensures ∙ c.if-eq.false) in
-    asks_slot g.R.Rack.is_honest (g.R.Rack.history c.args.rack.now) (g.R.Rack.history c.attach.new.self)
-    (g.R.Rack.history c.read_place-first.new.rack)
-    (g.R.Rack.history c.read_place-second.new.rack) (g.R.Rack.bads c.args.rack.now) (g.R.Rack.bads c.attach.new.self)
-    (g.R.Rack.bads c.read_place-first.new.rack) (g.R.Rack.bads c.read_place-second.new.rack) (g.R.Rack.gones c.args.rack.now)
-    (g.R.Rack.gones c.attach.new.self) (g.R.Rack.gones c.read_place-first.new.rack) (g.R.Rack.gones c.read_place-second.new.rack) c.args.slot
-    (λ honest. rw done at (c.attach.ensures.told honest)) c.attach.ensures.counts c.read_place-first.ensures.asked c.read_place-first.ensures.counts
-    c.read_place-second.ensures.asked c.read_place-second.ensures.counts
+    asks_slot (told g.R.Rack c.args.rack.now) (told g.R.Rack c.attach.new.self) (told g.R.Rack c.probe_slot-probe.new.rack) c.probe_slot-probe.ensures.told
+    (later_called _ _ _ _ _ _ _ c.args.slot (Attach c.attach.result) c.attach.ensures.told c.attach.ensures.counts)
+    (λ honest. rw done at (c.attach.ensures.told honest))
 
 pub returns-clause-told : goal.returns-clause-told
 returns-clause-told g c =
     let done : c.attach.result ≡ reply.Done = Done-compared c.attach.result (sym c.eq.ensures ∙ c.if-eq.false) in
-    sight_read g.R.Rack.is_honest (g.R.Rack.history c.args.rack.now) (g.R.Rack.history c.attach.new.self)
-    (g.R.Rack.history c.read_place-first.new.rack)
-    (g.R.Rack.history c.read_place-second.new.rack) (g.R.Rack.bads c.args.rack.now) (g.R.Rack.bads c.attach.new.self)
-    (g.R.Rack.bads c.read_place-first.new.rack) (g.R.Rack.bads c.read_place-second.new.rack) (g.R.Rack.gones c.args.rack.now)
-    (g.R.Rack.gones c.attach.new.self) (g.R.Rack.gones c.read_place-first.new.rack) (g.R.Rack.gones c.read_place-second.new.rack) c.args.slot
-    (λ honest. rw done at (c.attach.ensures.told honest)) c.attach.ensures.counts c.read_place-first.ensures.asked c.read_place-first.ensures.counts
-    c.read_place-second.ensures.asked c.read_place-second.ensures.counts c.read_place-first.result c.read_place-second.result
-    c.read_place-first.ensures.told c.read_place-second.ensures.told c.sight_of.result.newest c.sight_of.result.next c.sight_of.result.gone
+    sight_read (told g.R.Rack c.args.rack.now) (told g.R.Rack c.attach.new.self) (told g.R.Rack c.probe_slot-probe.new.rack) c.probe_slot-probe.ensures.told
+    (later_called _ _ _ _ _ _ _ c.args.slot (Attach c.attach.result) c.attach.ensures.told c.attach.ensures.counts)
+    (λ honest. rw done at (c.attach.ensures.told honest)) c.sight_of.result.newest c.sight_of.result.next c.sight_of.result.gone
     c.sight_of.ensures.newest c.sight_of.ensures.next c.sight_of.ensures.gone

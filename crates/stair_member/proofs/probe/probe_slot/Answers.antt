@@ -1,0 +1,7 @@
+-- The second read follows the first.
+use Rattle.stair_rack.specs.Told.{told}
+use Rattle.stair_member.proofs.probe.probe_slot.Goals as goal
+
+pub returns-clause-told : goal.returns-clause-told
+returns-clause-told g c =
+    record { between = told g.R.Rack c.read_place-first.new.rack; first = c.read_place-first.ensures.told; second = c.read_place-second.ensures.told }
