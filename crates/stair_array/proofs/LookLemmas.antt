@@ -1,6 +1,6 @@
 -- What a look at one slot tells.
-use Rattle.std.proofs.Common.{◌≡◌, ◌≢◌, ◌⊎◌, ℕ, ◌+◌, ◌<◌, ◌≤◌, below_more, Bool, true, false, List, inl, inr, refl, sym, ap, ◌∙◌, subst, arith, Option, None, Some, if◌then◌else◌, true≢false}
-use Rattle.std.specs.Prelude.{IfSome, IsSome, IsTrue, is_some, not}
+use Rattle.std.proofs.Common.{◌≡◌, ◌≢◌, ◌⊎◌, ℕ, ◌+◌, ◌<◌, ◌≤◌, below_more, Bool, true, false, List, inl, inr, refl, sym, ap, ◌∙◌, subst, arith, Some, if◌then◌else◌, true≢false}
+use Rattle.std.specs.Prelude.{IsSome, IsTrue, not}
 use Rattle.std.proofs.lemmas.Bool.{cases_Bool, false≢true, lt-ltb}
 use Rattle.stair_model.specs.Geometry.{Geometry, sectors_needed}
 use Rattle.stair_rack.specs.Answers.{Calls, IsBesideAttach, IsHistory, IsNoAttach, Ran, any_call, is_good, is_readable, is_ready}
@@ -9,7 +9,7 @@ use Rattle.stair_rack.specs.History.{Happening, SlotCall, Attach, Sectors, Read,
 use Rattle.stair_rack.specs.Media.{has_sector}
 use Rattle.stair_rack.specs.Offline.{ButForOutside, Here, Lost, IsHeld, IsOffline}
 use Rattle.stair_rack.specs.RackCounts.{NoneFalls}
-use Rattle.stair_rack.specs.Sector.{Cell, Good, Damaged, Sector, content}
+use Rattle.stair_rack.specs.Sector.{Cell, Sector, content}
 use Rattle.stair_rack.specs.Stretch.{IsNoWrite, NothingWritten, every_slot}
 use Rattle.stair_rack.specs.declared.rack.Got.{Got}
 use Rattle.stair_rack.specs.declared.rack.Got.TheVariants as got
@@ -17,23 +17,28 @@ use Rattle.stair_rack.specs.declared.rack.Reply.TheVariants as reply
 use Rattle.stair_rack.proofs.StepLemmas.{kept}
 use Rattle.stair_rack.proofs.MomentLemmas.{IsThis, at_end, calls_ran, moment_between, ran_any, ran_join, ran_none, ran_weakened}
 use Rattle.stair_rack.proofs.KeptLemmas.{IsKept-now, IsLooking, SectorKeeps-looking, keeps_sector}
-use Rattle.stair_rack.proofs.OfflineLemmas.{and-false, and-true_left, held_on, offline_from_unready, offline_now}
+use Rattle.stair_rack.proofs.OfflineLemmas.{and-false, and-true_left, offline_now}
 use Rattle.stair_rack.proofs.CallLemmas.{attach_done, attach_found, attach_gone, read_bad, sectors_of_last, sync_gone}
-use Rattle.stair_rack.proofs.ReadLemmas.{read_answered, ready_unpulled, was_read_bad, was_read_good, was_read_gone}
+use Rattle.stair_rack.proofs.ReadLemmas.{read_answered, ready_unpulled}
 use Rattle.stair_rack.proofs.PassCounts.{NoneFalls-same, NoneFalls-then}
 use Rattle.stair_rack.proofs.StretchLemmas.{answered_wider, call_told, none_written}
 use Rattle.stair_rack.proofs.TidyLemmas.{history_called, history_on, history_tidy}
-use Rattle.stair_super.specs.Spelling.{SpellsSuperblock}
 use Rattle.stair_super.specs.Superblock.{Superblock}
-use Rattle.stair_member.specs.Superblocks.{HasSuper, HoldsSuper}
-use Rattle.stair_array.specs.Look.{AreJudged, IsJudged, IsLook, IsLookAt, IsFoundAs, IsReadOf, IsRefusedAt, IsSearched, IsTaken, WasGoneToRead}
+use Rattle.stair_member.specs.Asked.{IsWhatWasRead}
+use Rattle.stair_member.specs.Probing.{HoldsNone, ProbesPlace, ProbesSlot, WasGone as WasGoneToProbe, block_in}
+use Rattle.stair_member.specs.Superblocks.{HasSuper, HoldsSuper, HoldsThis}
+use Rattle.stair_member.specs.declared.probe.PlaceProbe.{PlaceProbe}
+use Rattle.stair_member.specs.declared.probe.PlaceProbe.TheVariants as probe
+use Rattle.stair_member.specs.declared.probe.SlotProbe.{SlotProbe}
+use Rattle.stair_member.proofs.ProbeLemmas.{probe_gone, probe_readings}
+use Rattle.stair_array.specs.Look.{AreJudged, IsLook, IsLookAt, IsFoundAs, IsReadOf, IsRefusedAt, IsSearched, IsTaken}
 use Rattle.stair_array.specs.declared.fault.CreateFault.{CreateFault}
 use Rattle.stair_array.specs.declared.look.Found.{Found}
 use Rattle.stair_array.specs.declared.look.Found.TheVariants as found
-use Rattle.stair_member.proofs.DecisionLemmas.{no_super, spelled_here}
+use Rattle.stair_member.proofs.DecisionLemmas.{no_super}
 use Rattle.stair_member.proofs.SightLemmas.{both, place_cases}
 use Rattle.stair_rack.proofs.TellingLemmas.{attach_uses, gone_wider, honest_within, later_called, later_join, later_none, reading_wider, some_wider}
-use Rattle.stair_rack.specs.Telling.{IsLater, IsReading, Telling, telling}
+use Rattle.stair_rack.specs.Telling.{IsLater, Telling, telling}
 use Rattle.stair_array.specs.Looking.{Finding, WasGone, WasSmall, Holds, HadSectors, IsBare, IsFound, IsLarge, IsRefused, IsSettled, Passed, cells_at}
 use Rattle.stair_state.specs.Represents.{IsLargeEnough}
 
@@ -78,7 +83,7 @@ pub look_elsewhere : {old new : List Happening} {i : ℕ} (j : ℕ) → i ≢ j 
 look_elsewhere {i = i} j other ran =
     ran_weakened {allowed = IsLookAt i} {more = IsNoAttach j} (λ l c is same. absurd (other (sym is.0 ∙ same))) ran
 
-reads_no_attach : {old new : List Happening} {j : ℕ} → Ran (IsReadOf j) old new → Ran (IsNoAttach j) old new
+pub reads_no_attach : {old new : List Happening} {j : ℕ} → Ran (IsReadOf j) old new → Ran (IsNoAttach j) old new
 reads_no_attach {j = j} ran = ran_weakened {allowed = IsReadOf j} {more = IsNoAttach j} (λ l c is same. reads_beside j l c is) ran
 
 call_no_attach : {old new : List Happening} {j : ℕ} {c : SlotCall} → IsBesideAttach c → Calls old new j c → Ran (IsNoAttach j) old new
@@ -130,15 +135,6 @@ module _ (old mid new later : Telling) (first : IsLater old mid) (same : mid.hon
 
 -- ONE READ
 
-super_of : (bytes : List ℕ) (o : Option Superblock) → IfSome o (λ s. SpellsSuperblock bytes s) → is_some o ≡ true
-    → (s : Superblock) × HoldsSuper (Good bytes) s
-super_of bytes None spells is = absurd (false≢true is)
-super_of bytes (Some s) spells is = (s, record { bytes = bytes; good = refl; spells = spells })
-
-none_of : (o : Option Superblock) → is_some o ≡ false → o ≡ None
-none_of None is = refl
-none_of (Some s) is = absurd (true≢false is)
-
 ready_of_good : {old new : List Happening} {j k : ℕ} → Calls old new j (Read k got.Good) → is_ready new j ≡ true
 ready_of_good {old} {new} {j} {k} called = ready_parts (is_ready new j) (is_readable (slot_state new j) k) (read_answered old new j k got.Good called)
   where
@@ -163,124 +159,120 @@ bad_now {old} {new} {j} {k} is called =
       | inr past ↦ ap (λ s. is_good (content s)) (tidy.past_end j k past)
     ]
 
-module _ (honest : Bool) (old new : List Happening) (bads bads' : ℕ) (gones gones' : ℕ → ℕ) (j k : ℕ) where
-  pub judged_good : (bytes : List ℕ) (o : Option Superblock) → (IsTrue honest → Calls old new j (Read k got.Good))
-      → (IsTrue honest → content ((slot_state new j).sector k) ≡ Good bytes) → IfSome o (λ s. SpellsSuperblock bytes s)
-      → (o ≡ None → (s : Superblock) → ¬ SpellsSuperblock bytes s)
-      → IsJudged j k (telling honest old bads gones) (telling honest new bads' gones') (is_some o)
-  judged_good bytes o told good spells none = record {
-    cell = Good bytes;
-    reading = λ is. was_read_good (λ cell. cell ≡ Good bytes) (told is) (good is);
-    holds = super_of bytes o spells;
-    bare = λ off s holds. none (none_of o off) s (spelled_here bytes s holds);
-    ready = λ is. ready_of_good (told is);
-    now = λ is off s holds.
-        none (none_of o off) s (spelled_here bytes s (subst (λ cell. HoldsSuper cell s) (good is) holds));
-  }
+-- of a place that was read and holds no superblock
+module _ {j k : ℕ} {place : PlaceProbe} {old new : Telling} (p : ProbesPlace j k place old new) (bare : place ≡ probe.Nothing)
+    (is : IsTrue new.honest) where
+  by_answer : (answer : Got) → Calls old.history new.history j (Read k answer) → IsWhatWasRead (place ≡ probe.Gone) answer new.history j k p.cell
+      → (is_ready new.history j ≡ true) × ((s : Superblock) → ¬ HoldsSuper (content ((slot_state new.history j).sector k)) s)
+  by_answer got.Good called finds = (
+    ready_of_good called,
+    λ s holds.
+        let none : (t : Superblock) → ¬ HoldsSuper p.cell t = subst (λ (q : PlaceProbe). HoldsThis p.cell (block_in q)) bare p.holds in
+        none s (subst (λ c. HoldsSuper c s) (sym finds) holds),
+  )
+  by_answer got.Bad called finds =
+      (ready_of_bad called, λ s. no_super (content ((slot_state new.history j).sector k)) s (bad_now (p.began is) called))
+  by_answer got.Gone called finds = let lost : probe.Nothing ≡ probe.Gone = sym bare ∙ finds.1 in absurd (cc)
 
-  pub judged_bad : (IsTrue honest → IsHistory old) → (IsTrue honest → Calls old new j (Read k got.Bad)) → Rose bads bads'
-      → IsJudged j k (telling honest old bads gones) (telling honest new bads' gones') false
-  judged_bad began told rose = record {
-    cell = Damaged;
-    reading = (rose, λ is. was_read_bad (began is) (told is));
-    holds = λ is. absurd (false≢true is);
-    bare = λ off s. no_super Damaged s refl;
-    ready = λ is. ready_of_bad (told is);
-    now = λ is off s. no_super (content ((slot_state new j).sector k)) s (bad_now (began is) (told is));
-  }
+  ready_then : is_ready new.history j ≡ true
+  ready_then = (by_answer p.answer (p.called is) (p.finds is)).0
 
-  pub gone_to_read : (IsTrue honest → Calls old new j (Read k got.Gone)) → Rose (gones j) (gones' j)
-      → WasGoneToRead j (telling honest old bads gones) (telling honest new bads' gones')
-  gone_to_read told rose = record { gone = rose; unready = λ is. was_read_gone (told is) }
+  bare_then : (s : Superblock) → ¬ HoldsSuper (content ((slot_state new.history j).sector k)) s
+  bare_then = (by_answer p.answer (p.called is) (p.finds is)).1
 
 -- BOTH PLACES
 
-module _ (honest : Bool) (old mid new : List Happening) (bads bads' bads'' : ℕ) (gones gones' gones'' : ℕ → ℕ) (j : ℕ) (x y : Bool)
-    (a : IsJudged j 0 (telling honest old bads gones) (telling honest mid bads' gones') x)
-    (b : IsJudged j 1 (telling honest mid bads' gones') (telling honest new bads'' gones'') y) (began : IsTrue honest → IsHistory old)
-    (ran : IsTrue honest → Ran (IsReadOf j) old mid) (ran' : IsTrue honest → Ran (IsReadOf j) mid new) (counts : NoneFalls bads bads' gones gones')
-    (counts' : NoneFalls bads' bads'' gones' gones'') where
-  first_later : IsLater (telling honest old bads gones) (telling honest mid bads' gones')
-  first_later = record { counts = counts; honest = refl; ran = λ is. ran_any (ran is) }
+-- one of two cells holds a superblock
+holds_one : (a b : PlaceProbe) (x y : Cell) → HoldsThis x (block_in a) → HoldsThis y (block_in b) → ¬ ((a ≡ probe.Gone) ⊎ (b ≡ probe.Gone))
+    → ¬ ((a ≡ probe.Nothing) × (b ≡ probe.Nothing)) → HasSuper (both x y)
+holds_one (probe.Block s) b x y first second here some = record { place = 0; place_in = omega arith; super = s; holds = first }
+holds_one probe.Nothing (probe.Block s) x y first second here some = record { place = 1; place_in = omega arith; super = s; holds = second }
+holds_one probe.Nothing probe.Nothing x y first second here some = absurd (some (refl, refl))
+holds_one probe.Nothing probe.Gone x y first second here some = absurd (here (inr refl))
+holds_one probe.Gone b x y first second here some = absurd (here (inl refl))
 
-  second_later : IsLater (telling honest mid bads' gones') (telling honest new bads'' gones'')
-  second_later = record { counts = counts'; honest = refl; ran = λ is. ran_any (ran' is) }
+holds_none : (a b : PlaceProbe) (x y : Cell) → HoldsThis x (block_in a) → HoldsThis y (block_in b) → a ≡ probe.Nothing → b ≡ probe.Nothing
+    → ¬ HasSuper (both x y)
+holds_none a b x y first second is is' has =
+    let none : (s : Superblock) → ¬ HoldsSuper x s = subst (λ (q : PlaceProbe). HoldsThis x (block_in q)) is first in
+    let none' : (s : Superblock) → ¬ HoldsSuper y s = subst (λ (q : PlaceProbe). HoldsThis y (block_in q)) is' second in
+    elim (place_cases has.place has.place_in) [
+      | inl at ↦ none has.super (subst (λ k. HoldsSuper (both x y k) has.super) at has.holds)
+      | inr at ↦ none' has.super (subst (λ k. HoldsSuper (both x y k) has.super) at has.holds)
+    ]
 
-  readings : (k : ℕ) → k < 2 → IsReading j k (telling honest old bads gones) (telling honest new bads'' gones'') (both a.cell b.cell k)
-  readings k below =
-      elim (place_cases k below) [
-        | inl is ↦
-            subst (λ l. IsReading j l (telling honest old bads gones) (telling honest new bads'' gones'') (both a.cell b.cell l)) (sym is)
-            (reading_wider (telling honest old bads gones) (telling honest old bads gones) (telling honest mid bads' gones')
-            (telling honest new bads'' gones'') (later_none (telling honest old bads gones)) refl counts second_later j 0 a.cell a.reading)
-        | inr is ↦
-            subst (λ l. IsReading j l (telling honest old bads gones) (telling honest new bads'' gones'') (both a.cell b.cell l)) (sym is)
-            (reading_wider (telling honest old bads gones) (telling honest mid bads' gones') (telling honest new bads'' gones'')
-            (telling honest new bads'' gones'') first_later refl counts' (later_none (telling honest new bads'' gones'')) j 1 b.cell b.reading)
-      ]
+nothing_here : (a b : PlaceProbe) → a ≡ probe.Nothing → b ≡ probe.Nothing → ¬ ((a ≡ probe.Gone) ⊎ (b ≡ probe.Gone))
+nothing_here a b is is' (inl lost) = let never : probe.Nothing ≡ probe.Gone = sym is ∙ lost in absurd (cc)
+nothing_here a b is is' (inr lost) = let never : probe.Nothing ≡ probe.Gone = sym is' ∙ lost in absurd (cc)
+
+module _ {j : ℕ} {slot : SlotProbe} {old new : Telling} (probes : ProbesSlot j slot old new) where
+  first_ran : IsTrue new.honest → Ran (IsReadOf j) old.history probes.between.history
+  first_ran is = read_ran (probes.first.called (probes.second.later.honest ∙ is))
+
+  second_ran : IsTrue new.honest → Ran (IsReadOf j) probes.between.history new.history
+  second_ran is = read_ran (probes.second.called is)
+
+  pub probe_ran : IsTrue new.honest → Ran (IsReadOf j) old.history new.history
+  probe_ran is = ran_join (first_ran is) (second_ran is)
 
   -- the slot is in use from the one read to the other, so the first place holds what it held, or is damaged
-  first_still : IsTrue honest → ((s : Superblock) → ¬ HoldsSuper (content ((slot_state mid j).sector 0)) s)
-      → (s : Superblock) → ¬ HoldsSuper (content ((slot_state new j).sector 0)) s
-  first_still is none s = judged (kept_on some)
+  first_still : HoldsNone slot → IsTrue new.honest → (s : Superblock) → ¬ HoldsSuper (content ((slot_state new.history j).sector 0)) s
+  first_still none is s = judged (kept_on some)
     where
+      here : IsTrue probes.between.honest
+      here = probes.second.later.honest ∙ is
+
+      mid : List Happening
+      mid = probes.between.history
+
       same : Sector → Type 0
-      same t = t ≡ (slot_state mid j).sector 0
+      same t = t ≡ (slot_state probes.between.history j).sector 0
 
-      some : IsSome (slot_state mid j).size
+      some : IsSome (slot_state probes.between.history j).size
       some =
-          (history_tidy (history_on {allowed = IsReadOf j} (began is) (ran is))).attached j
-          (and-true_left (slot_state mid j).attached (not (stopped mid)) (a.ready is))
+          (history_tidy (history_on {allowed = IsReadOf j} (probes.first.began here) (first_ran is))).attached j
+          (and-true_left (slot_state probes.between.history j).attached (not (stopped probes.between.history)) (ready_then probes.first none.0 here))
 
-      kept_on : IsSome (slot_state mid j).size → ButForOutside mid new j 0 same
+      kept_on : IsSome (slot_state probes.between.history j).size → ButForOutside probes.between.history new.history j 0 same
       kept_on some =
-          kept {allowed = IsReadOf j} {P = λ h. ButForOutside mid h j 0 same}
-          (keeps_sector {allowed = IsReadOf j} {j = j} {k = 0} {P = same} (slot_state mid j).pulls
-          (SectorKeeps-looking {allowed = IsReadOf j} j 0 same (reads_looking j j))) (ran' is) (IsKept-now mid j 0 some)
+          kept {allowed = IsReadOf j} {P = λ h. ButForOutside probes.between.history h j 0 same}
+          (keeps_sector {allowed = IsReadOf j} {j = j} {k = 0} {P = same} (slot_state probes.between.history j).pulls
+          (SectorKeeps-looking {allowed = IsReadOf j} j 0 same (reads_looking j j))) (second_ran is)
+          (IsKept-now probes.between.history j 0 some)
 
-      judged : ButForOutside mid new j 0 same → ¬ HoldsSuper (content ((slot_state new j).sector 0)) s
-      judged (Here pulls some' (inl damage)) holds = no_super (content ((slot_state new j).sector 0)) s (ap (λ t. is_good (content t)) damage) holds
-      judged (Here pulls some' (inr still)) holds = none s (subst (λ t. HoldsSuper (content t) s) still holds)
-      judged (Lost pulled) holds = ready_unpulled {allowed = IsReadOf j} j (λ c is'. reads_beside j j c is') (ran' is) (b.ready is) pulled
+      judged : ButForOutside probes.between.history new.history j 0 same → ¬ HoldsSuper (content ((slot_state new.history j).sector 0)) s
+      judged (Here pulls some' (inl damage)) holds =
+          no_super (content ((slot_state new.history j).sector 0)) s (ap (λ t. is_good (content t)) damage) holds
+      judged (Here pulls some' (inr still)) holds = bare_then probes.first none.0 here s (subst (λ t. HoldsSuper (content t) s) still holds)
+      judged (Lost pulled) holds =
+          ready_unpulled {allowed = IsReadOf j} j (λ c is'. reads_beside j j c is') (second_ran is) (ready_then probes.second none.1 is) pulled
 
-  bare_at_end : IsTrue honest → x ≡ false → y ≡ false → ¬ HasSuper (cells_at new j)
-  bare_at_end is off off' has =
+  bare_at_end : HoldsNone slot → IsTrue new.honest → ¬ HasSuper (cells_at new.history j)
+  bare_at_end none is has =
       elim (place_cases has.place has.place_in) [
-        | inl at ↦ first_still is (a.now is off) has.super (subst (λ k. HoldsSuper (cells_at new j k) has.super) at has.holds)
-        | inr at ↦ b.now is off' has.super (subst (λ k. HoldsSuper (cells_at new j k) has.super) at has.holds)
+        | inl at ↦ first_still none is has.super (subst (λ k. HoldsSuper (cells_at new.history j k) has.super) at has.holds)
+        | inr at ↦ bare_then probes.second none.1 is has.super (subst (λ k. HoldsSuper (cells_at new.history j k) has.super) at has.holds)
       ]
 
-  has_first : x ≡ true → HasSuper (both a.cell b.cell)
-  has_first on = record { place = 0; place_in = omega arith; super = (a.holds on).0; holds = (a.holds on).1 }
+  pub judged_bare : HoldsNone slot → AreJudged j old new false
+  judged_bare none = record {
+    cell = both probes.first.cell probes.second.cell;
+    reading = probe_readings probes (nothing_here slot.first slot.second none.0 none.1);
+    holds = λ is. absurd (false≢true is);
+    bare = λ is. holds_none slot.first slot.second probes.first.cell probes.second.cell probes.first.holds probes.second.holds none.0 none.1;
+    moment = λ bare is. at_end {a = IsReadOf j} {P = λ h. ¬ HasSuper (cells_at h j)} (probe_ran is) (bare_at_end none is);
+  }
 
-  has_second : y ≡ true → HasSuper (both a.cell b.cell)
-  has_second on = record { place = 1; place_in = omega arith; super = (b.holds on).0; holds = (b.holds on).1 }
-
-  has_none : x ≡ false → y ≡ false → ¬ HasSuper (both a.cell b.cell)
-  has_none off off' has =
-      elim (place_cases has.place has.place_in) [
-        | inl at ↦ a.bare off has.super (subst (λ k. HoldsSuper (both a.cell b.cell k) has.super) at has.holds)
-        | inr at ↦ b.bare off' has.super (subst (λ k. HoldsSuper (both a.cell b.cell k) has.super) at has.holds)
-      ]
-
-  bare_at_some : IsBare j (telling honest old bads gones) (telling honest new bads'' gones'') (both a.cell b.cell)
-  bare_at_some none is =
-      let first : x ≡ false = elim (cases_Bool x) [ inl on ↦ absurd (none (has_first on)) | inr off ↦ off ] in
-      let second : y ≡ false = elim (cases_Bool y) [ inl on ↦ absurd (none (has_second on)) | inr off ↦ off ] in
-      at_end {a = any_call} {P = λ h. ¬ HasSuper (cells_at h j)} (ran_join (ran_any (ran is)) (ran_any (ran' is))) (bare_at_end is first second)
-
-  judged_both : (has : Bool) → (has ≡ true → HasSuper (both a.cell b.cell)) → (has ≡ false → ¬ HasSuper (both a.cell b.cell))
-      → AreJudged j (telling honest old bads gones) (telling honest new bads'' gones'') has
-  judged_both has on off = record { cell = both a.cell b.cell; reading = readings; holds = on; bare = off; moment = bare_at_some }
-
-  pub judged_first : x ≡ true → AreJudged j (telling honest old bads gones) (telling honest new bads'' gones'') true
-  judged_first on = judged_both true (λ is. has_first on) (λ is. absurd (true≢false is))
-
-  pub judged_second : y ≡ true → AreJudged j (telling honest old bads gones) (telling honest new bads'' gones'') true
-  judged_second on = judged_both true (λ is. has_second on) (λ is. absurd (true≢false is))
-
-  pub judged_none : x ≡ false → y ≡ false → AreJudged j (telling honest old bads gones) (telling honest new bads'' gones'') false
-  judged_none off off' = judged_both false (λ is. absurd (false≢true is)) (λ is. has_none off off')
+  pub judged_super : ¬ WasGoneToProbe slot → ¬ HoldsNone slot → AreJudged j old new true
+  judged_super here some =
+      let has = holds_one slot.first slot.second probes.first.cell probes.second.cell probes.first.holds probes.second.holds here some in
+      record {
+        cell = both probes.first.cell probes.second.cell;
+        reading = probe_readings probes here;
+        holds = λ is. has;
+        bare = λ is. absurd (true≢false is);
+        moment = λ bare is. absurd (bare has);
+      }
 
 -- A SLOT OF THE ARRAY
 
@@ -317,10 +309,6 @@ module _ (old att : List Happening) (j : ℕ) (attached : Calls old att j (Attac
   pub offline_at_sync : {new : List Happening} → Calls att new j (Sync reply.Gone) → IsOffline old new j
   offline_at_sync {new} synced = offline_now (sync_gone att new j old synced held_from)
 
-  pub offline_at_read : {now new : List Happening} → Ran (IsNoAttach j) att now → Ran (IsReadOf j) now new → is_ready new j ≡ false → IsOffline old new j
-  offline_at_read {now} {new} ran reads unready =
-      offline_now (offline_from_unready (held_on {allowed = any_call} j (ran_join (ran_any ran) (ran_any reads)) held_from) unready)
-
   -- what `sectors` answered is the size of the medium that was attached
   size_was : {now next : List Happening} (has : ℕ) → Ran (IsNoAttach j) att now → Calls now next j (Sectors has) → (slot_state att j).size ≡ Some has
   size_was {now} {next} has ran called = attach_found old att j attached ∙ ap Some (sym (sectors_of_last att now next j has ran called))
@@ -355,7 +343,7 @@ module _ (old att : List Happening) (j : ℕ) (attached : Calls old att j (Attac
 
 -- What a search tells is a finding of the whole look.
 searched_as : (g : Geometry) (j : ℕ) (old mid new : Telling) (result : Found) → IsLater old mid → IsLater mid new
-    → (WasGoneToRead j mid new → IsFound g j old new WasGone) → IsLarge g j old new → IsSearched j mid new result → IsFoundAs g j old new result
+    → (((slot : SlotProbe) × ProbesSlot j slot mid new × WasGoneToProbe slot) → IsFound g j old new WasGone) → IsLarge g j old new → IsSearched j mid new result → IsFoundAs g j old new result
 searched_as g j old mid new found.Gone first second gone large was = gone was
 searched_as g j old mid new (found.Small has) first second gone large was = absurd was
 searched_as g j old mid new found.Bare first second gone large was = (
@@ -390,9 +378,8 @@ module _ (g : Geometry) (honest : Bool) (old att : List Happening) (bads bads' :
       searched_as g j (telling honest old bads gones) (telling honest att bads' gones') (telling honest new bads'' gones'') result att_later
       (later_read honest att new bads' bads'' gones' gones'' j ran counts')
       (λ lost.
-      gone_after g honest old att new bads bads' bads'' gones gones' gones'' j att_later
-      (later_read honest att new bads' bads'' gones' gones'' j ran counts') lost.gone
-      (λ is. offline_at_read old att j (attached is) (ran_none att) (ran is) (lost.unready is))) (λ below is. absurd (omega (arith, past, below))) was
+      probe_gone lost.1 (telling honest old bads gones) (telling honest att bads' gones') att_later (later_none (telling honest att bads' gones')) attached
+      lost.2) (λ below is. absurd (omega (arith, past, below))) was
 
   -- a slot of the array that is gone to its sync
   pub found_unsynced : (new : List Happening) (bads'' : ℕ) (gones'' : ℕ → ℕ) → (IsTrue honest → Calls att new j (Sync reply.Gone))
@@ -410,11 +397,13 @@ module _ (g : Geometry) (honest : Bool) (old att : List Happening) (bads bads' :
     syn_ran : IsTrue honest → Ran (IsNoAttach j) att syn
     syn_ran is = call_no_attach tt (synced is)
 
+    att_sec : IsLater (telling honest att bads' gones') (telling honest sec bads₂ gones₂)
+    att_sec =
+        later_join (later_called honest att syn bads' bads₁ gones' gones₁ j (Sync reply.Done) synced counts₁)
+        (later_called honest syn sec bads₁ bads₂ gones₁ gones₂ j (Sectors has) measured counts₂)
+
     sec_later : IsLater (telling honest old bads gones) (telling honest sec bads₂ gones₂)
-    sec_later =
-        later_join att_later
-        (later_join (later_called honest att syn bads' bads₁ gones' gones₁ j (Sync reply.Done) synced counts₁)
-        (later_called honest syn sec bads₁ bads₂ gones₁ gones₂ j (Sectors has) measured counts₂))
+    sec_later = later_join att_later att_sec
 
     pub found_small : has < sectors_needed g → IsFound g j (telling honest old bads gones) (telling honest sec bads₂ gones₂) (WasSmall has)
     found_small small =
@@ -428,10 +417,7 @@ module _ (g : Geometry) (honest : Bool) (old att : List Happening) (bads bads' :
         searched_as g j (telling honest old bads gones) (telling honest sec bads₂ gones₂) (telling honest new bads'' gones'') result sec_later
         (later_read honest sec new bads₂ bads'' gones₂ gones'' j ran counts')
         (λ lost.
-        gone_after g honest old sec new bads bads₂ bads'' gones gones₂ gones'' j sec_later
-        (later_read honest sec new bads₂ bads'' gones₂ gones'' j ran counts') lost.gone
-        (λ is.
-        offline_at_read old att j (attached is) (ran_join (syn_ran is) (call_no_attach tt (measured is))) (ran is) (lost.unready is)))
+        probe_gone lost.1 (telling honest old bads gones) (telling honest att bads' gones') att_later att_sec attached lost.2)
         (λ within is. (has, enough, had_sectors old att j (attached is) has (syn_ran is) (measured is) (ran_any (ran is)))) was
 
     pub settled_own : (new : List Happening) (bads'' : ℕ) (gones'' : ℕ → ℕ) → (IsTrue honest → Ran (IsReadOf j) sec new)

@@ -1,78 +1,52 @@
 -- What a look at the device of a slot, its new journal and its admission came to.
 use Rattle.std.proofs.Common.{◌≡◌, ◌<◌, ◌≤◌, ℕ, None, Option, Some, ap, arith, inl, inr, refl, subst, sym, ◌∙◌}
-use Rattle.std.specs.Prelude.{◌⊎◌, Bool, Err, IfSome, IsTrue, List, Ok, Result}
+use Rattle.std.specs.Prelude.{◌⊎◌, Bool, Err, IsTrue, List, Ok, Result}
 use Rattle.std.specs.Result.{IsErrAnd}
 use Rattle.stair_model.specs.Geometry.{Geometry, sectors_needed}
 use Rattle.stair_model.specs.Slots.{Slots}
-use Rattle.stair_rack.specs.Answers.{Calls, IsBesideAttach, IsHistory, IsNoAttach, Ran, any_call}
+use Rattle.stair_rack.specs.Answers.{Calls, IsBesideAttach, IsHistory, Ran, any_call}
 use Rattle.stair_rack.specs.Count.{Rose}
-use Rattle.stair_rack.specs.History.{Attach, Happening, Read, Sectors, SlotCall, Sync, Write, slot_state}
+use Rattle.stair_rack.specs.History.{Attach, Happening, Read, Sectors, SlotCall, Sync, Write}
 use Rattle.stair_rack.specs.Placed.{IsGoneSlot, IsSlot, IsSyncOf, IsWriteOf, Placed}
 use Rattle.stair_rack.specs.RackCounts.{NoneFalls}
-use Rattle.stair_rack.specs.Sector.{Cell, Damaged, Good, content}
+use Rattle.stair_rack.specs.Sector.{Cell}
 use Rattle.stair_rack.specs.Stretch.{IsNoWrite}
 use Rattle.stair_rack.specs.Telling.{IsLater, IsReading, Telling, telling}
-use Rattle.stair_rack.specs.declared.rack.Got.TheVariants as got
 use Rattle.stair_rack.specs.declared.rack.Reply.{Reply}
 use Rattle.stair_rack.specs.declared.rack.Reply.TheVariants as reply
 use Rattle.stair_rack.proofs.CallLemmas.{attach_found, sectors_of_last}
 use Rattle.stair_rack.proofs.MomentLemmas.{IsThis, calls_ran, moment_between, ran_any, ran_join, ran_none, ran_weakened}
 use Rattle.stair_rack.proofs.OfflineLemmas.{offline_now}
 use Rattle.stair_rack.proofs.PlacedLemmas.{Placed-same}
-use Rattle.stair_rack.proofs.TellingLemmas.{later_called, later_join, later_none, reading_bad, reading_good, reading_wider}
-use Rattle.stair_super.specs.Spelling.{SpellsSuperblock}
+use Rattle.stair_rack.proofs.TellingLemmas.{later_called, later_join, later_none, reading_wider}
 use Rattle.stair_super.specs.Superblock.{Superblock}
 use Rattle.stair_member.specs.Establishing.{Joins}
 use Rattle.stair_member.specs.Membership.{IsMembership, Membership}
+use Rattle.stair_member.specs.Probing.{ProbesSlot, WasGone, block_in}
 use Rattle.stair_member.specs.Seeing.{Sees}
 use Rattle.stair_member.specs.Superblocks.{HoldsSuper, HoldsThis}
 use Rattle.stair_member.specs.declared.aim.Aim.TheVariants.{Admit}
 use Rattle.stair_member.specs.declared.fault.AdmitFault.{AdmitFault}
 use Rattle.stair_member.specs.declared.fault.AdmitFault.TheVariants as admit
-use Rattle.stair_member.proofs.DecisionLemmas.{no_super, spelled_here}
+use Rattle.stair_member.specs.declared.probe.SlotProbe.{SlotProbe}
+use Rattle.stair_member.proofs.ProbeLemmas.{probe_gone, probe_later, probe_readings}
 use Rattle.stair_member.proofs.SightLemmas.{both, place_cases}
 use Rattle.stair_member.proofs.SuperLemmas.{holds_once}
 use Rattle.stair_session.specs.Courses.{Point, point}
 use Rattle.stair_array.specs.Arrays.{replaced_as}
 use Rattle.stair_array.specs.Causes.{BearsOther, HadEnough, IsFree, IsSmall}
 use Rattle.stair_array.specs.Faults.{admission_fault, replace_refusal}
-use Rattle.stair_array.specs.Look.{IsLookAt, IsReadOf, WasGoneToRead}
+use Rattle.stair_array.specs.Look.{IsLookAt, IsReadOf}
 use Rattle.stair_array.specs.Looking.{HadSectors}
 use Rattle.stair_array.specs.Machine.{AlreadyArray, Gone, Refusal, SmallDevice}
 use Rattle.stair_array.specs.Mends.{IsFit, IsPreparing, IsSecondLook, Looks, PreparesSlot, Replaces, joined_as, new_journal}
-use Rattle.stair_array.specs.MendingSteps.{IsNotFree, IsOther, IsOwn, IsPlaceRead, LooksAt, WasFit, WasGoneToLook, WasLookedAt}
+use Rattle.stair_array.specs.MendingSteps.{IsNotFree, IsOther, IsOwn, LooksAt, WasFit, WasGoneToLook, WasLookedAt}
 use Rattle.stair_array.specs.declared.fault.ReplaceFault.{ReplaceFault}
 use Rattle.stair_array.specs.declared.fault.ReplaceFault.TheVariants as fault
 use Rattle.stair_array.specs.declared.replacing.Places.{Places}
 use Rattle.stair_array.proofs.DeviceLemmas.{taken_held, taken_reach}
 use Rattle.stair_array.proofs.NewJournalLemmas.{journal_is}
-use Rattle.stair_array.proofs.LookLemmas.{gone_after, gone_attach, look_ran, offline_at_read, reads_beside, reads_look, reads_ran, taken_from}
-
--- ONE PLACE
-
-module _ (honest : Bool) (old new : List Happening) (bads bads' : ℕ) (gones gones' : ℕ → ℕ) (j k : ℕ) where
-  pub place_good : (bytes : List ℕ) (o : Option Superblock) → (IsTrue honest → Calls old new j (Read k got.Good))
-      → (IsTrue honest → content ((slot_state new j).sector k) ≡ Good bytes) → IfSome o (λ s. SpellsSuperblock bytes s)
-      → (o ≡ None → (s : Superblock) → ¬ SpellsSuperblock bytes s)
-      → IsPlaceRead j k o (telling honest old bads gones) (telling honest new bads' gones')
-  place_good bytes o told good spells none = record {
-    cell = Good bytes;
-    reading = reading_good honest old new bads bads' gones gones' j k bytes told good;
-    holds = by o spells none;
-  }
-    where
-      by : (p : Option Superblock) → IfSome p (λ s. SpellsSuperblock bytes s) → (p ≡ None → (s : Superblock) → ¬ SpellsSuperblock bytes s)
-          → HoldsThis (Good bytes) p
-      by None spells none = λ s holds. none refl s (spelled_here bytes s holds)
-      by (Some s) spells none = record { bytes = bytes; good = refl; spells = spells }
-
-  pub place_bad : (IsTrue honest → IsHistory old) → (IsTrue honest → Calls old new j (Read k got.Bad)) → Rose bads bads'
-      → IsPlaceRead j k None (telling honest old bads gones) (telling honest new bads' gones')
-  place_bad began told rose = record {
-    cell = Damaged;
-    reading = reading_bad honest old new bads bads' gones gones' j k began told rose;
-    holds = λ s. no_super Damaged s refl;
-  }
+use Rattle.stair_array.proofs.LookLemmas.{gone_after, gone_attach, look_ran, probe_ran, reads_beside, reads_look, reads_no_attach, reads_ran, taken_from}
 
 -- CALLS
 
@@ -84,13 +58,6 @@ second_look {j = j} {c = c} spares beside called =
 second_reads : {old new : List Happening} {j : ℕ} → Ran (IsReadOf j) old new → Ran (IsSecondLook j) old new
 second_reads {j = j} ran =
     ran_weakened {allowed = IsReadOf j} {more = IsSecondLook j} (λ i c is. (reads_look j i c is, reads_beside j i c is)) ran
-
-reads_no_attach : {old new : List Happening} {j : ℕ} → Ran (IsReadOf j) old new → Ran (IsNoAttach j) old new
-reads_no_attach {j = j} ran = ran_weakened {allowed = IsReadOf j} {more = IsNoAttach j} (λ l c is same. reads_beside j l c is) ran
-
-call_no_attach : {old new : List Happening} {j : ℕ} {c : SlotCall} → IsBesideAttach c → Calls old new j c → Ran (IsNoAttach j) old new
-call_no_attach {j = j} {c = c} beside called =
-    ran_weakened {allowed = IsThis j c} {more = IsNoAttach j} (λ l d this same. subst IsBesideAttach (sym this.1) beside) (calls_ran called)
 
 -- THE LOOK
 
@@ -139,118 +106,100 @@ module _ (g : Geometry) (slot : ℕ) (honest : Bool) (old att sec : List Happeni
     record { needs_is = same; small = omega (arith, small, same); had = λ is. had is (second.ran is) },
   )
 
-  -- the first place was read
-  module _ (one : List Happening) (b₃ : ℕ) (g₃ : ℕ → ℕ) (ran₁ : IsTrue honest → Ran (IsReadOf slot) sec one) (counts₃ : NoneFalls b₂ b₃ g₂ g₃) where
-    abbrev at_one : Telling
-    at_one = telling honest one b₃ g₃
+  -- and its superblock places were read
+  module _ (new : List Happening) (b₃ : ℕ) (g₃ : ℕ → ℕ) (p : SlotProbe) (probes : ProbesSlot slot p at_sec (telling honest new b₃ g₃)) where
+    abbrev at_probe : Telling
+    at_probe = telling honest new b₃ g₃
 
-    third : IsLater at_sec at_one
-    third = record { counts = counts₃; honest = refl; ran = λ is. ran_any {allowed = IsReadOf slot} (ran₁ is) }
+    third : IsLater at_sec at_probe
+    third = probe_later probes
 
-    pub gone_first : WasGoneToRead slot at_sec at_one → WasGoneToLook slot at_old at_one
-    gone_first lost = record {
+    probed : IsTrue honest → Ran (IsReadOf slot) sec new
+    probed is = probe_ran probes is
+
+    pub gone_probed : WasGone p → WasGoneToLook slot at_old at_probe
+    gone_probed lost = record {
       later = later_join first (later_join second third);
-      ran = λ is. ran_join (look_ran tt (attached is)) (ran_join (look_ran tt (measured is)) (reads_ran (ran₁ is)));
-      gone = gone_after g honest old sec one b₀ b₂ b₃ g₀ g₂ g₃ slot (later_join first second) third lost.gone
-          (λ is. offline_at_read old att slot (attached is) (call_no_attach tt (measured is)) (ran₁ is) (lost.unready is));
+      ran = λ is. ran_join (look_ran tt (attached is)) (ran_join (look_ran tt (measured is)) (reads_ran (probed is)));
+      gone = probe_gone probes at_old at_mid first second attached lost;
     }
 
-    -- and the second one
-    module _ (two : List Happening) (b₄ : ℕ) (g₄ : ℕ → ℕ) (ran₂ : IsTrue honest → Ran (IsReadOf slot) one two) (counts₄ : NoneFalls b₃ b₄ g₃ g₄) where
-      abbrev at_two : Telling
-      at_two = telling honest two b₄ g₄
+    looked : WasLookedAt slot at_mid at_old at_probe
+    looked = record {
+      first = first;
+      attached = attached;
+      later = later_join second third;
+      ran = λ is. ran_join (second_look tt tt (measured is)) (second_reads (probed is));
+    }
 
-      fourth : IsLater at_one at_two
-      fourth = record { counts = counts₄; honest = refl; ran = λ is. ran_any {allowed = IsReadOf slot} (ran₂ is) }
+    module _ (enough : sectors_needed g ≤ has) (here : ¬ WasGone p) (a b : Option Superblock) (is_first : a ≡ block_in p.first)
+        (is_second : b ≡ block_in p.second) where
+      in_first : HoldsThis probes.first.cell a
+      in_first = subst (λ (o : Option Superblock). HoldsThis probes.first.cell o) (sym is_first) probes.first.holds
 
-      pub gone_second : WasGoneToRead slot at_one at_two → WasGoneToLook slot at_old at_two
-      gone_second lost = record {
-        later = later_join first (later_join second (later_join third fourth));
-        ran = λ is.
-            ran_join (look_ran tt (attached is)) (ran_join (look_ran tt (measured is)) (ran_join (reads_ran (ran₁ is)) (reads_ran (ran₂ is))));
-        gone = gone_after g honest old one two b₀ b₃ b₄ g₀ g₃ g₄ slot (later_join first (later_join second third)) fourth lost.gone
-            (λ is.
-            offline_at_read old att slot (attached is) (ran_join (call_no_attach tt (measured is)) (reads_no_attach (ran₁ is))) (ran₂ is)
-            (lost.unready is));
-      }
+      in_second : HoldsThis probes.second.cell b
+      in_second = subst (λ (o : Option Superblock). HoldsThis probes.second.cell o) (sym is_second) probes.second.holds
 
-      looked : WasLookedAt slot at_mid at_old at_two
-      looked = record {
-        first = first;
-        attached = attached;
-        later = later_join second (later_join third fourth);
-        ran = λ is. ran_join (second_look tt tt (measured is)) (ran_join (second_reads (ran₁ is)) (second_reads (ran₂ is)));
-      }
+      large : HadEnough g slot at_mid at_probe
+      large is = (has, enough, had is ((later_join second third).ran is))
 
-      module _ (enough : sectors_needed g ≤ has) (a b : Option Superblock) (x : IsPlaceRead slot 0 a at_sec at_one)
-          (y : IsPlaceRead slot 1 b at_one at_two) where
-        cells : ℕ → Cell
-        cells = both x.cell y.cell
+      readings : (k : ℕ) → k < 2 → IsReading slot k at_mid at_probe (both probes.first.cell probes.second.cell k)
+      readings k below =
+          reading_wider at_mid at_sec at_probe at_probe second third.honest third.counts (later_none at_probe) slot k
+          (both probes.first.cell probes.second.cell k) (probe_readings probes here k below)
 
-        large : HadEnough g slot at_mid at_two
-        large is = (has, enough, had is ((later_join second (later_join third fourth)).ran is))
+      own_by : (o : Option Superblock) (cell : Cell) → HoldsThis cell o → IsOwn g o → (s : Superblock) → HoldsSuper cell s → s.array.geometry ≡ g
+      own_by None cell holds own s has = absurd (holds s has)
+      own_by (Some t) cell holds own s has = sym (ap (λ (u : Superblock). u.array.geometry) (holds_once cell t s holds has)) ∙ own
 
-        readings : (k : ℕ) → k < 2 → IsReading slot k at_mid at_two (both x.cell y.cell k)
-        readings k below =
-            elim (place_cases k below) [
-              | inl is ↦
-                  subst (λ (l : ℕ). IsReading slot l at_mid at_two (both x.cell y.cell l)) (sym is)
-                  (reading_wider at_mid at_sec at_one at_two second refl counts₃ fourth slot 0 x.cell x.reading)
-              | inr is ↦
-                  subst (λ (l : ℕ). IsReading slot l at_mid at_two (both x.cell y.cell l)) (sym is)
-                  (reading_wider at_mid at_one at_two at_two (later_join second third) refl counts₄ (later_none at_two) slot 1 y.cell y.reading)
-            ]
-
-        own_by : (o : Option Superblock) (cell : Cell) → HoldsThis cell o → IsOwn g o → (s : Superblock) → HoldsSuper cell s → s.array.geometry ≡ g
-        own_by None cell holds own s has = absurd (holds s has)
-        own_by (Some t) cell holds own s has = sym (ap (λ (u : Superblock). u.array.geometry) (holds_once cell t s holds has)) ∙ own
-
-        pub looked_fit : IsOwn g a → IsOwn g b → (IsTrue honest → IsHistory att)
-            → WasFit g slot (record { first = a; second = b }) at_old at_two
-        looked_fit own_first own_second began = record {
-          mid = at_mid;
-          looked = looked;
-          fit = record {
-            large = large;
-            cell = both x.cell y.cell;
-            reading = readings;
-            in_first = x.holds;
-            in_second = y.holds;
-            own = λ k s below holds.
-                elim (place_cases k below) [
-                  | inl is ↦
-                      own_by a x.cell x.holds own_first s (subst (λ (l : ℕ). HoldsSuper (both x.cell y.cell l) s) is holds)
-                  | inr is ↦
-                      own_by b y.cell y.holds own_second s (subst (λ (l : ℕ). HoldsSuper (both x.cell y.cell l) s) is holds)
-                ];
-          };
-          taken = λ is.
-              taken_from old att slot (attached is) g has (ran_none att) (measured is) enough
-              (ran_join (reads_no_attach (ran₁ is)) (reads_no_attach (ran₂ is))) (began is);
-        }
-
-        other_in : (o : Option Superblock) → IsOther g o → (k : ℕ) → k < 2 → HoldsThis (both x.cell y.cell k) o → BearsOther g slot at_mid at_two
-        other_in None other k below holds = absurd other
-        other_in (Some s) other k below holds = record {
+      pub looked_fit : IsOwn g a → IsOwn g b → (IsTrue honest → IsHistory att)
+          → WasFit g slot (record { first = a; second = b }) at_old at_probe
+      looked_fit own_first own_second began = record {
+        mid = at_mid;
+        looked = looked;
+        fit = record {
           large = large;
-          cell = both x.cell y.cell;
+          cell = both probes.first.cell probes.second.cell;
           reading = readings;
-          place = k;
-          place_in = below;
-          super = s;
-          holds = holds;
-          other = other;
-        }
+          in_first = in_first;
+          in_second = in_second;
+          own = λ k s below holds.
+              elim (place_cases k below) [
+                | inl is ↦
+                    own_by a probes.first.cell in_first own_first s
+                    (subst (λ (l : ℕ). HoldsSuper (both probes.first.cell probes.second.cell l) s) is holds)
+                | inr is ↦
+                    own_by b probes.second.cell in_second own_second s
+                    (subst (λ (l : ℕ). HoldsSuper (both probes.first.cell probes.second.cell l) s) is holds)
+              ];
+        };
+        taken = λ is.
+            taken_from old att slot (attached is) g has (ran_none att) (measured is) enough (reads_no_attach (probed is)) (began is);
+      }
 
-        pub looked_other : IsOther g a ⊎ IsOther g b → (mid : Telling) × WasLookedAt slot mid at_old at_two × BearsOther g slot mid at_two
-        looked_other either = (
-          at_mid,
-          looked,
-          elim either [
-            | inl other ↦ other_in a other 0 (omega arith) x.holds
-            | inr other ↦ other_in b other 1 (omega arith) y.holds
-          ],
-        )
+      other_in : (o : Option Superblock) → IsOther g o → (k : ℕ) → k < 2 → HoldsThis (both probes.first.cell probes.second.cell k) o
+          → BearsOther g slot at_mid at_probe
+      other_in None other k below holds = absurd other
+      other_in (Some s) other k below holds = record {
+        large = large;
+        cell = both probes.first.cell probes.second.cell;
+        reading = readings;
+        place = k;
+        place_in = below;
+        super = s;
+        holds = holds;
+        other = other;
+      }
+
+      pub looked_other : IsOther g a ⊎ IsOther g b → (mid : Telling) × WasLookedAt slot mid at_old at_probe × BearsOther g slot mid at_probe
+      looked_other either = (
+        at_mid,
+        looked,
+        elim either [
+          | inl other ↦ other_in a other 0 (omega arith) in_first
+          | inr other ↦ other_in b other 1 (omega arith) in_second
+        ],
+      )
 
 -- a fault that is handed on
 handed_refusal : (result : Result (Unit {0}) ReplaceFault) (why : ReplaceFault) → IsErrAnd result (λ e. e ≡ why)

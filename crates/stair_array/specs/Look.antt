@@ -1,13 +1,13 @@
 -- What `create` knows of a slot that it looked at.
-use Rattle.std.specs.Prelude.{◌≡◌, ◌<◌, ℕ, Bool, true, false, IsTrue, List}
+use Rattle.std.specs.Prelude.{◌≡◌, ◌<◌, ℕ, Bool, true, false, List}
 use Rattle.stair_model.specs.Geometry.{Geometry}
-use Rattle.stair_rack.specs.Answers.{IsHistory, IsNoAttach, Ran, any_call, is_ready}
-use Rattle.stair_rack.specs.Count.{Rose}
+use Rattle.stair_rack.specs.Answers.{IsHistory, IsNoAttach, Ran, any_call}
 use Rattle.stair_rack.specs.History.{Happening, SlotCall, Attach, Sectors, Read, Write, Sync, slot_state}
-use Rattle.stair_rack.specs.Sector.{Cell, content}
+use Rattle.stair_rack.specs.Sector.{Cell}
 use Rattle.stair_rack.specs.Stretch.{IsNoWrite}
-use Rattle.stair_super.specs.Superblock.{Superblock}
-use Rattle.stair_member.specs.Superblocks.{HasSuper, HoldsSuper}
+use Rattle.stair_member.specs.Probing.{ProbesSlot, WasGone as WasGoneToProbe}
+use Rattle.stair_member.specs.Superblocks.{HasSuper}
+use Rattle.stair_member.specs.declared.probe.SlotProbe.{SlotProbe}
 use Rattle.stair_rack.specs.Telling.{IsReading, Telling}
 use Rattle.stair_array.specs.Looking.{Finding, WasGone, WasSmall, Holds, IsBare, IsFound, IsRefusedFor}
 use Rattle.stair_state.specs.Represents.{IsLargeEnough}
@@ -31,22 +31,6 @@ IsReadOf slot j (Read k answer) = j ≡ slot
 IsReadOf slot j (Write k bytes answer) = ⊥
 IsReadOf slot j (Sync answer) = ⊥
 
--- the slot was gone to a read, and isn't in use
-pub record WasGoneToRead (j : ℕ) (old new : Telling) : Type 0 where
-  pub gone : Rose (old.gones j) (new.gones j)
-  pub unready : IsTrue new.honest → is_ready new.history j ≡ false
-
--- Sector k was read, and it holds a superblock or not, as this says.
-pub record IsJudged (j k : ℕ) (old new : Telling) (has : Bool) : Type 0 where
-  pub cell : Cell
-  pub reading : IsReading j k old new cell
-  pub holds : has ≡ true → (s : Superblock) × HoldsSuper cell s
-  pub bare : has ≡ false → (s : Superblock) → ¬ HoldsSuper cell s
-  -- at the end of the read the slot is in use, and the sector holds none then where it held none
-  pub ready : IsTrue new.honest → is_ready new.history j ≡ true
-  pub now : IsTrue new.honest → has ≡ false → (s : Superblock)
-      → ¬ HoldsSuper (content ((slot_state new.history j).sector k)) s
-
 -- Both superblock places were read, and one of them holds a superblock or none does, as this says.
 pub record AreJudged (j : ℕ) (old new : Telling) (has : Bool) : Type 0 where
   pub cell : ℕ → Cell
@@ -57,7 +41,7 @@ pub record AreJudged (j : ℕ) (old new : Telling) (has : Bool) : Type 0 where
 
 -- what a search of the two superblock places found, in short
 abbrev pub IsSearched : ℕ → Telling → Telling → Found → Type 0
-IsSearched j old new found.Gone = WasGoneToRead j old new
+IsSearched j old new found.Gone = (slot : SlotProbe) × ProbesSlot j slot old new × WasGoneToProbe slot
 IsSearched j old new (found.Small has) = ⊥
 IsSearched j old new found.Bare = AreJudged j old new false
 IsSearched j old new found.Super = AreJudged j old new true

@@ -5,14 +5,12 @@ use Rattle.stair_model.specs.Geometry.{Geometry}
 use Rattle.stair_model.specs.Stripe.{Stripe}
 use Rattle.stair_rack.specs.Answers.{Calls, Ran}
 use Rattle.stair_rack.specs.History.{Attach}
-use Rattle.stair_rack.specs.Sector.{Cell}
-use Rattle.stair_rack.specs.Telling.{IsFoundGone, IsLater, IsReading, Telling}
+use Rattle.stair_rack.specs.Telling.{IsFoundGone, IsLater, Telling}
 use Rattle.stair_rack.specs.declared.rack.Reply.{Reply}
 use Rattle.stair_rack.specs.declared.rack.Reply.TheVariants as reply
 use Rattle.stair_super.specs.Superblock.{Superblock, mark_in}
 use Rattle.stair_super.specs.declared.mark.Mark.TheVariants.{Down}
 use Rattle.stair_member.specs.Membership.{IsHere, Membership}
-use Rattle.stair_member.specs.Superblocks.{HoldsThis}
 use Rattle.stair_member.specs.declared.fault.FenceFault.{FenceFault}
 use Rattle.stair_session.specs.Courses.{Point}
 use Rattle.stair_session.specs.Rebuilding.{Rebuild}
@@ -38,12 +36,6 @@ IsNotFree m slot (fault.OutOfRange asked limit) =
 IsNotFree m slot (fault.SlotBusy at mark) =
     (at ≡ slot) × (slot < m.array.geometry.n) × (mark_in m.array slot ≡ mark) × (mark ≢ Down)
 IsNotFree m slot other = ⊥
-
--- a superblock place was read, and holds this
-pub record IsPlaceRead (slot place : ℕ) (held : Option Superblock) (old new : Telling) : Type 0 where
-  pub cell : Cell
-  pub reading : IsReading slot place old new cell
-  pub holds : HoldsThis cell held
 
 -- it is of another array
 abbrev pub IsOther : Geometry → Option Superblock → Type 0

@@ -1,25 +1,23 @@
 // What `create` looks at before it writes anything.
-ghost use Rattle.std.specs.Prelude.{◌≡◌, ◌<◌, ℕ, IfErr, IsTrue, MatchOption, OnOk};
+ghost use Rattle.std.specs.Prelude.{◌≡◌, ◌<◌, ℕ, IfErr, IsTrue, OnOk};
 ghost use Rattle.stair_rack.specs.Answers.{IsHistory, Ran};
 ghost use Rattle.stair_rack.specs.RackCounts.{NoneFalls};
 ghost use Rattle.stair_array.specs.Look.{
   IsFoundAs,
-  IsJudged,
   IsLook,
   IsLookAt,
   IsReadOf,
   IsRefusedAt,
   IsSearched,
   IsTaken,
-  WasGoneToRead,
 };
 ghost use Rattle.stair_rack.specs.Told.{told};
 ghost use Rattle.stair_array.specs.Looking.{AllPassed, IsRefused, IsSettled, Passed};
 
 use crate::fault::CreateFault;
-use stair_base::{FIRST_PLACE, Geometry, SECOND_PLACE, SECTOR};
-use stair_rack::{Got, Rack, Reply};
-use stair_super::read_super;
+use stair_base::Geometry;
+use stair_member::probe_slot;
+use stair_rack::{Rack, Reply};
 
 // What was found of a slot.
 enum Found {
@@ -112,7 +110,7 @@ fn find<R: Rack>(rack: &mut R, geometry: &Geometry, slot: u8) -> Found
     find_super(rack, slot)
 }
 
-// Looks for a superblock in the two superblock places of a slot that was attached. Both are read unless the slot is gone.
+// Looks for a superblock in the two superblock places of a slot that was attached.
 fn find_super<R: Rack>(rack: &mut R, slot: u8) -> Found
     requires { slot < 32 }
     ensures told { IsSearched slot (told R.Rack rack.old) (told R.Rack rack.new) result }
@@ -121,35 +119,12 @@ fn find_super<R: Rack>(rack: &mut R, slot: u8) -> Found
     ensures counts { NoneFalls (R.bads rack.old) (R.bads rack.new) (R.gones rack.old)
         (R.gones rack.new) }
 {
-    let Some(first) = holds_super(rack, slot, FIRST_PLACE) else {
-        return Found::Gone;
-    };
-    let Some(second) = holds_super(rack, slot, SECOND_PLACE) else {
-        return Found::Gone;
-    };
-    if first || second {
-        Found::Super
-    } else {
+    let probe = probe_slot(rack, slot);
+    if probe.is_gone() {
+        Found::Gone
+    } else if probe.is_bare() {
         Found::Bare
-    }
-}
-
-// Whether a sector holds a superblock; None where the slot is gone.
-fn holds_super<R: Rack>(rack: &mut R, slot: u8, sector: u32) -> Option<bool>
-    requires { slot < 32 }
-    ensures began { IsTrue R.is_honest → IsHistory (R.history rack.old) }
-    ensures told { MatchOption result
-        (WasGoneToRead slot (told R.Rack rack.old) (told R.Rack rack.new))
-        (λ has. IsJudged slot sector (told R.Rack rack.old) (told R.Rack rack.new) has) }
-    ensures ran { IsTrue R.is_honest →
-        Ran (IsReadOf slot) (R.history rack.old) (R.history rack.new) }
-    ensures counts { NoneFalls (R.bads rack.old) (R.bads rack.new) (R.gones rack.old)
-        (R.gones rack.new) }
-{
-    let mut bytes = [0; SECTOR];
-    match rack.read(slot, sector, &mut bytes) {
-        Got::Good => Some(read_super(&bytes).is_some()),
-        Got::Bad => Some(false),
-        Got::Gone => None,
+    } else {
+        Found::Super
     }
 }

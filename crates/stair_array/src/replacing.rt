@@ -1,6 +1,6 @@
 // How a session replaces a device: what it looks at before it writes anything, the new journal, and the admission.
-ghost use Rattle.std.specs.Prelude.{◌≡◌, ◌≤◌, ◌<◌, ◌↔◌, IfErr, IfSome, IsTrue, MatchBool, MatchOption, None, OnOk};
-ghost use Rattle.stair_rack.specs.Answers.{IsHistory, Ran};
+ghost use Rattle.std.specs.Prelude.{◌≡◌, ◌≤◌, ◌<◌, ◌↔◌, IfErr, IfSome, IsTrue, MatchBool, None, OnOk};
+ghost use Rattle.stair_rack.specs.Answers.{IsHistory};
 ghost use Rattle.stair_rack.specs.Count.{Rose};
 ghost use Rattle.stair_rack.specs.Placed.{IsGoneSlot, IsSlot, Placed};
 ghost use Rattle.stair_rack.specs.RackCounts.{NoneFalls, RisesAtMost};
@@ -12,18 +12,17 @@ ghost use Rattle.stair_member.specs.declared.aim.Aim.TheVariants.{Admit};
 ghost use Rattle.stair_session.specs.Courses.{point};
 ghost use Rattle.stair_array.specs.Arrays.{replaced_as};
 ghost use Rattle.stair_array.specs.Causes.{IsFree};
-ghost use Rattle.stair_array.specs.Look.{IsReadOf, WasGoneToRead};
 ghost use Rattle.stair_array.specs.Mends.{PreparesSlot, Replaces, joined_as, new_journal};
-ghost use Rattle.stair_array.specs.MendingSteps.{IsBodyOf, IsNotFree, IsOther, IsOwn, IsPlaceRead, LooksAt};
+ghost use Rattle.stair_array.specs.MendingSteps.{IsBodyOf, IsNotFree, IsOther, IsOwn, LooksAt};
 ghost use Rattle.stair_array.specs.Promise.{Keeps};
 
 use crate::fault::ReplaceFault;
 use crate::session::Session;
-use stair_base::{BODY_START, FIRST_PLACE, GATE_SECTOR, Geometry, SECOND_PLACE, SECTOR, Slots};
+use stair_base::{BODY_START, GATE_SECTOR, Geometry, SECTOR, Slots};
 use stair_journal::closed_gate;
-use stair_member::{AdmitFault, FenceFault, admit};
-use stair_rack::{Got, Rack, Reply};
-use stair_super::{Mark, Super, read_super};
+use stair_member::{AdmitFault, FenceFault, admit, probe_slot};
+use stair_rack::{Rack, Reply};
+use stair_super::{Mark, Super};
 
 // The superblocks in the two places of a device, of whatever array.
 #[derive(Clone, Copy, Drop)]
@@ -134,35 +133,16 @@ fn look_for<R: Rack>(rack: &mut R, geometry: &Geometry, slot: u8) -> Result<Plac
             needs: geometry.need(),
         });
     }
-    let Some(first) = read_place(rack, slot, FIRST_PLACE) else {
+    let probe = probe_slot(rack, slot);
+    if probe.is_gone() {
         return Err(ReplaceFault::Gone(slot));
-    };
-    let Some(second) = read_place(rack, slot, SECOND_PLACE) else {
-        return Err(ReplaceFault::Gone(slot));
-    };
+    }
+    let first = probe.first.block();
+    let second = probe.second.block();
     if is_other(&first, geometry) || is_other(&second, geometry) {
         return Err(ReplaceFault::AlreadyArray(slot));
     }
     Ok(Places { first, second })
-}
-
-// The superblock in a place, if there is one; None where the slot is gone.
-fn read_place<R: Rack>(rack: &mut R, slot: u8, place: u32) -> Option<Option<Super>>
-    requires { slot < 32 }
-    ensures told { MatchOption result
-        (WasGoneToRead slot (told R.Rack rack.old) (told R.Rack rack.new))
-        (λ held. IsPlaceRead slot place held (told R.Rack rack.old) (told R.Rack rack.new)) }
-    ensures ran { IsTrue R.is_honest → Ran (IsReadOf slot) (R.history rack.old) (R.history rack.new) }
-    ensures counts { NoneFalls (R.bads rack.old) (R.bads rack.new) (R.gones rack.old)
-        (R.gones rack.new) }
-    ensures reads { RisesAtMost 1 (R.reads rack.old) (R.reads rack.new) }
-{
-    let mut bytes = [0; SECTOR];
-    match rack.read(slot, place, &mut bytes) {
-        Got::Good => Some(read_super(&bytes)),
-        Got::Bad => Some(None),
-        Got::Gone => None,
-    }
 }
 
 // Whether this is a superblock of another array.

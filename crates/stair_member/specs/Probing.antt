@@ -47,6 +47,10 @@ pub record ProbesPlace (j k : ℕ) (place : PlaceProbe) (old new : Telling) : Ty
 abbrev pub WasGone : SlotProbe → Type 0
 WasGone slot = (slot.first ≡ probe.Gone) ⊎ (slot.second ≡ probe.Gone)
 
+-- both were read, and neither holds a superblock
+abbrev pub HoldsNone : SlotProbe → Type 0
+HoldsNone slot = (slot.first ≡ probe.Nothing) × (slot.second ≡ probe.Nothing)
+
 -- The superblock places of slot j were read, the second one after the first.
 pub record ProbesSlot (j : ℕ) (slot : SlotProbe) (old new : Telling) : Type 0 where
   pub between : Telling

@@ -2,7 +2,7 @@
 ghost use Rattle.std.specs.Prelude.{◌≡◌, ◌<◌, ◌↔◌, IsTrue};
 ghost use Rattle.stair_rack.specs.RackCounts.{NoneFalls, RisesAtMost};
 ghost use Rattle.stair_rack.specs.Told.{told};
-ghost use Rattle.stair_member.specs.Probing.{ProbesPlace, ProbesSlot, WasGone, block_in};
+ghost use Rattle.stair_member.specs.Probing.{HoldsNone, ProbesPlace, ProbesSlot, WasGone, block_in};
 
 use stair_base::{FIRST_PLACE, SECOND_PLACE, SECTOR};
 use stair_rack::{Got, Rack};
@@ -53,6 +53,13 @@ impl SlotProbe {
         ensures { IsTrue result ↔ WasGone self.now }
     {
         self.first.is_gone() || self.second.is_gone()
+    }
+
+    /// Returns whether both places were read and hold no superblock.
+    pub fn is_bare(&self) -> bool
+        ensures { IsTrue result ↔ HoldsNone self.now }
+    {
+        matches!(self.first, PlaceProbe::Nothing) && matches!(self.second, PlaceProbe::Nothing)
     }
 }
 

@@ -1,9 +1,10 @@
 -- Each way out of the look, by the calls up to there.
 use Rattle.std.proofs.Common.{◌∙◌, ◌≡◌, ◌≤◌, inl, inr, refl, sym}
+use Rattle.std.proofs.lemmas.Bool.{false≢true}
 use Rattle.stair_model.specs.Geometry.{sectors_needed}
 use Rattle.stair_rack.specs.declared.rack.Reply.TheVariants as reply
 use Rattle.stair_rack.proofs.PassCounts.{Done-compared, Gone-compared}
-use Rattle.stair_array.proofs.ReplacingLemmas.{gone_at_attach, gone_first, gone_second, looked_fit, looked_other, looked_small}
+use Rattle.stair_array.proofs.ReplacingLemmas.{gone_at_attach, gone_probed, looked_fit, looked_other, looked_small}
 use Rattle.stair_array.proofs.replacing.look_for.Goals as goal
 use Rattle.stair_array.proofs.replacing.look_for.Goals.{then-is_other-via-then-is_other, then-is_other-via-else-is_other+then-is_other-2}
 
@@ -27,31 +28,17 @@ returns-then-has-need-clause-told g c =
           _ c.need-then-has-need.ensures.value (rw c.need.ensures.value at c.if-has-need.true),
     )
 
-pub returns-in_default-clause-told : goal.returns-in_default-clause-told
-returns-in_default-clause-told g c =
+pub returns-then-is_gone-clause-told : goal.returns-then-is_gone-clause-told
+returns-then-is_gone-clause-told g c =
     let done : c.attach.result ≡ reply.Done = Done-compared c.attach.result (sym c.eq.ensures ∙ c.if-eq.false) in (
       refl,
-      gone_first c.args.geometry.now c.args.slot g.R.Rack.is_honest
+      gone_probed c.args.geometry.now c.args.slot g.R.Rack.is_honest
           (g.R.Rack.history c.args.rack.now) (g.R.Rack.history c.attach.new.self) (g.R.Rack.history c.sectors-has.new.self)
           (g.R.Rack.bads c.args.rack.now) (g.R.Rack.bads c.attach.new.self) (g.R.Rack.bads c.sectors-has.new.self)
           (g.R.Rack.gones c.args.rack.now) (g.R.Rack.gones c.attach.new.self) (g.R.Rack.gones c.sectors-has.new.self)
           (λ honest. rw done at (c.attach.ensures.told honest)) c.attach.ensures.counts c.sectors-has.result c.sectors-has.ensures.told c.sectors-has.ensures.counts
-          (g.R.Rack.history c.read_place.new.rack) (g.R.Rack.bads c.read_place.new.rack) (g.R.Rack.gones c.read_place.new.rack) c.read_place.ensures.ran c.read_place.ensures.counts
-          c.in_default.ensures.told,
-    )
-
-pub returns-in_default-read_place-clause-told : goal.returns-in_default-read_place-clause-told
-returns-in_default-read_place-clause-told g c =
-    let done : c.attach.result ≡ reply.Done = Done-compared c.attach.result (sym c.eq.ensures ∙ c.if-eq.false) in (
-      refl,
-      gone_second c.args.geometry.now c.args.slot g.R.Rack.is_honest
-          (g.R.Rack.history c.args.rack.now) (g.R.Rack.history c.attach.new.self) (g.R.Rack.history c.sectors-has.new.self)
-          (g.R.Rack.bads c.args.rack.now) (g.R.Rack.bads c.attach.new.self) (g.R.Rack.bads c.sectors-has.new.self)
-          (g.R.Rack.gones c.args.rack.now) (g.R.Rack.gones c.attach.new.self) (g.R.Rack.gones c.sectors-has.new.self)
-          (λ honest. rw done at (c.attach.ensures.told honest)) c.attach.ensures.counts c.sectors-has.result c.sectors-has.ensures.told c.sectors-has.ensures.counts
-          (g.R.Rack.history c.read_place.new.rack) (g.R.Rack.bads c.read_place.new.rack) (g.R.Rack.gones c.read_place.new.rack) c.read_place.ensures.ran c.read_place.ensures.counts
-          (g.R.Rack.history c.read_place-2.new.rack) (g.R.Rack.bads c.read_place-2.new.rack) (g.R.Rack.gones c.read_place-2.new.rack) c.read_place-2.ensures.ran c.read_place-2.ensures.counts
-          c.in_default-read_place.ensures.told,
+          (g.R.Rack.history c.probe_slot-probe.new.rack) (g.R.Rack.bads c.probe_slot-probe.new.rack) (g.R.Rack.gones c.probe_slot-probe.new.rack) c.probe_slot-probe.result
+          c.probe_slot-probe.ensures.told (c.if-is_gone.ensures.0 refl),
     )
 
 pub returns-then-is_other-clause-told : goal.returns-then-is_other-clause-told
@@ -64,9 +51,9 @@ returns-then-is_other-clause-told g c =
           (g.R.Rack.bads c.args.rack.now) (g.R.Rack.bads c.attach.new.self) (g.R.Rack.bads c.sectors-has.new.self)
           (g.R.Rack.gones c.args.rack.now) (g.R.Rack.gones c.attach.new.self) (g.R.Rack.gones c.sectors-has.new.self)
           (λ honest. rw done at (c.attach.ensures.told honest)) c.attach.ensures.counts c.sectors-has.result c.sectors-has.ensures.told c.sectors-has.ensures.counts
-          (g.R.Rack.history c.read_place.new.rack) (g.R.Rack.bads c.read_place.new.rack) (g.R.Rack.gones c.read_place.new.rack) c.read_place.ensures.ran c.read_place.ensures.counts
-          (g.R.Rack.history c.read_place-2.new.rack) (g.R.Rack.bads c.read_place-2.new.rack) (g.R.Rack.gones c.read_place-2.new.rack) c.read_place-2.ensures.ran c.read_place-2.ensures.counts
-          enough c.in-Some.first c.in-Some-read_place.second c.in-Some.ensures.told c.in-Some-read_place.ensures.told
+          (g.R.Rack.history c.probe_slot-probe.new.rack) (g.R.Rack.bads c.probe_slot-probe.new.rack) (g.R.Rack.gones c.probe_slot-probe.new.rack) c.probe_slot-probe.result
+          c.probe_slot-probe.ensures.told enough (λ lost. false≢true (c.if-is_gone.ensures.1 lost)) c.block-first.result c.block-second.result
+          c.block-first.ensures c.block-second.ensures
           (elim c.then-is_other.branch [
             | then-is_other-via-then-is_other w ↦ inl w.if-is_other.ensures
             | then-is_other-via-else-is_other+then-is_other-2 w ↦ inr w.if-is_other-2.ensures
@@ -82,7 +69,6 @@ returns-clause-told g c =
     (g.R.Rack.bads c.args.rack.now) (g.R.Rack.bads c.attach.new.self) (g.R.Rack.bads c.sectors-has.new.self)
     (g.R.Rack.gones c.args.rack.now) (g.R.Rack.gones c.attach.new.self) (g.R.Rack.gones c.sectors-has.new.self)
     (λ honest. rw done at (c.attach.ensures.told honest)) c.attach.ensures.counts c.sectors-has.result c.sectors-has.ensures.told c.sectors-has.ensures.counts
-    (g.R.Rack.history c.read_place.new.rack) (g.R.Rack.bads c.read_place.new.rack) (g.R.Rack.gones c.read_place.new.rack) c.read_place.ensures.ran c.read_place.ensures.counts
-    (g.R.Rack.history c.read_place-2.new.rack) (g.R.Rack.bads c.read_place-2.new.rack) (g.R.Rack.gones c.read_place-2.new.rack) c.read_place-2.ensures.ran c.read_place-2.ensures.counts
-    enough c.in-Some.first c.in-Some-read_place.second c.in-Some.ensures.told c.in-Some-read_place.ensures.told
-    c.if-is_other.ensures c.if-is_other-2.ensures c.sectors-has.ensures.began
+    (g.R.Rack.history c.probe_slot-probe.new.rack) (g.R.Rack.bads c.probe_slot-probe.new.rack) (g.R.Rack.gones c.probe_slot-probe.new.rack) c.probe_slot-probe.result
+    c.probe_slot-probe.ensures.told enough (λ lost. false≢true (c.if-is_gone.ensures.1 lost)) c.block-first.result c.block-second.result
+    c.block-first.ensures c.block-second.ensures c.if-is_other.ensures c.if-is_other-2.ensures c.sectors-has.ensures.began
