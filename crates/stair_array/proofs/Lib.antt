@@ -102,3 +102,5 @@ pub mod RebuildingLemmas
 pub mod ReplacingLemmas
 pub mod StampsLeadLemmas
 pub mod MendsLeadLemmas
+pub mod StayDownLemmas
+pub mod AdmittingLemmas

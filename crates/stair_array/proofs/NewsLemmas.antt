@@ -88,7 +88,7 @@ fenced_same old new set are first (suc n) within =
 -- THE NEWS OF A CALL
 
 -- a step that repairs, admits and promotes nothing tells of slots alone
-slots_news : (step : Step) (answer : Answer step) → ((r : Option (ℕ × ℕ)) → repaired_after step answer r ≡ r)
+pub slots_news : (step : Step) (answer : Answer step) → ((r : Option (ℕ × ℕ)) → repaired_after step answer r ≡ r)
     → ((j : Option ℕ) → admitted_after step answer j ≡ j) → ((j : Option ℕ) → promoted_after step answer j ≡ j) → (old new : Configuration)
     (was is : News) → AddsFallen old new was is → AddsNews step answer old new was is
 slots_news step answer repairs admits promotes old new was is adds = record {

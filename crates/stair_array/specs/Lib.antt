@@ -18,5 +18,6 @@ pub mod Promise
 pub mod Arrays
 pub mod WritingSteps
 pub mod MendingSteps
+pub mod MendingCalls
 pub mod Examples
 pub mod Writes

@@ -1,5 +1,5 @@
 -- The parts of a replacement and of a step of a rebuild.
-use Rattle.std.specs.Prelude.{◌≡◌, ◌≢◌, ◌+◌, ◌<◌, ◌≤◌, ℕ, IsTrue, Option, None, Some, Result, Ok, Err, ⊤}
+use Rattle.std.specs.Prelude.{◌≡◌, ◌≢◌, ◌<◌, ◌≤◌, ℕ, IsTrue, Option, None, Some, Result, Ok, Err, ⊤}
 use Rattle.stair_model.specs.Device.{gate_sector}
 use Rattle.stair_model.specs.Geometry.{Geometry}
 use Rattle.stair_model.specs.Stripe.{Stripe}
@@ -10,19 +10,15 @@ use Rattle.stair_rack.specs.declared.rack.Reply.{Reply}
 use Rattle.stair_rack.specs.declared.rack.Reply.TheVariants as reply
 use Rattle.stair_super.specs.Superblock.{Superblock, mark_in}
 use Rattle.stair_super.specs.declared.mark.Mark.TheVariants.{Down}
-use Rattle.stair_member.specs.Membership.{IsHere, Membership}
+use Rattle.stair_member.specs.Membership.{Membership}
 use Rattle.stair_member.specs.declared.fault.FenceFault.{FenceFault}
 use Rattle.stair_session.specs.Courses.{Point}
-use Rattle.stair_session.specs.Rebuilding.{Rebuild}
-use Rattle.stair_session.specs.Session.{IsLiveIn, IsRebuiltIn}
+use Rattle.stair_session.specs.Session.{IsRebuiltIn}
 use Rattle.stair_array.specs.Calls.{LoadsStripe, answer_of}
 use Rattle.stair_array.specs.Causes.{BearsOther, IsSmall}
-use Rattle.stair_array.specs.Faults.{rebuild_refusal}
 use Rattle.stair_array.specs.Look.{IsLookAt, IsTaken}
-use Rattle.stair_array.specs.Machine.{Chunk, Dropped, Nothing, Progress, Promoted, Refusal}
+use Rattle.stair_array.specs.Machine.{Refusal}
 use Rattle.stair_array.specs.Mends.{Drops, IsFit, IsSecondLook, WritesChunk}
-use Rattle.stair_array.specs.Promise.{rebuild_after}
-use Rattle.stair_array.specs.declared.fault.RebuildFault.{RebuildFault}
 use Rattle.stair_array.specs.declared.fault.ReplaceFault.{ReplaceFault}
 use Rattle.stair_array.specs.declared.fault.ReplaceFault.TheVariants as fault
 use Rattle.stair_array.specs.declared.replacing.Places.{Places}
@@ -96,28 +92,3 @@ pub data WritesNext (j t : ℕ) : Result Reply Refusal → Point → Point → T
   Wrote : (into : Stripe) (x y z : Point) → LoadsStripe t into (Ok tt) x y
       → IsRebuiltIn y.member j → WritesChunk j t into reply.Done y z
       → WritesNext j t (Ok reply.Done) x z
-
-abbrev pub written_as : Result Reply RebuildFault → Result Reply Refusal
-written_as (Ok written) = Ok written
-written_as (Err fault) = Err (rebuild_refusal fault)
-
--- whether the slot goes on to be rebuilt
-abbrev pub IsStillThere : ℕ → Membership → Reply → Type 0
-IsStillThere j m reply.Done = IsRebuiltIn m j
-IsStillThere j m reply.Gone = ¬ IsHere m j
-
--- what a step for slot j and stripe t came to: which slot is told, and whether that is still rebuilt
-abbrev pub CameTo : ℕ → ℕ → Membership → Result Progress Refusal → Type 0
-CameTo j t m (Ok Nothing) = ⊥
-CameTo j t m (Ok (Chunk slot stripe)) = (slot ≡ j) × (stripe ≡ t)
-    × (t + 1 < m.array.geometry.stripes) × IsRebuiltIn m j
-CameTo j t m (Ok (Promoted slot)) =
-    (slot ≡ j) × (m.array.geometry.stripes ≤ t + 1) × IsLiveIn m j
-CameTo j t m (Ok (Dropped slot)) = (slot ≡ j) × ¬ IsHere m j
-CameTo j t m (Err refusal) = ⊤
-
--- what a step whose chunk was this one leaves of a rebuild
-abbrev pub rebuild_behind : Membership → Option Rebuild → Rebuild → Result Progress Refusal → Option Rebuild
-rebuild_behind m rebuild next (Ok (Chunk slot stripe)) =
-    Some (record { slot = next.slot; stripe = next.stripe + 1 })
-rebuild_behind m rebuild next _ = rebuild_after m rebuild

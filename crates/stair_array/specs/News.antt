@@ -53,6 +53,10 @@ Fell old new j = (mark_in new j ≡ Down) × (mark_in old j ≢ Down)
 abbrev pub HasFallen : Configuration → Configuration → Slots → Slots → Type 0
 HasFallen old new was is = (j : ℕ) → HasSlot is j ↔ (HasSlot was j ⊎ ((j < 32) × Fell old new j))
 
+-- a slot that was Down is Down
+abbrev pub StayDown : Configuration → Configuration → Type 0
+StayDown old new = (j : ℕ) → mark_in old j ≡ Down → mark_in new j ≡ Down
+
 -- they are added, and nothing else is changed
 pub record AddsFallen (old new : Configuration) (was is : News) : Type 0 where
   pub fenced : HasFallen old new was.fenced is.fenced

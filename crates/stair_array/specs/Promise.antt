@@ -230,12 +230,14 @@ abbrev pub rebuild_after : Membership → Option Rebuild → Option Rebuild
 rebuild_after last None = None
 rebuild_after last (Some rebuild) = rebuild_of (why_of last rebuild.slot) rebuild
 
--- how far a rebuild has come after a step of it: a chunk leads to the next one, and where its slot was promoted or dropped none
--- is under way
+-- how far a rebuild has come after a step of it: a chunk leads to the next one, and where its slot was promoted or dropped, or an
+-- epoch was refused, none is under way
 abbrev pub rebuild_then : Answer RebuildNext → Membership → Option Rebuild → Option Rebuild
 rebuild_then (Ok (Chunk j t)) last rebuild = Some (record { slot = j; stripe = t + 1 })
 rebuild_then (Ok (Promoted j)) last rebuild = None
 rebuild_then (Ok (Dropped j)) last rebuild = None
+rebuild_then (Err (TooFew whys)) last rebuild = None
+rebuild_then (Err EpochsSpent) last rebuild = None
 rebuild_then answer last rebuild = rebuild_after last rebuild
 
 -- an array that wasn't stopped, with a rebuild or none, which remembers a stripe or none; and what is left of one by a step that

@@ -1,30 +1,34 @@
-ghost use Rattle.std.specs.Prelude.{◌≡◌, ◌+◌, ◌*◌, ◌/◌, ◌%◌, ◌≤◌, ◌⊎◌, ◌∷◌, [], ℕ, length, IfErr, IfOk, IfSome, IsTrue, OnErr, Err, None, Some};
+ghost use Rattle.std.specs.Prelude.{◌≡◌, ◌+◌, ◌*◌, ◌/◌, ◌%◌, ◌<◌, ◌≤◌, ◌⊎◌, ◌∷◌, [], ℕ, length, IfErr, IfOk, IfSome, IsTrue, OnErr, Err, None, Some};
 ghost use Rattle.stair_model.specs.CellSet.{CellSet as Cells, cell_count};
 ghost use Rattle.stair_model.specs.Geometry.{block_count, data_cells};
 ghost use Rattle.stair_rack.specs.RackCounts.{RisesAtMost};
 ghost use Rattle.stair_rack.specs.Told.{told};
+ghost use Rattle.stair_member.specs.Epochs.{of_fence};
 ghost use Rattle.stair_member.specs.Membership.{IsMembership};
+ghost use Rattle.stair_member.specs.Seeing.{Sees};
 ghost use Rattle.stair_member.specs.declared.fault.FenceFault.{FenceFault as Fault};
 ghost use Rattle.stair_state.specs.Blocks.{AreOfOneStripe};
 ghost use Rattle.stair_session.specs.Courses.{point};
 ghost use Rattle.stair_session.specs.Session.{IsRebuiltIn};
-ghost use Rattle.stair_array.specs.Arrays.{IsOfRemembered, LacksCell, LacksOne, Opens, answer_as, blocks_of, cells_of, outcome, rebuilt_as, replaced_as, state_of};
+ghost use Rattle.stair_array.specs.Arrays.{IsOfRemembered, IsUnderWay, LacksCell, LacksOne, Opens, answer_as, blocks_of, cells_of, outcome, replaced_as, state_of};
 ghost use Rattle.stair_array.specs.Calls.{AreOfBlocks, Reads, WritesBlocks};
-ghost use Rattle.stair_array.specs.Causes.{IsNextChunk};
-ghost use Rattle.stair_array.specs.Faults.{array_fault, rebuild_fault, replace_fault};
+ghost use Rattle.stair_array.specs.Causes.{IsFree, IsNextChunk};
+ghost use Rattle.stair_array.specs.Faults.{array_fault, replace_fault};
 ghost use Rattle.stair_array.specs.Machine.{ReadBlock, RebuildNext, Recover, ReplaceSlot, ScrubStripe, SetFrozen, SetLabel, WriteBlocks, write_block};
-ghost use Rattle.stair_array.specs.News.{AddsFallen, AddsNews, no_news};
-ghost use Rattle.stair_array.specs.Mends.{Rebuilds, Replaces, Scrubs, StampsAs};
-ghost use Rattle.stair_array.specs.Promise.{Keeps, KeepsRebuild, rebuild_after, rebuild_then};
+ghost use Rattle.stair_array.specs.MendingCalls.{AdmitsSlot, admitted_as, chunk_as, promotion_as, rebuild_past};
+ghost use Rattle.stair_array.specs.MendingSteps.{WritesNext};
+ghost use Rattle.stair_array.specs.Mends.{Promotes, Replaces, Scrubs, StampsAs};
+ghost use Rattle.stair_array.specs.News.{AddsFallen, AddsNews, StayDown, no_news};
+ghost use Rattle.stair_array.specs.Promise.{Keeps, KeepsRebuild, rebuild_after};
 
-use crate::fault::{ArrayFault, Progress, RebuildFault, RecoverFault, ReplaceFault};
+use crate::fault::{ArrayFault, RecoverFault, ReplaceFault};
 use crate::news::News;
-use crate::rebuilding::{Rebuild, left_behind, left_of, promoted_by};
+use crate::rebuilding::{Rebuild, left_of, left_past};
 use crate::session::Session;
 use stair_base::{Geometry, SECTOR, StripeCode};
-use stair_member::{FenceFault, Member};
+use stair_member::{AdmitFault, FenceFault, Member};
 use stair_rack::Rack;
-use stair_super::{Label, Mark};
+use stair_super::{Label, Mark, Super};
 use std::alloc::Global;
 use std::marker::Model;
 
@@ -344,6 +348,56 @@ impl<C: StripeCode> Array<C> {
         Ok(())
     }
 
+    /// Takes in what was read of the medium in a slot that is Down and is to be admitted: the superblocks in its two places, of
+    /// whatever array and slot, `None` where there is none.
+    ///
+    /// The next epoch's draw will be above theirs, so that none of them hides a superblock of the admission, and the slot's next
+    /// superblock goes to the place that doesn't hold the newer one.
+    pub fn note_medium(&mut self, slot: u8, first: Option<Super>, second: Option<Super>)
+        requires free { IsFree self.old.member slot }
+        ensures is { Sees slot first second self.old.member self.new.member }
+        ensures rules { IsMembership self.new.member }
+        ensures rebuild { self.new.rebuild ≡ self.old.rebuild }
+        ensures stopped { self.new.stopped ≡ self.old.stopped }
+        ensures remembers { self.new.remembered ≡ self.old.remembered }
+        ensures news { self.new.news ≡ self.old.news }
+    {
+        self.session.member.see(slot, first, second);
+    }
+
+    /// Admits the device in a slot that is Down, by an epoch in which the slot is Rebuilding. What its medium holds is to be taken in
+    /// first, by [`note_medium`](Array::note_medium).
+    ///
+    /// - `Gone`: the slot was gone. An epoch stands in which it is Down.
+    /// - `TooFew`, `EpochsSpent`: the epoch was refused. The array is stopped.
+    pub fn admit_slot<R: Rack>(&mut self, rack: &mut R, slot: u8) -> Result<(), AdmitFault>
+        requires free { IsFree self.old.member slot }
+        ensures told { self.old.stopped ≡ None → AdmitsSlot slot (admitted_as result)
+            (point self.old.member (told R.Rack rack.old))
+            (point self.new.member (told R.Rack rack.new)) }
+        ensures kept { self.old.stopped ≡ None → Keeps (admitted_as result) self.new.stopped }
+        ensures stopped { (fault : Fault) → self.old.stopped ≡ Some fault →
+            (result ≡ Err (of_fence fault)) × (rack.new ≡ rack.old) × (self.new ≡ self.old) }
+        ensures geometry { self.new.member.array.geometry ≡ self.old.member.array.geometry }
+        ensures rebuild { self.new.rebuild ≡ rebuild_after self.new.member self.old.rebuild }
+        ensures remembers { self.old.stopped ≡ None → self.new.remembered ≡ None }
+        ensures news { AddsNews (ReplaceSlot slot) (admitted_as result) self.old.member.array
+            self.new.member.array self.old.news self.new.news }
+        ensures reads { R.reads rack.new ≡ R.reads rack.old }
+    {
+        if let Some(fault) = self.session.stopped {
+            return Err(AdmitFault::from(fault));
+        }
+        self.remembered = None;
+        let before = self.session.member;
+        let admitted = self.session.admit_slot(rack, slot);
+        self.rebuild = left_of(self.rebuild, &self.session.member);
+        self.news.add_fallen(&before, &self.session.member);
+        admitted?;
+        self.news.admitted = Some(slot);
+        Ok(())
+    }
+
     /// The slot that is rebuilt, and the stripe whose chunk comes next, which is the number of stripes where the promotion alone is
     /// left. Where no rebuild is under way it is the lowest slot that is Rebuilding, with stripe 0. None where no slot is.
     pub fn next_chunk(&self) -> Option<(u8, u32)>
@@ -356,48 +410,87 @@ impl<C: StripeCode> Array<C> {
         }
     }
 
-    /// Makes one step of a rebuild: of the slot that is under way, or else of the lowest one that is Rebuilding, from its first
-    /// stripe on.
+    /// Writes the slot's chunk of this stripe, which is the one that [`next_chunk`](Array::next_chunk) gives.
     ///
-    /// The stripe is gathered, the slots that were gone are left out, and it is restored; then the slot's chunk of it is written,
-    /// without a sync and without the journal. The step that writes the last chunk also syncs the slot, and establishes an epoch in
-    /// which it is Live. Each session begins a rebuild anew.
+    /// The stripe is gathered, the slots that were gone are left out, and it is restored; then the chunk is written, without a sync
+    /// and without the journal. Where the slot was gone in this it is left out too, and is Down. Otherwise its next chunk comes next,
+    /// or the promotion where this was the last one.
     ///
     /// - `Lost`: as for a read. Nothing is written, the array goes on, and the same chunk comes next.
     /// - `TooFew`, `EpochsSpent`: an epoch was refused. The array is stopped.
-    pub fn rebuild_step<R: Rack>(&mut self, rack: &mut R) -> Result<Progress, RebuildFault>
-        ensures told { self.old.stopped ≡ None → Rebuilds (state_of self.old) (rebuilt_as result)
+    pub fn chunk_to<R: Rack>(
+        &mut self,
+        rack: &mut R,
+        stripe: u32,
+        slot: u8,
+    ) -> Result<(), ArrayFault>
+        requires next { IsNextChunk (state_of self.old) slot stripe }
+        requires stripe { stripe < self.old.member.array.geometry.stripes }
+        ensures told { self.old.stopped ≡ None →
+            WritesNext slot stripe (chunk_as slot self.new.member result)
             (point self.old.member (told R.Rack rack.old))
             (point self.new.member (told R.Rack rack.new)) }
-        ensures kept { self.old.stopped ≡ None → Keeps (rebuilt_as result) self.new.stopped }
+        ensures kept { self.old.stopped ≡ None → Keeps (outcome result) self.new.stopped }
         ensures stopped { (fault : Fault) → self.old.stopped ≡ Some fault →
-            (result ≡ Err (rebuild_fault fault)) × (rack.new ≡ rack.old) × (self.new ≡ self.old) }
-        ensures rebuild { self.new.rebuild ≡
-            rebuild_then (rebuilt_as result) self.new.member self.old.rebuild }
+            (result ≡ Err (array_fault fault)) × (rack.new ≡ rack.old) × (self.new ≡ self.old) }
+        ensures geometry { self.new.member.array.geometry ≡ self.old.member.array.geometry }
+        ensures rebuild { self.old.stopped ≡ None → self.new.rebuild ≡
+            rebuild_past slot stripe self.new.member self.old.rebuild result }
         ensures remembers { self.old.stopped ≡ None → self.new.remembered ≡ None }
-        ensures goes_on { self.old.stopped ≡ None → KeepsRebuild RebuildNext (rebuilt_as result)
-            (state_of self.old) (state_of self.new) }
-        ensures news { AddsNews RebuildNext (rebuilt_as result) self.old.member.array
-            self.new.member.array self.old.news self.new.news }
+        ensures stays { StayDown self.old.member.array self.new.member.array }
+        ensures news { AddsFallen self.old.member.array self.new.member.array self.old.news
+            self.new.news }
         ensures reads { RisesAtMost (cells_of self.old.member.array.geometry) (R.reads rack.old)
             (R.reads rack.new) }
     {
         if let Some(fault) = self.session.stopped {
-            return Err(RebuildFault::from(fault));
+            return Err(ArrayFault::from(fault));
         }
         self.remembered = None;
-        // by whose rules stripes can be counted one further
+        // by whose rules the slot is below 32, and stripes can be counted one further
         let _ = self.session.member.geometry();
-        let Some(next) = self.session.next_of(self.rebuild) else {
-            return Ok(Progress::Nothing);
-        };
         let before = self.session.member;
-        let came = self.session.rebuild(rack, &mut self.code, next);
-        self.rebuild = left_behind(self.rebuild, next, &came, &self.session.member);
+        let written = self.session.chunk_to(rack, &mut self.code, stripe, slot);
+        let next = Rebuild::of(slot, stripe);
+        self.rebuild = left_past(self.rebuild, next, &written, &self.session.member);
         self.news.add_fallen(&before, &self.session.member);
-        let progress = came?;
-        self.news.promoted = promoted_by(progress, self.news.promoted);
-        Ok(progress)
+        written
+    }
+
+    /// Promotes a slot all of whose chunks were written: syncs it, and establishes an epoch in which it is Live.
+    ///
+    /// - `Gone`: the slot was gone. An epoch stands in which it is Down.
+    /// - `TooFew`, `EpochsSpent`: an epoch was refused. The array is stopped.
+    pub fn promote_slot<R: Rack>(&mut self, rack: &mut R, slot: u8) -> Result<(), AdmitFault>
+        requires written { self.old.rebuild ≡
+            Some (record { slot = slot; stripe = self.old.member.array.geometry.stripes }) }
+        ensures told { self.old.stopped ≡ None → Promotes slot (promotion_as slot result)
+            (point self.old.member (told R.Rack rack.old))
+            (point self.new.member (told R.Rack rack.new)) }
+        ensures kept { self.old.stopped ≡ None → Keeps (promotion_as slot result) self.new.stopped }
+        ensures stopped { (fault : Fault) → self.old.stopped ≡ Some fault →
+            (result ≡ Err (of_fence fault)) × (rack.new ≡ rack.old) × (self.new ≡ self.old) }
+        ensures geometry { self.new.member.array.geometry ≡ self.old.member.array.geometry }
+        ensures rebuild { self.old.stopped ≡ None → self.new.rebuild ≡ None }
+        ensures remembers { self.old.stopped ≡ None → self.new.remembered ≡ None }
+        ensures stays { StayDown self.old.member.array self.new.member.array }
+        ensures news { AddsNews RebuildNext (promotion_as slot result) self.old.member.array
+            self.new.member.array self.old.news self.new.news }
+        ensures reads { R.reads rack.new ≡ R.reads rack.old }
+    {
+        if let Some(fault) = self.session.stopped {
+            return Err(AdmitFault::from(fault));
+        }
+        self.remembered = None;
+        // the member's rules
+        let _ = self.session.member.geometry();
+        let before = self.session.member;
+        let promoted = self.session.promote_slot(rack, slot);
+        self.rebuild = None;
+        self.news.add_fallen(&before, &self.session.member);
+        promoted?;
+        self.news.promoted = Some(slot);
+        Ok(())
     }
 
     /// Freezes the array, or thaws it, by an epoch: the blocks of a frozen one aren't written.
@@ -473,6 +566,7 @@ impl<C: StripeCode> Array<C> {
     pub fn geometry(&self) -> Geometry
         ensures value { result ≡ self.now.member.array.geometry }
         ensures rules { IsMembership self.now.member }
+        ensures under { IsUnderWay self.now.member self.now.rebuild }
     {
         self.session.member.geometry()
     }
@@ -525,6 +619,13 @@ impl<C: StripeCode> Array<C> {
         ensures { result ≡ self.now.news }
     {
         self.news
+    }
+
+    /// Forgets the stripe that a read restored last, so that the next read of one of its blocks calls the rack.
+    pub fn forget(&mut self)
+        ensures { self.new ≡ record self.old { remembered = None } }
+    {
+        self.remembered = None;
     }
 
     /// Clears the news, before a step whose events are to be told.

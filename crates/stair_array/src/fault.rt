@@ -1,12 +1,9 @@
 ghost use Rattle.std.specs.Prelude.{◌≡◌};
 ghost use Rattle.stair_array.specs.Faults.{
-  IsOfLoading,
   admission_fault,
   array_fault,
   rebuild_fault,
-  rebuild_refusal,
   recover_fault,
-  refusal_for,
   replace_fault,
 };
 
@@ -147,21 +144,6 @@ impl From<FenceFault> for RebuildFault {
         match fault {
             FenceFault::TooFew(whys) => RebuildFault::TooFew(whys),
             FenceFault::EpochsSpent => RebuildFault::EpochsSpent,
-        }
-    }
-}
-
-impl RebuildFault {
-    // Why a stripe wasn't loaded.
-    pub(crate) fn of_loading(fault: ArrayFault) -> RebuildFault
-        requires { IsOfLoading fault }
-        ensures { rebuild_refusal result ≡ refusal_for fault }
-    {
-        match fault {
-            ArrayFault::Lost { stripe, counts } => RebuildFault::Lost { stripe, counts },
-            ArrayFault::TooFew(whys) => RebuildFault::TooFew(whys),
-            ArrayFault::EpochsSpent => RebuildFault::EpochsSpent,
-            ArrayFault::OutOfRange { .. } | ArrayFault::Frozen => unreachable!(),
         }
     }
 }

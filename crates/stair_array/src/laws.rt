@@ -13,7 +13,7 @@ ghost use Rattle.stair_array.specs.Created.{AreNewMedia, BearNoneOutside, IsNewA
 ghost use Rattle.stair_array.specs.Events.{events_of};
 ghost use Rattle.stair_array.specs.Keeping.{ArraysAreKept, StatesAreKept};
 ghost use Rattle.stair_array.specs.Machine.{Answer, Recover, Step};
-ghost use Rattle.stair_array.specs.News.{AddsNews, events_in, no_news};
+ghost use Rattle.stair_array.specs.News.{AddsNews, HasFallen, StayDown, events_in, no_news};
 ghost use Rattle.stair_array.specs.declared.news.News.{News};
 ghost use Rattle.stair_state.specs.Holding.{IsConsistentUnderReassembly};
 ghost use Rattle.stair_state.specs.Represents.{AreSteady, Represents};
@@ -57,4 +57,8 @@ pub fn news_laws()
     ensures events { (step : Step) (answer : Answer step) (old new : Configuration) (is : News) →
         AddsNews step answer old new no_news is → (step ≡ Recover → IsOk answer) →
         events_in is ≡ events_of step answer old new }
+    // where no slot that is Down comes back, those that fell in two calls are those that fell in both together
+    ensures fallen { (a b c : Configuration) (was amid is : News) → StayDown a b → StayDown b c →
+        HasFallen a b was.fenced amid.fenced → HasFallen b c amid.fenced is.fenced →
+        HasFallen a c was.fenced is.fenced }
 {}

@@ -6,16 +6,15 @@ ghost use Rattle.stair_rack.specs.Told.{told};
 ghost use Rattle.stair_member.specs.Establishing.{refusal_of};
 ghost use Rattle.stair_session.specs.Chunks.{AreOfChunk};
 ghost use Rattle.stair_session.specs.Courses.{point};
-ghost use Rattle.stair_session.specs.Session.{ArrayState, IsRebuiltIn};
-ghost use Rattle.stair_array.specs.Arrays.{cells_of, progress_for, rebuilt_as};
+ghost use Rattle.stair_session.specs.Session.{IsRebuiltIn};
+ghost use Rattle.stair_array.specs.Arrays.{cells_of, outcome};
 ghost use Rattle.stair_array.specs.Causes.{IsLowestRebuilt, IsNextChunk};
-ghost use Rattle.stair_array.specs.Machine.{RebuildNext};
-ghost use Rattle.stair_array.specs.News.{promoted_after};
-ghost use Rattle.stair_array.specs.Mends.{Drops, Promotes, promoted_as, Rebuilds};
-ghost use Rattle.stair_array.specs.MendingSteps.{CameTo, IsStillThere, WritesNext, rebuild_behind, written_as};
+ghost use Rattle.stair_array.specs.MendingCalls.{chunk_as, promotion_as, rebuild_past};
+ghost use Rattle.stair_array.specs.MendingSteps.{WritesNext};
+ghost use Rattle.stair_array.specs.Mends.{Drops, Promotes};
 ghost use Rattle.stair_array.specs.Promise.{Keeps, rebuild_after, running};
 
-use crate::fault::{Progress, RebuildFault};
+use crate::fault::ArrayFault;
 use crate::session::Session;
 use stair_base::{CellSet, Geometry, Slots, StripeCode};
 use stair_journal::Redo;
@@ -45,6 +44,13 @@ impl Model for Rebuild {
 }
 
 impl Rebuild {
+    pub(crate) fn of(slot: u8, stripe: u32) -> Rebuild
+        requires { slot < 32 }
+        ensures { result ≡ record { slot = slot; stripe = stripe } }
+    {
+        Rebuild { slot, stripe }
+    }
+
     pub(crate) fn slot(&self) -> u8
         ensures value { result ≡ self.now.slot }
         ensures below { self.now.slot < 32 }
@@ -86,29 +92,20 @@ pub(crate) fn left_of(rebuild: Option<Rebuild>, member: &Member) -> Option<Rebui
     }
 }
 
-// What is left of it by a step for this chunk.
-pub(crate) fn left_behind(
+// What is left of it by this chunk: it goes on to the next one where its slot is still rebuilt.
+pub(crate) fn left_past(
     rebuild: Option<Rebuild>,
     next: Rebuild,
-    came: &Result<Progress, RebuildFault>,
+    written: &Result<(), ArrayFault>,
     member: &Member,
 ) -> Option<Rebuild>
     requires { next.stripe + 1 < 2 ^ 32 }
-    ensures { result ≡ rebuild_behind member.now rebuild next (rebuilt_as came.now) }
+    ensures { result ≡ rebuild_past next.slot next.stripe member.now rebuild written.now }
 {
-    match came {
-        Ok(Progress::Chunk { .. }) => Some(next.behind()),
-        _ => left_of(rebuild, member),
-    }
-}
-
-// The slot that was promoted last, after a step that came to this.
-pub(crate) fn promoted_by(progress: Progress, before: Option<u8>) -> Option<u8>
-    ensures { result ≡ promoted_after RebuildNext (Ok (progress_for progress)) before }
-{
-    match progress {
-        Progress::Promoted { slot } => Some(slot),
-        _ => before,
+    match written {
+        Ok(()) => left_of(Some(next.behind()), member),
+        Err(ArrayFault::Lost { .. }) => left_of(rebuild, member),
+        Err(_) => None,
     }
 }
 
@@ -140,69 +137,31 @@ impl Session {
         None
     }
 
-    // Makes a step of a rebuild: its next chunk, and behind the last one the promotion.
-    pub(crate) fn rebuild<R: Rack, C: StripeCode>(
-        &mut self,
-        rack: &mut R,
-        code: &mut C,
-        next: Rebuild,
-    ) -> Result<Progress, RebuildFault>
-        requires fits { C.shape code.old ≡ self.old.member.array.geometry }
-        requires rebuilt { IsRebuiltIn self.old.member next.slot }
-        requires stripe { next.stripe ≤ self.old.member.array.geometry.stripes }
-        ensures told { (was : ArrayState) → IsNextChunk was next.slot next.stripe →
-            Rebuilds was (rebuilt_as result) (point self.old.member (told R.Rack rack.old))
-            (point self.new.member (told R.Rack rack.new)) }
-        ensures came { CameTo next.slot next.stripe self.new.member (rebuilt_as result) }
-        ensures fits { C.shape code.new ≡ self.new.member.array.geometry }
-        ensures geometry { self.new.member.array.geometry ≡ self.old.member.array.geometry }
-        ensures kept { self.old.stopped ≡ None → Keeps (rebuilt_as result) self.new.stopped }
-        ensures reads { RisesAtMost (cells_of self.old.member.array.geometry) (R.reads rack.old)
-            (R.reads rack.new) }
-    {
-        let slot = next.slot();
-        let stripe = next.stripe();
-        let stripes = self.member.geometry().stripes();
-        if stripe >= stripes {
-            return self.promote_slot(rack, slot);
-        }
-        if self.chunk_to(rack, code, stripe, slot)? == Reply::Gone {
-            return Ok(Progress::Dropped { slot });
-        }
-        if stripe + 1 < stripes {
-            return Ok(Progress::Chunk { slot, stripe });
-        }
-        self.promote_slot(rack, slot)
-    }
-
-    // Loads the stripe, and writes the slot's chunk of it, without a sync. `Gone` where the slot was gone in this: it is left out.
-    fn chunk_to<R: Rack, C: StripeCode>(
+    // Loads the stripe, and writes the slot's chunk of it, without a sync. A slot that was gone in this is left out.
+    pub(crate) fn chunk_to<R: Rack, C: StripeCode>(
         &mut self,
         rack: &mut R,
         code: &mut C,
         stripe: u32,
         slot: u8,
-    ) -> Result<Reply, RebuildFault>
+    ) -> Result<(), ArrayFault>
         requires fits { C.shape code.old ≡ self.old.member.array.geometry }
         requires rebuilt { IsRebuiltIn self.old.member slot }
         requires stripe { stripe < self.old.member.array.geometry.stripes }
-        ensures told { WritesNext slot stripe (written_as result)
+        ensures told { WritesNext slot stripe (chunk_as slot self.new.member result)
             (point self.old.member (told R.Rack rack.old))
             (point self.new.member (told R.Rack rack.new)) }
-        ensures there { IfOk result (IsStillThere slot self.new.member) }
         ensures fits { C.shape code.new ≡ self.new.member.array.geometry }
         ensures geometry { self.new.member.array.geometry ≡ self.old.member.array.geometry }
-        ensures kept { self.old.stopped ≡ None → Keeps (written_as result) self.new.stopped }
+        ensures kept { self.old.stopped ≡ None → Keeps (outcome result) self.new.stopped }
         ensures reads { RisesAtMost (cells_of self.old.member.array.geometry) (R.reads rack.old)
             (R.reads rack.new) }
     {
         // by whose rules the slot is below 32
         let _ = self.member.geometry().n();
-        if let Err(fault) = self.load(rack, code, stripe) {
-            return Err(RebuildFault::of_loading(fault));
-        }
+        self.load(rack, code, stripe)?;
         if self.member.why(slot) != Why::Rebuilding {
-            return Ok(Reply::Gone);
+            return Ok(());
         }
         let geometry = self.member.geometry();
         let redo = Redo {
@@ -211,35 +170,30 @@ impl Session {
         };
         if write_chunk(rack, &geometry, slot, &redo, &self.stripe) == Reply::Gone {
             self.drop_slot(rack, slot)?;
-            return Ok(Reply::Gone);
         }
-        Ok(Reply::Done)
+        Ok(())
     }
 
     // Promotes a slot all of whose chunks were written, once they are on the disk. Where it was gone it is left out.
-    fn promote_slot<R: Rack>(&mut self, rack: &mut R, slot: u8) -> Result<Progress, RebuildFault>
+    pub(crate) fn promote_slot<R: Rack>(&mut self, rack: &mut R, slot: u8) -> Result<(), AdmitFault>
         requires rebuilt { IsRebuiltIn self.old.member slot }
-        ensures told { Promotes slot (rebuilt_as result)
+        ensures told { Promotes slot (promotion_as slot result)
             (point self.old.member (told R.Rack rack.old))
             (point self.new.member (told R.Rack rack.new)) }
-        ensures came { (stripe : ℕ) → self.old.member.array.geometry.stripes ≤ stripe + 1 →
-            CameTo slot stripe self.new.member (rebuilt_as result) }
         ensures geometry { self.new.member.array.geometry ≡ self.old.member.array.geometry }
-        ensures kept { self.old.stopped ≡ None → Keeps (rebuilt_as result) self.new.stopped }
+        ensures kept { self.old.stopped ≡ None → Keeps (promotion_as slot result) self.new.stopped }
         ensures reads { R.reads rack.new ≡ R.reads rack.old }
     {
         // by whose rules the slot is below 32
         let _ = self.member.geometry().n();
         if rack.sync(slot) == Reply::Gone {
             self.drop_slot(rack, slot)?;
-            return Ok(Progress::Dropped { slot });
+            return Err(AdmitFault::Gone(slot));
         }
         let joined = promote(rack, &mut self.member, slot);
         self.stop_if_refused(&joined);
-        match joined {
-            Ok(_) => Ok(Progress::Promoted { slot }),
-            Err(fault) => unpromoted(slot, fault),
-        }
+        joined?;
+        Ok(())
     }
 
     // Leaves out a slot that was gone.
@@ -258,17 +212,6 @@ impl Session {
         let mut gone = Slots::empty();
         gone.add(slot);
         self.leave_out(rack, gone)
-    }
-}
-
-// What a promotion came to that wasn't made: a slot that was gone was dropped by it.
-fn unpromoted(slot: u8, fault: AdmitFault) -> Result<Progress, RebuildFault>
-    ensures { rebuilt_as result ≡ promoted_as slot (Err fault) }
-{
-    match fault {
-        AdmitFault::Gone(_) => Ok(Progress::Dropped { slot }),
-        AdmitFault::TooFew(whys) => Err(RebuildFault::TooFew(whys)),
-        AdmitFault::EpochsSpent => Err(RebuildFault::EpochsSpent),
     }
 }
 

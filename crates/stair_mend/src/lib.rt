@@ -4,6 +4,9 @@
 //! Each step is a call of [`Array`], and no call takes memory. Between two steps the array may be read and written.
 #![tactic(auto)]
 
+pub mod laws;
+mod rebuilding;
+
 ghost use Rattle.std.specs.Prelude.{◌≡◌, ◌≤◌, Err, None, Some};
 ghost use Rattle.stair_rack.specs.RackCounts.{RisesAtMost};
 ghost use Rattle.stair_rack.specs.Told.{told};
@@ -16,6 +19,7 @@ ghost use Rattle.stair_array.specs.Mends.{Rebuilds, Replaces, Scrubs};
 ghost use Rattle.stair_array.specs.News.{AddsNews};
 ghost use Rattle.stair_array.specs.Promise.{Keeps, KeepsRebuild, rebuild_after, rebuild_then};
 
+use crate::rebuilding::{fault_of, is_next, promote};
 pub use stair_array::{Progress, RebuildFault, ReplaceFault};
 use stair_array::{Array, ArrayFault};
 use stair_base::StripeCode;
@@ -101,7 +105,7 @@ pub fn rebuild_step<R: Rack, C: StripeCode>(
     ensures kept { array.old.stopped ≡ None → Keeps (rebuilt_as result) array.new.stopped }
     ensures stopped { (fault : Fault) → array.old.stopped ≡ Some fault →
         (result ≡ Err (rebuild_fault fault)) × (rack.new ≡ rack.old) × (array.new ≡ array.old) }
-    ensures rebuild { array.new.rebuild ≡
+    ensures rebuild { array.old.stopped ≡ None → array.new.rebuild ≡
         rebuild_then (rebuilt_as result) array.new.member array.old.rebuild }
     ensures remembers { array.old.stopped ≡ None → array.new.remembered ≡ None }
     ensures goes_on { array.old.stopped ≡ None → KeepsRebuild RebuildNext (rebuilt_as result)
@@ -111,5 +115,25 @@ pub fn rebuild_step<R: Rack, C: StripeCode>(
     ensures reads { RisesAtMost (cells_of array.old.member.array.geometry) (R.reads rack.old)
         (R.reads rack.new) }
 {
-    array.rebuild_step(rack)
+    if let Some(fault) = array.stopped() {
+        return Err(RebuildFault::from(fault));
+    }
+    let stripes = array.geometry().stripes();
+    let Some((slot, stripe)) = array.next_chunk() else {
+        array.forget();
+        return Ok(Progress::Nothing);
+    };
+    if stripe >= stripes {
+        return promote(array, rack, slot);
+    }
+    if let Err(fault) = array.chunk_to(rack, stripe, slot) {
+        return Err(fault_of(fault));
+    }
+    if !is_next(array, slot, stripe + 1) {
+        return Ok(Progress::Dropped { slot });
+    }
+    if stripe + 1 < stripes {
+        return Ok(Progress::Chunk { slot, stripe });
+    }
+    promote(array, rack, slot)
 }

@@ -85,15 +85,15 @@ pub cleared_array : (was a : OpenArray) → was ≡ record a { news = no_news } 
     → was.stopped ≡ None → IsArray (state_of was)
 cleared_array was a cleared array = subst (λ (o : OpenArray). o.stopped ≡ None → IsArray (state_of o)) (sym cleared) array
 
--- what a call leaves of an array, whose news were cleared before it, with this rebuild, and with this to remember if it wasn't stopped
+-- what a call leaves of an array, whose news were cleared before it: if it wasn't stopped, with this rebuild and this to remember
 pub record Leaves (step : Step) (answer : Answer step) (after : Option Rebuild) (known : Option Remembered) (was is : OpenArray) : Type 0 where
   pub cleared : was.news ≡ no_news
-  pub rebuild : is.rebuild ≡ after
+  pub rebuild : was.stopped ≡ None → is.rebuild ≡ after
   pub remembers : was.stopped ≡ None → is.remembered ≡ known
   pub news : AddsNews step answer was.member.array is.member.array was.news is.news
 
 pub left_by : (step : Step) (answer : Answer step) {after : Option Rebuild} {known : Option Remembered} (a was is : OpenArray)
-    → was ≡ record a { news = no_news } → is.rebuild ≡ after → (was.stopped ≡ None → is.remembered ≡ known) → AddsNews step answer was.member.array is.member.array was.news is.news
+    → was ≡ record a { news = no_news } → (was.stopped ≡ None → is.rebuild ≡ after) → (was.stopped ≡ None → is.remembered ≡ known) → AddsNews step answer was.member.array is.member.array was.news is.news
     → Leaves step answer after known was is
 left_by step answer a was is cleared rebuild remembers news =
     record { cleared = ap (λ (o : OpenArray). o.news) cleared; rebuild = rebuild; remembers = remembers; news = news }
@@ -231,7 +231,7 @@ module _ (was is : OpenArray) (array : was.stopped ≡ None → IsArray (state_o
       → Promises step answer was is x y
   promised step answer {after} {known} leaves does none =
       let ran = state_is was was.rebuild None was.remembered refl none refl in
-      rw (ran, state_is is after is.stopped known leaves.rebuild refl (leaves.remembers none)) (does none (subst IsArray ran (array none)))
+      rw (ran, state_is is after is.stopped known (leaves.rebuild none) refl (leaves.remembers none)) (does none (subst IsArray ran (array none)))
 
   -- what a call leaves that keeps a rebuild as long as its slot is rebuilt
   abbrev LeavesIt : (step : Step) → Answer step → Type 0

@@ -12,7 +12,7 @@ invariant_of-self g c =
     let did = c.read-read.ensures in
     stays_array _ _ was is _ _ c.args.rack.now c.read-read.new.rack
     (read_promises was is (cleared_array was before c.clear_news.ensures c.self.invariant) _ _ c.args.block _ did.told did.kept
-    (left_by _ _ before was is c.clear_news.ensures did.rebuild (λ none. refl) did.news))
+    (left_by _ _ before was is c.clear_news.ensures (λ none. did.rebuild) (λ none. refl) did.news))
     did.kept (λ fault some. let same = did.stopped fault some in (fault_answered _ c.read-read.result fault same.0, same.1, same.2))
 
 pub returns-clause-taken : goal.returns-clause-taken
@@ -21,7 +21,7 @@ returns-clause-taken g c =
     let was = c.clear_news.new.self in
     let is = c.read-read.new.self in
     let did = c.read-read.ensures in
-    let left = left_by _ _ before was is c.clear_news.ensures did.rebuild (λ none. refl) did.news in
+    let left = left_by _ _ before was is c.clear_news.ensures (λ none. did.rebuild) (λ none. refl) did.news in
     step_taken _ _ _ _ _ _ _ was is c.args.self.now (ap state_of c.clear_news.ensures ∙ c.self.view_is) (λ never. absurd (cc)) left
     (read_promises was is (cleared_array was before c.clear_news.ensures c.self.invariant) _ _ c.args.block _ did.told did.kept left)
     (λ fault some. let same = did.stopped fault some in (fault_answered _ c.read-read.result fault same.0, same.1, same.2))

@@ -12,7 +12,7 @@ invariant_of-self g c =
     let did = c.set_frozen-stamped.ensures in
     stays_array _ _ was is _ _ c.args.rack.now c.set_frozen-stamped.new.rack
     (frozen_promises was is (cleared_array was before c.clear_news.ensures c.self.invariant) _ _ c.args.frozen _ did.told did.kept
-    (left_by _ _ before was is c.clear_news.ensures did.rebuild did.remembers did.news))
+    (left_by _ _ before was is c.clear_news.ensures (λ none. did.rebuild) did.remembers did.news))
     did.kept (λ fault some. let same = did.stopped fault some in (outcome_answered c.set_frozen-stamped.result fault same.0, same.1, same.2))
 
 pub returns-clause-taken : goal.returns-clause-taken
@@ -21,7 +21,7 @@ returns-clause-taken g c =
     let was = c.clear_news.new.self in
     let is = c.set_frozen-stamped.new.self in
     let did = c.set_frozen-stamped.ensures in
-    let left = left_by _ _ before was is c.clear_news.ensures did.rebuild did.remembers did.news in
+    let left = left_by _ _ before was is c.clear_news.ensures (λ none. did.rebuild) did.remembers did.news in
     step_taken _ _ _ _ _ _ _ was is c.args.self.now (ap state_of c.clear_news.ensures ∙ c.self.view_is) (λ never. absurd (cc)) left
     (frozen_promises was is (cleared_array was before c.clear_news.ensures c.self.invariant) _ _ c.args.frozen _ did.told did.kept left)
     (λ fault some. let same = did.stopped fault some in (outcome_answered c.set_frozen-stamped.result fault same.0, same.1, same.2))
