@@ -2,6 +2,7 @@
 //! live, and what an opening asks of the outside. Its functions are laws, and do nothing.
 #![tactic(auto)]
 
+pub mod chunks;
 pub mod epochs;
 pub mod following;
 pub mod holders;
