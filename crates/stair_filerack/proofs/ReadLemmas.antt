@@ -7,7 +7,7 @@ use Rattle.stair_rack.specs.declared.rack.Got.{Got}
 use Rattle.stair_rack.specs.declared.rack.Got.TheVariants as got
 use Rattle.stair_image.specs.Seal.{IsSealed, payload_in, sealed}
 use Rattle.stair_image.proofs.SealLemmas.{sealed-payload_in}
-use Rattle.stair_filerack.specs.Files.{FailsToRead, GivesHeld, GivesUnsealed, GoesAlone, LacksSector, HoldsSector, IsGotOf, ReadsAlone, ReadsBadSector, ReadsNoSector, ReadsSector, TakesSector, buffer_after}
+use Rattle.stair_filerack.specs.Files.{FailsToRead, GivesHeld, GivesSector, GivesUnsealed, GoesAlone, LacksSector, HoldsSector, IsGotOf, ReadsAlone, ReadsBadSector, ReadsNoSector, ReadsSector, buffer_after}
 use Rattle.stair_filerack.specs.Slot.{OpenFile, ReadAhead}
 
 module _ {T : Type 0} (place : T → Option ℕ) (left : T → Option (List ℕ)) (sector : ℕ) (old : OpenFile T) where
@@ -28,13 +28,13 @@ module _ {T : Type 0} (place : T → Option ℕ) (left : T → Option (List ℕ)
   -- of one that is held
   pub held_gives : (file : T) (next : Option ℕ) (ahead ahead' : ReadAhead) (held : OpenFile T) (found : Option (List ℕ)) (bytes : List ℕ) (number : ℕ)
       → record { file = file; next = next; ahead = ahead } ≡ held → HoldsSector left sector old held → number ≡ sector
-      → TakesSector number bytes ahead ahead' → SomeIff found (IsSealed number bytes) (payload_in bytes)
+      → GivesSector number bytes ahead ahead' → SomeIff found (IsSealed number bytes) (payload_in bytes)
       → Gives (record { file = file; next = next; ahead = ahead' }) found
   held_gives file next ahead ahead' held found bytes number parts holds is takes unsealed =
       let its : GivesHeld left sector bytes old (record { file = file; next = next; ahead = ahead' }) = (
         record { file = file; next = next; ahead = ahead },
         subst (HoldsSector left sector old) (sym parts) holds,
-        subst (λ (n : ℕ). TakesSector n bytes ahead ahead') is takes,
+        subst (λ (n : ℕ). GivesSector n bytes ahead ahead') is takes,
         refl,
         refl,
       ) in

@@ -82,12 +82,13 @@ ReadsBadAlone place left sector old new =
 abbrev pub IsHeld : ReadAhead → ℕ → Type 0
 IsHeld ahead sector = (ahead.from ≤ sector) × (sector < ahead.from + length ahead.bytes / 544)
 
--- This sector, which has these bytes, was taken from those that are held. Those before it were released.
-pub record TakesSector (sector : ℕ) (bytes : List ℕ) (old new : ReadAhead) : Type 0 where
+-- This sector, which has these bytes, was held, and is held still. Those before it were released.
+pub record GivesSector (sector : ℕ) (bytes : List ℕ) (old new : ReadAhead) : Type 0 where
   pub whole : length bytes ≡ 544
-  pub held : (before : List ℕ) × (old.bytes ≡ before ++ (bytes ++ new.bytes))
+  pub held : (before : List ℕ) × (old.bytes ≡ before ++ new.bytes)
       × (544 * old.from + length before ≡ 544 * sector)
-  pub from : new.from ≡ sector + 1
+  pub first : (after : List ℕ) × (new.bytes ≡ bytes ++ after)
+  pub from : new.from ≡ sector
   pub missed : new.missed ≡ old.missed
 
 -- a sector is one of the eight from this one on
@@ -129,12 +130,12 @@ abbrev pub LacksSector : {T : Type 0} → (T → Option (List ℕ)) → ℕ → 
 LacksSector left sector old new =
     (new ≡ old) ⊎ ((start : ℕ) × MissesEight left start sector old new)
 
--- a sector of these bytes was held, and was taken
+-- a sector of these bytes was held, and answers
 abbrev pub GivesHeld : {T : Type 0} → (T → Option (List ℕ)) → ℕ → List ℕ →
     OpenFile T → OpenFile T → Type 0
 GivesHeld {T} left sector bytes old new =
     (held : OpenFile T) × HoldsSector left sector old held
-    × TakesSector sector bytes held.ahead new.ahead × (new.file ≡ held.file) × (new.next ≡ held.next)
+    × GivesSector sector bytes held.ahead new.ahead × (new.file ≡ held.file) × (new.next ≡ held.next)
 
 -- a sector that wasn't held was read so
 abbrev pub GoesAlone : {T : Type 0} → (T → Option (List ℕ)) → ℕ →

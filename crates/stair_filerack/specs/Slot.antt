@@ -9,7 +9,8 @@ use Rattle.stair_rack.specs.declared.rack.Got.{Got}
 use Rattle.stair_rack.specs.declared.rack.Got.TheVariants as got
 use Rattle.stair_filerack.specs.declared.reason.Reason.{Reason}
 
--- the sectors of an image file that were read ahead, and that no read was answered by yet
+-- what is held of eight sectors of an image file that were read at once: the one that a read was last answered by, and those
+-- after it
 pub record ReadAhead : Type 0 where
   -- the number of the first sector that is held
   pub from : ℕ

@@ -3,7 +3,7 @@ ghost use Rattle.std.specs.Prelude.{◌≡◌, ◌↔◌, ◌+◌, ◌*◌, ◌^
 ghost use Rattle.std.specs.Option.{SomeIff};
 ghost use Rattle.std.specs.Io.KnownBytes.{Consumes};
 ghost use Rattle.stair_image.specs.Seal.{payload_in, IsSealed};
-ghost use Rattle.stair_filerack.specs.Files.{IsHeld, IsNear, TakesSector, ReadsFewer};
+ghost use Rattle.stair_filerack.specs.Files.{GivesSector, IsHeld, IsNear, ReadsFewer};
 ghost use Rattle.stair_filerack.specs.Slot.{nothing_read, released, missed_at};
 
 use crate::full::read_full;
@@ -17,14 +17,14 @@ pub(crate) const SECTORS: usize = 8;
 
 const BYTES: usize = SECTORS * SECTOR_BYTES;
 
-/// Eight sectors of an image file that were read at once, and which of them are sealed. Those after the one that was read last
-/// are held, and answer the reads that follow.
+/// Eight sectors of an image file that were read at once, and which of them are sealed. The one that answered last and those
+/// after it are held, and answer later reads.
 #[derive(Drop)]
 pub(crate) struct Ahead {
     bytes: [u8; 4352],
     sealed: [bool; 8],
-    // How many of them are answered or passed over.
-    answered: usize,
+    // How many of them are passed over.
+    passed: usize,
     // The number of the first sector that is held.
     from: u64,
     // The sector from which eight were last to be read, and fewer were. They are read one by one, so that one sector that a
@@ -41,13 +41,13 @@ impl Model for Ahead {
 
     ghost view = { λ s. record {
       from = s.from;
-      bytes = drop (544 * s.answered) s.bytes;
+      bytes = drop (544 * s.passed) s.bytes;
       missed = s.missed;
     } };
 
-    ghost invariant = { λ s. (s.answered ≤ 8) × (s.from + 8 < 2 ^ 64 + s.answered)
-        × ((j : ℕ) → s.answered ≤ j → j < 8 → IsTrue (slice_index_or s.sealed j false)
-        ↔ IsSealed (s.from + (j - s.answered)) (take 544 (drop (544 * j) s.bytes))) };
+    ghost invariant = { λ s. (s.passed ≤ 8) × (s.from + 8 < 2 ^ 64 + s.passed)
+        × ((j : ℕ) → s.passed ≤ j → j < 8 → IsTrue (slice_index_or s.sealed j false)
+        ↔ IsSealed (s.from + (j - s.passed)) (take 544 (drop (544 * j) s.bytes))) };
 }
 
 impl Ahead {
@@ -58,7 +58,7 @@ impl Ahead {
         Ahead {
             bytes: [0; BYTES],
             sealed: [false; SECTORS],
-            answered: SECTORS,
+            passed: SECTORS,
             from: 0,
             missed: None,
         }
@@ -68,14 +68,14 @@ impl Ahead {
     pub(crate) fn release(&mut self)
         ensures { self.new ≡ released self.old }
     {
-        self.answered = SECTORS;
+        self.passed = SECTORS;
     }
 
     /// Returns whether this sector is held.
     pub(crate) fn has(&self, sector: u64) -> bool
         ensures { IsTrue result ↔ IsHeld self.now sector }
     {
-        self.from <= sector && sector - self.from < (SECTORS - self.answered) as u64
+        self.from <= sector && sector - self.from < (SECTORS - self.passed) as u64
     }
 
     /// Returns whether this sector is one of the eight that were last missed.
@@ -88,15 +88,15 @@ impl Ahead {
         }
     }
 
-    /// Takes this sector, releases those before it, and returns its payload, or `None` if it isn't sealed.
-    pub(crate) fn take(&mut self, sector: u64) -> Option<[u8; 512]>
+    /// Returns the payload of this sector, or `None` if it isn't sealed. It stays held, and those before it are released.
+    pub(crate) fn give(&mut self, sector: u64) -> Option<[u8; 512]>
         requires { IsHeld self.old sector }
-        ensures { (bytes : List ℕ) × TakesSector sector bytes self.old self.new
+        ensures { (bytes : List ℕ) × GivesSector sector bytes self.old self.new
             × SomeIff result (IsSealed sector bytes) (payload_in bytes) }
     {
-        let place = self.answered + (sector - self.from) as usize;
-        self.answered = place + 1;
-        self.from = sector + 1;
+        let place = self.passed + (sector - self.from) as usize;
+        self.passed = place;
+        self.from = sector;
         if !self.sealed[place] {
             return None;
         }
@@ -119,14 +119,14 @@ impl Ahead {
             ReadsFewer 4352 (T.remaining file.old) (T.remaining file.new) }
         ensures missed { result ≡ false → self.new ≡ missed_at sector self.old }
     {
-        self.answered = SECTORS;
+        self.passed = SECTORS;
         if !matches!(read_full(file, &mut self.bytes), Ok(BYTES)) {
             self.missed = Some(sector);
             return false;
         }
         self.sealed = sealed_from(sector, &self.bytes);
         self.from = sector;
-        self.answered = 0;
+        self.passed = 0;
         true
     }
 }

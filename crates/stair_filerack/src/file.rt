@@ -289,7 +289,7 @@ fn read_sector<T: Read + Seek>(
         (FailsToRead T.stream_position T.remaining sector) image.old image.new) }
 {
     if holds(image, sectors, sector) {
-        return Ok(image.ahead.take(u64::from(sector)));
+        return Ok(image.ahead.give(u64::from(sector)));
     }
     read_alone(image, sector)
 }

@@ -6,8 +6,8 @@ use Rattle.stair_filerack.proofs.file.read_sector.Goals as goal
 pub returns-then-holds-clause-found : goal.returns-then-holds-clause-found
 returns-then-holds-clause-found g c =
     let is = c.if-holds.ensures in
-    held_gives _ _ c.args.sector c.args.image.now _ _ _ _ _ c.take.result c.take.ensures.0 c.from.result c.image.view_is (is.held refl)
-    c.from.ensures c.take.ensures.1 c.take.ensures.2
+    held_gives _ _ c.args.sector c.args.image.now _ _ _ _ _ c.give.result c.give.ensures.0 c.from.result c.image.view_is (is.held refl)
+    c.from.ensures c.give.ensures.1 c.give.ensures.2
 
 pub returns-clause-found : goal.returns-clause-found
 returns-clause-found g c =
