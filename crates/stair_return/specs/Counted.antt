@@ -43,6 +43,10 @@ pub record HasBorne (g : Geometry) (old new : List Happening) (j : ℕ) : Type 0
   pub super : Superblock
   pub bears : Bears g j image.cell super
 
+-- No array but this one stands from old to new, where of each slot all superblocks count that it bears at some moment.
+abbrev pub IsAlone : Geometry → List Happening → List Happening → Type 0
+IsAlone g old new = (other : Geometry) → MoreThan other.m (HasBorne other old new) → other ≡ g
+
 -- Slots that have failed at a moment of the stretch count as failed throughout. Counted so, each moment is within tolerance;
 -- and no other array stands where of each slot all superblocks count that it bears at some moment.
 pub record IsToleratedCounted (g : Geometry) (before old new : List Happening) : Type 0 where
@@ -51,4 +55,4 @@ pub record IsToleratedCounted (g : Geometry) (before old new : List Happening) :
   pub few : slot_count failed ≤ g.m
   pub each : (h : List Happening) → IsMoment old h new
       → EachImage (IsToleratedCounting failed (IsOffline before h) g) h
-  pub alone : (other : Geometry) → MoreThan other.m (HasBorne other old new) → other ≡ g
+  pub alone : IsAlone g old new

@@ -1,6 +1,6 @@
 //! What an opening asks of the outside where media come back, and what a survey finds by it.
 
-ghost use Rattle.std.specs.Prelude.{◌≡◌, ℕ, false, Err, IsTrue, List, None, Ok, Result};
+ghost use Rattle.std.specs.Prelude.{◌≡◌, ◌↔◌, ℕ, false, Err, IsTrue, List, None, Ok, Result};
 ghost use Rattle.stair_model.specs.Geometry.{Geometry};
 ghost use Rattle.stair_rack.specs.Answers.{IsHistory, Ran, any_call};
 ghost use Rattle.stair_rack.specs.Crash.{CrashMayLeave, EachImage};
@@ -10,6 +10,7 @@ ghost use Rattle.stair_rack.specs.Moments.{IsMoment};
 ghost use Rattle.stair_rack.specs.Offline.{IsAttached};
 ghost use Rattle.stair_rack.specs.Telling.{Telling};
 ghost use Rattle.stair_member.specs.Membership.{IsMembership, Membership};
+ghost use Rattle.stair_member.specs.Reserve.{MayStand};
 ghost use Rattle.stair_member.specs.Survey.{Surveys};
 ghost use Rattle.stair_member.specs.declared.aim.Aim.TheVariants.{Fence};
 ghost use Rattle.stair_member.specs.declared.fault.SurveyFault.{SurveyFault};
@@ -25,7 +26,7 @@ ghost use Rattle.stair_array.specs.Machine.{Refusal};
 ghost use Rattle.stair_array.specs.Openings.{Recovers};
 ghost use Rattle.stair_return.specs.Opened.{IsOpenedAnywhere};
 ghost use Rattle.stair_return.specs.Beginning.{BeginsWherever};
-ghost use Rattle.stair_return.specs.Counted.{IsToleratedCounted};
+ghost use Rattle.stair_return.specs.Counted.{IsAlone, IsToleratedCounted};
 ghost use Rattle.stair_return.specs.Misled.{IsWorstSlot};
 ghost use Rattle.stair_return.specs.Still.{IsStill};
 ghost use Rattle.stair_return.specs.Found.{FindsMember, IsToleratedReassembly};
@@ -39,6 +40,11 @@ pub fn mixed_laws()
     ensures counted { (g : Geometry) (before old new : List Happening) →
         Ran any_call old new → IsToleratedMixed g before old new →
         IsToleratedCounted g before old new }
+    // That no other array stands is asked of a stretch as it is asked of a moment (`others` of `IsWithinTolerance`): of one moment
+    // both ask the same.
+    ensures alone { (g : Geometry) (h : List Happening) →
+        EachImage (λ image. (other : Geometry) → MayStand other image → other ≡ g) h
+        ↔ IsAlone g h h }
     // and what is worst at its end is so alone
     ensures worst { (g : Geometry) (before old new : List Happening) (to : Image) →
         Ran any_call old new → IsToleratedMixed g before old new →

@@ -1,11 +1,15 @@
 -- The laws are lemmas.
 use Rattle.stair_rack.proofs.MomentLemmas.{moment_first, moment_last}
 use Rattle.stair_return.proofs.MixedImages.{counted, mixed_alone, mixed_reassembly, tolerated_at, worst_mixed}
+use Rattle.stair_return.proofs.OtherArrays.{alone_borne, borne_alone}
 use Rattle.stair_return.proofs.StillStretch.{still_tolerated}
 use Rattle.stair_return.proofs.openings.mixed_laws.Goals as goal
 
 pub returns-clause-moments : goal.returns-clause-moments
 returns-clause-moments c = λ g before old h new tolerated at. tolerated_at g before old new tolerated h at
+
+pub returns-clause-alone : goal.returns-clause-alone
+returns-clause-alone c = λ g h. (borne_alone g h, alone_borne g h)
 
 pub returns-clause-counted : goal.returns-clause-counted
 returns-clause-counted c = λ g before old new ran tolerated. counted g before old new tolerated (moment_first ran.more ran.is)
