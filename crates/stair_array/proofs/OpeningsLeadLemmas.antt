@@ -108,7 +108,7 @@ comes_as s m before _ _ (Opens g y same is) never =
       seats = is.seats;
     })
 comes_as s m before _ _ (Refuses fault y stands) never =
-    comes.Refuses fault y stands (λ whys same. never whys (ap (λ (f : FenceFault). Err (refused f)) same))
+    comes.Refuses fault y stands (λ unread whys same. never whys (ap (λ (f : FenceFault). Err (refused f)) same))
 
 pub openings_lead : LeadsOpenings NoneReturns
 openings_lead = record {

@@ -104,5 +104,5 @@ pub promise : (returning : Returning) → LeadsReads returning → (b : ℕ) (an
 promise returning laws b answer events x y p = record {
   leads = λ honest before s history state calm. leads returning laws b answer events x y p honest before s history state calm;
   cuts = λ honest before s history state c at calm. cuts returning laws b answer events x y p honest before s history state c at calm;
-  complete = λ honest before s history state calm can. complete returning laws b answer events x y p honest before s history state calm can;
+  complete = λ honest before s history state calm unread can. complete returning laws b answer events x y p honest before s history state calm can;
 }

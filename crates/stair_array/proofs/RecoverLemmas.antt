@@ -23,7 +23,7 @@ use Rattle.stair_state.specs.Blocks.{Codewords}
 use Rattle.stair_state.specs.State.{Content, State, without_seats}
 use Rattle.stair_session.specs.Courses.{Point, point}
 use Rattle.stair_session.specs.Opening.{IsDecidedAs, opened_with}
-use Rattle.stair_session.specs.Returning.{IsCalm, Knows, Returning, StandsFor, StandsForAlone}
+use Rattle.stair_session.specs.Returning.{IsCalm, IsCalmUnread, Knows, Returning, StandsFor, StandsForAlone}
 use Rattle.stair_session.specs.SeatSteps.{EachMayDrop}
 use Rattle.stair_session.specs.Session.{ArrayState, IsOpenWith, seats_in}
 use Rattle.stair_array.specs.Calls.{refused}
@@ -59,8 +59,8 @@ pub record IsOpenedFor (returning : Returning) (s : State) (m : Membership) (bef
 -- it was opened, or an epoch was refused, not for want of slots
 pub data ComesTo (returning : Returning) (s : State) (m : Membership) (before : List Happening) : Result Geometry Refusal → Point → Type 0 where
   Opens : (g : Geometry) (y : Point) → g ≡ s.geometry → IsOpenedFor returning s m before y → ComesTo returning s m before (Ok g) y
-  Refuses : (fault : FenceFault) (y : Point) → StandsFor returning (without_seats s) y.told.history → ((whys : List Why) → ¬ (fault ≡ TooFew whys))
-      → ComesTo returning s m before (Err (refused fault)) y
+  Refuses : (fault : FenceFault) (y : Point) → StandsFor returning (without_seats s) y.told.history
+      → (IsCalmUnread returning s.geometry false before y.told.history → (whys : List Why) → ¬ (fault ≡ TooFew whys)) → ComesTo returning s m before (Err (refused fault)) y
 
 -- By these laws an opening is led on, on an honest rack, within tolerance from the survey's beginning on.
 pub record LeadsOpenings (returning : Returning) : Type 0 where
@@ -195,6 +195,10 @@ module _ (returning : Returning) (laws : LeadsOpenings returning) (answer : Resu
       subst (λ (b : List Happening). IsCalm returning s.geometry false b h) (sym found_so.began)
       (subst (λ (opened : Bool). IsCalm returning s.geometry opened before h) found_so.unopened calm)
 
+  unread_found : IsCalmUnread returning s.geometry (is_open x.session) before y.told.history
+      → IsCalmUnread returning s.geometry false before y.told.history
+  unread_found unread = subst (λ (opened : Bool). IsCalmUnread returning s.geometry opened before y.told.history) found_so.unopened unread
+
   are_found : (c : List Happening) → IsMoment x.told.history c y.told.history → IsCalm returning s.geometry (is_open x.session) before c
       → AreFound returning before c s (seats_in p.was.member.array)
   are_found c at calm =
@@ -232,20 +236,23 @@ module _ (returning : Returning) (laws : LeadsOpenings returning) (answer : Resu
               session ∙ (λ i. Opened (record { member = p.is.member; rebuild = rebuild i; stopped = kept i; remembered = p.remembers i }))
 
   -- nothing is refused but an epoch of which no number is left to draw
-  pub only_spent : IsCalm returning s.geometry (is_open x.session) before y.told.history → (refusal : Refusal) → answer ≡ Err refusal
+  pub only_spent : IsCalm returning s.geometry (is_open x.session) before y.told.history
+      → IsCalmUnread returning s.geometry (is_open x.session) before y.told.history → (refusal : Refusal) → answer ≡ Err refusal
       → refusal ≡ refused EpochsSpent
-  only_spent calm refusal is = by answer v refl is (comes_to calm)
+  only_spent calm unread refusal is = by answer v refl is (unread_found unread) (comes_to calm)
     where
-      by : (given : Result Geometry Refusal) (w : Point) → given ≡ answer → given ≡ Err refusal → ComesTo returning s p.was.member before given w
+      by : (given : Result Geometry Refusal) (w : Point) → given ≡ answer → given ≡ Err refusal
+          → IsCalmUnread returning s.geometry false before w.told.history → ComesTo returning s p.was.member before given w
           → refusal ≡ refused EpochsSpent
-      by _ _ same err (Opens g w of is) = absurd (cc)
-      by _ _ same err (Refuses (TooFew whys) w stands enough) = absurd (enough whys refl)
-      by _ _ same err (Refuses EpochsSpent w stands enough) = sym (let at : refused EpochsSpent ≡ refusal = cc in at)
+      by _ _ same err upto (Opens g w of is) = absurd (cc)
+      by _ _ same err upto (Refuses (TooFew whys) w stands enough) = absurd (enough upto whys refl)
+      by _ _ same err upto (Refuses EpochsSpent w stands enough) = sym (let at : refused EpochsSpent ≡ refusal = cc in at)
 
   -- so it is done
-  pub complete : IsCalm returning s.geometry (is_open x.session) before y.told.history → HasDraws p.was.member → IsOk answer
-  complete calm draws =
-      done_with_room Recover (λ j same. cc) answer events x y p rules draws (λ cause. cause.1) (only_spent calm)
+  pub complete : IsCalm returning s.geometry (is_open x.session) before y.told.history
+      → IsCalmUnread returning s.geometry (is_open x.session) before y.told.history → HasDraws p.was.member → IsOk answer
+  complete calm unread draws =
+      done_with_room Recover (λ j same. cc) answer events x y p rules draws (λ cause. cause.1) (only_spent calm unread)
 
   -- at each moment of it a crash leaves the state as it was
   pub stays : (c : List Happening) → IsMoment x.told.history c y.told.history → IsCalm returning s.geometry (is_open x.session) before c → (image : Image)
@@ -281,5 +288,5 @@ pub promise : (returning : Returning) → LeadsOpenings returning → (answer : 
 promise returning laws answer events x y p rules = record {
   leads = λ honest before s history state calm. leads returning laws answer events x y p rules honest before s state calm;
   cuts = λ honest before s history state c at calm. cuts returning laws answer events x y p rules honest before s state c at calm;
-  complete = λ honest before s history state calm can. complete returning laws answer events x y p rules honest before s state calm can.draws;
+  complete = λ honest before s history state calm unread can. complete returning laws answer events x y p rules honest before s state calm unread can.draws;
 }

@@ -193,6 +193,6 @@ promise returning laws besides admissions slot answer events x y p = record {
   leads = λ honest before s history state calm. leads returning laws besides admissions slot answer events x y p honest before s history state calm;
   cuts = λ honest before s history state c at calm.
       cuts returning laws besides admissions slot answer events x y p honest before s history state c at calm;
-  complete = λ honest before s history state calm can.
+  complete = λ honest before s history state calm unread can.
       complete returning laws besides admissions slot answer events x y p honest before s history state calm can;
 }

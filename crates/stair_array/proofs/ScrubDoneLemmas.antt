@@ -102,5 +102,5 @@ pub promise : (returning : Returning) → LeadsReads returning → LeadsRedos re
 promise returning laws redos t answer events x y p = record {
   leads = λ honest before s history state calm. leads returning laws redos t answer events x y p honest before s history state calm;
   cuts = λ honest before s history state c at calm. cuts returning laws redos t answer events x y p honest before s history state c at calm;
-  complete = λ honest before s history state calm can. complete returning laws redos t answer events x y p honest before s history state calm can;
+  complete = λ honest before s history state calm unread can. complete returning laws redos t answer events x y p honest before s history state calm can;
 }

@@ -169,6 +169,6 @@ pub promise : (returning : Returning) → LeadsReads returning → (answer : Ans
 promise returning laws answer events x y p = record {
   leads = λ honest before s history state calm. leads returning laws answer events x y p honest before s history state calm;
   cuts = λ honest before s history state c at calm. cuts returning laws answer events x y p honest before s history state c at calm;
-  complete = λ honest before s history state calm can.
+  complete = λ honest before s history state calm unread can.
       subst (λ (given : Answer LookAtSeats). IsOk given) (sym (answered returning laws answer events x y p honest before s history state)) refl;
 }

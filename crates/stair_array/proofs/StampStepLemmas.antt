@@ -257,7 +257,7 @@ stamp_leads returning laws stamps step change aim of_step answer events x y p = 
       leads returning laws stamps step change aim of_step answer events x y p honest before s history state calm;
   cuts = λ honest before s history state c at calm.
       cuts returning laws stamps step change aim of_step answer events x y p honest before s history state c at calm;
-  complete = λ honest before s history state calm can.
+  complete = λ honest before s history state calm unread can.
       complete returning laws stamps step change aim of_step answer events x y p honest before s history state calm can;
 }
 

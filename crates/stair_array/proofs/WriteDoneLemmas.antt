@@ -99,5 +99,5 @@ promise returning laws redos first contents answer events x y p = record {
   cuts =
       λ honest before s history state c at calm. cuts returning laws redos first contents answer events x y p honest before s history state c at calm;
   complete =
-      λ honest before s history state calm can. complete returning laws redos first contents answer events x y p honest before s history state calm can;
+      λ honest before s history state calm unread can. complete returning laws redos first contents answer events x y p honest before s history state calm can;
 }

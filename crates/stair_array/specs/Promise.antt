@@ -28,7 +28,7 @@ use Rattle.stair_state.specs.Represents.{IsLargeEnough}
 use Rattle.stair_state.specs.State.{State}
 use Rattle.stair_session.specs.Courses.{Point, point}
 use Rattle.stair_session.specs.Rebuilding.{Rebuild}
-use Rattle.stair_session.specs.Returning.{AnyReturns, IsCalm, Knows, NoneReturns, Returning, StandsFor, StandsForAlone}
+use Rattle.stair_session.specs.Returning.{AnyReturns, IsCalm, IsCalmUnread, Knows, NoneReturns, Returning, StandsFor, StandsForAlone}
 use Rattle.stair_session.specs.Session.{ArrayState, IsArray, IsLiveIn, IsOpenWith, IsRebuiltIn, IsRememberedIn, Remembered, seats_in}
 use Rattle.stair_array.specs.Calls.{Reads, WritesBlocks, refused}
 use Rattle.stair_array.specs.Causes.{HasCause, HasCounted, IsAllowed, IsNextChunk, MemberGoesOn}
@@ -397,4 +397,5 @@ pub record LeadsStep (returning : Returning) (m : Membership) (step : Step) (ans
       → IsHistory x.told.history
       → IsInState returning before s x
       → IsCalm returning s.geometry (is_open x.session) before y.told.history
+      → IsCalmUnread returning s.geometry (is_open x.session) before y.told.history
       → CanBeDone step s m x.told.history y.told.history → IsOk answer

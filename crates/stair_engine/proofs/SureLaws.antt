@@ -68,4 +68,4 @@ serves_limits returning view s (deed ∷ story) plan status x y works begun foll
     let all = works_ran view serves.honest (deed ∷ story) x y works in
     calm_limits returning s.geometry (history_of view x)
     (subst (λ (session : Session). IsCalm returning s.geometry (is_open session) (history_of view x) (history_of view x)) begun
-    (serves.calm.0 (history_of view x) (moment_first ran.more ran.is) (moment_first all.more all.is)))
+    (serves.calm.0.0 (history_of view x) (moment_first ran.more ran.is) (moment_first all.more all.is)))

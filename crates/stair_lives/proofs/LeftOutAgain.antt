@@ -39,6 +39,7 @@ use Rattle.stair_session.specs.Mixed.{IsToleratedMixed}
 use Rattle.stair_session.specs.Returning.{AnyReturns, IsCalm}
 use Rattle.stair_return.specs.Misled.{device_cell, device_of, five, rack_of}
 use Rattle.stair_return.specs.Still.{IsStill}
+use Rattle.stair_return.proofs.LookedSoFar.{mixed_unwritten}
 use Rattle.stair_return.proofs.MixedImages.{tolerated_at}
 use Rattle.stair_return.proofs.StillStretch.{still_tolerated}
 use Rattle.stair_return.proofs.SurveyLemmas.{finds}
@@ -327,7 +328,7 @@ module _ (words : Codewords) where
 
   calm : (h : List Happening) → IsStill (reinserted words) h → IsCalm AnyReturns five false (reinserted words) h
   calm h still =
-      (λ moment at. tolerated_at five (reinserted words) (reinserted words) h (mixed h still) moment at, mixed h still)
+      (λ moment at. tolerated_at five (reinserted words) (reinserted words) h (mixed h still) moment at, mixed_unwritten five (reinserted words) h (mixed h still))
 
   -- slot 3 takes no part for a member that was found by epoch 5
   not_here : (first last : Telling) (m : Membership) (surveys : Surveys (Ok m) first last) → m.array ≡ newest.array → ¬ IsHere m 3

@@ -14,12 +14,14 @@ use Rattle.stair_super.specs.declared.configuration.Configuration.{Configuration
 use Rattle.stair_super.specs.declared.mark.Mark.TheVariants as mark
 use Rattle.stair_member.specs.Membership.{Membership}
 use Rattle.stair_member.specs.Seats.{Seats}
+use Rattle.stair_member.proofs.AskedLemmas.{asked_ran}
 use Rattle.stair_state.specs.State.{State}
-use Rattle.stair_session.specs.Mixed.{IsToleratedMixed}
+use Rattle.stair_session.specs.Mixed.{IsToleratedUnwritten}
 use Rattle.stair_session.specs.Returning.{AnyReturns, IsCalm}
 use Rattle.stair_session.specs.Session.{ArrayState, seats_in}
 use Rattle.stair_array.specs.Machine.{Answer, AreKnown, Recover, Refusal, Row, SeatsAfter, Step}
 use Rattle.stair_array.specs.Promise.{Begun, BeginsWith, Closed, Ends, EndsIn, Found, GoesOn, IsInState, IsLed, Opened, Performs, Seen, ServesState, Session, StartsFrom, Stops, is_open}
+use Rattle.stair_return.proofs.LookedSoFar.{looked_mixed}
 use Rattle.stair_story.specs.Action.{Create, Survey}
 use Rattle.stair_story.specs.Devices.{DeviceView, Devices, WorksAll, seen_of}
 use Rattle.stair_story.specs.Run.{DeedLeads, IsCalmUpTo, StoryLeads, history_of}
@@ -124,9 +126,11 @@ module _ {R W : Type 0} (view : DeviceView R W) (honest : IsTrue view.rack.hones
       let closed : IsCalm AnyReturns g false before (h_of y) =
       subst (λ (k : Geometry). IsCalm AnyReturns k false before (h_of y)) same
       (subst (λ (session : Session). IsCalm AnyReturns s.geometry (is_open session) before (h_of y)) works.1 calm) in
+      let ran = asked_ran 32 (h_of x) (h_of y) (works.0.asked honest) in
       found_newest g m base.array (seen_of view x).told (seen_of view y).told works.0 honest
       (subst (λ (h : List Happening). NamesNewest g base.array h) serves.0 newest.current)
-      (subst (λ (h : List Happening). IsToleratedMixed g h h (h_of y)) serves.0 closed.1)
+      (looked_mixed g (Ok m) (seen_of view x).told (seen_of view y).told (h_of y) works.0 honest (moment_last ran.more ran.is)
+      (subst (λ (h : List Happening). IsToleratedUnwritten g h (h_of y)) serves.0 closed.1))
 
   stepped_follows : (s : State) (stopped : Option Refusal) (step : Step) (answer : Answer step) (events : List Event) (left : Bool) (x y : Devices R W)
       → WorksAll view (Stepped step answer events left) x y → DeedLeads AnyReturns view (Stepped step answer events left) x y → IsHistory (h_of x)

@@ -27,6 +27,7 @@ pub mod ServingEpochs
 pub mod ReadsLead
 pub mod StampsLead
 pub mod MixedImages
+pub mod LookedSoFar
 pub mod OtherArrays
 pub mod StillStretch
 pub mod MixedFinding

@@ -1,5 +1,5 @@
 -- By which laws an opening is led on, of an array whose media come back.
-use Rattle.std.proofs.Common.{false, IsTrue, List, None, Result, Some, sym, subst}
+use Rattle.std.proofs.Common.{false, IsTrue, List, None, Ok, Result, Some, sym, subst}
 use Rattle.stair_model.specs.Geometry.{Geometry}
 use Rattle.stair_rack.specs.History.{Happening}
 use Rattle.stair_rack.specs.Moments.{IsMoment}
@@ -14,10 +14,11 @@ use Rattle.stair_array.specs.Promise.{AreFound}
 use Rattle.stair_array.proofs.RecoverLemmas.{ComesTo, IsSurveyedFor, LeadsOpenings}
 use Rattle.stair_array.proofs.RecoverLemmas as comes
 use Rattle.stair_return.specs.Opened.{IsOpenedAnywhere}
+use Rattle.stair_return.proofs.LookedSoFar.{looked_mixed}
 use Rattle.stair_return.proofs.OpeningSeats.{seats_found}
 use Rattle.stair_return.proofs.RecoveryLeads.{Clears, recovers_clears}
 use Rattle.stair_return.proofs.RecoveryOpens.{opened_anywhere, recovery_moments}
-use Rattle.stair_return.proofs.RecoverySurvey.{IsFoundAny, found_begins, mixed_sooner}
+use Rattle.stair_return.proofs.RecoverySurvey.{IsFoundAny, found_begins}
 
 -- an array that a survey found
 found_any : (s : State) (first : Telling) (u : Point) → IsSurveyedFor AnyReturns s first u → IsFoundAny s first u
@@ -28,7 +29,7 @@ seats : (s : State) (first : Telling) (u : Point) → IsSurveyedFor AnyReturns s
     → AreFound AnyReturns first.history h s (seats_in u.member.array)
 seats s first u is honest h at calm =
     seats_found s first u.told u.member is.surveys honest
-    (found_begins s first u (found_any s first u is) honest (mixed_sooner s.geometry first.history first.history u.told.history h at calm.1)).geometry h at
+    (found_begins s first u (found_any s first u is) honest (looked_mixed s.geometry (Ok u.member) first u.told h is.surveys honest at calm.1)).geometry h at
 
 -- what it comes to, in the words of both
 comes_as : (s : State) (m : Membership) (first : Telling) (answer : Result Geometry Refusal) (v : Point)

@@ -26,7 +26,7 @@ use Rattle.stair_state.specs.Holding.{IsConsistentUnderReassembly}
 use Rattle.stair_state.specs.State.{Change, Content, State, without_seats}
 use Rattle.stair_state.specs.Tolerance.{ToleratedSince}
 use Rattle.stair_session.specs.Courses.{FindsBody, FindsRedo, Point, Replays}
-use Rattle.stair_session.specs.Mixed.{IsToleratedMixed}
+use Rattle.stair_session.specs.Mixed.{IsToleratedMixed, IsToleratedUnread, NoJournalRead}
 use Rattle.stair_session.specs.Opening.{StaysArray}
 use Rattle.stair_session.specs.Returning.{AnyReturns, IsCalm}
 use Rattle.stair_session.proofs.FindsLemmas.{found_ran, honest_back}
@@ -38,6 +38,8 @@ use Rattle.stair_array.specs.Calls.{answer_of, refused}
 use Rattle.stair_array.specs.Machine.{Refusal}
 use Rattle.stair_array.specs.Openings.{ClearsJournal, Recovers}
 use Rattle.stair_array.proofs.RecoveredLemmas.{body_ran, cleared_honest, cleared_ran, replayed_ran, fence_ran}
+use Rattle.stair_rack.proofs.StretchLemmas.{each_join}
+use Rattle.stair_return.proofs.LookedSoFar.{asked_unread, issuing_unread, looked_mixed}
 use Rattle.stair_return.proofs.OpeningEnough.{first_enough}
 use Rattle.stair_return.proofs.RecoveryEnough.{finding_enough}
 use Rattle.stair_return.proofs.RecoveryGatesEnough.{closing_enough, replay_enough}
@@ -47,7 +49,7 @@ use Rattle.stair_return.proofs.RecoveryFence.{AreSynced, IsUntouched, unseated}
 use Rattle.stair_return.proofs.RecoveryFinding.{IsLastRound, StandsUnseated, finding_moments, finding_refused, finding_ends}
 use Rattle.stair_return.proofs.RecoveryFound.{IsToldAny, found_told}
 use Rattle.stair_return.proofs.RecoveryParts.{IsReadAny, body_moments, body_ended, body_read}
-use Rattle.stair_return.proofs.RecoverySurvey.{IsFoundAny, mixed_sooner, first_left, first_ended, first_untouched, first_synced, first_geometry}
+use Rattle.stair_return.proofs.RecoverySurvey.{IsFoundAny, first_left, first_ended, first_untouched, first_synced, first_geometry}
 use Rattle.stair_return.proofs.RecoveryOpening.{closing_moments, closing_ended}
 
 -- CLEARING THE JOURNAL
@@ -57,7 +59,7 @@ module _ (before : List Happening) (kept : Content) (change : Option Change) (g 
   pub data Clears (m : Membership) : Result Geometry Refusal → Point → Type 0 where
     Opens : (own : Geometry) (y : Point) → own ≡ g → IsOpenedAny before kept change g y → StaysArray m y.member → Clears m (Ok own) y
     Refuses : (fault : FenceFault) (y : Point) → IsConsistentUnderReassembly (unseated g kept change) y.told.history
-        → ((whys : List Why) → ¬ (fault ≡ TooFew whys)) → Clears m (Err (refused fault)) y
+        → (IsToleratedUnread g before y.told.history → (whys : List Why) → ¬ (fault ≡ TooFew whys)) → Clears m (Err (refused fault)) y
 
   module _ (redo : Option Redo) (opened : Slots) (x : Point) (is : IsToldAny before kept change redo opened x) (same : x.member.array.geometry ≡ g) where
     pub told_geometry : is.m.array.geometry ≡ g
@@ -101,14 +103,14 @@ module _ (before : List Happening) (kept : Content) (change : Option Change) (g 
       Refuses fault y
       (given_stands None opened x is same y.told.history
       (closing_ended before kept change opened x is live are (Some fault) y does honest (own_calm None opened x is same y.told.history calm)))
-      (λ whys few.
+      (λ unread whys few.
       closing_enough before kept change opened x is live are (Some fault) y does honest (own_calm None opened x is same y.told.history calm) whys
       (ap (λ (f : FenceFault). Some f) few))
   clears m _ _ _ _ _ (ClearsJournal.Stops redo opened body was stripe fault x y found) is same stays honest calm =
       Refuses fault y
       (given_stands (Some redo) opened x is same y.told.history
       (body_ended before kept change redo opened body was stripe (Some fault) x y found is honest (own_calm (Some redo) opened x is same y.told.history calm)))
-      (λ whys few.
+      (λ unread whys few.
       body_enough before kept change redo opened body was stripe (Some fault) x y found is honest (own_calm (Some redo) opened x is same y.told.history calm)
       whys (ap (λ (f : FenceFault). Some f) few))
   clears m _ _ _ _ _ (ClearsJournal.BodyLost redo opened body was stripe sector x y found lost) is same stays honest calm =
@@ -151,7 +153,7 @@ module _ (before : List Happening) (kept : Content) (change : Option Change) (g 
           (given_stands (Some redo) opened y read.told geometry_y z.told.history
           (replay_ended before kept change redo opened y read.told stripe (read.cells whole) fault (Some fault) z (own_run (Some fault) goes) refl honest
           (own_calm (Some redo) opened y read.told geometry_y z.told.history calm)))
-          (λ whys few.
+          (λ unread whys few.
           replay_enough before kept change redo opened y read.told stripe (read.cells whole) whys (Some fault) z (own_run (Some fault) goes)
           (ap (λ (f : FenceFault). Some f) few) honest (own_calm (Some redo) opened y read.told geometry_y z.told.history calm))
 
@@ -212,7 +214,7 @@ module _ (s : State) (first : Telling) (u : Point) (found : IsFoundAny s first u
     mixed_u : (c : List Happening) → Ran any_call u.told.history c → IsCalm AnyReturns s.geometry false first.history c
         → IsToleratedMixed s.geometry first.history first.history u.told.history
     mixed_u c ran calm =
-        mixed_sooner s.geometry first.history first.history u.told.history c (moment_between {a = any_call} {b = any_call} survey_ran ran) calm.1
+        looked_mixed s.geometry (Ok u.member) first u.told c found.surveys honest_u (moment_between {a = any_call} {b = any_call} survey_ran ran) calm.1
 
   -- THE FIRST FENCE
 
@@ -222,6 +224,12 @@ module _ (s : State) (first : Telling) (u : Point) (found : IsFoundAny s first u
 
     first_runs : Ran any_call u.told.history w.told.history
     first_runs = fence_ran u.member w.member answer u.told w.told does honest
+
+    first_unread : NoJournalRead first.history w.told.history
+    first_unread =
+        let issued = does.establishes.issued honest in
+        each_join (asked_unread 32 first.history u.told.history (found.surveys.asked honest_before))
+        (issuing_unread issued.slots issued.editions u.told.history w.told.history issued.ran)
 
     upto_w : Ran any_call first.history w.told.history
     upto_w = ran_join {allowed = any_call} (survey_ran honest_before) first_runs
@@ -337,14 +345,14 @@ module _ (s : State) (first : Telling) (u : Point) (found : IsFoundAny s first u
       Refuses fault v
       (first_ended s first u v found (Err fault) e honest
       (mixed_u (honest_before v (Err fault) e honest) v.told.history (first_runs v (Err fault) e honest) calm) (going_w v (Err fault) e honest calm.0))
-      (first_enough s first u v found fault e honest calm.1)
+      (λ unread. first_enough s first u v found fault e honest (unread (first_unread v (Err fault) e honest)))
   recovers_clears _ v (Recovers.Stops fallen opened redo fault _ y _ e finds) honest calm =
       let honest_y = honest_back y.told v.told (found_honest redo opened (Some fault) y v finds) honest in
       let later = found_ran redo opened (Some fault) y v finds honest in
       let untouched = untouched_y fallen y e honest_y v.told.history later calm in
       let same = geometry_y fallen y e honest_y v.told.history later calm in
       Refuses fault v (finding_refused first.history s.content s.in_doubt s.geometry redo opened fault (Some fault) y v finds refl untouched same honest calm.0)
-      (λ whys few.
+      (λ unread whys few.
       finding_enough first.history s.content s.in_doubt s.geometry redo opened whys (Some fault) y v finds (ap (λ (f : FenceFault). Some f) few) untouched same
       honest calm.0)
   recovers_clears _ v (Recovers.Goes fallen opened redo answer _ y z _ e finds clear) honest calm =

@@ -17,10 +17,10 @@ ghost use Rattle.stair_member.specs.declared.fault.SurveyFault.{SurveyFault};
 ghost use Rattle.stair_state.specs.Holding.{Holders, IsConsistentSince, IsConsistentUnderReassembly};
 ghost use Rattle.stair_state.specs.Represents.{AreSteady, no_write};
 ghost use Rattle.stair_state.specs.State.{State, without_seats};
-ghost use Rattle.stair_state.specs.Tolerance.{IsTolerated, IsToleratedAlone};
+ghost use Rattle.stair_state.specs.Tolerance.{IsTolerated, IsToleratedAlone, ToleratedSince};
 ghost use Rattle.stair_session.specs.Mixed.{IsMixed, IsToleratedMixed};
 ghost use Rattle.stair_session.specs.Returning.{CoversMedia, IsKnownWherever};
-ghost use Rattle.stair_session.specs.Returning.{AnyReturns, IsCalm, StandsFor, StandsForAlone};
+ghost use Rattle.stair_session.specs.Returning.{AnyReturns, IsCalm, IsCalmUnread, StandsFor, StandsForAlone};
 ghost use Rattle.stair_session.specs.Courses.{Point};
 ghost use Rattle.stair_array.specs.Machine.{Refusal};
 ghost use Rattle.stair_array.specs.Openings.{Recovers};
@@ -53,6 +53,10 @@ pub fn mixed_laws()
     ensures still { (g : Geometry) (old new : List Happening) → IsHistory old →
         AreSteady g old → IsStill old new → IsTolerated g old old →
         IsToleratedMixed g old old new }
+    // A session that is within tolerance so to its end keeps to all that is asked of one in which an array is opened.
+    ensures asked { (g : Geometry) (before h : List Happening) → ToleratedSince g before h →
+        IsToleratedMixed g before before h →
+        IsCalm AnyReturns g false before h × IsCalmUnread AnyReturns g false before h }
     // whatever the outside does while calls write nothing, each slot at a moment of its own gives a reassembly of what was
     // there when it began, which alone is within tolerance
     ensures reassembly { (g : Geometry) (before old new : List Happening) (to : Image) →

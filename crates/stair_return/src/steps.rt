@@ -7,7 +7,7 @@ ghost use Rattle.stair_rack.specs.History.{Happening};
 ghost use Rattle.stair_rack.specs.declared.watcher.Event.{Event};
 ghost use Rattle.stair_member.specs.Membership.{IsMembership};
 ghost use Rattle.stair_state.specs.State.{State};
-ghost use Rattle.stair_session.specs.Returning.{AnyReturns, IsCalm};
+ghost use Rattle.stair_session.specs.Returning.{AnyReturns, IsCalm, IsCalmUnread};
 ghost use Rattle.stair_array.specs.Machine.{Answer, EpochsSpent, ReadBlock, RebuildNext, Recover};
 ghost use Rattle.stair_array.specs.Machine.{Refusal, ScrubStripe, SetFrozen, SetLabel, Step};
 ghost use Rattle.stair_array.specs.Machine.{WriteBlocks};
@@ -30,6 +30,7 @@ pub fn refusal_laws()
         IsMembership p.was.member → IsTrue y.told.honest → (before : List Happening)
         (s : State) → IsInState AnyReturns before s x →
         IsCalm AnyReturns s.geometry (is_open x.session) before y.told.history →
+        IsCalmUnread AnyReturns s.geometry (is_open x.session) before y.told.history →
         answer ≡ Err refusal → refusal ≡ EpochsSpent }
     // No block of the array is refused to a read, unless no epoch is left,
     ensures reads { (b : ℕ) (answer : Answer (ReadBlock b)) (events : List Event)

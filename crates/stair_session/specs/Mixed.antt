@@ -1,17 +1,18 @@
 -- What is asked of the outside while an array is opened over which media come back. Each slot is looked at once, at a moment
 -- of its own, so tolerance is asked of each image in which the slots are as they were at moments of their own.
-use Rattle.std.specs.Prelude.{◌≡◌, ◌<◌, ◌≤◌, ◌⊎◌, ℕ, List, None}
+use Rattle.std.specs.Prelude.{◌≡◌, ◌<◌, ◌≤◌, ◌⊎◌, ℕ, List, None, ⊤}
 use Rattle.stair_model.specs.CellSet.{CellSet, HasCell}
 use Rattle.stair_model.specs.Coverage.{IsCovered}
 use Rattle.stair_model.specs.Device.{cell_sector, chunks_start, gate_sector}
 use Rattle.stair_model.specs.Geometry.{Geometry}
 use Rattle.stair_model.specs.Slots.{HasSlot, IsSlotSet, Slots, slot_count}
 use Rattle.stair_rack.specs.Crash.{SlotMayLeave}
-use Rattle.stair_rack.specs.History.{Happening, slot_state}
+use Rattle.stair_rack.specs.History.{Acted, Attach, Called, Happening, Made, Read, Sectors, Stopped, Sync, Write, slot_state}
 use Rattle.stair_rack.specs.Media.{Image, SlotImage}
-use Rattle.stair_rack.specs.Moments.{AtSomeMoment}
+use Rattle.stair_rack.specs.Moments.{AtSomeMoment, IsMoment}
 use Rattle.stair_rack.specs.Offline.{IsOffline}
 use Rattle.stair_rack.specs.Sector.{Damaged, damaged}
+use Rattle.stair_rack.specs.Stretch.{EachHappening, NothingWritten}
 use Rattle.stair_super.specs.Superblock.{Superblock}
 use Rattle.stair_member.specs.Current.{IsCurrent, IsFailed, IsLost}
 use Rattle.stair_member.specs.Reserve.{MayStand}
@@ -65,3 +66,30 @@ pub record IsToleratedMixed (g : Geometry) (before old new : List Happening) : T
   pub journal_kept : ¬ HasSlot failed journal
   pub whole : (to : Image) (k : ℕ) → IsMixed before old new to → gate_sector ≤ k
       → k < chunks_start g → ¬ IsLost ((to journal).cell k)
+
+-- HOW LONG IT IS ASKED
+
+-- Up to each moment of a session before which nothing was written: so to the end of the survey, and no longer.
+abbrev pub IsToleratedUnwritten : Geometry → List Happening → List Happening → Type 0
+IsToleratedUnwritten g before h = (moment : List Happening) → IsMoment before moment h
+    → NothingWritten before moment → IsToleratedMixed g before before moment
+
+-- no read of a sector from the journal on
+abbrev pub ReadsNoJournal : List Happening → Happening → Type 0
+ReadsNoJournal h (Made image) = ⊤
+ReadsNoJournal h Stopped = ⊤
+ReadsNoJournal h (Acted j act) = ⊤
+ReadsNoJournal h (Called j (Attach answer)) = ⊤
+ReadsNoJournal h (Called j (Sectors size)) = ⊤
+ReadsNoJournal h (Called j (Read k answer)) = k < gate_sector
+ReadsNoJournal h (Called j (Write k bytes answer)) = ⊤
+ReadsNoJournal h (Called j (Sync answer)) = ⊤
+
+-- No journal was read from old to new. An opening reads the journals once its first epoch stands, so one that ends without has
+-- been refused that epoch.
+abbrev pub NoJournalRead : List Happening → List Happening → Type 0
+NoJournalRead old new = EachHappening ReadsNoJournal old new
+
+-- Through a session that ends at h without that a journal was read.
+abbrev pub IsToleratedUnread : Geometry → List Happening → List Happening → Type 0
+IsToleratedUnread g before h = NoJournalRead before h → IsToleratedMixed g before before h

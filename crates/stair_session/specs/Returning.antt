@@ -1,6 +1,6 @@
 -- What it is for a rack to be an array in a state, and what a session knows of all its media, by whether media that were
 -- pulled may come back.
-use Rattle.std.specs.Prelude.{◌≡◌, ◌≤◌, ◌⊎◌, ℕ, Bool, true, false, List, [], ◌∷◌, Option, None, Some, nat_lt, if◌then◌else◌}
+use Rattle.std.specs.Prelude.{◌≡◌, ◌≤◌, ◌⊎◌, ℕ, Bool, true, false, List, [], ◌∷◌, Option, None, Some, nat_lt, if◌then◌else◌, ⊤}
 use Rattle.stair_model.specs.Device.{gate_sector}
 use Rattle.stair_model.specs.Geometry.{Geometry}
 use Rattle.stair_rack.specs.Crash.{EachImage}
@@ -23,7 +23,7 @@ use Rattle.stair_state.specs.Reassembly.{InSlot, IsBorne, IsReassembly, Location
 use Rattle.stair_state.specs.Represents.{Represents}
 use Rattle.stair_state.specs.State.{State}
 use Rattle.stair_state.specs.Tolerance.{ToleratedSince}
-use Rattle.stair_session.specs.Mixed.{IsToleratedMixed}
+use Rattle.stair_session.specs.Mixed.{IsToleratedUnread, IsToleratedUnwritten}
 use Rattle.stair_session.specs.Session.{HasOwn, own_super}
 
 -- whether a medium that was pulled may be put back into its slot
@@ -42,11 +42,18 @@ StandsForAlone returning s image = StandsFor returning s (Made image ∷ [])
 
 -- WITHIN TOLERANCE
 
--- Failures stay within tolerance in a session from `before` to h, in which its array is open or isn't yet.
+-- Failures stay within tolerance in a session from `before` to h, in which its array is open or isn't yet. Where media come back
+-- more is asked until its survey has ended.
 abbrev pub IsCalm : Returning → Geometry → Bool → List Happening → List Happening → Type 0
 IsCalm NoneReturns g is_open before h = ToleratedSince g before h × NothingReturned before h
 IsCalm AnyReturns g true before h = ToleratedSince g before h
-IsCalm AnyReturns g false before h = ToleratedSince g before h × IsToleratedMixed g before before h
+IsCalm AnyReturns g false before h = ToleratedSince g before h × IsToleratedUnwritten g before h
+
+-- That a step from such a moment isn't refused asks it of an opening whose first epoch is refused, to its end at h.
+abbrev pub IsCalmUnread : Returning → Geometry → Bool → List Happening → List Happening → Type 0
+IsCalmUnread NoneReturns g is_open before h = ⊤
+IsCalmUnread AnyReturns g true before h = ⊤
+IsCalmUnread AnyReturns g false before h = IsToleratedUnread g before h
 
 -- WHAT A SESSION KNOWS OF ALL MEDIA
 

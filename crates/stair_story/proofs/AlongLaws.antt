@@ -1,18 +1,23 @@
 -- An array that serves along a story is found by its survey, and serves along what is left of the story until then; where no medium
 -- comes back it is enough that it serves throughout.
-use Rattle.std.proofs.Common.{◌≡◌, ◌∙◌, List, ◌∷◌, ap, subst, sym}
+use Rattle.std.proofs.Common.{◌≡◌, ◌∙◌, List, [], ◌∷◌, ap, subst, sym}
+use Rattle.std.specs.Prelude.{IsTrue}
+use Rattle.stair_model.specs.Geometry.{Geometry}
 use Rattle.stair_rack.specs.Answers.{IsHistory}
 use Rattle.stair_rack.specs.History.{Happening}
+use Rattle.stair_rack.specs.Stretch.{NothingReturned}
 use Rattle.stair_rack.proofs.MomentLemmas.{moment_last, ran_none}
 use Rattle.stair_state.specs.State.{State}
+use Rattle.stair_state.specs.Tolerance.{ToleratedSince}
 use Rattle.stair_session.specs.Returning.{IsCalm, NoneReturns, Returning, StandsFor}
 use Rattle.stair_array.specs.Promise.{Begun, Session, is_open}
+use Rattle.stair_return.proofs.LookedSoFar.{survey_unwritten}
 use Rattle.stair_story.specs.Action.{Outcome, Survey}
 use Rattle.stair_story.specs.Bounded.{IsBoundedAt}
 use Rattle.stair_story.specs.Devices.{DeviceView, Devices, WorksAll, seen_of}
 use Rattle.stair_story.specs.Run.{IsCalmUpTo, history_of}
-use Rattle.stair_story.specs.Story.{Deed, Did, Leads}
-use Rattle.stair_story.specs.Sure.{IsCalmBetween, ServesAlong, ServesThroughout, most_borne}
+use Rattle.stair_story.specs.Story.{Deed, Did, Leads, Stepped}
+use Rattle.stair_story.specs.Sure.{EachDeed, IsCalmAlong, IsCalmBetween, IsCalmUnreadAt, ServesAlong, ServesThroughout, most_borne}
 use Rattle.stair_story.proofs.FoundLaws.{IsArrayFound, calm_between, survey_found}
 use Rattle.stair_story.proofs.HeadlineLaws.{calm_story}
 use Rattle.stair_story.proofs.RunLaws.{one_ran, upto_end, works_ran}
@@ -31,8 +36,12 @@ module _ {R W : Type 0} (returning : Returning) (view : DeviceView R W) (s : Sta
       honest = serves.1.honest;
       history = subst (λ (z : Devices R W). IsHistory (history_of view z)) (sym same) serves.1.history;
       stands = subst (λ (z : Devices R W). StandsFor returning s (history_of view z)) (sym same) serves.1.stands;
-      calm = subst (λ (h : List Happening). IsCalmUpTo view returning s.geometry h (history_of view y) story works.0 y works.2)
-          (ap (λ (z : Devices R W). history_of view z) (sym same)) serves.1.calm.1;
+      calm = (
+        subst (λ (h : List Happening). IsCalmUpTo view returning s.geometry h (history_of view y) story works.0 y works.2)
+            (ap (λ (z : Devices R W). history_of view z) (sym same)) serves.1.calm.0.1,
+        subst (λ (h : List Happening). EachDeed view (IsCalmUnreadAt view returning s.geometry h) story works.0 y works.2)
+            (ap (λ (z : Devices R W). history_of view z) (sym same)) serves.1.calm.1.1,
+      );
       drawn = subst (λ (z : Devices R W). IsBoundedAt s.geometry most_borne (history_of view z)) (sym same) serves.1.drawn;
     },
   )
@@ -46,8 +55,9 @@ module _ {R W : Type 0} (returning : Returning) (view : DeviceView R W) (s : Sta
         let ran = one_ran view ready.honest (Did Survey came) x works.0 works.1 in
         let at = moment_last ran.more ran.is in
         calm_between returning s.geometry (history_of view x) (history_of view works.0)
+        (survey_unwritten came (seen_of view x).told (seen_of view works.0).told works.1.0 ready.honest)
         (subst (λ (session : Session). IsCalm returning s.geometry (is_open session) (history_of view x) (history_of view works.0)) serves.0
-        (ready.calm.0 (history_of view works.0) at (upto_end at (works_ran view ready.honest story works.0 y works.2))))
+        (ready.calm.0.0 (history_of view works.0) at (upto_end at (works_ran view ready.honest story works.0 y works.2))))
 
     -- and finds the array
     pub along_found : IsArrayFound s.geometry came
@@ -56,13 +66,29 @@ module _ {R W : Type 0} (returning : Returning) (view : DeviceView R W) (s : Sta
         (ran_none (history_of view x)) serves.1.stands survey_calm
 
 -- where no medium comes back
+unread_none : {R W : Type 0} (view : DeviceView R W) (g : Geometry) (before : List Happening) (story : List Deed) (x y : Devices R W)
+    (works : Leads (WorksAll view) story x y) → EachDeed view (IsCalmUnreadAt view NoneReturns g before) story x y works
+unread_none view g before [] x y works = tt
+unread_none view g before (deed ∷ story) x y works = (one deed, unread_none view g before story works.0 y works.2)
+  where
+    one : (deed : Deed) → IsCalmUnreadAt view NoneReturns g before deed x works.0
+    one (Stepped step answer events left) = tt
+    one _ = tt
+
+pub calm_along : {R W : Type 0} (view : DeviceView R W) (g : Geometry) (story : List Deed) (x y : Devices R W) (works : Leads (WorksAll view) story x y)
+    → IsTrue view.rack.honest → ToleratedSince g (history_of view x) (history_of view y) → NothingReturned (history_of view x) (history_of view y)
+    → IsCalmAlong view NoneReturns g story x y works
+calm_along view g story x y works honest tolerated returned = (
+  calm_story view honest g (history_of view x) (history_of view y) story x y works (ran_none (history_of view x)) tolerated returned,
+  unread_none view g (history_of view x) story x y works,
+)
+
 pub along_any : {R W : Type 0} (view : DeviceView R W) (s : State) (story : List Deed) (x y : Devices R W) (works : Leads (WorksAll view) story x y)
     → ServesThroughout view.rack s x.rack y.rack → ServesAlong NoneReturns view s story x y works
 along_any view s story x y works serves = record {
   honest = serves.honest;
   history = serves.history;
   stands = serves.represents;
-  calm = calm_story view serves.honest s.geometry (history_of view x) (history_of view y) story x y works (ran_none (history_of view x))
-      serves.tolerated serves.returned;
+  calm = calm_along view s.geometry story x y works serves.honest serves.tolerated serves.returned;
   drawn = serves.drawn;
 }

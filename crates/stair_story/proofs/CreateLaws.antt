@@ -132,18 +132,19 @@ mixed_unpassed array old mid tolerated (inr bare) =
 
 -- where an array is within tolerance at that moment not all 32 slots have passed
 not_all_pass : (returning : Returning) (g array : Geometry) (old mid : Telling) → IsTrue mid.honest → IsHistory old.history
-    → Ran no_write old.history mid.history → IsCalm returning array false old.history mid.history → ¬ ((j : ℕ) → j < 32 → Passed g j old mid)
-not_all_pass NoneReturns g array old mid honest is ran calm passed =
+    → NothingWritten old.history mid.history → Ran no_write old.history mid.history → IsCalm returning array false old.history mid.history → ¬ ((j : ℕ) → j < 32 → Passed g j old mid)
+not_all_pass NoneReturns g array old mid honest is unwritten ran calm passed =
     let within = calm.0 mid.history (moment_last ran.more ran.is) (image_now mid.history) (CrashMayLeave-now mid.history) in
     let live = within.journal.serves.live in
     kept_unpassed g array old mid honest is ran calm.1 within
     (passed_unseen g within.journal_slot old mid honest
     (passed within.journal_slot (counts_in array (image_now mid.history) within.journal_slot (record { super = live.super; counts = live.counts }))))
-not_all_pass AnyReturns g array old mid honest is ran calm passed =
+not_all_pass AnyReturns g array old mid honest is unwritten ran calm passed =
+    let tolerated = calm.1 mid.history (moment_last unwritten.more unwritten.is) unwritten in
     let within = calm.0 mid.history (moment_last ran.more ran.is) (image_now mid.history) (CrashMayLeave-now mid.history) in
     let most : array.n ≤ 32 = (counts_limits array (image_now mid.history) within.current.slot within.current within.is_current.counts).devices.1 in
-    mixed_unpassed array old.history mid.history calm.1
-    (passed_unseen g calm.1.journal old mid honest (passed calm.1.journal (omega (arith, most, calm.1.journal_in))))
+    mixed_unpassed array old.history mid.history tolerated
+    (passed_unseen g tolerated.journal old mid honest (passed tolerated.journal (omega (arith, most, tolerated.journal_in))))
 
 module _ (returning : Returning) (g array : Geometry) (old new : Telling) (honest : IsTrue new.honest) where
   passed_at : (mid : Telling) → AllPassed g old mid → IsLater mid new → IsMoment old.history mid.history new.history
@@ -158,7 +159,7 @@ module _ (returning : Returning) (g array : Geometry) (old new : Telling) (hones
   not_passed_by mid creates passed later calm =
       let honest_mid : IsTrue mid.honest = subst IsTrue (sym later.honest) honest in
       let unwritten = passed.unwritten honest_mid in
-      not_all_pass returning g array old mid honest_mid (creates.began honest)
+      not_all_pass returning g array old mid honest_mid (creates.began honest) unwritten
       (no_writes (ran_before (creates.ran honest) (passed_at mid passed later)) unwritten) calm passed.each
 
   -- up to a moment before which nothing but the look can have come

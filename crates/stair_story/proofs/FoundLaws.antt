@@ -5,8 +5,9 @@ use Rattle.stair_model.specs.Geometry.{Geometry}
 use Rattle.stair_rack.specs.Answers.{Ran, any_call}
 use Rattle.stair_rack.specs.History.{Happening}
 use Rattle.stair_rack.specs.Moments.{IsMoment}
+use Rattle.stair_rack.specs.Stretch.{NothingWritten}
 use Rattle.stair_rack.specs.Telling.{Telling}
-use Rattle.stair_rack.proofs.MomentLemmas.{moment_later, moment_sooner, moment_wider, ran_none}
+use Rattle.stair_rack.proofs.MomentLemmas.{moment_last, moment_later, moment_sooner, moment_wider, ran_none}
 use Rattle.stair_rack.proofs.StretchLemmas.{each_after, each_before}
 use Rattle.stair_member.specs.Membership.{Membership}
 use Rattle.stair_member.specs.Survey.{Surveys}
@@ -38,11 +39,11 @@ module _ (g : Geometry) (before old mid new : List Happening) (at : IsMoment old
   calm_rest NoneReturns calm = (calm.0, each_after calm.1 at)
   calm_rest AnyReturns calm = (calm.0, tolerated_inside g before (λ h is. moment_later at is) calm.1)
 
--- from the session's beginning
-pub calm_between : (returning : Returning) (g : Geometry) (before h : List Happening) → IsCalm returning g false before h
+-- from the session's beginning, as long as nothing was written
+pub calm_between : (returning : Returning) (g : Geometry) (before h : List Happening) → NothingWritten before h → IsCalm returning g false before h
     → IsCalmBetween returning g before before h
-calm_between NoneReturns g before h calm = calm
-calm_between AnyReturns g before h calm = calm
+calm_between NoneReturns g before h unwritten calm = calm
+calm_between AnyReturns g before h unwritten calm = (calm.0, calm.1 h (moment_last unwritten.more unwritten.is) unwritten)
 
 -- where nothing is written the rack goes on to stand for its state, but for the seats
 pub looked_stands : (returning : Returning) (s : State) (before old new : List Happening) → StandsFor returning s old → Ran no_write old new

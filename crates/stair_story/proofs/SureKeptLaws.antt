@@ -19,7 +19,7 @@ use Rattle.stair_array.specs.Promise.{AnswersStopped, Begun, EndsIn, Ends, GoesO
 use Rattle.stair_story.specs.Devices.{DeviceView, Devices, WorksAll, seen_of}
 use Rattle.stair_story.specs.Run.{IsCalmUpTo, StoryLeads}
 use Rattle.stair_story.specs.Story.{Deed, Stepped, Leads}
-use Rattle.stair_story.specs.Sure.{EachKeeps, IsCalmAlong, KeepsAt, NoneGoesDown, StaysIn}
+use Rattle.stair_story.specs.Sure.{EachKeeps, KeepsAt, NoneGoesDown, StaysIn}
 use Rattle.stair_story.proofs.RunLaws.{IsAt, one_goes, one_ran, upto_end, works_ran}
 use Rattle.stair_story.proofs.SureSlotLaws.{HoldsOver, stays_up, up_slot}
 use Rattle.stair_story.proofs.SureStepLaws.{begins_at, open_for}
@@ -121,7 +121,8 @@ module _ {R W : Type 0} (returning : Returning) (view : DeviceView R W) (honest 
 -- from a session's beginning
 pub staying_kept : {R W : Type 0} (returning : Returning) (view : DeviceView R W) (s : State) (kept : Slots) (story : List Deed) (x y : Devices R W)
     (works : Leads (WorksAll view) story x y) → IsTrue view.rack.honest → x.session ≡ Begun → IsHistory (view.rack.history x.rack)
-    → StandsFor returning s (view.rack.history x.rack) → IsCalmAlong view returning s.geometry story x y works
+    → StandsFor returning s (view.rack.history x.rack)
+    → IsCalmUpTo view returning s.geometry (view.rack.history x.rack) (view.rack.history y.rack) story x y works
     → StoryLeads returning view story x y works
     → ((j : ℕ) → HasSlot kept j → StaysIn s.geometry (view.rack.history x.rack) (view.rack.history y.rack) j) → EachKeeps view kept story x y works
 staying_kept returning view s kept story x y works honest begun history stands calm lead stays =

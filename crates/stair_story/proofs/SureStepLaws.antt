@@ -33,7 +33,8 @@ use Rattle.stair_story.specs.Outside.{Outside, Views}
 use Rattle.stair_story.specs.Plan.{Plan, Over}
 use Rattle.stair_story.specs.Run.{IsCalmUpTo, StoryLeads}
 use Rattle.stair_story.specs.Story.{Deed, Did, Stepped, Leads}
-use Rattle.stair_story.specs.Sure.{BeginsAs, CanReplaceAt, EachCanReplace, EachHasDraws, HasNoFault, IsCalmAlong, IsCounted, IsDone, IsFitFrom, IsFreeFor, IsSure, IsThere, KeepsCounted, LeavesDraws, MediumLeavesDraws, NoneGoesDown, counted_behind}
+use Rattle.stair_return.proofs.LookedSoFar.{survey_unwritten}
+use Rattle.stair_story.specs.Sure.{BeginsAs, CanReplaceAt, EachCanReplace, EachDeed, EachHasDraws, HasNoFault, IsCalmAlong, IsCalmUnreadAt, IsCounted, IsDone, IsFitFrom, IsFreeFor, IsSure, IsThere, KeepsCounted, LeavesDraws, MediumLeavesDraws, NoneGoesDown, counted_behind}
 use Rattle.stair_story.proofs.FoundLaws.{calm_between, survey_found}
 use Rattle.stair_story.proofs.RackLaws.{IsOffDevices}
 use Rattle.stair_story.proofs.RunLaws.{IsAt, IsStoppedBy, forgets, one_goes, one_ran, refusal_kept, upto_end, works_ran}
@@ -207,6 +208,7 @@ module _ {R W : Type 0} (returning : Returning) (view : DeviceView R W) (honest 
     pub history : IsHistory (h_of x)
     pub is_at : IsAt view returning before s None x
     pub calm : IsCalmUpTo view returning s.geometry before (h_of y) story x y works
+    pub unread : EachDeed view (IsCalmUnreadAt view returning s.geometry before) story x y works
     pub lead : StoryLeads returning view story x y works
     pub draws : EachHasDraws view s.geometry story x y works
     pub can : EachCanReplace view s.geometry story x y works
@@ -220,6 +222,7 @@ module _ {R W : Type 0} (returning : Returning) (view : DeviceView R W) (honest 
     history = history_on ready.history (one_ran view honest deed x works.0 works.1);
     is_at = is_at;
     calm = subst (λ (g : Geometry). IsCalmUpTo view returning g before (h_of y) story works.0 y works.2) (sym geometry) ready.calm.1;
+    unread = subst (λ (g : Geometry). EachDeed view (IsCalmUnreadAt view returning g before) story works.0 y works.2) (sym geometry) ready.unread.1;
     lead = ready.lead.1;
     draws = subst (λ (g : Geometry). EachHasDraws view g story works.0 y works.2) (sym geometry) ready.draws.1;
     can = subst (λ (g : Geometry). EachCanReplace view g story works.0 y works.2) (sym geometry) ready.can.1;
@@ -262,7 +265,8 @@ module _ {R W : Type 0} (returning : Returning) (view : DeviceView R W) (honest 
       (calm (h_of works.0) (moment_last ran.more ran.is))) in
       let finds =
       survey_found returning s (h_of x) (seen_of view x).told (seen_of view works.0).told came surveys honest (ran_none (h_of x)) ready.is_at.is_in.stands
-      (calm_between returning s.geometry (h_of x) (h_of works.0) calm_now) in
+      (calm_between returning s.geometry (h_of x) (h_of works.0)
+      (survey_unwritten came (seen_of view x).told (seen_of view works.0).told surveys honest) calm_now) in
       record {
         member = finds.member;
         found = finds.found;
@@ -354,7 +358,7 @@ module _ {R W : Type 0} (returning : Returning) (view : DeviceView R W) (honest 
     -- it is done where it passes its tests
     pub step_done : ((seats : Seats) → s.seats ≡ Some seats → IsFreeFor step seats → PassesTests step s seats) → IsOk answer
     step_done passes =
-        (ready.lead.0 does).complete honest before s ready.history ready.is_at.is_in step_calm
+        (ready.lead.0 does).complete honest before s ready.history ready.is_at.is_in step_calm ready.unread.0
         (record {
           passes = λ seats known. passes seats known
               (free_for returning step before s does.was x.session (seen_of view x).told seats does.starts ready.is_at.is_in.serves known
@@ -444,7 +448,8 @@ pub ready_first : {R W : Type 0} (returning : Returning) (view : DeviceView R W)
 ready_first returning view honest s story x y works begun history stands calm lead draws can = record {
   history = history;
   is_at = begins_at returning view s x begun stands;
-  calm = calm;
+  calm = calm.0;
+  unread = calm.1;
   lead = lead;
   draws = draws;
   can = can;

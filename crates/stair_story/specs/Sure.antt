@@ -20,12 +20,12 @@ use Rattle.stair_state.specs.Represents.{IsLargeEnough, Represents}
 use Rattle.stair_state.specs.State.{State, without_seats}
 use Rattle.stair_state.specs.Tolerance.{ToleratedSince}
 use Rattle.stair_session.specs.Mixed.{IsMixed, IsToleratedMixed}
-use Rattle.stair_session.specs.Returning.{AnyReturns, NoneReturns, Returning, StandsFor}
+use Rattle.stair_session.specs.Returning.{AnyReturns, IsCalmUnread, NoneReturns, Returning, StandsFor}
 use Rattle.stair_session.specs.Session.{ArrayState, seats_in}
 use Rattle.stair_array.specs.Draws.{HasDraws, most_drawn}
 use Rattle.stair_array.specs.Looking.{cells_at}
 use Rattle.stair_array.specs.Machine.{GivenBy, Nothing, PassesTests, Progress, RebuildNext, Recover, ReplaceSlot, Row, Step}
-use Rattle.stair_array.specs.Promise.{Begun, Found, Opened, Session}
+use Rattle.stair_array.specs.Promise.{Begun, Found, Opened, Session, is_open}
 use Rattle.stair_status.specs.declared.status.Status.{Status}
 use Rattle.stair_status.specs.declared.status.Status.TheVariants.{Done, OutOfMemory}
 use Rattle.stair_story.specs.Action.{Create, Survey}
@@ -206,12 +206,20 @@ pub record HasNoFault {S K : Type 0} (view : Views S K) (old new : Outside S K) 
 abbrev pub IsDone : Status → Type 0
 IsDone status = (status ≡ Done) ⊎ (status ≡ OutOfMemory)
 
+-- as much is asked of an opening whose first epoch is refused as keeps it from being refused
+abbrev pub IsCalmUnreadAt : {R W : Type 0} → DeviceView R W → Returning → Geometry
+    → List Happening → Deed → Devices R W → Devices R W → Type 0
+IsCalmUnreadAt view returning g before (Stepped step answer events left) old new =
+    IsCalmUnread returning g (is_open old.session) before (history_of view new)
+IsCalmUnreadAt view returning g before _ old new = ⊤
+
 -- From a session's beginning to its end failures stay within tolerance, along its story.
 abbrev pub IsCalmAlong : {R W : Type 0} → (view : DeviceView R W) → Returning → Geometry
     → (story : List Deed) → (first last : Devices R W) → Leads (WorksAll view) story first last
     → Type 0
 IsCalmAlong view returning g story first last works = IsCalmUpTo view returning g
     (history_of view first) (history_of view last) story first last works
+    × EachDeed view (IsCalmUnreadAt view returning g (history_of view first)) story first last works
 
 -- They do so along every story of an honest rack that is within tolerance at every moment, and to which no medium comes back.
 abbrev pub ToleratedIsCalm : (R W : Type 0) → Type 0
@@ -357,7 +365,8 @@ StayingAreKept R W = (returning : Returning) (view : DeviceView R W) (s : State)
     (story : List Deed) (first last : Devices R W) (works : Leads (WorksAll view) story first last)
     → IsTrue view.rack.honest → first.session ≡ Begun
     → IsHistory (history_of view first) → StandsFor returning s (history_of view first)
-    → IsCalmAlong view returning s.geometry story first last works
+    → IsCalmUpTo view returning s.geometry (history_of view first) (history_of view last) story
+    first last works
     → StoryLeads returning view story first last works
     → ((j : ℕ) → HasSlot kept j
     → StaysIn s.geometry (history_of view first) (history_of view last) j)

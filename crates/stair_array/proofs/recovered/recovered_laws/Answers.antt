@@ -8,7 +8,7 @@ pub returns : goal.returns
 returns c = record {
   promise = promise NoneReturns openings_lead;
   refused = λ answer events refusal x y p rules honest before s state calm is.
-      only_spent NoneReturns openings_lead answer events x y p rules honest before s state calm refusal is;
+      only_spent NoneReturns openings_lead answer events x y p rules honest before s state calm tt refusal is;
   again = λ answer events x y p rules honest before s state c image first at calm left is.
       again NoneReturns openings_lead answer events x y p rules honest before s state c image first at calm left is;
 }

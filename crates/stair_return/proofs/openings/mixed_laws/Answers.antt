@@ -1,5 +1,6 @@
 -- The laws are lemmas.
 use Rattle.stair_rack.proofs.MomentLemmas.{moment_first, moment_last}
+use Rattle.stair_return.proofs.LookedSoFar.{mixed_unread, mixed_unwritten}
 use Rattle.stair_return.proofs.MixedImages.{counted, mixed_alone, mixed_reassembly, tolerated_at, worst_mixed}
 use Rattle.stair_return.proofs.OtherArrays.{alone_borne, borne_alone}
 use Rattle.stair_return.proofs.StillStretch.{still_tolerated}
@@ -8,11 +9,14 @@ use Rattle.stair_return.proofs.openings.mixed_laws.Goals as goal
 pub returns-clause-moments : goal.returns-clause-moments
 returns-clause-moments c = λ g before old h new tolerated at. tolerated_at g before old new tolerated h at
 
+pub returns-clause-counted : goal.returns-clause-counted
+returns-clause-counted c = λ g before old new ran tolerated. counted g before old new tolerated (moment_first ran.more ran.is)
+
 pub returns-clause-alone : goal.returns-clause-alone
 returns-clause-alone c = λ g h. (borne_alone g h, alone_borne g h)
 
-pub returns-clause-counted : goal.returns-clause-counted
-returns-clause-counted c = λ g before old new ran tolerated. counted g before old new tolerated (moment_first ran.more ran.is)
+pub returns-clause-asked : goal.returns-clause-asked
+returns-clause-asked c = λ g before h since tolerated. ((since, mixed_unwritten g before h tolerated), mixed_unread g before h tolerated)
 
 pub returns-clause-reassembly : goal.returns-clause-reassembly
 returns-clause-reassembly c = λ g before old new to history ran tolerated mixed. mixed_reassembly before old new history ran g to tolerated mixed

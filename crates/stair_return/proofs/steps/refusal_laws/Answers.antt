@@ -16,8 +16,8 @@ use Rattle.stair_return.proofs.steps.refusal_laws.Goals as goal
 
 pub returns : goal.returns
 returns c = record {
-  recovers = λ answer events refusal x y p rules honest before s state calm is.
-      recover.only_spent AnyReturns openings_lead answer events x y p rules honest before s state calm refusal is;
+  recovers = λ answer events refusal x y p rules honest before s state calm unread is.
+      recover.only_spent AnyReturns openings_lead answer events x y p rules honest before s state calm unread refusal is;
   reads = λ b answer events refusal x y p honest history before s state calm below is.
       read.none_refused AnyReturns reads_lead b answer events x y p honest before s history state calm below refusal is;
   writes = λ first contents answer events refusal x y p honest history before s state calm below thawed is.

@@ -1,8 +1,5 @@
 -- Each law, by the one induction on stories.
-use Rattle.stair_rack.proofs.MomentLemmas.{ran_none}
-use Rattle.stair_story.specs.Run.{history_of}
-use Rattle.stair_story.proofs.AlongLaws.{along_any}
-use Rattle.stair_story.proofs.HeadlineLaws.{calm_story}
+use Rattle.stair_story.proofs.AlongLaws.{along_any, calm_along}
 use Rattle.stair_story.proofs.PlannedSureLaws.{none_replaced, planned_sure}
 use Rattle.stair_story.proofs.ServedLaws.{planned_served}
 use Rattle.stair_story.proofs.SureDeviceLaws.{devices_replace}
@@ -14,8 +11,7 @@ use Rattle.stair_story.proofs.sure.sure_laws.Goals as goal
 pub returns : goal.returns
 returns g c = record {
   calm = λ view g story first last works honest tolerated returned.
-      calm_story view honest g (history_of view first) (history_of view last) story first last works (ran_none (history_of view first)) tolerated
-      returned;
+      calm_along view g story first last works honest tolerated returned;
   done = λ returning view streams plan status s old new first last with honest begun history stands calm none lead draws can sure.
       sure_done view streams returning plan status s old new first last with honest begun history stands calm none lead draws can sure;
   kept = λ returning view s kept story first last works honest begun history stands calm lead stays.
