@@ -7,11 +7,12 @@ use Rattle.stair_rack.specs.Crash.{CrashMayLeave, EachImage}
 use Rattle.stair_rack.specs.History.{Happening, Made, SlotCall}
 use Rattle.stair_rack.specs.Media.{Image}
 use Rattle.stair_rack.specs.Moments.{IsMoment}
-use Rattle.stair_rack.proofs.MomentLemmas.{moment_first, ran_before}
+use Rattle.stair_rack.proofs.MomentLemmas.{moment_first, ran_before, ran_none}
 use Rattle.stair_rack.proofs.TidyLemmas.{history_made, history_on, history_tidy, left_past_end}
 use Rattle.stair_member.specs.Membership.{Membership}
 use Rattle.stair_member.specs.Seats.{Seats}
 use Rattle.stair_state.specs.Holding.{IsConsistentUnderReassembly}
+use Rattle.stair_state.specs.Reassembly.{Location}
 use Rattle.stair_state.specs.Represents.{no_write}
 use Rattle.stair_state.specs.State.{State, without_seats}
 use Rattle.stair_session.specs.InSession.{IsBehindPlaces}
@@ -31,10 +32,10 @@ use Rattle.stair_story.proofs.PerformedLaws.{all_performed}
 use Rattle.stair_story.proofs.RunLaws.{IsAt, IsStoppedBy, RunsOn, forgets, runs_on, works_ran}
 use Rattle.stair_story.proofs.SessionLaws.{calls_are_lived, life_geometry, runs_are_lived}
 use Rattle.stair_reinsert_examples.proofs.RefusedLemmas.{left_there}
-use Rattle.stair_lives.specs.Stale.{ComesTo, IsNewest, IsOpenBy, IsReplacedIn, NamesOnce, NoneIsAdded, StandsSince}
+use Rattle.stair_lives.specs.Stale.{ComesTo, IsLeftOut, IsNeverLive, IsNewest, IsOpenBy, IsReplacedIn, NamesOnce, NoneIsAdded, StandsSince}
 use Rattle.stair_lives.proofs.BehindPlaces.{knows_behind}
 use Rattle.stair_lives.proofs.Known.{IsKnown, here_up, up_here}
-use Rattle.stair_lives.proofs.NewestLemmas.{knows_newest, left_newest, looked_newest}
+use Rattle.stair_lives.proofs.NewestLemmas.{knows_newest, left_newest, left_out_stays, looked_newest}
 use Rattle.stair_lives.proofs.SessionLine.{Follows, SessionFollows, story_follows}
 
 -- DEEDS OF TWO PARTS
@@ -347,6 +348,36 @@ module _ {R W S K : Type 0} (view : DeviceView R W) (streams : Views S K) (first
       → (found : Membership) → y.session ≡ Found found → found.array ≡ last.array
   newest_is_found x calls m last deeds story watchers y works since calm found is_found =
       call_found x calls story watchers y works calm last (calls_stood (view.rack.history x) calls m last deeds since).is.newest found is_found
+
+  -- MEDIA
+
+  -- a medium that the earlier member leaves out the later one leaves out too
+  out_since : (m last : Membership) (deeds : List Deed) (h : List Happening) (j : ℕ) (name : Location) → NoneIsAdded m last deeds → ¬ IsReplacedIn j deeds
+      → IsLeftOut first.geometry m h j name → IsLeftOut first.geometry last h j name
+  out_since m last deeds h j name line none out image left p medium is called s bears meant =
+      elim (line j meant.here) [
+        | inl was ↦ out image left p medium is called s bears (record { here = was.here; number = meant.number ∙ was.number })
+        | inr replaced ↦ none replaced
+      ]
+
+  pub media_stay_out : (h : List Happening) (calls : Calls view streams AnyReturns first h) (m last : Membership) (deeds : List Deed)
+      → StandsSince view streams first m h calls last deeds → (later : List Happening) (j : ℕ) (name : Location) → ¬ IsReplacedIn j deeds
+      → IsLeftOut first.geometry m h j name → Ran no_write h later → IsNeverLive first.geometry later j name
+  media_stay_out h calls m last deeds since later j name none out looks =
+      let stood = calls_stood h calls m last deeds since in
+      left_out_stays first.geometry last h later j name (life_history h calls) stood.is.newest looks (out_since m last deeds h j name stood.line none out)
+
+  pub media_stay_out_within : (x : R) (calls : Calls view streams AnyReturns first (view.rack.history x)) (m last : Membership) (deeds story : List Deed)
+      (watchers : List W) (y : Devices R W) (works : Leads (WorksAll view) story (devices x Begun watchers) y)
+      → StandsSince view streams first m (view.rack.history x) calls last deeds
+      → IsCalmUpTo view AnyReturns first.geometry (view.rack.history x) (history_of view y) story (devices x Begun watchers) y works → (now : Membership)
+      → IsOpenBy y.session now → (j : ℕ) (name : Location) → ¬ IsReplacedIn j (deeds ++ story) → IsLeftOut first.geometry m (history_of view y) j name
+      → IsNeverLive first.geometry (history_of view y) j name
+  media_stay_out_within x calls m last deeds story watchers y works since calm now serves j name none out =
+      let stood = call_stood x calls story watchers y works calm m last now deeds (calls_stood (view.rack.history x) calls m last deeds since) serves in
+      let was = history_on (life_history (view.rack.history x) calls) (works_ran view honest story (devices x Begun watchers) y works) in
+      left_out_stays first.geometry now (history_of view y) (history_of view y) j name was stood.is.newest (ran_none (history_of view y))
+      (out_since m now (deeds ++ story) (history_of view y) j name stood.line none out)
 
   -- ONE NAME FOR EACH
 

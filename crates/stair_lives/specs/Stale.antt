@@ -187,6 +187,30 @@ LeftOutStays = (g : Geometry) (m : Membership) (old new : List Happening) (j : �
     (name : Location) → IsHistory old → IsNewest g m old → Ran no_write old new → IsLeftOut g m old j name
     → IsNeverLive g new j name
 
+-- Between two calls of a life, in terms of media: of this name is one that bears no superblock by which the acknowledged epoch means it, and
+-- none was admitted to its slot since. It isn't live then, and not while the rack is only looked at, in whichever way media are pulled
+-- and reinserted.
+abbrev pub MediaStayOut : (R W S K : Type 0) → Type 0
+MediaStayOut R W S K = (view : DeviceView R W) (streams : Views S K) (first : State)
+    (h later : List Happening) (calls : Calls view streams AnyReturns first h)
+    (m last : Membership) (deeds : List Deed) (j : ℕ) (name : Location)
+    → IsTrue view.rack.honest → StandsSince view streams first m h calls last deeds
+    → ¬ IsReplacedIn j deeds → IsLeftOut first.geometry m h j name → Ran no_write h later
+    → IsNeverLive first.geometry later j name
+
+-- So it is in the next call, whole or cut later: at each moment between two of its deeds at which its array is open.
+abbrev pub MediaStayOutWithin : (R W S K : Type 0) → Type 0
+MediaStayOutWithin R W S K = (view : DeviceView R W) (streams : Views S K) (first : State) (x : R)
+    (calls : Calls view streams AnyReturns first (view.rack.history x)) (m last : Membership)
+    (deeds story : List Deed) (watchers : List W) (y : Devices R W)
+    (works : Leads (WorksAll view) story (devices x Begun watchers) y) → IsTrue view.rack.honest
+    → StandsSince view streams first m (view.rack.history x) calls last deeds
+    → IsCalmOver view AnyReturns first.geometry (history_of view y) story
+    (devices x Begun watchers) y works → (now : Membership) → IsOpenBy y.session now → (j : ℕ)
+    (name : Location) → ¬ IsReplacedIn j (deeds ++ story)
+    → IsLeftOut first.geometry m (history_of view y) j name
+    → IsNeverLive first.geometry (history_of view y) j name
+
 -- an epoch names one configuration, on whichever media it is, and no two media of a slot were admitted in one epoch
 pub record NamesOnce (g : Geometry) (image : Image) : Type 0 where
   pub one_list : (i j : ℕ) (p q : Location) (a b : Superblock) → IsBorne g image i p a
