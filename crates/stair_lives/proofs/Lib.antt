@@ -2,6 +2,7 @@
 pub mod Known
 pub mod NewestLemmas
 pub mod BehindPlaces
+pub mod Begun
 pub mod SeatsKept
 pub mod SessionLine
 pub mod LivesLaws

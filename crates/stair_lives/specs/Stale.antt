@@ -1,6 +1,7 @@
 -- Which media an array leaves out, from an epoch that was acknowledged on, over the calls of its life.
 use Rattle.std.specs.Prelude.{◌≡◌, ◌≤◌, ◌++◌, ◌⊎◌, ℕ, IsTrue, List, [], ◌∷◌, None, Ok, ⊤}
 use Rattle.stair_model.specs.Geometry.{Geometry}
+use Rattle.stair_model.specs.Slots.{HasSlot, Slots}
 use Rattle.stair_rack.specs.Answers.{IsHistory, Ran}
 use Rattle.stair_rack.specs.Crash.{CrashMayLeave, EachImage}
 use Rattle.stair_rack.specs.History.{Happening, Read, SlotCall}
@@ -9,9 +10,12 @@ use Rattle.stair_rack.specs.Moments.{IsMoment}
 use Rattle.stair_rack.specs.Stretch.{NothingWritten}
 use Rattle.stair_rack.specs.declared.watcher.Event.{Event}
 use Rattle.stair_super.specs.Superblock.{Superblock, joined_in}
+use Rattle.stair_member.specs.Aims.{IsAimed}
 use Rattle.stair_member.specs.Current.{IsCurrent, IsLive}
+use Rattle.stair_member.specs.Epochs.{Issued}
 use Rattle.stair_member.specs.Membership.{IsHere, Membership, why_of}
 use Rattle.stair_member.specs.Reserve.{Bears}
+use Rattle.stair_member.specs.declared.aim.Aim.{Aim}
 use Rattle.stair_member.specs.declared.why.Why.TheVariants.{Here}
 use Rattle.stair_state.specs.Degraded.{AreDamagedCopies}
 use Rattle.stair_state.specs.Reassembly.{IsBorne, IsMediumOf, IsReassembly, Location}
@@ -19,10 +23,11 @@ use Rattle.stair_state.specs.Represents.{no_write}
 use Rattle.stair_state.specs.State.{State}
 use Rattle.stair_state.specs.Tolerance.{IsToleratedAlone}
 use Rattle.stair_session.specs.InSession.{IsBehindPlaces}
-use Rattle.stair_session.specs.Returning.{AnyReturns}
+use Rattle.stair_session.specs.Returning.{AnyReturns, KnowsMedia, holders_of}
 use Rattle.stair_session.specs.Session.{ArrayState, IsLiveIn}
 use Rattle.stair_array.specs.Machine.{Answer, ReplaceSlot, Step}
 use Rattle.stair_array.specs.Promise.{Begun, DoesStep, Found, Opened, Seen, Session}
+use Rattle.stair_return.specs.Beginning.{BeginsWherever}
 use Rattle.stair_return.specs.Following.{Wherever, name_of}
 use Rattle.stair_story.specs.Devices.{DeviceView, Devices, WorksAll, devices}
 use Rattle.stair_story.specs.Headline.{IsBorneOut}
@@ -110,6 +115,22 @@ StandsSince view streams first m h (Cut c image later plan rest old new x y watc
     (devices y borne.session left) borne.over.works c done × (deeds ≡ earlier ++ done))
     ⊎ (NothingWritten (view.rack.history x) c
     × StandsSince view streams first m (view.rack.history x) calls last deeds))
+
+-- WHILE AN EPOCH IS ESTABLISHED
+
+-- However media are put together at h, if that is within tolerance alone: a slot is live only if it is live to this member, with the
+-- medium that the member means.
+abbrev pub OnlyMeantAreLive : Geometry → Membership → List Happening → Type 0
+OnlyMeantAreLive g m h = (image to : Image) (current : Superblock) (j : ℕ)
+    → CrashMayLeave h image → IsReassembly image to → IsToleratedAlone g to
+    → IsCurrent g to current → (live : IsLive g to current j)
+    → (why_of m j ≡ Here) × (live.super.joined ≡ joined_in m.array j)
+
+-- and what is current names what the member does, or what an epoch names that is for this, where these slots were gone
+abbrev pub IsOldOrBegun : Geometry → Aim → Slots → Membership → List Happening → Type 0
+IsOldOrBegun g aim gone m h = (image to : Image) (current : Superblock) → CrashMayLeave h image
+    → IsReassembly image to → IsToleratedAlone g to → IsCurrent g to current
+    → (current.array ≡ m.array) ⊎ IsAimed aim (HasSlot gone) m current.array
 
 -- MEDIA BY THEIR NAMES
 
@@ -210,6 +231,16 @@ MediaStayOutWithin R W S K = (view : DeviceView R W) (streams : Views S K) (firs
     (name : Location) → ¬ IsReplacedIn j (deeds ++ story)
     → IsLeftOut first.geometry m (history_of view y) j name
     → IsNeverLive first.geometry (history_of view y) j name
+
+-- At each moment of a call that establishes an epoch, done, refused or cut, whatever is put back meanwhile: a medium that the epoch before
+-- left out isn't live. What is current is that epoch or one that the call writes. A medium that such a one leaves out is live in the one
+-- case and not in the other.
+abbrev pub NeverLiveWhileBegun : Type 0
+NeverLiveWhileBegun = (s : State) (aim : Aim) (gone : Slots) (m start last : Membership)
+    (old c new : List Happening) → m.array.geometry ≡ s.geometry → KnowsMedia s m old
+    → start.array ≡ m.array → BeginsWherever s (holders_of m) m.array.epoch aim start old
+    → Issued aim gone start last old new → IsMoment old c new
+    → OnlyMeantAreLive s.geometry m c × IsOldOrBegun s.geometry aim gone start c
 
 -- an epoch names one configuration, on whichever media it is, and no two media of a slot were admitted in one epoch
 pub record NamesOnce (g : Geometry) (image : Image) : Type 0 where

@@ -4,7 +4,8 @@ ghost use Rattle.stair_state.specs.Blocks.{AreEncodingsOf, Codewords, zero_block
 ghost use Rattle.stair_return.specs.Misled.{five};
 ghost use Rattle.stair_lives.specs.Example.{HaveAllBut, IsLeftOutAgain};
 ghost use Rattle.stair_lives.specs.Stale.{AllNameOnce, AllNameOnceWithin, LeftOutStays, MediaStayOut};
-ghost use Rattle.stair_lives.specs.Stale.{MediaStayOutWithin, NeverStale, NeverStaleWithin, NewestIsFound, OnlyLiveAreRead};
+ghost use Rattle.stair_lives.specs.Stale.{MediaStayOutWithin, NeverLiveWhileBegun};
+ghost use Rattle.stair_lives.specs.Stale.{NeverStale, NeverStaleWithin, NewestIsFound, OnlyLiveAreRead};
 
 /// What a medium that is reinserted can't bring about, over the calls of a life. It does nothing.
 pub fn stale_lives<R, W, S, K>()
@@ -19,6 +20,8 @@ pub fn stale_lives<R, W, S, K>()
     // so no medium is that an acknowledged epoch leaves out, from call to call and in the next one, until one is admitted to its slot
     ensures media { MediaStayOut R W S K }
     ensures media_within { MediaStayOutWithin R W S K }
+    // while an epoch is established none is that the one before left out
+    ensures begun { NeverLiveWhileBegun }
     // at each moment of a life, whole or cut, an epoch names one configuration, and a joined number of a slot one medium
     ensures once { AllNameOnce R W S K }
     ensures once_within { AllNameOnceWithin R W S K }

@@ -1,4 +1,5 @@
 -- The laws are lemmas.
+use Rattle.stair_lives.proofs.Begun.{never_live_while_begun}
 use Rattle.stair_lives.proofs.LivesLaws.{never_stale, never_stale_within, newest_is_found, media_stay_out, media_stay_out_within, all_name_once, all_name_once_within}
 use Rattle.stair_lives.proofs.NewestLemmas.{left_out_stays}
 use Rattle.stair_lives.proofs.stale.stale_lives.Goals as goal
@@ -15,6 +16,7 @@ returns g c = record {
       media_stay_out view streams first honest h calls m last deeds since later j name none out looks;
   media_within = λ view streams first x calls m last deeds story watchers y works honest since calm now serves j name none out.
       media_stay_out_within view streams first honest x calls m last deeds story watchers y works since calm now serves j name none out;
+  begun = never_live_while_begun;
   once = λ view streams first h calls honest. all_name_once view streams first honest h calls;
   once_within = λ view streams first plan rest old new x y watchers left moment calls borne honest at calm.
       all_name_once_within view streams first honest plan rest old new x y watchers left moment calls borne at calm;
