@@ -64,7 +64,7 @@ live_built same = cc
 down_built : Down ≢ Rebuilding
 down_built same = cc
 
-abbrev newest : Edition
+abbrev pub newest : Edition
 newest = left_out 0
 
 other_is : (j : ℕ) → j ≢ 3 → left_out j ≡ newest
@@ -197,7 +197,7 @@ module _ (words : Codewords) where
       label = refl;
     }
 
-    made_consistent : AreEncodingsOf five zero_blocks now → IsConsistentUnderReassembly zeros (made_without words)
+    pub made_consistent : AreEncodingsOf five zero_blocks now → IsConsistentUnderReassembly zeros (made_without words)
     made_consistent encoded = stood_consistent now image newest 3 (λ p. all_live) encoded stood third refl few_third refl
 
     -- WHAT IS BORNE
@@ -241,20 +241,20 @@ module _ (words : Codewords) where
     }
 
     -- so that is current, however media are put together
-    made_names : NamesNewest five newest.array (made_without words)
+    pub made_names : NamesNewest five newest.array (made_without words)
     made_names other to current left reassembly alone is =
         names five newest.array image since_five to
         (subst (λ (x : Image). IsReassembly x to) (left_is image tidy other left) reassembly) alone current is
 
   -- ONCE IT IS PUT BACK
 
-  acted : Ran no_write (made_without words) (reinserted words)
+  pub acted : Ran no_write (made_without words) (reinserted words)
   acted = record { more = Acted 3 (InsertedOld 0) ∷ []; is = refl; runs = (tt, inl may_insert) }
     where
       may_insert : IsAct (made_without words) (Acted 3 (InsertedOld 0))
       may_insert = (omega arith, (refl, omega arith))
 
-  was_history : IsHistory (reinserted words)
+  pub was_history : IsHistory (reinserted words)
   was_history = history_on {allowed = no_write} (history_made image) acted
 
   steady : AreSteady five (reinserted words)
@@ -323,7 +323,7 @@ module _ (words : Codewords) where
       tolerates words left_out are third refl few_third beside refl many_beside beside_kept 0 (omega arith) (λ out. false≢true out)
       (IsOffline (reinserted words) (reinserted words)) back 0 (within back left)
 
-  mixed : (h : List Happening) → IsStill (reinserted words) h → IsToleratedMixed five (reinserted words) (reinserted words) h
+  pub mixed : (h : List Happening) → IsStill (reinserted words) h → IsToleratedMixed five (reinserted words) (reinserted words) h
   mixed h still = still_tolerated five (reinserted words) h was_history steady still tolerated
 
   calm : (h : List Happening) → IsStill (reinserted words) h → IsCalm AnyReturns five false (reinserted words) h
@@ -331,7 +331,7 @@ module _ (words : Codewords) where
       (λ moment at. tolerated_at five (reinserted words) (reinserted words) h (mixed h still) moment at, mixed_unwritten five (reinserted words) h (mixed h still))
 
   -- slot 3 takes no part for a member that was found by epoch 5
-  not_here : (first last : Telling) (m : Membership) (surveys : Surveys (Ok m) first last) → m.array ≡ newest.array → ¬ IsHere m 3
+  pub not_here : (first last : Telling) (m : Membership) (surveys : Surveys (Ok m) first last) → m.array ≡ newest.array → ¬ IsHere m 3
   not_here first last m surveys same here =
       let surveyed : IsSurveyed surveys.findings m = surveys.answered.0 in
       let down : mark_at surveyed.current 3 ≡ Down =

@@ -8,3 +8,4 @@ pub mod SessionLine
 pub mod LivesLaws
 pub mod ReadsOf
 pub mod LeftOutAgain
+pub mod OpenedWithout

@@ -17,7 +17,7 @@ use Rattle.stair_lives.specs.Stale.{Admits}
 abbrev pub KeepsSeat : Seat → Seat → Type 0
 KeepsSeat old new = new.mark ≢ Down → (old.mark ≢ Down) × (new.joined ≡ old.joined)
 
-may_keep : (old new : Seat) → MayDrop old new → KeepsSeat old new
+pub may_keep : (old new : Seat) → MayDrop old new → KeepsSeat old new
 may_keep old new (inl same) up = (subst (λ (s : Seat). s.mark ≢ Down) same up, ap (λ (s : Seat). s.joined) same)
 may_keep old new (inr drops) up = absurd (up (ap (λ (s : Seat). s.mark) drops.1))
 

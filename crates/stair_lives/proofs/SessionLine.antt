@@ -102,7 +102,7 @@ begun_seats base Added step was before h s x begun starts begins is_in follows =
     by _ Closed starts begins serves line = absurd starts
 
 -- the seats that an open array has after a step are those of the row
-row_seats : (step : Step) (answer : Answer step) (begun seats : Seats) (old new : State) (row : Row step answer begun old new) → new.seats ≡ Some seats
+pub row_seats : (step : Step) (answer : Answer step) (begun seats : Seats) (old new : State) (row : Row step answer begun old new) → new.seats ≡ Some seats
     → row.seats ≡ seats
 row_seats step answer begun seats old new row has = by step answer row.known
   where

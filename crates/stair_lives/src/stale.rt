@@ -2,7 +2,7 @@
 
 ghost use Rattle.stair_state.specs.Blocks.{AreEncodingsOf, Codewords, zero_blocks};
 ghost use Rattle.stair_return.specs.Misled.{five};
-ghost use Rattle.stair_lives.specs.Example.{HaveAllBut, IsLeftOutAgain};
+ghost use Rattle.stair_lives.specs.Example.{EachOpensWithout, HaveAllBut, IsLeftOutAgain};
 ghost use Rattle.stair_lives.specs.Stale.{AllNameOnce, AllNameOnceWithin, LeftOutStays, MediaStayOut};
 ghost use Rattle.stair_lives.specs.Stale.{MediaStayOutWithin, NeverLiveWhileBegun};
 ghost use Rattle.stair_lives.specs.Stale.{NeverStale, NeverStaleWithin, NewestIsFound, OnlyLiveAreRead};
@@ -38,4 +38,7 @@ pub fn stale_example()
     // the rack is the array still, the premise of an opening is met while it is only looked at, and the survey leaves the device out
     ensures left_out { (now words : Codewords) → AreEncodingsOf five zero_blocks now →
         HaveAllBut now words → IsLeftOutAgain words }
+    // an opening by what was found, and the reads after it, leave it out, as long as what is asked of the outside is kept
+    ensures opened { (now words : Codewords) → AreEncodingsOf five zero_blocks now →
+        HaveAllBut now words → EachOpensWithout words }
 {}
