@@ -51,7 +51,7 @@ module _ (s : State) (aim : Aim) (gone : Slots) (m start last : Membership) (old
 pub never_live_while_begun : NeverLiveWhileBegun
 never_live_while_begun s aim gone m start last old c new same knows began begins issued at = (
   λ image to current j left reassembly alone is live.
-  meant_live s aim gone m start last old c new same knows began begins issued at image to current left reassembly alone is j live,
+      meant_live s aim gone m start last old c new same knows began begins issued at image to current left reassembly alone is j live,
   λ image to current left reassembly alone is.
-  old_or_begun s aim gone m start last old c new same knows began begins issued at image to current left reassembly alone is,
+      old_or_begun s aim gone m start last old c new same knows began begins issued at image to current left reassembly alone is,
 )

@@ -1,5 +1,5 @@
 -- The example goes on: the next opening, and the reads after it, leave out the device that was put back.
-use Rattle.std.proofs.Common.{◌≡◌, ◌≢◌, ◌∙◌, ◌<◌, ◌⊎◌, ℕ, List, true, false, Some, None, Ok, Err, Result, inl, inr, refl, sym, ap, subst}
+use Rattle.std.proofs.Common.{◌≡◌, ◌≢◌, ◌∙◌, ◌<◌, ◌⊎◌, ℕ, List, true, false, None, Ok, Err, inl, inr, refl, sym, ap, subst}
 use Rattle.std.proofs.lemmas.Bool.{false≢true}
 use Rattle.std.specs.Prelude.{IsSome, IsTrue}
 use Rattle.stair_model.specs.Geometry.{Geometry, block_count}
@@ -11,7 +11,6 @@ use Rattle.stair_rack.proofs.MomentLemmas.{ran_none, ran_weakened}
 use Rattle.stair_rack.proofs.TidyLemmas.{history_on}
 use Rattle.stair_super.specs.Superblock.{mark_in}
 use Rattle.stair_super.specs.declared.configuration.Configuration.{Configuration}
-use Rattle.stair_super.specs.declared.mark.Mark.TheVariants.{Down}
 use Rattle.stair_member.specs.Membership.{IsHere, IsMembership, Membership}
 use Rattle.stair_member.specs.Seats.{Seats}
 use Rattle.stair_member.specs.Survey.{Surveys}
@@ -38,7 +37,7 @@ use Rattle.stair_return.proofs.ReadsLead.{reads_lead}
 use Rattle.stair_return.proofs.SurveyLemmas as survey
 use Rattle.stair_reinsert_examples.proofs.FiveConsistent.{zeros}
 use Rattle.stair_lives.specs.Example.{EachOpensWithout, HaveAllBut, OpensWithout, ReadsWithout, made_without, reinserted}
-use Rattle.stair_lives.specs.Stale.{HasMember, IsOpenBy, ReadsBehind}
+use Rattle.stair_lives.specs.Stale.{HasMember, ReadsBehind}
 use Rattle.stair_lives.proofs.Known.{IsKnown, up_here}
 use Rattle.stair_lives.proofs.LeftOutAgain.{acted, made_consistent, made_names, mixed, newest, not_here, was_history}
 use Rattle.stair_lives.proofs.NewestLemmas.{NamesNewest, found_newest, looked_current}
@@ -194,7 +193,7 @@ module _ (words now : Codewords) (encoded : AreEncodingsOf five zero_blocks now)
             read = λ b got more z q honest_z calm_z below. (
               reads_none words done.state y a geometry blocks was done.is_in is_opened away b got more z q honest_z calm_z below,
               block_is words done.state y a geometry blocks was done.is_in is_opened away b got more z q honest_z calm_z below got
-              (led_by words done.state y a geometry blocks was done.is_in is_opened away b got more z q honest_z calm_z below),
+                  (led_by words done.state y a geometry blocks was done.is_in is_opened away b got more z q honest_z calm_z below),
               spent_by words done.state y a geometry blocks was done.is_in is_opened away b got more z q honest_z calm_z below,
             );
           }
