@@ -27,22 +27,23 @@ use Rattle.stair_return.proofs.ServingEpochs.{names_own}
 use Rattle.stair_return.proofs.StoodSince.{held_here}
 use Rattle.stair_lives.specs.Stale.{NeverLiveWhileBegun}
 
-module _ (s : State) (aim : Aim) (gone : Slots) (m start last : Membership) (old c new : List Happening) (same : m.array.geometry ≡ s.geometry)
-    (knows : KnowsMedia s m old) (began : start.array ≡ m.array) (begins : BeginsWherever s (holders_of m) m.array.epoch aim start old)
-    (issued : Issued aim gone start last old new) (at : IsMoment old c new) (image to : Image) (current : Superblock) (left : CrashMayLeave c image)
-    (reassembly : IsReassembly image to) (alone : IsToleratedAlone s.geometry to) (is : IsCurrent s.geometry to current) where
+module _ (s : State) (aim : Aim) (gone : Slots) (m start last : Membership) (old c new : List Happening)
+    (begins : BeginsWherever s (holders_of m) m.array.epoch aim start old) (issued : Issued aim gone start last old new) (at : IsMoment old c new)
+    (image to : Image) (current : Superblock) (left : CrashMayLeave c image) (reassembly : IsReassembly image to) (alone : IsToleratedAlone s.geometry to)
+    (is : IsCurrent s.geometry to current) where
   it : IsConsistentBy s begins.is.encodings (holders_of m) m.array.epoch image
   it = keeps s (holders_of m) m.array.epoch aim gone start last old c new image begins issued at left
 
   since : IsBorneSince s.geometry m.array.epoch image current
   since = current_since s begins.is.encodings (holders_of m) m.array.epoch image it to reassembly alone current is
 
-  meant_live : (j : ℕ) (live : IsLive s.geometry to current j) → (why_of m j ≡ Here) × (live.super.joined ≡ joined_in m.array j)
+  pub meant_live : (j : ℕ) (live : IsLive s.geometry to current j) → (why_of m j ≡ Here) × (live.super.joined ≡ joined_in m.array j)
   meant_live j live =
       let held = held_here m j live.super.joined (it.live j current since live.marked ∙ ap (λ (n : ℕ). Some n) (sym live.joined)) in (held.here, held.number)
 
-  old_or_begun : (current.array ≡ start.array) ⊎ IsAimed aim (HasSlot gone) start current.array
-  old_or_begun =
+  old_or_begun : m.array.geometry ≡ s.geometry → KnowsMedia s m old → start.array ≡ m.array
+      → (current.array ≡ start.array) ⊎ IsAimed aim (HasSlot gone) start current.array
+  old_or_begun same knows began =
       names_since s (holders_of m) m.array.epoch aim gone start last old c new image begins issued at left
       (λ (named : Configuration). (named ≡ start.array) ⊎ IsAimed aim (HasSlot gone) start named)
       (λ x there. inl (names_own s m old knows same (image_now old) (CrashMayLeave-now old) x there ∙ sym began)) (inl refl) (λ named aimed. inr aimed) current
@@ -51,7 +52,7 @@ module _ (s : State) (aim : Aim) (gone : Slots) (m start last : Membership) (old
 pub never_live_while_begun : NeverLiveWhileBegun
 never_live_while_begun s aim gone m start last old c new same knows began begins issued at = (
   λ image to current j left reassembly alone is live.
-      meant_live s aim gone m start last old c new same knows began begins issued at image to current left reassembly alone is j live,
+      meant_live s aim gone m start last old c new begins issued at image to current left reassembly alone is j live,
   λ image to current left reassembly alone is.
-      old_or_begun s aim gone m start last old c new same knows began begins issued at image to current left reassembly alone is,
+      old_or_begun s aim gone m start last old c new begins issued at image to current left reassembly alone is same knows began,
 )

@@ -9,3 +9,4 @@ pub mod LivesLaws
 pub mod ReadsOf
 pub mod LeftOutAgain
 pub mod OpenedWithout
+pub mod InStamps

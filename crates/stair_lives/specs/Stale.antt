@@ -23,10 +23,10 @@ use Rattle.stair_state.specs.Represents.{no_write}
 use Rattle.stair_state.specs.State.{State}
 use Rattle.stair_state.specs.Tolerance.{IsToleratedAlone}
 use Rattle.stair_session.specs.InSession.{IsBehindPlaces}
-use Rattle.stair_session.specs.Returning.{AnyReturns, KnowsMedia, holders_of}
+use Rattle.stair_session.specs.Returning.{AnyReturns, IsCalm, KnowsMedia, holders_of}
 use Rattle.stair_session.specs.Session.{ArrayState, IsLiveIn}
-use Rattle.stair_array.specs.Machine.{Answer, ReplaceSlot, Step}
-use Rattle.stair_array.specs.Promise.{Begun, DoesStep, Found, Opened, Seen, Session}
+use Rattle.stair_array.specs.Machine.{Answer, ReplaceSlot, SetFrozen, SetLabel, Step}
+use Rattle.stair_array.specs.Promise.{Begun, DoesStep, Found, IsInState, Opened, Performs, Seen, Session, is_open}
 use Rattle.stair_return.specs.Beginning.{BeginsWherever}
 use Rattle.stair_return.specs.Following.{Wherever, name_of}
 use Rattle.stair_story.specs.Devices.{DeviceView, Devices, WorksAll, devices}
@@ -241,6 +241,22 @@ NeverLiveWhileBegun = (s : State) (aim : Aim) (gone : Slots) (m start last : Mem
     → start.array ≡ m.array → BeginsWherever s (holders_of m) m.array.epoch aim start old
     → Issued aim gone start last old new → IsMoment old c new
     → OnlyMeantAreLive s.geometry m c × IsOldOrBegun s.geometry aim gone start c
+
+abbrev pub IsStamp : Step → Type 0
+IsStamp (SetFrozen frozen) = ⊤
+IsStamp (SetLabel label) = ⊤
+IsStamp _ = ⊥
+
+-- So it is at each moment of a step that sets the frozen mark or the label, done, refused or cut: a medium that the session's array left
+-- out isn't live.
+abbrev pub NeverLiveInStamps : Type 0
+NeverLiveInStamps = (step : Step) (answer : Answer step) (events : List Event) (x y : Seen)
+    → IsStamp step → (p : Performs step answer events x y) → IsTrue y.told.honest
+    → IsHistory x.told.history → (before : List Happening) (s : State)
+    → IsInState AnyReturns before s x → (c : List Happening)
+    → IsMoment x.told.history c y.told.history
+    → IsCalm AnyReturns s.geometry (is_open x.session) before c
+    → OnlyMeantAreLive s.geometry p.was.member c
 
 -- an epoch names one configuration, on whichever media it is, and no two media of a slot were admitted in one epoch
 pub record NamesOnce (g : Geometry) (image : Image) : Type 0 where

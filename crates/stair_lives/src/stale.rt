@@ -4,7 +4,7 @@ ghost use Rattle.stair_state.specs.Blocks.{AreEncodingsOf, Codewords, zero_block
 ghost use Rattle.stair_return.specs.Misled.{five};
 ghost use Rattle.stair_lives.specs.Example.{EachOpensWithout, HaveAllBut, IsLeftOutAgain};
 ghost use Rattle.stair_lives.specs.Stale.{AllNameOnce, AllNameOnceWithin, LeftOutStays, MediaStayOut};
-ghost use Rattle.stair_lives.specs.Stale.{MediaStayOutWithin, NeverLiveWhileBegun};
+ghost use Rattle.stair_lives.specs.Stale.{MediaStayOutWithin, NeverLiveInStamps, NeverLiveWhileBegun};
 ghost use Rattle.stair_lives.specs.Stale.{NeverStale, NeverStaleWithin, NewestIsFound, OnlyLiveAreRead};
 
 /// What a medium that is reinserted can't bring about, over the calls of a life. It does nothing.
@@ -25,6 +25,12 @@ pub fn stale_lives<R, W, S, K>()
     // at each moment of a life, whole or cut, an epoch names one configuration, and a joined number of a slot one medium
     ensures once { AllNameOnce R W S K }
     ensures once_within { AllNameOnceWithin R W S K }
+{}
+
+/// Which media are live while a step sets the frozen mark or the label. It does nothing.
+pub fn stale_stamps()
+    // none that the session's array left out
+    ensures never { NeverLiveInStamps }
 {}
 
 /// Of which slots an array reads its gate, its journal and its chunks. It does nothing.
