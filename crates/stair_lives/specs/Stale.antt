@@ -208,9 +208,9 @@ LeftOutStays = (g : Geometry) (m : Membership) (old new : List Happening) (j : �
     (name : Location) → IsHistory old → IsNewest g m old → Ran no_write old new → IsLeftOut g m old j name
     → IsNeverLive g new j name
 
--- Between two calls of a life, in terms of media: of this name is one that bears no superblock by which the acknowledged epoch means it, and
--- none was admitted to its slot since. It isn't live then, and not while the rack is only looked at, in whichever way media are pulled
--- and reinserted.
+-- Between two calls of a life, in terms of media: the medium of this name bears no superblock by which the acknowledged epoch
+-- means it, and no medium was admitted to its slot since. Then it isn't live, nor is it while the rack is only looked at, in
+-- whichever way media are pulled and reinserted.
 abbrev pub MediaStayOut : (R W S K : Type 0) → Type 0
 MediaStayOut R W S K = (view : DeviceView R W) (streams : Views S K) (first : State)
     (h later : List Happening) (calls : Calls view streams AnyReturns first h)
@@ -232,9 +232,9 @@ MediaStayOutWithin R W S K = (view : DeviceView R W) (streams : Views S K) (firs
     → IsLeftOut first.geometry m (history_of view y) j name
     → IsNeverLive first.geometry (history_of view y) j name
 
--- At each moment of a call that establishes an epoch, done, refused or cut, whatever is put back meanwhile: a medium that the epoch before
--- left out isn't live. What is current is that epoch or one that the call writes. A medium that such a one leaves out is live in the one
--- case and not in the other.
+-- At each moment of a call that establishes an epoch, done, refused or cut, whatever is reinserted meanwhile: a medium that the
+-- epoch before left out isn't live. What is current is that epoch or one that the call writes. A medium that only the new epoch
+-- leaves out may be live where the old one is current, and isn't where the new one is.
 abbrev pub NeverLiveWhileBegun : Type 0
 NeverLiveWhileBegun = (s : State) (aim : Aim) (gone : Slots) (m start last : Membership)
     (old c new : List Happening) → m.array.geometry ≡ s.geometry → KnowsMedia s m old
