@@ -88,7 +88,11 @@ impl Session {
     }
 
     // Admits the device in a slot that is free and was made ready. The session stops where the epoch is refused.
-    pub(crate) fn admit_slot<R: Rack>(&mut self, rack: &mut R, slot: u8) -> Result<Slots, AdmitFault>
+    pub(crate) fn admit_slot<R: Rack>(
+        &mut self,
+        rack: &mut R,
+        slot: u8,
+    ) -> Result<Slots, AdmitFault>
         requires free { IsFree self.old.member slot }
         ensures told { Joins (Admit slot) slot self.old.member self.new.member result
             (told R.Rack rack.old) (told R.Rack rack.new) }

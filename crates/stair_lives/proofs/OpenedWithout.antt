@@ -21,7 +21,7 @@ use Rattle.stair_state.specs.State.{Content, State}
 use Rattle.stair_state.proofs.OutsideLemmas.{unwritten_ran}
 use Rattle.stair_state.proofs.ReturnLemmas.{looked_consistent}
 use Rattle.stair_session.specs.Mixed.{IsToleratedMixed}
-use Rattle.stair_session.specs.Returning.{AnyReturns, IsCalm}
+use Rattle.stair_session.specs.Returning.{AnyReturns, IsCalm, IsCalmUnread}
 use Rattle.stair_session.specs.SeatSteps.{EachMayDrop}
 use Rattle.stair_session.specs.Session.{ArrayState, IsLiveIn, seats_in}
 use Rattle.stair_array.specs.Machine.{Answer, EpochsSpent, IsDecided, ReadBlock, Recover, Refusal, ReplaceSlot, Step}
@@ -149,10 +149,10 @@ module _ (words now : Codewords) (encoded : AreEncodingsOf five zero_blocks now)
   reads : Ran (ReadsBehind (λ j. j ≢ 3)) found.history y.told.history
   reads = none_of_three Recover answer events x y m p told refl (λ j at. cc) out
 
-  spent : (refusal : Refusal) → answer ≡ Err refusal → refusal ≡ EpochsSpent
-  spent refusal at =
+  spent : IsCalmUnread AnyReturns five false (reinserted words) y.told.history → (refusal : Refusal) → answer ≡ Err refusal → refusal ≡ EpochsSpent
+  spent unread refusal at =
       recover.only_spent AnyReturns openings_lead answer events x y p (subst (λ (a : ArrayState). IsMembership a.member) (sym p.starts) rules) told
-      (reinserted words) zeros is_in calm refusal at
+      (reinserted words) zeros is_in calm unread refusal at
 
   zero_after : (s : State) → IsDecided zeros s → s.content.blocks ≡ zero_blocks
   zero_after s (inl is) = ap (λ (c : Content). c.blocks) is.content

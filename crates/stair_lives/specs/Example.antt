@@ -16,7 +16,7 @@ use Rattle.stair_member.specs.declared.fault.SurveyFault.{SurveyFault}
 use Rattle.stair_state.specs.Blocks.{Codewords, zero_block}
 use Rattle.stair_state.specs.Holding.{IsConsistentUnderReassembly}
 use Rattle.stair_state.specs.State.{created_state, without_seats}
-use Rattle.stair_session.specs.Returning.{AnyReturns, IsCalm}
+use Rattle.stair_session.specs.Returning.{AnyReturns, IsCalm, IsCalmUnread}
 use Rattle.stair_array.specs.Machine.{Answer, EpochsSpent, ReadBlock, Recover, Refusal}
 use Rattle.stair_array.specs.Promise.{Found, Performs, Seen}
 use Rattle.stair_return.specs.Misled.{device_of, five, naming, rack_of}
@@ -80,10 +80,12 @@ pub record ReadsWithout (words : Codewords) (y : Seen) : Type 0 where
       × ((refusal : Refusal) → answer ≡ Err refusal → refusal ≡ EpochsSpent)
 
 -- An opening by the member that such a survey found, while what is asked of the outside was kept, reads no sector of slot 3 from 2 on. It is
--- refused only where no epoch is left, and else has the array open without slot 3.
+-- refused only where no epoch is left, if as much was kept as is asked of an opening whose first epoch is refused; and else has the array
+-- open without slot 3.
 pub record OpensWithout (words : Codewords) (answer : Answer Recover) (x y : Seen) : Type 0 where
   pub reads : Ran (ReadsBehind (λ j. j ≢ 3)) x.told.history y.told.history
-  pub refused : (refusal : Refusal) → answer ≡ Err refusal → refusal ≡ EpochsSpent
+  pub refused : IsCalmUnread AnyReturns five false (reinserted words) y.told.history
+      → (refusal : Refusal) → answer ≡ Err refusal → refusal ≡ EpochsSpent
   pub done : (g : Geometry) → answer ≡ Ok g → ReadsWithout words y
 
 abbrev pub EachOpensWithout : Codewords → Type 0

@@ -240,7 +240,7 @@ module _ (was is : ArrayState) (j t : ℕ) (left : is.rebuild ≡ rebuild_past j
         → KeepsRebuild RebuildNext (Ok (Chunk j t)) was is
     chunk_keeps goes more = (more, rebuilt_on goes, one_left goes)
 
-    -- behind the last chunk
+    -- after the last chunk
     pub all_written : why_of is.member j ≡ why.Rebuilding → t + 1 ≡ was.member.array.geometry.stripes
         → is.rebuild ≡ at_stripe j is.member.array.geometry.stripes
     all_written goes last = one_left goes ∙ ap (at_stripe j) (last ∙ ap (λ (g : Geometry). g.stripes) (sym same))

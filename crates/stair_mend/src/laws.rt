@@ -41,7 +41,7 @@ pub fn mending_laws()
         IsFree x.member slot → PreparesSlot slot (Ok tt) x y → AdmitsSlot slot answer y z →
         Replaces slot answer x z }
     // On an honest rack that is an array in a state, each image that a crash may leave at a moment of a chunk represents a
-    // state that a crash within a step of a rebuild leaves; so it is of the last chunk too, before any promotion.
+    // state that a crash within a step of a rebuild leaves. This holds for the last chunk too, before any promotion.
     ensures cut { (m last : Membership) (rebuild : Option Rebuild) (known : Option Remembered) (j t : ℕ)
         (answer : Result Reply Refusal) (x y : Telling) (before : List Happening) (s : State)
         (c : List Happening) → IsNextChunk (running m rebuild known) j t →

@@ -21,7 +21,7 @@ ghost use Rattle.stair_array.specs.Promise.{IsInState, IsLeftBy, Opened, running
 /// What `chunk_to` of an array leaves. It does nothing.
 pub fn chunk_laws()
     // On an honest rack that is an array in a state, each image that a crash may leave at a moment of a chunk represents a
-    // state that a crash within a step of a rebuild leaves; so it is of the last chunk too, before any promotion.
+    // state that a crash within a step of a rebuild leaves. This holds for the last chunk too, before any promotion.
     ensures cut { (m last : Membership) (rebuild : Option Rebuild) (known : Option Remembered) (j t : ℕ)
         (answer : Result Reply Refusal) (x y : Telling) (before : List Happening) (s : State)
         (c : List Happening) → IsNextChunk (running m rebuild known) j t →
