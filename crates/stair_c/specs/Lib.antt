@@ -1,0 +1,3 @@
+-- What the calls for C answer.
+pub mod Costs
+pub mod Statuses

@@ -1,0 +1,8 @@
+//! Calls for C programs on the code of a stripe (Li and Lee, STAIR Codes, FAST 2014).
+//!
+//! Each export tests what it is handed, and answers a status.
+#![tactic(auto)]
+
+pub use exports::{Cost, stair_cost, stair_place};
+
+mod exports;
