@@ -5,7 +5,7 @@ use Rattle.stair_model.specs.Geometry.{Geometry, IsWithinLimits, IsFirstBrokenLi
 use Rattle.stair_plan.specs.Plan.{IsPlanOf}
 use Rattle.stair_plan.specs.declared.plans.Plan.{Plan}
 
--- the call succeeded; a broken limit is told by its number, 1 to 8
+-- the call succeeded; the status of a broken limit is its number, 1 to 8
 abbrev pub OK : ℕ
 OK = 0
 
