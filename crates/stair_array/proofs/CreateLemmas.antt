@@ -184,7 +184,7 @@ always_on_ok (Err e) holds = tt
 abbrev pub every_sector : ℕ → Type 0
 every_sector k = ⊤
 
--- what lies behind the superblock places was made, and then these were
+-- what lies after the superblock places was made, and then these were
 pub made_whole : (g : Geometry) (j : ℕ) (slots : ℕ → Type 0) (old mid new : List Happening) → AreMade g (IsBehind g) j old mid
     → AreMade g IsPlace j mid new → Ran any_call old mid → Ran (IsMaking g slots IsPlace) mid new → AreMade g every_sector j old new
 made_whole g j slots old mid new behind places ran ran' = record {

@@ -33,7 +33,7 @@ use Rattle.stair_array.proofs.OpenStepLemmas.{forgetting, goes_on_as, kept_fault
 -- WHAT IT COMES TO
 
 -- The array serves on, and this is given; or it serves on and is refused what isn't an epoch; or an epoch was refused, and the rack
--- stands for the array.
+-- represents the array.
 pub data Outcome (returning : Returning) (before : List Happening) (rebuild : Option Rebuild) (stopped : Option FenceFault) (words : Codewords)
     (kept : Content) (x : Point)
     (T Inside : Type 0) (Right : T → Type 0) : Result T Refusal → Point → Type 0 where

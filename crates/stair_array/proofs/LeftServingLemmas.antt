@@ -32,7 +32,7 @@ use Rattle.stair_session.proofs.Serving.{IsCalmTo, IsServing, LeadsReads, Stands
 use Rattle.stair_session.proofs.Mending.{calm_going}
 use Rattle.stair_session.proofs.Stamping.{live_before}
 
--- within tolerance each image that a crash leaves stands for the state, with no change in doubt
+-- within tolerance each image that a crash leaves represents the state, with no change in doubt
 abbrev pub StandsAt : Returning → List Happening → Membership → Content → List Happening → Type 0
 StandsAt returning before m kept c =
     IsCalmTo returning m.array.geometry before c → (image : Image) → CrashMayLeave c image → StandsIn returning m kept None image
@@ -97,7 +97,7 @@ module _ (returning : Returning) (laws : LeadsReads returning) (before : List Ha
         by (NoneWas out same fine) = absurd (let never : None ≡ Some fault = sym fine ∙ at in cc)
         by (Fenced j has answer fine does) = laws.fenced before a words kept gone y.member answer mid y.told is does honest here off calm
 
--- WHAT IS LIVE on an image that stands for the state was so to the member
+-- WHAT IS LIVE on an image that represents the state was so to the member
 pub stands_live : (returning : Returning) (before : List Happening) (m : Membership) (kept : Content) (h : List Happening) → IsHistory h
     → IsWithinTolerance (IsOffline before h) m.array.geometry (image_now h) → StandsIn returning m kept None (image_now h)
     → ((j : ℕ) → j < m.array.geometry.n → mark_in m.array j ≡ mark_for (why_of m j)) → (current : Superblock)

@@ -59,7 +59,7 @@ pub record IsRefusedAt (returning : Returning) (before : List Happening) (words 
   pub off : (j : ℕ) → HasSlot gone j → IsOfflineUntilAttached before mid.history j
   pub live : (j : ℕ) → IsLiveIn m j → IsAttached z.told.history j → IsLiveIn array.member j
 
--- what stands for a later member's state does so for the first one's
+-- what represents a later member's state does so for the first one's
 pub stands_over : (returning : Returning) (m n : Membership) (kept : Content) (doubt : Option Change) (h : List Happening) → StaysArray m n
     → StandsAs returning n kept doubt h → StandsAs returning m kept doubt h
 stands_over returning m n kept doubt h stays is = record {
@@ -93,7 +93,7 @@ serves_twice returning before a y z words kept h array first then stays is = rec
   knows = is.knows;
 }
 
--- within tolerance the rack stands for the array then
+-- within tolerance the rack represents the array then
 pub refused_stands : (returning : Returning) → LeadsReads returning → (before : List Happening) (words : Codewords) (kept : Content) (m : Membership)
     (fault : FenceFault) (z : Point) → IsRefusedAt returning before words kept m fault z → IsTrue z.told.honest
     → IsCalmTo returning m.array.geometry before z.told.history → StandsAs returning m kept None z.told.history

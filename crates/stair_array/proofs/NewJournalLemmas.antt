@@ -57,7 +57,7 @@ journal_body g j k past below =
 
 -- ONE SECTOR AFTER THE OTHER
 
--- the sectors behind the gate, up to this one
+-- the sectors after the gate, up to this one
 abbrev pub IsUpTo : ℕ → ℕ → ℕ → ℕ → Type 0
 IsUpTo slot sector j k = (j ≡ slot) × (gate_sector < k) × (k < sector)
 

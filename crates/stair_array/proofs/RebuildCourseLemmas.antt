@@ -102,7 +102,7 @@ module _ (j t : ℕ) (into : Stripe) (x y z : Point) (loads : LoadsStripe t into
 -- A STEP OF A REBUILD
 
 -- Why it is refused: a stripe wasn't loaded; the slot was gone as its chunk was written, and no epoch without it could be
--- established; or none could be behind the last chunk.
+-- established; or none could be after the last chunk.
 pub data IsStopped (was : ArrayState) (why : Refusal) (x z : Point) : Type 0 where
   Loading : (j t : ℕ) → IsNextChunk was j t → Unloaded t why x z → IsStopped was why x z
   Falling : (fault : FenceFault) → why ≡ refused fault → StopsBy fault x z → IsStopped was why x z

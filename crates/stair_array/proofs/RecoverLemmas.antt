@@ -70,7 +70,7 @@ pub record LeadsOpenings (returning : Returning) : Type 0 where
       → AreFound returning first.history h s (seats_in u.member.array)
   pub comes : (s : State) (first : Telling) (u v : Point) (answer : Result Geometry Refusal) → IsSurveyedFor returning s first u → Recovers answer u v
       → IsTrue u.told.honest → IsTrue v.told.honest → IsCalm returning s.geometry false first.history v.told.history → ComesTo returning s u.member first.history answer v
-  -- and what a crash leaves at a moment of it stands for the state as it was
+  -- and what a crash leaves at a moment of it represents the state as it was
   pub moments : (s : State) (first : Telling) (u v : Point) (answer : Result Geometry Refusal) → IsSurveyedFor returning s first u → Recovers answer u v
       → IsTrue u.told.honest → IsTrue v.told.honest → (c : List Happening) → IsMoment u.told.history c v.told.history → IsCalm returning s.geometry false first.history c
       → (image : Image) → CrashMayLeave c image → StandsForAlone returning (without_seats s) image

@@ -34,7 +34,7 @@ set_word g t first (bytes ∷ more) before after word is =
 
 -- ONE MORE BLOCK
 
--- blocks were set, and then this one behind them
+-- blocks were set, and then this one after them
 pub record IsSetThen (g : Geometry) (t first : ℕ) (contents : List (List ℕ)) (bytes : List ℕ) (before after : Stripe) : Type 0 where
   pub row : ℕ
   pub chunk : ℕ
@@ -96,7 +96,7 @@ module _ (g : Geometry) (t first : ℕ) (cells : CellSet) (loaded : Stripe) (lim
   pub set_none : HasSet g t first cells loaded [] loaded
   set_none before after word same is i j has = sym (same i j has) ∙ ap (λ (s : Stripe). cell s i j) (sym is)
 
-  -- the block behind them is set, and the cells that change with it are known
+  -- the block after them is set, and the cells that change with it are known
   pub set_more : (contents : List (List ℕ)) (bytes : List ℕ) (old new : Stripe) → HasSet g t first cells loaded contents old
       → ((i j : ℕ) → HasCell cells i j → (i < g.r) × (j < g.n))
       → ((i j : ℕ) → IsDependent g ((first + length contents) % data_cells g) i j → HasCell cells i j)

@@ -51,7 +51,7 @@ pub data MayDoubt (first : ℕ) (contents : List (List ℕ)) (m : Membership) : 
   Certain : MayDoubt first contents m None
   Doubtful : MayWrite first contents m → MayDoubt first contents m (Some (BlocksAre first contents))
 
--- An image stands for the state, where the write may be in doubt.
+-- An image represents the state, where the write may be in doubt.
 pub record StandsSo (returning : Returning) (kept : Content) (first : ℕ) (contents : List (List ℕ)) (m : Membership) (image : Image) : Type 0 where
   pub doubt : Option Change
   pub may : MayDoubt first contents m doubt

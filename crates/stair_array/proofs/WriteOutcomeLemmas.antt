@@ -41,7 +41,7 @@ module _ (returning : Returning) (before : List Happening) (rebuild : Option Reb
       IsCalmTo returning m.array.geometry before c → (image : Image) → CrashMayLeave c image → StandsSo returning kept first contents m image
 
   -- The array serves the stripes with the blocks set; it serves on as it was, and is refused what isn't an epoch; or an epoch was
-  -- refused, and the rack stands for the array, with the write in doubt or without.
+  -- refused, and the rack represents the array, with the write in doubt or without.
   pub data Outcome (x : Point) : Result (Unit {0}) Refusal → Point → Type 0 where
     Written : (z : Point) → MayWrite first contents x.member → IsWritten returning before rebuild stopped_by words kept first contents x z
         → Outcome x (Ok tt) z

@@ -142,7 +142,7 @@ module _ (before : List Happening) (r : Redoing) (redoing : IsRedoing r) (stripe
         way stage rebuild stopped_by p (each_before none_mid from_p)
         (λ stops. going_mid (stopped_on {allowed = any_call} (ran_any {allowed = IsBesideEpochs p.member} besides) stops)) is
 
-    -- behind the phase the next stage is reached
+    -- after the phase the next stage is reached
     pub mid_way : IsUnderWay r (next stage) start p.member does.mid.history
     mid_way =
         way_ends r redoing stage start p.member to over (HasSlot does.gone) p.told.history does.mid.history way_p phase (each_after none_mid from_p) not_done

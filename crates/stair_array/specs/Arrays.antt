@@ -46,7 +46,7 @@ remembered_as (Some t) cells = Some (record { stripe = t; cells = cells })
 abbrev pub IsOfRemembered : Geometry → Option Remembered → ℕ → Type 0
 IsOfRemembered g known b = (one : Remembered) × (known ≡ Some one) × (one.stripe ≡ b / data_cells g)
 
--- An array was opened, or why it wasn't is told by what was known of its slots in the end. Want of memory is no refusal.
+-- An array was opened, or why it wasn't is told by what was known of its slots in the end. Lack of memory is no refusal.
 abbrev pub Opens : Point → Telling → Result OpenArray RecoverFault → Type 0
 Opens x now (Ok array) = Recovers (Ok x.member.array.geometry) x (point array.member now)
 Opens x now (Err fault) = (refusal : Refusal) → opening_refusal fault ≡ Some refusal

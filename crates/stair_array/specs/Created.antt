@@ -39,7 +39,7 @@ first_configuration g = record {
 abbrev pub first_super : Geometry → ℕ → Superblock
 first_super g j = superblock_of (first_configuration g) j 1 1
 
--- what sector k of slot j holds: the superblock in both places, a closed gate, and zeros behind it
+-- what sector k of slot j holds: the superblock in both places, a closed gate, and zeros after it
 abbrev pub created_sector : Geometry → ℕ → ℕ → List ℕ
 created_sector g j k = if nat_lt k gate_sector then spelled (first_super g j)
     else (if k == gate_sector then closed_gate else zero_block)

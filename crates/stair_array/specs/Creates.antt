@@ -57,7 +57,7 @@ pub record Creates (g : Geometry) (answer : Result (Unit {0}) CreateFault) (old 
   pub ran : IsTrue new.honest → Ran (IsCreating g) old.history new.history
   -- no other slot was written
   pub others : IsTrue new.honest → NoneWritten (λ j. g.n ≤ j) old.history new.history
-  -- nor was, of any slot, a sector behind those that the array needs
+  -- nor was, of any slot, a sector after those that the array needs
   pub within : IsTrue new.honest → WrittenWithin g old.history new.history
   -- a superblock is written only once every device of the array has the rest of it on the disk
   pub order : IsTrue new.honest → SuperblocksCameLast g old.history new.history

@@ -24,7 +24,7 @@ abbrev pub array_fault : FenceFault → ArrayFault
 array_fault (fence.TooFew whys) = array.TooFew whys
 array_fault fence.EpochsSpent = array.EpochsSpent
 
--- the refusal of an opening; want of memory is none of the machine's
+-- the refusal of an opening; lack of memory is none of the machine's
 abbrev pub opening_refusal : RecoverFault → Option Refusal
 opening_refusal recover.Memory = None
 opening_refusal (recover.TooFew whys) = Some (TooFew whys)

@@ -38,7 +38,7 @@ IsFirst k = k ≡ first_place
 abbrev pub IsNoPlace : ℕ → Type 0
 IsNoPlace k = gate_sector ≤ k
 
--- what the array needs behind the superblock places
+-- what the array needs after the superblock places
 abbrev pub IsBehind : Geometry → ℕ → Type 0
 IsBehind g k = IsNoPlace k × (k < sectors_needed g)
 
@@ -79,9 +79,9 @@ IsCreating g j (Write k bytes answer) =
     (j < g.n) × (k < sectors_needed g) × (bytes ≡ created_sector g j k)
 IsCreating g j (Sync answer) = ⊤
 
--- so what lies behind those sectors is left alone
+-- so what lies after those sectors is left alone
 
--- no write to a sector behind those
+-- no write to a sector after those
 abbrev pub IsWriteWithin : Geometry → SlotCall → Type 0
 IsWriteWithin g (Attach answer) = ⊤
 IsWriteWithin g (Sectors size) = ⊤
@@ -95,7 +95,7 @@ WritesWithin g h Stopped = ⊤
 WritesWithin g h (Acted j act) = ⊤
 WritesWithin g h (Called j call) = IsWriteWithin g call
 
--- of no slot a sector behind those was written from old to new
+-- of no slot a sector after those was written from old to new
 abbrev pub WrittenWithin : Geometry → List Happening → List Happening → Type 0
 WrittenWithin g old new = EachHappening (WritesWithin g) old new
 
@@ -119,7 +119,7 @@ WritesNoPlace h (Called j call) = IsNoPlaceWrite call
 abbrev pub NoPlaceWritten : List Happening → List Happening → Type 0
 NoPlaceWritten old new = EachHappening WritesNoPlace old new
 
--- Slot j is laid out: behind its superblock places it has what a new array has there, on the disk, but for what the outside
+-- Slot j is laid out: after its superblock places it has what a new array has there, on the disk, but for what the outside
 -- did since a moment at which it was in use.
 pub record IsLaidOut (g : Geometry) (j : ℕ) (old now : List Happening) : Type 0 where
   pub since : List Happening

@@ -73,7 +73,7 @@ LooksAt g slot old new (Err (fault.AlreadyArray at)) =
     (at ≡ slot) × ((mid : Telling) × WasLookedAt slot mid old new × BearsOther g slot mid new)
 LooksAt g slot old new (Err other) = ⊥
 
--- the sectors of this slot that come behind the gate
+-- the sectors of this slot that come after the gate
 abbrev pub IsBodyOf : ℕ → ℕ → ℕ → Type 0
 IsBodyOf slot j k = (j ≡ slot) × (gate_sector < k)
 

@@ -199,7 +199,7 @@ pub data Promotes (j : ℕ) : Result Progress Refusal → Point → Point → Ty
       → Joins (Promote j) j y.member z.member answer y.told z.told
       → Promotes j (promoted_as j answer) x z
 
--- One step of a rebuild: the next chunk, and behind the last one the promotion.
+-- One step of a rebuild: the next chunk, and after the last one the promotion.
 pub data Rebuilds (was : ArrayState) : Result Progress Refusal → Point → Point → Type 0 where
   NoneIs : (x : Point) → ((j : ℕ) → ¬ IsRebuiltIn was.member j) → Rebuilds was (Ok Nothing) x x
   Unread : (j t : ℕ) (into : Stripe) (refusal : Refusal) (x y : Point) → IsNextChunk was j t

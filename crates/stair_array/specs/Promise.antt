@@ -134,7 +134,7 @@ pub record IsLed (returning : Returning) (m : Membership) (before : List Happeni
   pub is_step : IsStep returning step answer m before y.told.history s state
   pub is_in : IsInState returning before state y
 
--- the image stands for what a crash within the step leaves
+-- the image represents what a crash within the step leaves
 pub record IsLeftBy (returning : Returning) (step : Step) (m : Membership)
     (before h : List Happening) (s : State) (image : Image) : Type 0 where
   pub state : State
@@ -206,7 +206,7 @@ pub data KeepsProgress (was is : ArrayState) : Type 0 where
   Ended : (rebuild : Rebuild) → was.rebuild ≡ Some rebuild → ¬ IsRebuiltIn is.member rebuild.slot
       → is.rebuild ≡ None → KeepsProgress was is
 
--- A chunk leads to the next one of its slot, and behind the last one comes the promotion; of every other step it goes on. An
+-- A chunk leads to the next one of its slot, and after the last one comes the promotion; of every other step it goes on. An
 -- array that was stopped takes no step any more.
 abbrev pub KeepsRebuild : (step : Step) → Answer step → ArrayState → ArrayState → Type 0
 KeepsRebuild Recover (Ok g) was is = is.rebuild ≡ None

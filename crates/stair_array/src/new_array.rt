@@ -15,8 +15,8 @@ use stair_rack::Rack;
 /// devices would stop every later opening; one that is gone is passed over. The first slot that is refused is the answer:
 /// `Gone`, `SmallDevice` or `AlreadyArray`, and then nothing was written.
 ///
-/// Then the devices of the array get a closed gate and zeros behind it, sector by sector, and are synced; and after that, each
-/// gets the superblock of epoch 1 in its two places, each of which is synced before the next write. What lies behind the
+/// Then the devices of the array get a closed gate and zeros after it, sector by sector, and are synced; and after that, each
+/// gets the superblock of epoch 1 in its two places, each of which is synced before the next write. What lies after the
 /// sectors that the array needs is left alone. `Gone` comes too where a slot is gone meanwhile, of several in one sector the
 /// lowest. Then there is no array, and the media aren't blank any more.
 ///

@@ -25,7 +25,7 @@ use stair_journal::closed_gate;
 use stair_rack::{Rack, Reply, sync_all, write_all, write_through};
 use stair_super::{Configuration, Label, Mark, Super, write_super};
 
-// Writes a closed gate to the devices of the array and zeros behind it, and syncs them. Their superblock places stay as they
+// Writes a closed gate to the devices of the array and zeros after it, and syncs them. Their superblock places stay as they
 // are. It goes sector by sector, since a rack may keep what it makes of the bytes of a sector for the next device, and ends
 // after the first write or sync to which a slot was gone.
 pub(crate) fn lay_out<R: Rack>(rack: &mut R, geometry: &Geometry) -> Result<(), CreateFault>

@@ -23,7 +23,7 @@ use stair_rack::{Rack, Reply};
 use stair_stripes::write_chunk;
 use std::marker::Model;
 
-// A rebuild: which slot, and the stripe whose chunk comes next. Behind the last stripe comes the promotion.
+// A rebuild: which slot, and the stripe whose chunk comes next. After the last stripe comes the promotion.
 #[derive(Clone, Copy, Drop)]
 pub(crate) struct Rebuild {
     slot: u8,
@@ -64,7 +64,7 @@ impl Rebuild {
         self.stripe
     }
 
-    // Behind this chunk.
+    // After this chunk.
     fn behind(&self) -> Rebuild
         requires { self.now.stripe + 1 < 2 ^ 32 }
         ensures { result ≡ record { slot = self.now.slot; stripe = self.now.stripe + 1 } }

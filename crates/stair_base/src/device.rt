@@ -9,10 +9,10 @@ pub const FIRST_PLACE: u32 = 0;
 /// The sector of a device that is the second of its two superblock places.
 pub const SECOND_PLACE: u32 = 1;
 
-/// The sector of a device in which its gate lies, behind the two superblock places.
+/// The sector of a device in which its gate lies, after the two superblock places.
 pub const GATE_SECTOR: u32 = 2;
 
-/// The first sector of the journal's body, behind the gate.
+/// The first sector of the journal's body, after the gate.
 pub const BODY_START: u32 = 3;
 
 impl Geometry {

@@ -68,7 +68,7 @@ fn total(e: &[u64]) -> u64
     sum
 }
 
-/// The entries, with zeros behind them.
+/// The entries, with zeros after them.
 fn padded_coverage(e: &[u64]) -> [u8; 32]
     requires count { length e.now ≤ 32 }
     requires small { All (λ x. x ≤ 32) e.now }

@@ -29,7 +29,7 @@ impl Model for Stripe {
 impl Stripe {
     ghost use Rattle.stair_model.specs.Stripe.{IsSector, IsWellFormed, cell, with_cell, zero_stripe};
 
-    /// The stripe of this geometry in which every byte is zero. The error comes only for want of memory for r·n sectors.
+    /// The stripe of this geometry in which every byte is zero. The error comes only for lack of memory for r·n sectors.
     pub fn new(alloc: Global, geometry: &Geometry) -> Result<Stripe, AllocError>
         ensures zero { IfOk result (λ stripe. stripe ≡ zero_stripe geometry.now) }
         ensures well_formed { IfOk result IsWellFormed }

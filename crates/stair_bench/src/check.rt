@@ -9,7 +9,7 @@ const OF_NOTHING: u64 = 0xCBF2_9CE4_8422_2325;
 
 const PRIME: u64 = 0x0000_0100_0000_01B3;
 
-/// The hash of what `hash` is the hash of, with these bytes behind it.
+/// The hash of what `hash` is the hash of, with these bytes after it.
 fn hash_on(hash: u64, bytes: &[u8]) -> u64 {
     let mut hash = hash;
     for byte in bytes {

@@ -8,7 +8,7 @@ use std::fmt;
 pub(crate) struct Calls {
     writes: u64,
     syncs: u64,
-    /// Writes of a sector that doesn't lie behind the one that was written before it, to the same slot since it was synced.
+    /// Writes of a sector that doesn't lie after the one that was written before it, to the same slot since it was synced.
     backward: u64,
 }
 

@@ -101,7 +101,7 @@ fn worst_patterns(alloc: Global, geometry: &Geometry, count: u8) -> Result<Vec<C
     Ok(patterns)
 }
 
-/// The covered pattern that takes the most steps: m whole chunks from this one on, and of the chunks behind them as many last
+/// The covered pattern that takes the most steps: m whole chunks from this one on, and of the chunks after them as many last
 /// sectors as the coverage vector says.
 fn worst_pattern(geometry: &Geometry, first: u8) -> CellSet
     requires { first < geometry.now.n }

@@ -40,7 +40,7 @@ pub type Told = Option<[Option<Event>; 3]>;
 /// A watcher that is left and was told of no event.
 pub const NOTHING_TOLD: Told = Some([None; 3]);
 
-/// These events, one behind the other.
+/// These events, one after the other.
 pub fn told(events: &[Event]) -> Told {
     let mut kept = [None; 3];
     for (slot, event) in kept.iter_mut().zip(events.iter()) {
@@ -176,7 +176,7 @@ pub fn too_few(first: &[Why]) -> Status {
     Status::TooFew(whys)
 }
 
-/// Blocks one behind the other, each filled with one of these bytes.
+/// Blocks one after the other, each filled with one of these bytes.
 pub fn blocks_of(alloc: Global, fillings: &[u8]) -> Result<Vec<u8>, AllocError> {
     let mut bytes = Vec::new(alloc);
     for filling in fillings {
@@ -185,7 +185,7 @@ pub fn blocks_of(alloc: Global, fillings: &[u8]) -> Result<Vec<u8>, AllocError> 
     Ok(bytes)
 }
 
-/// A text in which each `@` stands for the 1,024 digits of a sector of this byte.
+/// A text in which each `@` represents the 1,024 digits of a sector of this byte.
 pub fn with_digits(alloc: Global, text: &str, digits: [u8; 2]) -> Result<Vec<u8>, AllocError> {
     let mut bytes = Vec::new(alloc);
     for byte in text.as_bytes() {
@@ -213,7 +213,7 @@ pub struct Shape {
     pub sectors: u32,
 }
 
-/// 15 blocks, five in each of three stripes. A device has the body in sectors 3 to 10, and the stripes behind it.
+/// 15 blocks, five in each of three stripes. A device has the body in sectors 3 to 10, and the stripes after it.
 pub const FOUR: Shape = Shape {
     text: "n = 4\nm = 1\nr = 2\ne = [1]\nstripes = 3\nid = '00000000000000000000000000000004'\n",
     devices: 4,

@@ -52,7 +52,7 @@ impl Model for Canon {
 impl Canon {
     /// The canonical stripe of this geometry in which every symbol is zero and none is known.
     ///
-    /// The error comes only for want of memory. All memory that later calls use is taken here: that of the symbols, and for
+    /// The error comes only for lack of memory. All memory that later calls use is taken here: that of the symbols, and for
     /// each of 16 patterns of rows and 16 of chunks that of its coefficients, 32 bytes each. A pattern has up to (n-m)(m+m')
     /// of them for a row and r·e_max for a chunk, so each of these takes up to half a megabyte.
     pub fn new(alloc: Global, geometry: &Geometry) -> Result<Canon, AllocError>

@@ -20,7 +20,7 @@ pub(crate) const PATTERNS: usize = 16;
 #[derive(Drop)]
 pub(crate) struct Codes {
     codes: Vec<Mds>,
-    // The number of the code that was used last, and for each code that of the one that was used behind it.
+    // The number of the code that was used last, and for each code that of the one that was used after it.
     last: usize,
     next: [usize; PATTERNS],
 }

@@ -113,7 +113,7 @@ impl KnownSymbols {
         self.make_known(line, wanted);
     }
 
-    /// How many of these places are to be read: none of those behind them is known, so that all of these are zero.
+    /// How many of these places are to be read: none of those after them is known, so that all of these are zero.
     fn count_to_read(&self, line: Line, places: &[u16]) -> usize
         requires within { (i : ℕ) → i < length places.now →
             along line (slice_index places.now i) < length self.now.known }

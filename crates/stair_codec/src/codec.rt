@@ -38,7 +38,7 @@ impl Model for Codec {
 impl Codec {
     /// The code of this geometry, which encodes as `by` says.
     ///
-    /// The error comes only for want of memory. All memory that later calls use is taken here: that of a canonical stripe,
+    /// The error comes only for lack of memory. All memory that later calls use is taken here: that of a canonical stripe,
     /// and, for every choice of encoder, that of a [`Generator`], by which stripes are updated.
     pub fn new(alloc: Global, geometry: &Geometry, by: By) -> Result<Codec, AllocError>
         ensures geometry { IfOk result (λ codec. codec.geometry ≡ geometry.now) }

@@ -12,6 +12,6 @@ pub record IsName (text : List ℕ) : Type 0 where
   pub short : length text ≤ 16
   pub bytes : All IsNameByte text
 
--- a text with zeros behind it, in an array of 16 bytes
+-- a text with zeros after it, in an array of 16 bytes
 abbrev pub padded : List ℕ → List ℕ
 padded text = text ++ replicate (16 - length text) 0

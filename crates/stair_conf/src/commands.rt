@@ -1,6 +1,6 @@
 //! The commands as clap has them: required positional values alone, with neither help nor version.
 //!
-//! The first of the words stands for the program's name, which clap drops.
+//! The first of the words represents the program's name, which clap drops.
 
 ghost use Rattle.std.specs.Prelude.{◌≡◌, ℕ, ◌∷◌, [], List, codes, drop, false, true, map, string_bytes, IfOk};
 ghost use Rattle.clap.specs.Words.{HasMatchesOf, app_of, fault_of, is_simple_and_free, rule_of, takes};
@@ -17,7 +17,7 @@ use clap::{Arg, ArgMatches, Command};
 use stair_super::Label;
 use std::alloc::{AllocError, Global};
 
-// Reads `N M R E..` behind the first word.
+// Reads `N M R E..` after the first word.
 pub(crate) fn read_geometry(alloc: Global, words: &[String]) -> Result<GeometryNumbers, WordsFault>
     requires { HasNoOption (map string_bytes words.now) }
     ensures ok { IfOk result (λ g. SpellsGeometry []
@@ -29,7 +29,7 @@ pub(crate) fn read_geometry(alloc: Global, words: &[String]) -> Result<GeometryN
     geometry_of(alloc, &matches)
 }
 
-// Reads `METHOD N M R E..` behind the first word.
+// Reads `METHOD N M R E..` after the first word.
 pub(crate) fn read_stripe(
     alloc: Global,
     words: &[String],
@@ -47,7 +47,7 @@ pub(crate) fn read_stripe(
     Ok((method, geometry_of(alloc, &matches)?))
 }
 
-// Reads `NUMBER COUNT` behind the first word.
+// Reads `NUMBER COUNT` after the first word.
 pub(crate) fn read_counted(alloc: Global, words: &[String]) -> Result<Counted, WordsFault>
     requires { HasNoOption (map string_bytes words.now) }
     ensures ok { IfOk result (λ read. SpellsCounted []
@@ -59,7 +59,7 @@ pub(crate) fn read_counted(alloc: Global, words: &[String]) -> Result<Counted, W
     counted_of(&matches)
 }
 
-// Reads `SLOT` behind the first word.
+// Reads `SLOT` after the first word.
 pub(crate) fn read_slot(alloc: Global, words: &[String]) -> Result<u64, WordsFault>
     requires { HasNoOption (map string_bytes words.now) }
     ensures ok { IfOk result (SpellsSlot [] (drop 1 (map string_bytes words.now))) }
@@ -70,7 +70,7 @@ pub(crate) fn read_slot(alloc: Global, words: &[String]) -> Result<u64, WordsFau
     number_of(&matches, "SLOT").ok_or(WordsFault::Usage)
 }
 
-// Reads `TEXT` behind the first word.
+// Reads `TEXT` after the first word.
 pub(crate) fn read_label(alloc: Global, words: &[String]) -> Result<Label, WordsFault>
     requires { HasNoOption (map string_bytes words.now) }
     ensures ok { IfOk result (SpellsText [] (drop 1 (map string_bytes words.now))) }
@@ -81,7 +81,7 @@ pub(crate) fn read_label(alloc: Global, words: &[String]) -> Result<Label, Words
     text_of(&matches, "TEXT").ok_or(WordsFault::Usage)
 }
 
-// Reads `NAME` behind the first word.
+// Reads `NAME` after the first word.
 pub(crate) fn read_name(alloc: Global, words: &[String]) -> Result<Name, WordsFault>
     requires { HasNoOption (map string_bytes words.now) }
     ensures ok { IfOk result (SpellsName [] (drop 1 (map string_bytes words.now))) }
@@ -92,7 +92,7 @@ pub(crate) fn read_name(alloc: Global, words: &[String]) -> Result<Name, WordsFa
     name_of(&matches, "NAME").ok_or(WordsFault::Usage)
 }
 
-// Reads `NAME BLOCKS` behind the first word.
+// Reads `NAME BLOCKS` after the first word.
 pub(crate) fn read_new_volume(alloc: Global, words: &[String]) -> Result<NewVolume, WordsFault>
     requires { HasNoOption (map string_bytes words.now) }
     ensures ok { IfOk result (λ read. SpellsNewVolume []
@@ -104,7 +104,7 @@ pub(crate) fn read_new_volume(alloc: Global, words: &[String]) -> Result<NewVolu
     new_volume_of(&matches)
 }
 
-// Reads `NAME BLOCK COUNT` behind the first word.
+// Reads `NAME BLOCK COUNT` after the first word.
 pub(crate) fn read_volume_blocks(
     alloc: Global,
     words: &[String],
@@ -191,7 +191,7 @@ fn volume_blocks_command<'a>(alloc: Global) -> Result<Command<'a>, AllocError>
         .arg(one_word(alloc, "COUNT"))
 }
 
-// The command with the words of a geometry behind those that it has.
+// The command with the words of a geometry after those that it has.
 fn with_geometry<'a>(alloc: Global, command: Command<'a>) -> Result<Command<'a>, AllocError>
     ensures { IfOk result (λ whole. app_of whole ≡ with_geometry (app_of command.entry)) }
 {

@@ -45,7 +45,7 @@ fn read_table(alloc: Global, table: &Table) -> Result<Geometry, ConfigFault>
     read_rest(table, n, m, r, e.as_slice())
 }
 
-// Reads the geometry behind the numbers that were read.
+// Reads the geometry after the numbers that were read.
 fn read_rest(table: &Table, n: u64, m: u64, r: u64, e: &[u64]) -> Result<Geometry, ConfigFault>
     requires n { HasNumber (table_view table.now) Key.N n }
     requires m { HasNumber (table_view table.now) Key.M m }

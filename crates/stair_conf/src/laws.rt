@@ -20,7 +20,7 @@ pub fn words_laws()
         → All (λ word. slice_index word 0 ≢ 45) words }
 {}
 
-/// A text reads as one answer, and none reads as want of memory. An identity is 32 hexadecimal digits. It does nothing.
+/// A text reads as one answer, and none reads as lack of memory. An identity is 32 hexadecimal digits. It does nothing.
 pub fn config_laws()
     ensures one_answer { (text : List ℕ) (a b : Result Geometry ConfigFault) → TextReadsAs text a →
         TextReadsAs text b → a ≡ b }

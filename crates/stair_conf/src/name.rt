@@ -10,7 +10,7 @@ pub const NAME_LIMIT: usize = 16;
 #[derive(Clone, Copy, Debug, PartialEq, Eq)]
 pub struct Name {
     len: u8,
-    // zeros behind the name, so that equal names are equal
+    // zeros after the name, so that equal names are equal
     text: [u8; NAME_LIMIT],
 }
 
@@ -71,7 +71,7 @@ fn is_name_byte(byte: u8) -> bool
     byte.is_ascii_lowercase() || byte.is_ascii_digit() || byte == b'_'
 }
 
-// The text, with zeros behind it.
+// The text, with zeros after it.
 fn padded_text(text: &[u8]) -> [u8; NAME_LIMIT]
     requires { length text.now ≤ 16 }
     ensures { result ≡ padded text.now }

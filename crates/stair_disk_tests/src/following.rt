@@ -135,7 +135,7 @@ fn what_is_passed_over_is_read_ahead(rt: HostRuntime) -> Result<(), Fail> {
     assert_eq!(rt; read_three(&mut rack, [12, 15, 16]), [112, 115, 116]);
     // A sector that was passed over is read alone.
     assert_eq!(rt; read_three(&mut rack, [10, 9, 8]), [10, 9, 8]);
-    // Sectors 9 to 16 are read at once. A sector behind that is read releases them.
+    // Sectors 9 to 16 are read at once. A sector after that is read releases them.
     assert_eq!(rt; read(&mut rack, 13), (Got::Good, 13));
     fs::write(&rt, path, new.as_slice())?;
     assert_eq!(rt; read_three(&mut rack, [14, 12, 16]), [14, 112, 116]);

@@ -1,4 +1,4 @@
--- The places by which the rows and the intermediate chunks are solved downwards. A list may go on behind them.
+-- The places by which the rows and the intermediate chunks are solved downwards. A list may go on after them.
 use Rattle.std.specs.Prelude.{◌≡◌, ℕ, ◌+◌, ◌-◌, ◌<◌, ◌≤◌, List, length, slice_index}
 use Rattle.stair_model.specs.Cell.{global_chunk}
 use Rattle.stair_model.specs.Geometry.{Geometry, IsWithinLimits, classes, coverage, data_chunks}

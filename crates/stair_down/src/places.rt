@@ -7,7 +7,7 @@ ghost use Rattle.stair_down.specs.Places.{ArePlacesOfChunk, ArePlacesOfRow};
 use stair_base::Geometry;
 use stair_mds::{MAX_PLACES, numbers_from};
 
-/// The places of the known symbols and those of the wanted ones. What stands behind the last of either means nothing.
+/// The places of the known symbols and those of the wanted ones. What stands after the last of either means nothing.
 #[derive(Drop)]
 pub struct Places {
     pub known: [u16; MAX_PLACES],

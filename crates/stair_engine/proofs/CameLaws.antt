@@ -35,7 +35,7 @@ use Rattle.stair_story.proofs.WriteLaws.{turn, write_on}
 
 -- ---- bytes as blocks
 
--- chunks of a list, and of what is behind it
+-- chunks of a list, and of what is after it
 chunks_then : (n m : ℕ) (xs ys : List ℕ) → length xs ≡ n * SECTOR
     → first_chunks SECTOR (n + m) (xs ++ ys) ≡ first_chunks SECTOR n xs ++ first_chunks SECTOR m ys
 chunks_then zero m xs ys long =
@@ -60,7 +60,7 @@ all_chunks bytes =
     ap₂ (λ (k : ℕ) (l : List ℕ). first_chunks SECTOR k l) none (sym (take-append-drop (n * SECTOR) bytes))
     ∙ chunks_then n 0 (whole_of bytes) (part_of bytes) (whole_long bytes) ∙ append-nil (first_chunks SECTOR n (whole_of bytes)) ∙ sym (whole_chunks bytes)
 
--- those of a list, and of what is left over of it with what is behind it
+-- those of a list, and of what is left over of it with what is after it
 blocks_join : (xs ys : List ℕ) → blocks_of (whole_of (xs ++ ys)) ≡ blocks_of (whole_of xs) ++ blocks_of (whole_of (part_of xs ++ ys))
 blocks_join xs ys =
     let n = length xs / SECTOR in
@@ -96,7 +96,7 @@ refused_over slots (array.Gone slot) is = is
 refused_over slots (array.SmallDevice slot has needs) is = is
 refused_over slots (array.AlreadyArray slot) is = is
 
--- what is left of a write writes what is left of its blocks, behind bytes that were taken before
+-- what is left of a write writes what is left of its blocks, after bytes that were taken before
 abbrev Writes : (first all done : ℕ) → List ℕ → List Deed → Type 0
 Writes first all done held story =
     AreWritten (first + done) (blocks_of (whole_of (take (SECTOR * (all - done)) (held ++ taken_in story)))) story
@@ -117,7 +117,7 @@ module _ (status : Status) (unrefused : IsUnrefused status) where
       ends_with OutputFault block contents story (subst (λ (plan : Plan). Leads Moves story plan (Over status)) follows.1.1 follows.2) none
   line_writes all block contents (deed ∷ story) follows none = absurd follows.1
 
-  -- behind the last block
+  -- after the last block
   end_writes : (all block : ℕ) (contents : List (List ℕ)) (story : List Deed) → Leads Moves story (wrote all) (Over status) → contents ≡ []
       → AreWritten block contents story
   end_writes all block contents [] follows none = none

@@ -315,7 +315,7 @@ stamps_sure step line passes s left =
     opens_sure (λ g. take_step g.n step (λ done. Put line (Over Done))) s left
     (λ later decided same. (λ seats is free. passes later seats is, λ given gone last done. refl))
 
--- the end comes behind the last block
+-- the end comes after the last block
 wrote_sure : (all : ℕ) (s : State) → IsSure [] (wrote all) s (Some [])
 wrote_sure all s = (
   λ bytes rest told enough. absurd (omega (arith, ap length told, enough.enough, length-append bytes rest)),

@@ -205,7 +205,7 @@ module _ {R W : Type 0} (view : DeviceView R W) (honest : IsTrue view.rack.hones
       );
     }
 
-    -- behind it the next one is ready
+    -- after it the next one is ready
     next_ready : (count : ℕ) (events : List Event) (does : Performs (ScrubStripe t) (Ok count) events (seen_of view x) (seen_of view y))
         → does.was ≡ ready.array → Ready (t + 1) y
     next_ready count events does same = record {

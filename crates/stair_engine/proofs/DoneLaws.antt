@@ -149,7 +149,7 @@ some_once : (a b : Seats) (known : Option Seats) → known ≡ Some a → known 
 some_once a b known is also = let both : Some a ≡ Some b = sym is ∙ also in let same : a ≡ b = cc in same
 
 module _ (returning : Returning) (before : List Happening) (j : ℕ) where
-  -- the seats behind a deed, and that the slot is promoted by it or isn't live still
+  -- the seats after a deed, and that the slot is promoted by it or isn't live still
   pub record SeatsThen (deed : Deed) (new : Now) : Type 0 where
     pub seats : Seats
     pub known : new.state.seats ≡ Some seats

@@ -12,7 +12,7 @@ use Rattle.stair_engine.specs.Exercise.{exercise_steps, exercised_line, exercise
 use Rattle.stair_engine.proofs.LineLaws.{IsOfLine}
 use Rattle.stair_engine.proofs.OpenLaws.{IsOfJob, left_so, refusal_own, unless_so}
 
--- What is so of the plan, where it is so of each node of it by what comes behind. Its steps admit no medium, and no draw is allowed
+-- What is so of the plan, where it is so of each node of it by what comes after. Its steps admit no medium, and no draw is allowed
 -- them.
 record IsOfSteps (IsSo : Plan → Type 0) : Type 0 where
   ends : (status : Status) → IsOfLine status → IsSo (Over status)

@@ -122,7 +122,7 @@ module _ {R W : Type 0} (view : DeviceView R W) (old new : Devices R W) where
 
 -- ---- one step after the other
 
--- behind a step by this number
+-- after a step by this number
 abbrev exercise_on : Geometry → (left number : ℕ) → (Exercised → Plan) → Exercised → Plan
 exercise_on g left number k later = exercises g left number later k
 
@@ -201,7 +201,7 @@ module _ {R W : Type 0} (view : DeviceView R W) (g : Geometry) (number steps : �
 
 -- ---- how many are asked for
 
--- behind the last step
+-- after the last step
 abbrev pub tells_steps : (number steps : ℕ) → Exercised → Plan
 tells_steps number steps came = Put (exercised_line number steps came) (Over Done)
 

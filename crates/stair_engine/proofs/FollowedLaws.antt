@@ -186,7 +186,7 @@ pub record ReplacesFirst (slot : ℕ) (story : List Deed) : Type 0 where
   pub live : (seats slot).mark ≡ Live
   pub is : story ≡ Stepped (ReplaceSlot slot) (Ok tt) events left ∷ (steps ++ Stepped LookAtSeats (Ok seats) looked away ∷ HasPut bytes ∷ [])
 
--- what is behind some deeds and one more is so
+-- what is after some deeds and one more is so
 behind_both : (steps last rest look all : List Deed) → all ≡ steps ++ (last ++ rest) → rest ≡ look → all ≡ (steps ++ last) ++ look
 behind_both steps last rest look all is same =
     subst (λ (l : List Deed). all ≡ l) (sym (append_assoc steps last look)) (subst (λ (l : List Deed). all ≡ steps ++ (last ++ l)) same is)
@@ -243,7 +243,7 @@ pub record OpensFirst (k : Geometry → Plan) (story : List Deed) : Type 0 where
   pub is : story ≡ opened_story asked member g events left rest
   pub follows : IsDoneBy (k g) rest
 
--- all behind the opening was done
+-- all after the opening was done
 pub record OpensDone (story : List Deed) : Type 0 where
   pub asked : Question
   pub member : Membership

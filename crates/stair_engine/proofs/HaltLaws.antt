@@ -46,7 +46,7 @@ line_after (ScriptLine line) number = number + 1
 line_after question number = number
 
 -- The one plan is guarded, and the other isn't: so many lines came, and a watcher left at the last of them, or none did. They go the same
--- way up to where the one is halted, and the other is behind that line.
+-- way up to where the one is halted, and the other is after that line.
 abbrev Beside : (number : ℕ) (gone : Bool) → Plan → Plan → Type 0
 Beside number gone (Over status) other =
     ((other ≡ Over status) × IsNoHalt status × (gone ≡ false)) ⊎ ((status ≡ Halted number) × (gone ≡ true) × IsBehindLine number other)
@@ -84,7 +84,7 @@ Ended number gone story status other =
 module _ (number next : ℕ) (gone left : Bool) (deed : Deed) (story : List Deed) (status : Status) (other rest : Plan) (moves : Moves deed other rest)
     (halts : halt_of gone number (deed ∷ story) ≡ halt_of left next story) (answered : AllAreAnswered (deed ∷ story) → AllAreAnswered story)
     (also : AllAreAnswered story → AllAreAnswered (deed ∷ story)) where
-  -- one deed, and what came behind it
+  -- one deed, and what came after it
   behind_deed : Ended next left story status rest → Ended number gone (deed ∷ story) status other
   behind_deed (inl own) = inl (own.0, (rest, moves, own.1), λ all. halts ∙ own.2 (answered all))
   behind_deed (inr halted) =
@@ -311,7 +311,7 @@ module _ (number : ℕ) (rest other : Bool → Plan) (each : (left : Bool) → B
       rebuilds_beside g.n steps 0 false (λ done left. Put (rebuilt_line done) (rest left)) (λ done left. Put (rebuilt_line done) (other left))
       (λ done left. put_beside (rebuilt_line done) left)
 
--- behind a line
+-- after a line
 halted_beside : (number : ℕ) (rest other : Plan) → IsBehindLine number other → Beside number false rest other → (left : Bool)
     → Beside number left (if_halted true number rest left) (if_halted false number other left)
 halted_beside number rest other behind goes true = inr (refl, refl, behind)

@@ -184,7 +184,7 @@ module _ {R W S K : Type 0} (view : DeviceView R W) (streams : Views S K) (guard
 abbrev both : {S K : Type 0} → SourceView S → SinkView K → Views S K
 both source sink = record { source = source; sink = sink }
 
--- behind a byte
+-- after a byte
 abbrev byte_on : Bool → (g : Geometry) (room number : ℕ) (line : List ℕ) → List ℕ → Plan
 byte_on guarded g room number line byte =
     if_so (ends_line byte) (does_line g number line (if_halted guarded number (lines guarded g room (number + 1) [])))
@@ -249,7 +249,7 @@ module _ {R W S K : Type 0} (view : DeviceView R W) (source : SourceView S) (sin
             with_one view (both source sink) (TookLast []) (lines guarded g (suc room) number line) (last_line guarded g number line) (outside left held counter) (outside later held counter) _ _
             (omega arith, refl) gives refl refl refl
 
-    -- what stands behind the last end is done
+    -- what stands after the last end is done
     pub ends_last : (byte : Option ℕ) → ((some : ℕ) → byte ≡ Some some → ⊥) → TakesByte source byte left later → (bytes : List ℕ) → bytes ≡ line
         → (end : Devices R W) (put : K) (status : Status)
         → ((counter : ℕ) → MeansWith view (both no_source sink) (last_line guarded is.member.array.geometry number bytes) (Over status) (outside tt held counter)
@@ -369,7 +369,7 @@ module _ {R W S K : Type 0} (view : DeviceView R W) (source : SourceView S) (sin
               (comes : (on : Bool → Plan)
               → ComesTo view (does_line is.member.array.geometry number bytes on) (replies reply (on (some_left watchers rest))) (devices now (Opened is) watchers)
               (devices next (Opened after) rest)) (put : K) where
-            -- behind its reply
+            -- after its reply
             abbrev ending : Plan
             ending = on_behind (some_left watchers rest)
 

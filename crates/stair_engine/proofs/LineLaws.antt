@@ -32,7 +32,7 @@ module _ (IsSo : Plan → Type 0) where
   nothing_so end more of_end of_more (Promoted j) = of_more
   nothing_so end more of_end of_more (Dropped j) = of_more
 
-  -- steps of a rebuild, where it is so of one step by what comes behind
+  -- steps of a rebuild, where it is so of one step by what comes after
   pub rebuilds_so : (slots : ℕ)
       → ((k : Progress → Bool → Plan) → ((progress : Progress) (more : Bool) → IsSo (k progress more)) → IsSo (watch_step slots RebuildNext k))
       → (left done : ℕ) (gone : Bool) (k : ℕ → Bool → Plan) → ((steps : ℕ) (gone : Bool) → IsSo (k steps gone)) → IsSo (some_rebuilds slots left done gone k)
@@ -45,7 +45,7 @@ module _ (IsSo : Plan → Type 0) where
   pub halted_so : (guarded : Bool) (number : ℕ) (rest : Plan) → IsSo (Over (Halted number)) → IsSo rest → (left : Bool) → IsSo (if_halted guarded number rest left)
   halted_so guarded number rest halts goes left = left_so IsSo _ _ (left_so IsSo _ _ halts goes left) goes guarded
 
--- A plan's own status is none of a fault and not Usage, nor is it want of memory.
+-- A plan's own status is none of a fault and not Usage, nor is it lack of memory.
 abbrev pub IsOfLine : Status → Type 0
 IsOfLine status = IsOfJob status × (status ≢ OutOfMemory)
 
@@ -53,7 +53,7 @@ IsOfLine status = IsOfJob status × (status ≢ OutOfMemory)
 abbrev pub opens_or_stamps : Step → ℕ
 opens_or_stamps step = opens step + stamps step
 
--- What is so of what a line does, where it is so of each node of its plan by what comes behind. No step of it opens an array or sets
+-- What is so of what a line does, where it is so of each node of its plan by what comes after. No step of it opens an array or sets
 -- a stamp.
 pub record IsOfNodes (IsSo : Plan → Type 0) : Type 0 where
   pub ends : (status : Status) → IsOfLine status → IsSo (Over status)
@@ -90,7 +90,7 @@ module _ (IsSo : Plan → Type 0) (nodes : IsOfNodes IsSo) where
       by (Some said) = line_so g said rest so
 
   module _ (guarded : Bool) where
-    -- behind a line
+    -- after a line
     behind_so : (number : ℕ) (rest : Plan) → IsSo rest → (left : Bool) → IsSo (if_halted guarded number rest left)
     behind_so number rest so = halted_so IsSo guarded number rest (nodes.ends _ (((λ is. cc, λ is. cc), λ is. cc), λ is. cc)) so
 
@@ -110,7 +110,7 @@ module _ (IsSo : Plan → Type 0) (nodes : IsOfNodes IsSo) where
           (left_so IsSo _ _ (lines_so g room number (line ++ byte)) (nodes.ends _ (((λ is. cc, λ is. cc), λ is. cc), λ is. cc))
           (nat_lt (length line) LINE_LIMIT)) (ends_line byte)) (λ none. last_so g number line)
 
-      -- and behind the opening
+      -- and after the opening
       script_so : (g : Geometry) (left : Bool) → IsSo (if_halted guarded 0 (all_lines guarded g) left)
       script_so g = behind_so 0 (all_lines guarded g) (lines_so g SCRIPT_LIMIT 1 [])
 

@@ -139,7 +139,7 @@ module _ {R W : Type 0} (view : DeviceView R W) (g : Geometry) (x : Devices R W)
 
 -- ---- so many steps of a rebuild at most
 
--- behind a step
+-- after a step
 abbrev rebuild_on : (slots left done : ℕ) → Bool → (ℕ → Bool → Plan) → GivenBy RebuildNext → Bool → Plan
 rebuild_on slots left done gone k given more = if_nothing (k done (gone || more)) (some_rebuilds slots left (done + 1) (gone || more) k) given
 
@@ -192,7 +192,7 @@ module _ {R W : Type 0} (view : DeviceView R W) (g : Geometry) (steps : ℕ) (fi
         → length rest ≤ length left
     fewer_behind answer takes = takes_fewer view RebuildNext answer (devices now (Opened is) left) (devices next (Opened after) rest) takes
 
-    -- behind it, with whether a watcher left by then
+    -- after it, with whether a watcher left by then
     abbrev behind : (ℕ → Bool → Plan) → GivenBy RebuildNext → Bool → Plan
     behind k given by_then = if_nothing (k done by_then) (some_rebuilds g.n (steps - (done + 1)) (done + 1) by_then k) given
 

@@ -35,7 +35,7 @@ if_told : (told : Option (List ℕ)) (P : List ℕ → Type 0) → ((input : Lis
 if_told None P always = tt
 if_told (Some input) P always = always input
 
--- behind these bytes none was left
+-- after these bytes none was left
 told_all : (a b : Option (List ℕ)) (bytes : List ℕ) → Consumes a b bytes → IfSome b (λ all. [] ≡ all) → IfSome a (λ input. bytes ≡ input)
 told_all None b bytes consumed none = tt
 told_all (Some x) None bytes consumed none = absurd consumed
@@ -70,7 +70,7 @@ uncounted (Encode method) g Done n n' not same = absurd (not.0 refl)
 uncounted (Encode method) g OutputFault n n' not same = absurd (not.1 refl)
 uncounted (Encode method) g _ n n' not same = same
 
--- a whole input was taken, and the end was seen behind it
+-- a whole input was taken, and the end was seen after it
 record HasTakenAll {S K : Type 0} (view : Views S K) (command : StripeCommand) (g : Geometry) (input : List ℕ) (a : Outside S K) (source : S) : Type 0 where
   pub limits : IsWithinLimits g
   pub long : length input ≡ bytes_needed command g
@@ -190,7 +190,7 @@ module _ {X S K : Type 0} (One : Deed → X → X → Type 0) (view : Views S K)
       (input, all.long, all.consumed) (all.running, all.ended) (Keeps-refl (view.sink.held a.sink)) (λ is. cc, λ is. cc) counts) tt
   judged_all Restore each input source all _ output n is counts = absurd is.4
 
-  -- behind the bytes that are needed
+  -- after the bytes that are needed
   end_all : (command : StripeCommand) → EachDoes command → (bytes : List ℕ) (mid : S) → IsWithinLimits g → length bytes ≡ bytes_needed command g
       → Gives view.source (Took bytes) a.source mid
       → AllEnd One view Q
@@ -268,7 +268,7 @@ module _ {X S K : Type 0} (One : Deed → X → X → Type 0) (view : Views S K)
 
 -- ---- so of every call
 
--- without faults and want of memory, the cause is that the status is the one for the input
+-- without faults and lack of memory, the cause is that the status is the one for the input
 status_of_cause : (command : StripeCommand) (g : Geometry) (input : List ℕ) (held held' : Option (List ℕ)) (status : Status)
     → HasCause command g input held held' status → (status ≢ InputFault) × (status ≢ OutputFault) × (status ≢ OutOfMemory)
     → Answers command g input held held' status

@@ -114,7 +114,7 @@ sectors_sound g j first last limits start chunks k below =
 
 -- ---- the last deeds of a call
 
--- behind a step that isn't the opening the session has the array as it is then
+-- after a step that isn't the opening the session has the array as it is then
 ends_with : (step : Step) (answer : Answer step) (is : ArrayState) (session : Session) → (step ≡ Recover → ⊥) → EndsIn step answer is session
     → HasMember session is.member
 ends_with step answer is session other (Ends recovers err closed) = absurd (other recovers)
@@ -191,7 +191,7 @@ module _ {R W : Type 0} (view : DeviceView R W) (honest : IsTrue view.rack.hones
   abbrev h_of : Devices R W → List Happening
   h_of x = history_of view x
 
-  -- What it leaves where all steps behind the opening were done: the array once it was open, and in the end.
+  -- What it leaves where all steps after the opening were done: the array once it was open, and in the end.
   record IsLeftOpen (rest : List Deed) (g : Geometry) : Type 0 where
     pub mid : Devices R W
     pub works : Leads (WorksAll view) rest mid y
@@ -199,7 +199,7 @@ module _ {R W : Type 0} (view : DeviceView R W) (honest : IsTrue view.rack.hones
     pub ends : GoesOnOpen y
     pub geometry : ends.last.member.array.geometry ≡ g
 
-  -- behind the opening
+  -- after the opening
   record IsOpenedAs (g : Geometry) (z : Devices R W) : Type 0 where
     pub session : GoesOnOpen z
     pub geometry : session.last.member.array.geometry ≡ g
@@ -231,7 +231,7 @@ module _ {R W : Type 0} (view : DeviceView R W) (honest : IsTrue view.rack.hones
       (subst (λ (t : Session). HasMember t ends.last.member) (sym ends.opened) refl) in
       record { mid = works.0; works = works.2; first = opened.session; ends = ends; geometry = stays ∙ opened.geometry }
 
-  -- a deed behind the opening is one of the story
+  -- a deed after the opening is one of the story
   in_story : (asked : Question) (member : Membership) (g : Geometry) (events : List Event) (left : Bool) (rest : List Deed) (IsSo : Deed → Type 0)
       → HasDeed IsSo rest → HasDeed IsSo (opened_story asked member g events left rest)
   in_story asked member g events left rest IsSo has = has_later IsSo (opened_story asked member g events left []) rest has
@@ -251,7 +251,7 @@ module _ {R W : Type 0} (view : DeviceView R W) (honest : IsTrue view.rack.hones
 
   -- ---- each job
 
-  -- the story's deeds, of which all behind the opening were done, and what is left by the job
+  -- the story's deeds, of which all after the opening were done, and what is left by the job
   record IsJobDone (asked : Job) (story : List Deed) : Type 0 where
     pub opens : OpensDone story
     pub ends : EndsMended asked y.session (h_of x) (h_of y)

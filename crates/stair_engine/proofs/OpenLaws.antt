@@ -14,7 +14,7 @@ use Rattle.stair_story.specs.Pieces.{part_of}
 use Rattle.stair_story.specs.Transfers.{reads, writes, wrote}
 use Rattle.std.specs.Prelude.{max}
 
--- a fault, Usage and want of memory are none of a job's own
+-- a fault, Usage and lack of memory are none of a job's own
 abbrev pub IsOfJob : Status → Type 0
 IsOfJob status = IsNoFault status × (status ≢ Usage)
 
@@ -72,7 +72,7 @@ writes_own g first all (suc turns) done held =
 range_own : (g : Geometry) (first count : ℕ) (plan : Plan) → EndsIn IsOfJob plan → EndsIn IsOfJob (within_range g first count plan)
 range_own g first count plan own = range_so (EndsIn IsOfJob) g first count plan own ((λ is. cc, λ is. cc), λ is. cc)
 
--- behind the survey
+-- after the survey
 pub read_own : (n first count : ℕ) (answer : Result Geometry Refusal) (left : Bool)
     → EndsIn IsOfJob (unless_refused n (λ g left. within_range g first count (reads g first count)) answer left)
 read_own n first count =
@@ -156,7 +156,7 @@ writes_allowed n g first all (suc turns) done held =
       λ bytes. tt,
     ) (λ more. tt, λ none. tt) (nat_lt done all)
 
--- behind the survey
+-- after the survey
 pub opening_admits_none : (n : ℕ) (k : Geometry → Plan) → ((g : Geometry) → EachStep AdmitsNone (k g)) → EachStep AdmitsNone (take_step n Recover k)
 opening_admits_none n k none = (tt, unless_so (EachStep AdmitsNone) n (λ g left. k g) (λ g left. none g) (λ refusal. tt))
 

@@ -87,7 +87,7 @@ none_found fallen opened (Some redo) x y z last fences found rules honest later 
         (ran_join (ran_any (ran_after spared read.is_one)) later)
         (subst (λ (g : Geometry). content ((slot_state read.moment gate.gate).sector gate_sector) ≡ Good (open_gate g redo)) first.geometry read.found)
 
--- a sector behind the superblocks that is no gate
+-- a sector after the superblocks that is no gate
 pub opening_spares : (answer : Result Geometry Refusal) (g : Geometry) (x w : Point) → Recovers answer x w → answer ≡ Ok g → IsMembership x.member
     → IsTrue w.told.honest → StayClosed x w.told.history → (j k : ℕ) → 2 ≤ k → gate_writes closed_gate j k ≡ None
     → Spared j k x.told.history w.told.history

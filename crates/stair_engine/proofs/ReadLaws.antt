@@ -20,7 +20,7 @@ use Rattle.stair_story.proofs.TakenLaws.{taken_geometry}
 use Rattle.stair_watch.specs.WatcherList.{AllStay}
 use Rattle.stair_story.specs.Transfers.{reads}
 
--- behind the bytes of a block
+-- after the bytes of a block
 abbrev read_on : Geometry → ℕ → ℕ → List ℕ → Plan
 read_on g first count bytes = Put bytes (reads g first count)
 

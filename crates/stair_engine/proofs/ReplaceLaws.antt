@@ -23,7 +23,7 @@ use Rattle.stair_story.proofs.TakenLaws.{taken_geometry}
 use Rattle.stair_status.specs.declared.status.Status.TheVariants.{Gone, OutOfRange}
 use Rattle.stair_engine.specs.Mending.{if_live, if_slot, replaced, replaces}
 
--- behind the rebuild
+-- after the rebuild
 abbrev pub look_on : Geometry → ℕ → ℕ → Plan
 look_on g slot steps = take_step g.n LookAtSeats (λ seats. if_live slot (seats slot).mark)
 

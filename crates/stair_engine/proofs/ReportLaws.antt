@@ -22,7 +22,7 @@ use Rattle.stair_story.proofs.SureLaws.{CarriesOn, ends_done}
 use Rattle.stair_story.proofs.TextSureLaws.{AreShort, IsOfText, text_so}
 use Rattle.stair_engine.proofs.OpenLaws.{IsOfJob, left_so}
 
--- What is so of the plan of a report, if it is so of each node by what comes behind.
+-- What is so of the plan of a report, if it is so of each node by what comes after.
 pub record IsOfReport (IsSo : Plan → Type 0) : Type 0 where
   pub long : IsSo (Over (Input SCRIPT_LIMIT (SCRIPT_LIMIT + 1)))
   pub bad : (number : ℕ) → IsSo (Over (BadLine number))

@@ -59,7 +59,7 @@ sector_at (x ∷ xs) (suc k) sectors below =
     sector_at xs k (All-tail IsSector x xs sectors) (omega (arith, below))
     ∙ sym (ap (λ d. take 512 (drop d (x ++ concat xs))) at ∙ ap (take 512) (drop-append-add x (concat xs) (k * 512)))
 
--- the stripe that the bytes behind the map make
+-- the stripe that the bytes after the map make
 stripe_of : (g : Geometry) (bytes : List ℕ) → length bytes ≡ cell_bytes g → All (λ x. x < 256) bytes → (stripe : Stripe) × HasBytes g stripe bytes
 stripe_of g bytes long small = (
   record { rows = g.r; chunks = g.n; cells = sectors_of (g.r * g.n) bytes },

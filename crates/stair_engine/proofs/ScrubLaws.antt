@@ -16,7 +16,7 @@ use Rattle.stair_story.proofs.TakenLaws.{taken_geometry}
 use Rattle.stair_watch.specs.WatcherList.{AllStay}
 use Rattle.stair_engine.specs.Mending.{scrubbed, scrubs}
 
--- behind a stripe with so many cells
+-- after a stripe with so many cells
 abbrev pub scrub_on : Geometry → (stripe left cells : ℕ) → ℕ → Plan
 scrub_on g stripe left cells count = scrubs g stripe left (cells + count)
 

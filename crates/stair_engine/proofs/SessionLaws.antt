@@ -202,7 +202,7 @@ module _ {R W S K : Type 0} (view : DeviceView R W) (streams : Views S K) (g : G
 
 module _ {R W K : Type 0} (view : DeviceView R W) (streams : Views (Unit {0}) K) (k : Geometry → Plan) (x y z : R) (watchers mid left : List W)
     (array last : ArrayState) (begins : BeginsSession view array x y watchers mid) where
-  -- what came behind the opening ended the call
+  -- what came after the opening ended the call
   pub ends_with : (status : Status) (sink : K) (counter : ℕ)
       → ComesTo view (k array.member.array.geometry) (Over status) (devices y (Opened array) mid) (devices z (Opened last) left)
       → MeansWhole view streams (opens_array k) (Over status) (outside tt sink counter) (outside tt sink counter) x z watchers left

@@ -1,4 +1,4 @@
--- A session of one step, behind which a line is put out.
+-- A session of one step, after which a line is put out.
 use Rattle.std.proofs.Common.{◌≡◌, ℕ, List, Ok, Err, Result, refl, subst, sym}
 use Rattle.stair_session.specs.Session.{ArrayState}
 use Rattle.stair_array.specs.Machine.{GivenBy, Refusal, Step}

@@ -1,4 +1,4 @@
--- Every end that a call of words comes to: of want of memory, of words that spell no job, and of the job that they spell.
+-- Every end that a call of words comes to: of lack of memory, of words that spell no job, and of the job that they spell.
 use Rattle.std.proofs.Common.{◌≡◌, ℕ, List, Option, None, Some, sym, subst}
 use Rattle.stair_conf.specs.Words.{IsSpelled, Spells}
 use Rattle.stair_conf.specs.declared.job.Job.{Job}

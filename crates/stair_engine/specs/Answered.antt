@@ -21,7 +21,7 @@ IsAnswered s (Stepped (WriteBlocks first contents) answer events left) =
     IsThawed s → IsOk answer
 IsAnswered s _ = ⊤
 
--- So it is along each story that bears out a call, where the array serves along it.
+-- So it is along each story that a call follows, where the array serves along it.
 abbrev pub AnswersClient : {R W S K : Type 0} → Returning → DeviceView R W → Views S K
     → List (List ℕ) → Status → Outside S K → Outside S K → R → R → List W → List W → Type 0
 AnswersClient returning view streams words status old new first last watchers left =

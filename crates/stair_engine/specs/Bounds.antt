@@ -11,7 +11,7 @@ use Rattle.stair_story.specs.Plan.{Over}
 use Rattle.stair_status.specs.declared.status.Status.{Status}
 use Rattle.stair_engine.specs.Plans.{plan_of}
 
--- Along each story that bears out the call, of an array that stands over it: where no superblock of the array bore a draw above `most`
+-- Along each story that the call follows, of an array that stands over it: where no superblock of the array bore a draw above `most`
 -- as the call began, none bears one above `most` + 100 + 5 q at any moment of the call, nor after a crash then. The story has q
 -- replacements of a slot, done or refused.
 abbrev pub BoundsDraws : {R W S K : Type 0} → DeviceView R W → Views S K → List (List ℕ) → Status

@@ -22,7 +22,7 @@ abbrev pub Answers : StripeCommand → Geometry → List ℕ → Option (List �
 Answers command g input old new status = (output : List ℕ) × IsAnswer command g input status output
     × Appends old new output
 
--- Why a status comes, beside faults and want of memory: it is the one for this input, or a fault came in its place. A fault
+-- Why a status comes, beside faults and lack of memory: it is the one for this input, or a fault came in its place. A fault
 -- of the source comes only within the limits, and one of the sink only where the output was being put out.
 abbrev pub HasCause : StripeCommand → Geometry → List ℕ → Option (List ℕ) → Option (List ℕ) → Status →
     Type 0
@@ -93,8 +93,8 @@ TakesInput command g old new InputFault = TakesAtMost old new (bytes_needed comm
 TakesInput command g old new _ = TakesCount old new (bytes_needed command g)
 
 -- Of every source, also one that doesn't tell its bytes, by whether it had ended before and has ended now: an input is judged
--- only after the end was seen behind it, and one of another length ended before the bytes that are needed, or did not end
--- behind them.
+-- only after the end was seen after it, and one of another length ended before the bytes that are needed, or did not end
+-- after them.
 abbrev pub LooksForEnd : StripeCommand → Geometry → Bool → Bool → Status → Type 0
 LooksForEnd command g old new Usage = ⊤
 LooksForEnd command g old new (Limit k) = ⊤

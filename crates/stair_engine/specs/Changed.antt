@@ -19,9 +19,9 @@ use Rattle.stair_status.specs.declared.status.Status.TheVariants.{Done}
 use Rattle.stair_volume.specs.Volumes.{Goes, HasVolumes, IsAmong, IsFinished, IsSettled, Volume}
 use Rattle.stair_engine.specs.Plans.{plan_of}
 
--- Along each story that bears out the call, from a state of an array: in the end of a run of the machine the volumes are those that the
+-- Along each story that the call follows, from a state of an array: in the end of a run of the machine the volumes are those that the
 -- command may have made of them, and where it was done those that it is to make; and where a crash cuts the run, each image that it
--- leaves stands for a state in which they are so.
+-- leaves represents a state in which they are so.
 abbrev pub ChangesVolumes : {R W S K : Type 0} → VolumeJob → DeviceView R W → Views S K
     → List (List ℕ) → Status → Outside S K → Outside S K → R → R → List W → List W → Type 0
 ChangesVolumes job view streams words status old new first last watchers left =

@@ -148,7 +148,7 @@ IsCompleteAlong returning view streams job status old new story first last works
     → CanBeDone returning (λ s. ServesAlong returning view s story first last works) view.rack job
     (streams.source.left old.source) first.rack last.rack → IsFinished job status
 
--- It is so along each story that bears out this call.
+-- It is so along each story that this call follows.
 abbrev pub IsCompleteWherever : {R W S K : Type 0} → Returning → DeviceView R W → Views S K
     → List (List ℕ) → Job → Status → Outside S K → Outside S K → R → R → List W → List W → Type 0
 IsCompleteWherever returning view streams words job status old new first last watchers left =

@@ -22,7 +22,7 @@ kind_of x = x / 2 ^ 33 % 8
 abbrev pub choice_of : ℕ → ℕ
 choice_of x = x / 2 ^ 33 / 8
 
--- THE STEPS, each before what comes behind it
+-- THE STEPS, each before what comes after it
 
 abbrev pub scrub_one : Geometry → ℕ → Exercised → (Exercised → Plan) → Plan
 scrub_one g x so_far k = take_step g.n (ScrubStripe (choice_of x % g.stripes))
@@ -45,13 +45,13 @@ abbrev pub step_one : Geometry → ℕ → Exercised → (Exercised → Plan) �
 step_one g x so_far k = if_so (kind_of x == 0) (scrub_one g x so_far k)
     (if_so (nat_lt (kind_of x) 4) (read_one g x so_far k) (write_one g x so_far k))
 
--- one of so many steps, by the numbers behind this one, is a write
+-- one of so many steps, by the numbers after this one, is a write
 abbrev pub has_write : (number count : ℕ) → Bool
 has_write number zero = false
 has_write number (suc count) =
     nat_lt 3 (kind_of (next_number number)) || has_write (next_number number) count
 
--- so many steps, by the numbers behind this one; the rest takes what they came to
+-- so many steps, by the numbers after this one; the rest takes what they came to
 abbrev pub exercises : Geometry → (left number : ℕ) → Exercised → (Exercised → Plan) → Plan
 exercises g zero number so_far k = k so_far
 exercises g (suc left) number so_far k =
@@ -73,7 +73,7 @@ abbrev pub if_few : (count : ℕ) → Bool → Plan → Plan
 if_few count true plan = plan
 if_few count false plan = Over (OutOfRange count (most_steps + 1))
 
--- how many are asked for is tested behind the opening
+-- how many are asked for is tested after the opening
 abbrev pub exercise_steps : (number count : ℕ) → Geometry → Plan
 exercise_steps number count g = if_few count (nat_lt count (most_steps + 1))
     (exercises g count number none_exercised

@@ -30,7 +30,7 @@ AllAreAnswered (Stepped step (Err refusal) events left ∷ story) = ⊥
 AllAreAnswered (PutFailed part ∷ story) = ⊥
 AllAreAnswered (deed ∷ story) = AllAreAnswered story
 
--- behind this line a script is over, or goes on with the next
+-- after this line a script is over, or goes on with the next
 abbrev pub IsBehindLine : (number : ℕ) → Plan → Type 0
 IsBehindLine number rest = (rest ≡ Over Done)
     ⊎ ((g : Geometry) × (room : ℕ) × (rest ≡ lines false g room (number + 1) []))
@@ -43,7 +43,7 @@ unguarded reply = if_spelled reply
 abbrev pub unguarded_plan : List (List ℕ) → Plan
 unguarded_plan words = Allocate (Ask (Words words) unguarded)
 
--- How a guarded script ended, whose watchers were these. It was halted behind a line exactly where that is the first line at which a
+-- How a guarded script ended, whose watchers were these. It was halted after a line exactly where that is the first line at which a
 -- watcher left, and all steps up to its end were done and all replies put out. So far it went as if it weren't guarded; and where it
 -- wasn't halted it did to its end. A watcher that tells its patience waits for more yet where none left.
 pub record EndsGuarded {W : Type 0} (view : WatcherView W) (words : List (List ℕ))
@@ -57,7 +57,7 @@ pub record EndsGuarded {W : Type 0} (view : WatcherView W) (words : List (List �
   pub patient : (front rest : List Deed) → story ≡ front ++ rest → halt_line 0 front ≡ None
       → All (λ w. GoesOn (events_of_story front) (view w).patience) watchers
 
--- so along each story that bears out the call
+-- so along each story that the call follows
 abbrev pub IsGuarded : {R W S K : Type 0} → DeviceView R W → Views S K → List (List ℕ) → Status
     → Outside S K → Outside S K → R → R → List W → List W → Type 0
 IsGuarded view streams words status old new first last watchers left =

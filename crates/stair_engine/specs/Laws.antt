@@ -45,7 +45,7 @@ use Rattle.stair_engine.specs.Mended.{EndsMended, IsMended, Mends}
 use Rattle.stair_engine.specs.Stands.{ArrayStands}
 use Rattle.stair_engine.specs.Task.{one_stripe}
 
--- the bytes of cell (i, j) behind the map
+-- the bytes of cell (i, j) after the map
 abbrev pub cell_of_input : Geometry → List ℕ → ℕ → ℕ → List ℕ
 cell_of_input g input i j = take SECTOR (drop ((i * g.n + j) * SECTOR) (drop (map_bytes g) input))
 
@@ -93,7 +93,7 @@ PlanIsDone S K = (view : Views S K) (status : Status) (old new : Outside S K)
     → IsDone status
     ⊎ ((status ≡ OutputFault) × Rose (view.sink.faults old.sink) (view.sink.faults new.sink))
 
--- of a source that tells its bytes, without faults and want of memory, status and output are those
+-- of a source that tells its bytes, without faults and lack of memory, status and output are those
 -- for these bytes
 abbrev pub BytesAreAnswered : {S K : Type 0} → Views S K → Type 0
 BytesAreAnswered {S} {K} view =

@@ -20,7 +20,7 @@ scrubbed_line stripes cells = codes "scrubbed " ++ (decimal stripes
 abbrev pub scrubbed : (stripes cells : ℕ) → Plan
 scrubbed stripes cells = Put (scrubbed_line stripes cells) (Over Done)
 
--- so many stripes from this one on, in rising order, behind so many cells
+-- so many stripes from this one on, in rising order, after so many cells
 abbrev pub scrubs : Geometry → (stripe left cells : ℕ) → Plan
 scrubs g stripe zero cells = scrubbed stripe cells
 scrubs g stripe (suc left) cells =
@@ -67,7 +67,7 @@ replace_plan slot =
 
 -- THE FROZEN MARK AND THE LABEL
 
--- one step, behind which this line is put out
+-- one step, after which this line is put out
 abbrev pub stamps : Step → List ℕ → Plan
 stamps step line = opens_array (λ g. take_step g.n step (λ done. Put line (Over Done)))
 

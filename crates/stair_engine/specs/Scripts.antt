@@ -34,12 +34,12 @@ admitted_reply slot = codes "admitted " ++ (decimal slot ++ 10 ∷ [])
 
 -- LINES
 
--- behind a step of a rebuild, of which so many are left: it ends where there was nothing to rebuild
+-- after a step of a rebuild, of which so many are left: it ends where there was nothing to rebuild
 abbrev pub if_nothing : Plan → Plan → Progress → Plan
 if_nothing end more Nothing = end
 if_nothing end more progress = more
 
--- At most so many steps of a rebuild, up to the first that finds nothing, behind so many. The rest takes their number, and whether a
+-- At most so many steps of a rebuild, up to the first that finds nothing, after so many. The rest takes their number, and whether a
 -- watcher left at one of them or before.
 abbrev pub some_rebuilds : (slots left done : ℕ) → Bool → (ℕ → Bool → Plan) → Plan
 some_rebuilds slots zero done gone k = k done gone
@@ -100,7 +100,7 @@ does_line g number line rest = Ask (ScriptLine line) (if_line g number rest)
 abbrev pub LINE_LIMIT : ℕ
 LINE_LIMIT = 1100
 
--- A guarded script is halted behind a line at which a watcher left. Where the array was opened it is number 0.
+-- A guarded script is halted after a line at which a watcher left. Where the array was opened it is number 0.
 abbrev pub if_halted : Bool → (number : ℕ) → Plan → Bool → Plan
 if_halted guarded number rest left =
     if_so guarded (if_so left (Over (Halted number)) rest) rest

@@ -36,7 +36,7 @@ pub(crate) fn check<S: Source, K: Sink>(
     Ok(Status::Done)
 }
 
-/// Takes exactly the cells of a stripe, and looks for the end behind them.
+/// Takes exactly the cells of a stripe, and looks for the end after them.
 fn take_input<S: Source>(
     geometry: &Geometry,
     stripe: &mut Stripe,

@@ -64,7 +64,7 @@ fn encode_by<C: StripeCode, S: Source, K: Sink, L: Ledger>(
     Ok(Status::Done)
 }
 
-/// Takes exactly the blocks of a stripe, and looks for the end behind them.
+/// Takes exactly the blocks of a stripe, and looks for the end after them.
 fn take_input<S: Source>(
     geometry: &Geometry,
     stripe: &mut Stripe,

@@ -59,7 +59,7 @@ pub(crate) fn exercise<R: Rack, K: Sink>(
     put_line(output, exercised_line(number, steps, came).bytes())
 }
 
-// Takes so many steps, by the numbers behind this one, and answers what they came to.
+// Takes so many steps, by the numbers after this one, and answers what they came to.
 fn take_steps<C: StripeCode, R: Rack>(
     array: &mut Opened<C>,
     first: u64,
@@ -154,7 +154,7 @@ fn take_step<C: StripeCode, R: Rack>(
     Ok(came)
 }
 
-// The number behind this one.
+// The number after this one.
 fn next_number(number: u64) -> u64
     ensures { result ≡ number_behind number }
 {

@@ -46,7 +46,7 @@ pub fn plan_laws<R, W, S: Source, K: Sink>()
     // of a command on one stripe: limits, cause, what is taken, that the end is looked for, what is put out, and the
     // steps, by the status
     ensures done { WordsAreDone (views S.Source K.Sink) }
-    // of such a command and a source that tells its bytes, without faults and want of memory: the status and the output
+    // of such a command and a source that tells its bytes, without faults and lack of memory: the status and the output
     // for these bytes
     ensures answers { BytesAreAnswered (views S.Source K.Sink) }
     // a fault comes only where its count rose, no count falls, and what nothing is put out of

@@ -94,7 +94,7 @@ use write::write;
 /// a line once all is done.
 /// `run` opens the array and does the lines of a script ([`stair_script::read_line`]), one after the other: each once its end came,
 /// or that of the input, and its reply is put out before more is taken. `exercise` opens it and takes the steps that a number gives;
-/// it takes nothing, and puts out a line once all is done. `guard` is `run` that is halted behind the first line at which a watcher
+/// it takes nothing, and puts out a line once all is done. `guard` is `run` that is halted after the first line at which a watcher
 /// left, or before its first line where one left as the array was opened: whoever calls it chooses the watchers, whatever its numbers
 /// are. `report` counts the events that the lines of its input tell ([`stair_monitor::report`]), and makes no call on the rack.
 /// `serve` takes memory for all that a client sends at once, opens the array, and has one client of the protocol NBD over input and
@@ -137,7 +137,7 @@ pub fn stair<R: Rack, S: Source, K: Sink, L: Ledger>(
     // Those that are left haven't left, so they may be told of what the next call does.
     ensures stay { AllStay hears watchers.new.items }
 
-    // Want of memory: only where a command's word comes first and no word begins with a hyphen.
+    // Lack of memory: only where a command's word comes first and no word begins with a hyphen.
     ensures memory { result ≡ Status.OutOfMemory → IsCommandLine (map string_bytes words.now) }
 
     // What `create` made on an honest rack: the array of the geometry that the input says, whose blocks are zeros. It is
@@ -155,21 +155,21 @@ pub fn stair<R: Rack, S: Source, K: Sink, L: Ledger>(
     ensures stands { IsTrue R.is_honest → NotSpelled MayWrite (map string_bytes words.now) →
         ArrayStands (R.history rack.old) (R.history rack.new) }
 
-    // Where it can be done, and neither source nor sink fails, the answer is Done or want of memory, or of `guard` that it was halted,
+    // Where it can be done, and neither source nor sink fails, the answer is Done or lack of memory, or of `guard` that it was halted,
     // or of a command on volumes what they and its input make of it.
     ensures complete { (job : Jobs) → Spells (map string_bytes words.now) job →
         IsComplete (rack_view R.Rack) (views S.Source K.Sink) job result
         (outside input.old output.old steps.old) (outside input.new output.new steps.new)
         rack.old rack.new }
 
-    // `guard` is halted exactly behind the first line at which a watcher left, once its steps were done and its reply was put out; up
+    // `guard` is halted exactly after the first line at which a watcher left, once its steps were done and its reply was put out; up
     // to there it went as `run` does. A watcher that tells its patience is waiting for more where none left.
     ensures halted { (events fences : ℕ) → Spells (map string_bytes words.now) (Guard events fences) →
         IsGuarded (device_view (rack_view R.Rack) hears) (views S.Source K.Sink) (map string_bytes words.now) result
         (outside input.old output.old steps.old) (outside input.new output.new steps.new)
         rack.old rack.new watchers.old.items watchers.new.items }
 
-    // So it is too where media that were pulled are put back, along each story that bears out the call: where the array serves along it,
+    // So it is too where media that were pulled are put back, along each story that the call follows: where the array serves along it,
     // failures staying within tolerance.
     ensures complete_wherever { (job : Jobs) → Spells (map string_bytes words.now) job →
         IsCompleteWherever AnyReturns
@@ -185,7 +185,7 @@ pub fn stair<R: Rack, S: Source, K: Sink, L: Ledger>(
         (outside input.old output.old steps.old) (outside input.new output.new steps.new)
         rack.old rack.new watchers.old.items watchers.new.items }
 
-    // A command on volumes makes of them what it is to make, and of no other: at the end of the call, and behind a crash at any moment
+    // A command on volumes makes of them what it is to make, and of no other: at the end of the call, and after a crash at any moment
     // of it, they are those from before or those after, of a write with some of its blocks from the first on. Once it is done they
     // are those after, and `vread` put out what its volume holds.
     ensures volumes { (job : VolumeJobs) → Spells (map string_bytes words.now) (Volume job) →

@@ -65,7 +65,7 @@ fn restore_by<C: StripeCode, S: Source, K: Sink>(
     Ok(Status::Done)
 }
 
-/// Takes exactly a map and the cells of a stripe, looks for the end behind them, and gives the cells that are erased.
+/// Takes exactly a map and the cells of a stripe, looks for the end after them, and gives the cells that are erased.
 fn take_input<S: Source>(
     geometry: &Geometry,
     stripe: &mut Stripe,

@@ -20,8 +20,8 @@ use std::alloc::Global;
 
 /// Opens the array of the rack, and does the lines of a script, which is the input.
 ///
-/// It is taken byte by byte, so that the reply to a line is put out before anything behind it is taken. A guarded script is halted
-/// behind the first line at which a watcher left, or before its first line where one left as the array was opened.
+/// It is taken byte by byte, so that the reply to a line is put out before anything after it is taken. A guarded script is halted
+/// after the first line at which a watcher left, or before its first line where one left as the array was opened.
 pub(crate) fn run_script<R: Rack, S: Source, K: Sink>(
     alloc: Global,
     guarded: bool,
@@ -94,7 +94,7 @@ fn do_lines<C: StripeCode, R: Rack, S: Source, K: Sink>(
     do_last(array, guarded, line.bytes(), number, rack, output, watchers)
 }
 
-// Does what stands behind the last end of a line, which is no line where it is nothing.
+// Does what stands after the last end of a line, which is no line where it is nothing.
 fn do_last<C: StripeCode, R: Rack, K: Sink>(
     array: &mut Opened<C>,
     guarded: bool,

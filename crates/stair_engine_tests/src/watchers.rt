@@ -200,7 +200,7 @@ fn with_quota(alloc: Global, line: &str) -> Result<Watched, AllocError> {
     Ok(Watched { came, pages, stay })
 }
 
-// The quota leaves at line 1, and is told of nothing behind it. `run` goes on without it, `guard` doesn't.
+// The quota leaves at line 1, and is told of nothing after it. `run` goes on without it, `guard` doesn't.
 #[test]
 fn a_quota_leaves_a_run_and_a_guard(rt: HostRuntime) -> Result<(), Fail> {
     let events = [

@@ -150,7 +150,7 @@ held_next {File} old access bads slots i was slot within is alone so_far = recor
       ];
 }
 
--- the same, once the slots of the second were let go of
+-- the same, once the slots of the second were released
 pub detached_all : {File : Type 0} (old between : FileRackState File) (access : Access) (bads : ℕ) (slots new : List (FileSlot File))
     → rack_of access bads slots ≡ between → between.access ≡ old.access → between.bads ≡ old.bads
     → ((j : ℕ) → j < 32 → detached (slot_at between j) ≡ detached (slot_at old j))

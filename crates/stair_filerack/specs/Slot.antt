@@ -75,7 +75,7 @@ detached slot = record slot { file = None; sectors = 0 }
 abbrev pub gone_once_more : {File : Type 0} → FileSlot File → FileSlot File
 gone_once_more slot = record slot { gones = one_more slot.gones }
 
--- a slot that was gone, keeps this reason and lets go of its file
+-- a slot that was gone, keeps this reason and releases its file
 abbrev pub let_go : {File : Type 0} → Option Reason → FileSlot File → FileSlot File
 let_go reason slot = record (gone_once_more slot) { file = None; reason = reason }
 
@@ -101,7 +101,7 @@ read_as got.Bad file reason slot = record slot { file = file }
 read_as got.Gone file reason slot = let_go reason slot
 
 -- the file of a slot of so many sectors after a write of this sector with this answer, which left it so: one that
--- failed is let go of, and one whose end the sector lies past is as it was
+-- failed is released, and one whose end the sector lies past is as it was
 abbrev pub file_after_write : {File : Type 0} → Reply → ℕ → ℕ → Option File → Option File →
     Option File
 file_after_write reply.Done sectors sector new old = new

@@ -86,7 +86,7 @@ where
         })
     }
 
-    /// Opens all devices that are there, each as an attach would, so that all are open at once, and lets go of them again.
+    /// Opens all devices that are there, each as an attach would, so that all are open at once, and releases them again.
     /// Nothing is read or written, and no count rises.
     ///
     /// `Refused`: the first device that can't be had for a reason of the caller's ([`Reason::is_callers`]). A device that
@@ -171,7 +171,7 @@ where
             (gones_of self.new slot) }
 
         // What the rack is afterwards: the slot holds some file open where it is attached, which wasn't read or written
-        // yet, and let go of the earlier one. It has as many sectors as that file has up to its end.
+        // yet, and released the earlier one. It has as many sectors as that file has up to its end.
         ensures attached { result ≡ Reply.Done →
             IsSomeAnd (slot_at self.new slot).file (λ held. held.next ≡ None) }
         ensures unread { result ≡ Reply.Done →

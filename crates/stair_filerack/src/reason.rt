@@ -41,7 +41,7 @@ pub enum Reason {
 
 impl Reason {
     /// Whether the reason is the caller's and not the device's: a permission, a file system that is mounted for reading
-    /// alone, too many open files, want of memory, or a lock that another has.
+    /// alone, too many open files, lack of memory, or a lock that another has.
     pub fn is_callers(&self) -> bool
         ensures { IsTrue result ↔ IsCallers self.now }
     {
@@ -123,7 +123,7 @@ impl fmt::Display for Reason {
     }
 }
 
-// What the error says, without the number that std puts behind the system's words.
+// What the error says, without the number that std puts after the system's words.
 fn write_error<W: fmt::Write>(f: &mut fmt::Formatter<W>, error: &io::Error) -> fmt::Result {
     let mut said = Cursor::new([0; MOST_WORDS]);
     let _ = write!(said, "{error}");

@@ -12,7 +12,7 @@ pub fn seal_laws()
     // nothing else is sealed
     ensures only { (number : ℕ) (sector : List ℕ) → IsSealed number sector →
         sector ≡ sealed number (payload_in sector) }
-    // any other tag behind a payload is refused
+    // any other tag after a payload is refused
     ensures other_tag { (number : ℕ) (payload tag : List ℕ) → length payload ≡ 512 →
         tag ≢ tag_of number payload → ¬ IsSealed number (payload ++ tag) }
 {}

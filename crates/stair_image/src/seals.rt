@@ -17,7 +17,7 @@ pub struct Seals {
 }
 
 impl Seals {
-    /// No sector but zeros. The error comes only for want of memory.
+    /// No sector but zeros. The error comes only for lack of memory.
     pub fn new(alloc: Global) -> Result<Seals, AllocError> {
         Ok(Seals {
             places: vec![in alloc; Sealed::new(); PLACES]?,

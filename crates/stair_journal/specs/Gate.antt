@@ -30,7 +30,7 @@ unfoldable pub open_gate : Geometry → Redo → List ℕ
 open_gate g redo = MAGIC ++ (1 ∷ 0 ∷ 0 ∷ 0 ∷ []
     ++ (to_be_bytes w32 redo.stripe ++ (bitmap g redo.cells ++ replicate 368 0)))
 
--- a closed gate: all is zero behind the first eight bytes
+-- a closed gate: all is zero after the first eight bytes
 unfoldable pub closed_gate : List ℕ
 closed_gate = MAGIC ++ replicate 504 0
 

@@ -21,7 +21,7 @@ use crate::redo::Redo;
 use byteorder::{BigEndian, ByteOrder};
 use stair_base::{CellSet, Geometry, SECTOR};
 
-/// The bytes of a closed gate: `STAIRGT1`, and zeros behind it.
+/// The bytes of a closed gate: `STAIRGT1`, and zeros after it.
 pub fn closed_gate() -> [u8; SECTOR]
     ensures { result ≡ closed }
 {

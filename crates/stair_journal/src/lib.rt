@@ -1,4 +1,4 @@
-//! The journal of an array: a gate on each device, and behind it the body of a redo.
+//! The journal of an array: a gate on each device, and after it the body of a redo.
 //!
 //! A redo changes cells of one stripe. Its body is written to every live device, then the gates are opened, the cells are
 //! placed, and the gates are closed. No call takes memory.

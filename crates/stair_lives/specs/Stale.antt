@@ -150,7 +150,7 @@ IsNeverLive g h j name = (image to : Image) (place : Location) (medium : Medium)
 
 -- READS
 
--- a read of a sector behind the superblock places, as of a gate, a body or a chunk, is of one of these slots
+-- a read of a sector after the superblock places, as of a gate, a body or a chunk, is of one of these slots
 abbrev pub ReadsBehind : (ℕ → Type 0) → ℕ → SlotCall → Type 0
 ReadsBehind some j (Read k answer) = 2 ≤ k → some j
 ReadsBehind some j call = ⊤
@@ -163,7 +163,7 @@ HasMember _ m = ⊥
 
 -- THE LAWS
 
--- On an honest rack a step reads sectors behind the superblock places only of slots that were live to the session's member when it
+-- On an honest rack a step reads sectors after the superblock places only of slots that were live to the session's member when it
 -- began, and of the slot that it replaces.
 abbrev pub OnlyLiveAreRead : Type 0
 OnlyLiveAreRead = (step : Step) (answer : Answer step) (events : List Event) (x y : Seen)

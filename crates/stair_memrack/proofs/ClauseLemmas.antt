@@ -126,7 +126,7 @@ shelf_stopped s places stop late_only is =
           (record { count = it.count; stopped_is = refl; each = it.each; beyond = it.beyond })
     ]
 
--- what the call lets go of is what the history says that was found
+-- what the call releases is what the history says that was found
 lets_go-is : {w : Written} (a : Ask) (p : PlaceState) (b : SlotState) → IsPlaceOf w p b → lets_go (answer_of true a p) b ≡ asks_to_let_go a p
 lets_go-is ask.Attach p b is = ap₂ (λ (t : Bool) (n : ℕ). t || not (n == 0)) is.attached_is is.found_is
 lets_go-is ask.Sectors p b is = refl

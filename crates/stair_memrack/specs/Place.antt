@@ -117,7 +117,7 @@ answered_as (call.Read k answer) p = p
 answered_as (call.Write k bytes answer) p = written_as k bytes answer p
 answered_as (call.Sync answer) p = synced_as answer p
 
--- what is asked lets go of what an attach found
+-- what is asked releases what an attach found
 abbrev pub asks_to_let_go : Ask → PlaceState → Bool
 asks_to_let_go ask.Attach p = has_found p
 asks_to_let_go a p = false

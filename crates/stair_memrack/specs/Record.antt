@@ -28,7 +28,7 @@ pub record MemRackState : Type 0 where
   pub calls : List Recorded
   -- a call came after the record was spent
   pub spent : Bool
-  -- the slots that were attached then, the last one first: of each the first attach that lets go of what was found before
+  -- the slots that were attached then, the last one first: of each the first attach that releases what was found before
   pub late : List ℕ
   -- the counts of bad sectors, of gone slots and of reads
   pub bads : ℕ
@@ -181,7 +181,7 @@ abbrev pub lets_go : Call → SlotState → Bool
 lets_go (Attach answer) b = b.attached || not (b.found == 0)
 lets_go call b = false
 
--- there was no room for it: the rack is stopped, and the call is told where it lets go of what was found
+-- there was no room for it: the rack is stopped, and the call is told where it releases what was found
 abbrev pub without_room : ℕ → Call → MemRackState → MemRackState
 without_room j call s = record s {
   spent = true;

@@ -3,7 +3,7 @@
 /// What the outside does. Slots, sectors and media are counted from 0.
 #[derive(Clone, Copy, Debug, PartialEq, Eq, Drop)]
 pub enum What {
-    /// It pulls the slot's medium, which goes behind the other media of the slot's drawer. What was written to it stays,
+    /// It pulls the slot's medium, which goes after the other media of the slot's drawer. What was written to it stays,
     /// synced or not.
     Pull { slot: u8 },
     /// It pulls the slot's medium in the same way, but what was written to it since its last sync is lost: each sector

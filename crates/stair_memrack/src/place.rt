@@ -74,7 +74,7 @@ impl Place {
         &self.removed
     }
 
-    /// Whether what is asked lets go of what an attach found.
+    /// Whether what is asked releases what an attach found.
     pub(crate) fn asks_to_let_go(&self, ask: &Ask) -> bool
         ensures { result ≡ asks_to_let_go ask.now self.now }
     {

@@ -46,7 +46,7 @@ pub struct MemRack {
     log: Vec<Recorded>,
     // A call came after the record was spent.
     spent: bool,
-    // The slots that were attached then, of each the first attach that lets go of what was found before.
+    // The slots that were attached then, of each the first attach that releases what was found before.
     late: Vec<u8>,
     bads: u64,
     gones: Vec<u64>,
@@ -310,7 +310,7 @@ fn blank_for(alloc: Global, what: What) -> Result<Option<Disk>, AllocError>
     }
 }
 
-// Tells an attach of a stopped rack, where it lets go of what was found before.
+// Tells an attach of a stopped rack, where it releases what was found before.
 fn tell(lets_go: bool, slot: u8, late: &mut Vec<u8>)
     requires { lets_go ≡ true → vec_len late.old < vec_capacity late.old }
     ensures told { late.new.items ≡ (if lets_go then late.old.items ++ slot ∷ []

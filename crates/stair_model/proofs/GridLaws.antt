@@ -1,4 +1,4 @@
--- Sums over numbers that stand for the cells of rows and columns, and over some of the numbers.
+-- Sums over numbers that represent the cells of rows and columns, and over some of the numbers.
 use Rattle.std.proofs.Common.{◌≡◌, ℕ, zero, suc, ◌+◌, ◌*◌, Bool, true, false, if◌then◌else◌, refl, sym, ap, ◌∙◌, arith, add-zero, add-one, add_assoc}
 use Rattle.std.proofs.Math.Nat.{zero-mul}
 use Rattle.stair_model.specs.Sum.{sum_below}

@@ -1,4 +1,4 @@
--- The canonical stripe of Li and Lee (STAIR Codes, FAST 2014), by which the code solves: behind the n chunks of a stripe
+-- The canonical stripe of Li and Lee (STAIR Codes, FAST 2014), by which the code solves: after the n chunks of a stripe
 -- stand its m' intermediate chunks, and below the r rows of all these e_max rows of virtual symbols.
 use Rattle.std.specs.Prelude.{◌≡◌, ℕ, ◌+◌, ◌<◌}
 use Rattle.stair_model.specs.CauchyCode.{IsSystematicCodeword}

@@ -127,7 +127,7 @@ module _ {R W : Type 0} (view : DeviceView R W) (q : Request) where
           subst (λ (plan : Plan). ComesTo view plan refused x y) (sym (front_part refused on some))
           (comes_unread view x y refused result (first_block q) bytes on err takes)
 
-  -- Behind this front the last block is this, as far as it is kept.
+  -- After this front the last block is this, as far as it is kept.
   pub record BackRead (front back : List ℕ) (x y : Devices R W) : Type 0 where
     pub comes : (refused : Plan) (k : List ℕ → Plan) → ComesTo view (reads_back q front refused k) (k back) x y
 

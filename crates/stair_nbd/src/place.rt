@@ -2,7 +2,7 @@ ghost use Rattle.std.specs.Prelude.{◌≡◌, ◌+◌, ◌≤◌, ◌<◌, true
 ghost use Rattle.stair_nbd.specs.Client.{SESSION_LIMIT as LIMIT};
 ghost use Rattle.stair_nbd.specs.Sessions.{IsPlace};
 
-/// Behind so many bytes no message may begin any more.
+/// After so many bytes no message may begin any more.
 pub const SESSION_LIMIT: u64 = 1 << 40;
 
 /// Where the next message of a session begins.

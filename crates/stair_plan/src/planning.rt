@@ -9,7 +9,7 @@ use stair_codec::{downstairs_steps, upstairs_steps};
 use stair_std::Generator;
 use std::alloc::{AllocError, Global};
 
-/// What the code of this geometry costs. The error comes only for want of memory.
+/// What the code of this geometry costs. The error comes only for lack of memory.
 ///
 /// It makes a [`Generator`], of which it counts the dependents of each block of a stripe, and lets it go.
 pub fn plan(alloc: Global, geometry: &Geometry) -> Result<Plan, AllocError>

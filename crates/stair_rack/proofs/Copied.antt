@@ -2,7 +2,7 @@
 use Rattle.std.proofs.Common.{◌≡◌, ℕ, ◌+◌, ◌≤◌, List, ◌++◌, length, take, drop, sym, ap, ◌∙◌, arith, length-drop}
 use Rattle.std.proofs.lemmas.List.{drop-drop, length-take-le, take-append-drop, take_at}
 
--- bytes from g on are the n bytes that were copied to the front of the piece, and those behind them
+-- bytes from g on are the n bytes that were copied to the front of the piece, and those after them
 pub drop-copied : (bytes piece copy : List ℕ) (g n m : ℕ) → m ≡ n → g + n ≤ length bytes → copy ≡ take m (drop g bytes)
     → drop g bytes ≡ take n (copy ++ drop n piece) ++ drop (g + n) bytes
 drop-copied bytes piece copy g n m same room is =

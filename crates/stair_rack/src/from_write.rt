@@ -30,7 +30,7 @@ impl<T: Write> Model for FromWrite<T> {
 }
 
 impl<T: Write + Drop> FromWrite<T> {
-    /// A sink into `writer`, behind what it holds.
+    /// A sink into `writer`, after what it holds.
     pub fn new(writer: T) -> FromWrite<T>
         ensures held { ⟦<FromWrite<T> as Sink>⟧.held result ≡ T.contents writer }
         ensures faults { ⟦<FromWrite<T> as Sink>⟧.faults result ≡ 0 }

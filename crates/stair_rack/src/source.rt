@@ -32,7 +32,7 @@ pub trait Source {
 
     /// Takes some bytes to the front of `into`, which has room for at least one.
     ///
-    /// - `Bytes(k)`: `k` bytes, from 1 to `into.len()`, are `into[..k]`. What stands in `into` behind
+    /// - `Bytes(k)`: `k` bytes, from 1 to `into.len()`, are `into[..k]`. What stands in `into` after
     ///   them isn't said.
     /// - `End`: no byte is left; every later take answers `End`.
     /// - `Failed`: no byte was taken, and the count of faults rose. A later take may give bytes

@@ -1,4 +1,4 @@
--- In the midst of a redo of an array whose media come back slots that were gone are left out, behind calls beside the epochs: the slots that take
+-- In the midst of a redo of an array whose media come back slots that were gone are left out, after calls beside the epochs: the slots that take
 -- part did so before, with their media, and what is known of all media is known again.
 use Rattle.std.proofs.Common.{IsTrue, List, None, Option, Result, ap, inl, inr, subst, sym, ◌<◌, ◌∙◌, ◌≡◌, ◌≢◌, ◌⊎◌, ℕ, arith}
 use Rattle.stair_model.specs.Device.{gate_sector}
@@ -149,7 +149,7 @@ module _ (before : List Happening) {kept : Content} {change : Option Change} (do
     attaches = ran_none {allowed = AttachesNone every_slot} mid.history;
   }
 
-  -- behind a fence
+  -- after a fence
   module _ (answer : Result Slots FenceFault) (fences : Fences gone p.member y.member answer mid y.told) (fine : refusal_of answer ≡ None)
       (tolerated : IsTolerated m.array.geometry before mid.history) (within : IsTolerated m.array.geometry before y.told.history) where
     abbrev e : Establishes Fence fences.start y.member None mid y.told

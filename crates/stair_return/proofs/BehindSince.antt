@@ -1,4 +1,4 @@
--- While superblocks alone are written media hold behind them what they held, wherever they lie.
+-- While superblocks alone are written media hold after them what they held, wherever they lie.
 use Rattle.std.proofs.Common.{◌≡◌, ℕ, ◌<◌, ◌≤◌, List, ◌⊎◌, inl, inr, refl, sym, ap, ◌∙◌, subst, arith, Bool, true, false, Option, None, Some, if◌then◌else◌, ◌==◌}
 use Rattle.std.specs.Prelude.{nat_lt}
 use Rattle.std.proofs.lemmas.Bool.{cases_Bool, cases_lt, cond-true, cond-false, eq-eqb, eqb-true, false≢true, lt-ltb, le-ltb}
@@ -103,7 +103,7 @@ bore_then g old new looked image left to j slot b bears = by (come.medium came.p
 
 -- BEHIND THE SUPERBLOCKS
 
--- the superblocks as they were, and behind them what there is now
+-- the superblocks as they were, and after them what there is now
 as_it_was : Medium → SlotImage → SlotImage
 as_it_was medium to = record {
   size = Some medium.size;
@@ -242,7 +242,7 @@ module _ (g : Geometry) (m : Membership) (old : List Happening) (n : ℕ → ℕ
   back_size : (j : ℕ) → some j ≡ true → (back j).size ≡ (to j).size
   back_size j on = size_then j (some j) refl on
 
--- WHAT SUCH SLOTS HOLD, by what was known behind the places
+-- WHAT SUCH SLOTS HOLD, by what was known after the places
 
 module _ (s : State) (encodings : Encodings s) (holders : Holders) (since : ℕ) (aim : Aim) (m : Membership) (old : List Happening)
     (behind : IsKnownBehind s encodings holders since aim m old) where

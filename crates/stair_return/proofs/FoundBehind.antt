@@ -1,4 +1,4 @@
--- Behind the superblock places of media there lies at the end of a survey what lay there when it began, though media came back
+-- After the superblock places of media there lies at the end of a survey what lay there when it began, though media came back
 -- meanwhile: of those that hold chunks or are rebuilt, and of those in use, whether their superblocks can be read still or not.
 use Rattle.std.specs.Prelude.{Ok, IsSome}
 use Rattle.std.proofs.Common.{◌≡◌, ℕ, ◌<◌, ◌≤◌, List, [], ◌⊎◌, inl, inr, refl, sym, ap, ◌∙◌, subst, arith, true, false, Option, None, Some, if◌then◌else◌, ◌==◌}

@@ -93,7 +93,7 @@ is_shown gone got.Gone old new j k found history called is = Unread is.1 is.0
 
 -- BOTH READS
 
--- of one medium, at moments of their own behind the attach: they show what was found, unless the slot was gone to one
+-- of one medium, at moments of their own after the attach: they show what was found, unless the slot was gone to one
 pub record AreReads (gone : Type 0) (old new : List Happening) (j : ℕ) (cell : ℕ → Cell) : Type 0 where
   pub asked : List Happening
   pub attached : List Happening

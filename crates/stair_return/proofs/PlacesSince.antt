@@ -32,7 +32,7 @@ pub data HasPlacesOf (old : List Happening) (j : ℕ) (name : Location) (size : 
       → ((k : ℕ) → k < 2 → (cell k ≡ medium.cell k) ⊎ (cell k ≡ Damaged)) → HasPlacesOf old j name size cell
   NoneLeft : ((k : ℕ) → k < 2 → cell k ≡ Damaged) → HasPlacesOf old j name size cell
 
--- a call that writes behind the places writes no place
+-- a call that writes after the places writes no place
 behind_within : (j i : ℕ) (c : SlotCall) → IsBehindPlaces i c → WritesWithin j (λ k. 2 ≤ k) i c
 behind_within j i (Attach answer) may = tt
 behind_within j i (Sectors size) may = tt

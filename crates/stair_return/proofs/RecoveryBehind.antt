@@ -1,4 +1,4 @@
--- What is known behind the superblock places is known still once a fence's epoch stands, of the slots that take part in it, and after calls
+-- What is known after the superblock places is known still once a fence's epoch stands, of the slots that take part in it, and after calls
 -- that write nothing.
 use Rattle.std.proofs.Common.{List, None, Option, Some, ap, inl, inr, refl, subst, sym, ◌<◌, ◌∙◌, ◌≡◌, ◌≤◌, ◌⊎◌, ℕ, arith, false}
 use Rattle.stair_model.specs.Device.{gate_sector}

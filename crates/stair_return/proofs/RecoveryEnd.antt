@@ -207,7 +207,7 @@ module _ (before : List Happening) (kept : Content) (change : Option Change) (on
         geometry = made.done.stays.geometry;
       }
 
-  -- At each moment whatever a crash leaves stands for the state, refused or not,
+  -- At each moment whatever a crash leaves represents the state, refused or not,
   pub replay_moments : (refusal : Option FenceFault) (z : Point) → Replays is.redo stripe opened refusal x z → IsTrue z.told.honest
       → AtEveryMoment (StandsUnseated before kept change is.m.array.geometry) x.told.history z.told.history
   replay_moments refusal z (Replays.Goes to _ _ y _ are does more) honest = again_moments refusal y z to are does more honest

@@ -57,13 +57,13 @@ use Rattle.stair_return.proofs.SupersSince.{known_so, latest_so}
 abbrev pub unseated : Geometry → Content → Option Change → State
 unseated g kept change = record { geometry = g; content = kept; in_doubt = change; seats = None }
 
--- The rack is consistent by these holders since an epoch, and so are the media in use behind their superblock places.
+-- The rack is consistent by these holders since an epoch, and so are the media in use after their superblock places.
 pub record IsConsistentBehind (kept : Content) (change : Option Change) (holders : Holders) (since : ℕ) (m : Membership) (h : List Happening)
     (g : Geometry) : Type 0 where
   pub is : IsConsistentSince (unseated g kept change) holders since h
   pub behind : IsKnownBehind (unseated g kept change) is.encodings holders since Fence m h
 
--- In a recovery that began at `before` the member's epoch stands, and of all media it is known that they stand for the state.
+-- In a recovery that began at `before` the member's epoch stands, and of all media it is known that they represent the state.
 pub record IsUntouched (before : List Happening) (kept : Content) (change : Option Change) (m : Membership) (h : List Happening) : Type 0 where
   pub history : IsHistory h
   pub amid : IsOpenAmid before (opened_with m) h
@@ -110,7 +110,7 @@ module _ (before : List Happening) (kept : Content) (change : Option Change) (m 
 
 module _ (s : State) (unseated_so : s.seats ≡ None) (holders : Holders) (since : ℕ) (gone : Slots) (m last : Membership) (old new : List Happening)
     (begins : BeginsWherever s holders since Fence m old) (issued : Issued Fence gone m last old new) where
-  -- what a crash leaves at a moment of it stands for the state,
+  -- what a crash leaves at a moment of it represents the state,
   pub fence_left : (c : List Happening) → IsMoment old c new → (image : Image) → CrashMayLeave c image → IsConsistentUnderReassembly s (Made image ∷ [])
   fence_left c at image left =
       image_stands s begins.is.encodings holders since image unseated_so

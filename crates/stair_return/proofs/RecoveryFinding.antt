@@ -49,7 +49,7 @@ none_attached j (Write k bytes answer) may = absurd may
 none_attached j (Sync answer) may = absurd may
 
 module _ (before : List Happening) (kept : Content) (change : Option Change) (g : Geometry) where
-  -- whatever a crash leaves here stands for the state, if it is calm up to here
+  -- whatever a crash leaves here represents the state, if it is calm up to here
   abbrev pub StandsUnseated : List Happening → Type 0
   StandsUnseated c = IsCalmTo AnyReturns g before c → (image : Image) → CrashMayLeave c image
       → IsConsistentUnderReassembly (unseated g kept change) (Made image ∷ [])
@@ -144,7 +144,7 @@ module _ (before : List Happening) (kept : Content) (change : Option Change) (g 
 
   -- ALL ROUNDS
 
-  -- at each moment whatever a crash leaves stands for the state, refused or not
+  -- at each moment whatever a crash leaves represents the state, refused or not
   pub finding_moments : (redo : Option Redo) (opened : Slots) (refusal : Option FenceFault) (x z : Point) → FindsRedo redo opened refusal x z
       → IsUntouched before kept change x.member x.told.history → x.member.array.geometry ≡ g → IsTrue z.told.honest
       → AtEveryMoment StandsUnseated x.told.history z.told.history

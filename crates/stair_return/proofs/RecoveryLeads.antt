@@ -1,4 +1,4 @@
--- What a recovery comes to, of an array whose media come back: at each moment whatever a crash leaves stands for the state; refused or not the
+-- What a recovery comes to, of an array whose media come back: at each moment whatever a crash leaves represents the state; refused or not the
 -- rack does in the end; and where it isn't the array serves what is decided.
 use Rattle.std.proofs.Common.{ap, Err, IsTrue, List, None, Ok, Option, Result, Some, refl, subst, sym, ◌∙◌, ◌∷◌, ◌≡◌, false, []}
 use Rattle.stair_model.specs.Geometry.{Geometry}
@@ -201,7 +201,7 @@ module _ (s : State) (first : Telling) (u : Point) (found : IsFoundAny s first u
   abbrev pub before : List Happening
   before = first.history
 
-  -- whatever a crash leaves here stands for the state, if what is asked of the outside was kept up to here
+  -- whatever a crash leaves here represents the state, if what is asked of the outside was kept up to here
   abbrev pub StandsCalm : List Happening → Type 0
   StandsCalm c = IsCalm AnyReturns s.geometry false first.history c → (image : Image) → CrashMayLeave c image
       → IsConsistentUnderReassembly (without_seats s) (Made image ∷ [])

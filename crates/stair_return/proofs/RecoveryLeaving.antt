@@ -1,4 +1,4 @@
--- In a recovery slots that were gone are left out: at each moment of that the rack stands for the state, and the recovery goes on.
+-- In a recovery slots that were gone are left out: at each moment of that the rack represents the state, and the recovery goes on.
 use Rattle.std.proofs.Common.{IsTrue, List, None, Option, Result, refl, subst, sym, ◌<◌, ◌∙◌, ◌∷◌, ◌≡◌, ℕ, []}
 use Rattle.stair_model.specs.Geometry.{Geometry}
 use Rattle.stair_model.specs.Slots.{HasSlot, Slots}
@@ -79,7 +79,7 @@ module _ (before : List Happening) (kept : Content) (change : Option Change) (le
 module _ (before : List Happening) (kept : Content) (change : Option Change) (gone : Slots) (refusal : Option FenceFault) (m : Membership) (old : Telling)
     (y : Point) (is : IsUntouched before kept change m old.history) (leaves : LeavesOut gone refusal (point m old) y) (honest : IsTrue y.told.honest)
     (below : (j : ℕ) → HasSlot gone j → j < m.array.geometry.n) (tolerated : IsTolerated m.array.geometry before old.history) where
-  -- at each moment what a crash leaves stands for the state,
+  -- at each moment what a crash leaves represents the state,
   pub out_left : (c : List Happening) → IsMoment old.history c y.told.history → (image : Image) → CrashMayLeave c image
       → IsConsistentUnderReassembly (unseated m.array.geometry kept change) (Made image ∷ [])
   out_left =

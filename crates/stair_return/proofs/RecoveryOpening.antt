@@ -95,7 +95,7 @@ module _ (before : List Happening) (kept : Content) (change : Option Change) (to
   pub gone_below : (j : ℕ) → HasSlot does.gone j → j < x.member.array.geometry.n
   gone_below j has = (live j (does.phase.among j has)).below
 
-  -- at each moment whatever a crash leaves stands for the state
+  -- at each moment whatever a crash leaves represents the state
   pub gates_moments : AtEveryMoment (StandsUnseated before kept change is.m.array.geometry) x.told.history y.told.history
   gates_moments =
       at_every_join {P = StandsUnseated before kept change is.m.array.geometry}

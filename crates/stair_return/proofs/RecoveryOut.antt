@@ -1,5 +1,5 @@
 -- In the midst of a redo of an array whose media come back slots that were gone are left out, where no phase came before that: at each moment
--- the rack stands for the state, and the redo is in a stage that its live slots are in.
+-- the rack represents the state, and the redo is in a stage that its live slots are in.
 use Rattle.std.proofs.Common.{IsTrue, List, None, Option, Result, refl, sym, ◌<◌, ◌∙◌, ◌≡◌, ◌⊎◌, ℕ, ◌∷◌, []}
 use Rattle.stair_model.specs.Slots.{HasSlot, Slots}
 use Rattle.stair_rack.specs.Answers.{Ran, any_call}
@@ -53,7 +53,7 @@ module _ (before : List Happening) {kept : Content} {change : Option Change} (do
   free_now : Ran (AttachesNone every_slot) p.told.history p.told.history
   free_now = ran_none {allowed = AttachesNone every_slot} p.told.history
 
-  -- it stands for the state as it is
+  -- it represents the state as it is
   pub amid_alone : (image : Image) → CrashMayLeave p.told.history image → IsConsistentUnderReassembly (unseated m.array.geometry kept change) (Made image ∷ [])
   amid_alone image left =
       left_consistent (unseated m.array.geometry kept change) p.told.history image is.history

@@ -1,4 +1,4 @@
--- A recovery that found a redo reads its body, whichever media come back: at each moment the rack stands for the state, and within tolerance
+-- A recovery that found a redo reads its body, whichever media come back: at each moment the rack represents the state, and within tolerance
 -- the redo can be done again.
 use Rattle.std.proofs.Common.{IsTrue, List, None, Option, Some, inl, inr, refl, subst, ◌<◌, ◌≡◌, arith, ℕ}
 use Rattle.std.proofs.lemmas.Bool.{cases_Bool, cases_lt}
@@ -59,7 +59,7 @@ module _ (before : List Happening) (kept : Content) (change : Option Change) (on
   out : Ran any_call found.mid.history y.told.history
   out = out_ran body.gone refusal (point x.member found.mid) y found.leaves honest
 
-  -- at each moment whatever a crash leaves stands for the state,
+  -- at each moment whatever a crash leaves represents the state,
   pub body_moments : AtEveryMoment (StandsUnseated before kept change is.m.array.geometry) x.told.history y.told.history
   body_moments =
       at_every_join {P = StandsUnseated before kept change is.m.array.geometry}

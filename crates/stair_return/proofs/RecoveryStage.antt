@@ -56,7 +56,7 @@ use Rattle.stair_return.proofs.SessionBehind.{left_reassembled}
 use Rattle.stair_return.proofs.StageSince.{since_now}
 use Rattle.stair_return.proofs.StoodSince.{IsHeldHere, held_here, holders_here}
 
--- A REDO OF ONE CELL, which stands for none
+-- A REDO OF ONE CELL, which represents none
 
 only_first : ℕ → ℕ → Bool
 only_first i j = (i == 0) && (j == 0)

@@ -105,7 +105,7 @@ module _ (s : State) (first : Telling) (u w : Point) (found : IsFoundAny s first
       leaves_begins (without_seats s) found.stands.holders found.stands.since no_slots u.member does.start u.told.history
       (found_begins s first u found honest_first mixed) does.leaves none_below
 
-  -- at each moment of it what a crash leaves stands for the state,
+  -- at each moment of it what a crash leaves represents the state,
   pub first_left : (c : List Happening) → IsMoment u.told.history c w.told.history → (image : Image) → CrashMayLeave c image
       → IsConsistentUnderReassembly (without_seats s) (Made image ∷ [])
   first_left =

@@ -186,7 +186,7 @@ module _ (before : List Happening) {kept : Content} {change : Option Change} (do
       (consistent_then before doing stage rebuild stopped p is c beside free since) tolerated
       (own_then before doing stage rebuild stopped p is c beside free since) fence_behind says
 
-  -- within tolerance an image stands for the state with the redo's change in doubt
+  -- within tolerance an image represents the state with the redo's change in doubt
   pub amid_stands : IsCalmTo AnyReturns m.array.geometry before c → (image : Image) → CrashMayLeave c image → StandsIn AnyReturns m kept change image
   amid_stands calm image left = record {
     array = alone.current.array;

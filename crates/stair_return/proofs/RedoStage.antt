@@ -1,4 +1,4 @@
--- A stage's phase of a redo of an array whose media come back, and the fence behind it: at each moment of both an image stands for the state
+-- A stage's phase of a redo of an array whose media come back, and the fence after it: at each moment of both an image represents the state
 -- with the redo's change in doubt.
 use Rattle.std.proofs.Common.{IsTrue, List, Option, Result, Some, inl, ◌<◌, ◌≡◌, ℕ}
 use Rattle.stair_model.specs.CellSet.{HasCell}

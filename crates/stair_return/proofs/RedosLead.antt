@@ -71,7 +71,7 @@ module _ (before : List Happening) {kept : Content} {change : Option Change} (do
     later : Ran any_call y.told.history z.told.history
     later = redo_ran (redo_of doing) redoing stripe cells start (next stage) refusal y z more honest
 
-    -- the next stage, at a moment behind which failures stayed within tolerance
+    -- the next stage, at a moment after which failures stayed within tolerance
     next_any : (c : List Happening) → IsMoment y.told.history c z.told.history → IsCalmTo AnyReturns m.array.geometry before c
         → IsAt (next stage) (rebuild_in y.member rebuild) None y
     next_any c at calm =
@@ -119,11 +119,11 @@ module _ (before : List Happening) {kept : Content} {change : Option Change} (do
 
   -- ITS MOMENTS
 
-  -- within tolerance whatever a crash leaves here stands for the state
+  -- within tolerance whatever a crash leaves here represents the state
   abbrev Stands : List Happening → Type 0
   Stands h = IsCalmTo AnyReturns m.array.geometry before h → (image : Image) → CrashMayLeave h image → StandsIn AnyReturns m kept change image
 
-  -- slots that are left out behind a phase, whether that is refused or not
+  -- slots that are left out after a phase, whether that is refused or not
   module _ (stage : Stage) (to : Slots) (refusal : Option FenceFault) (rebuild : Option Rebuild) (stopped : Option FenceFault) (p y : Point)
       (is : IsAt stage rebuild stopped p) (over : IsOver stage p.member to)
       (does : DoesStage (stage_writes m.array.geometry redo stripe stage) to refusal p y) (honest : IsTrue y.told.honest) where

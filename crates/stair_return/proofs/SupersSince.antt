@@ -77,7 +77,7 @@ module _ (s : State) (encodings : Encodings s) (holders : Holders) (since : ℕ)
       let was = was_borne s.geometry old h steady behind image left there.slot there.place a there.borne in
       record { slot = there.slot; place = was.place; borne = was.borne; since_then = there.since_then }
 
-  -- what lies behind the places is to be shown apart, and may be told of other stripes
+  -- what lies after the places is to be shown apart, and may be told of other stripes
   pub consistent_as : (other : Encodings s) → ((to : Image) (some : Slots) → IsReassembly image to → HaveHolders s.geometry holders to (HasSlot some)
       → HasGate (HasSlot some) to → RepresentsBy s.geometry other.old other.new (HasSlot some) to)
       → ((to : Image) (j : ℕ) → IsReassembly image to → IsHolder s.geometry holders j ((to j).cell) → IsLargeEnough s.geometry (to j).size)

@@ -68,7 +68,7 @@ pub record BeginsWherever (s : State) (holders : Holders) (since : ℕ) (aim : A
   pub geometry : m.array.geometry ≡ s.geometry
   pub is : IsConsistentSince s holders since h
   pub recent : since ≤ m.array.epoch
-  -- what the member knows of all media, of the superblocks in the slots that it may write, and behind the places
+  -- what the member knows of all media, of the superblocks in the slots that it may write, and after the places
   pub known : EachImage (IsKnownWherever (admitted aim) m (IsAttached h)) h
   pub supers : (j : ℕ) → IsTaken (admitted aim) m j → IsAttached h j → KnowsSuper m h j
   pub behind : IsKnownBehind s is.encodings holders since aim m h

@@ -1,4 +1,4 @@
--- What holds behind the superblock places when a call begins that establishes an epoch: of the media that hold chunks, of those
+-- What holds after the superblock places when a call begins that establishes an epoch: of the media that hold chunks, of those
 -- that are rebuilt, and of those in use, to which the call may write a superblock.
 use Rattle.std.specs.Prelude.{◌≡◌, ℕ, List, Some}
 use Rattle.stair_model.specs.Geometry.{Geometry}

@@ -45,7 +45,7 @@ naming epoch marks joins = record {
   label = [];
 }
 
--- Slot j's device: its superblock of an edition in both places, a closed gate, and behind it the cell of its chunk.
+-- Slot j's device: its superblock of an edition in both places, a closed gate, and after it the cell of its chunk.
 abbrev pub device_cell : Codewords → (ℕ → Edition) → ℕ → ℕ → Cell
 device_cell words editions j k = if nat_lt k (sectors_needed five)
     then (if nat_lt k gate_sector then Good (spelled (copy_of (editions j) j))

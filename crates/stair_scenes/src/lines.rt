@@ -20,7 +20,7 @@ impl Line {
         }
     }
 
-    // The same line, in which the values stand for their names.
+    // The same line, in which the values represent their names.
     fn with_values(&self, alloc: Global, values: &[Value]) -> Result<Line, AllocError> {
         let mut known = self.values.clone()?;
         for value in values {
@@ -34,7 +34,7 @@ impl Line {
     }
 }
 
-// What stands for a name.
+// What represents a name.
 #[derive(Drop)]
 struct Value {
     name: String,

@@ -18,7 +18,7 @@ enum Place {
     Between,
     Plain,
     Quoted,
-    // behind a backslash
+    // after a backslash
     Escaped,
     Suffix,
 }

@@ -234,7 +234,7 @@ no_command_read bytes command values some parts no_space other said = (
     none_of (Replace slot) same spells = other.no_replace same
     none_of (Rebuild steps) same spells = other.no_rebuild same
 
--- ---- what was read behind a command's word
+-- ---- what was read after a command's word
 
 pub behind : (bytes command values word : List ℕ) (read : Option Line) → bytes ≡ command ++ 32 ∷ values → command ≡ word
     → ReadsLine (word ++ 32 ∷ values) read → ReadsLine bytes read

@@ -8,7 +8,7 @@ use std::alloc::{AllocError, Global};
 /// Prints a line of a script, without an end: one space between words, and hexadecimal digits in lower case. `Blank` is
 /// printed as no bytes.
 ///
-/// Want of memory is the only error.
+/// Lack of memory is the only error.
 pub fn print_line(alloc: Global, line: &Line) -> Result<Vec<u8>, AllocError>
     ensures text { IfOk result (λ bytes. bytes.items ≡ printed line.now) }
     ensures spells { IfOk result (λ bytes. SpellsLine bytes.items line.now) }

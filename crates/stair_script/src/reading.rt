@@ -37,7 +37,7 @@ fn read_command(line: &str) -> Option<Line>
     }
 }
 
-// Reads what stands behind the word `write`: the number of a block, and its bytes.
+// Reads what stands after the word `write`: the number of a block, and its bytes.
 fn read_write(values: &str) -> Option<Line>
     ensures { (said : Line) → (result ≡ Some said)
         ↔ SpellsLine (codes "write " ++ values.now) said }

@@ -224,7 +224,7 @@ came_from slots editions old h tidy ran returned image left = record {
   issued = λ j. (came slots editions old h tidy ran returned image left j).issued;
 }
 
--- behind the places each cell is as it was, or damaged
+-- after the places each cell is as it was, or damaged
 pub came_behind : (slots : Slots) (editions : List Edition) (j : ℕ) (was is : SlotImage) → IsIssuedTo slots editions j was is
     → (k : ℕ) → gate_sector ≤ k → (is.cell k ≡ was.cell k) ⊎ (is.cell k ≡ Damaged)
 came_behind slots editions j was is (Less less) k past = degraded_copies less k

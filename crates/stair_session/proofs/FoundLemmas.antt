@@ -51,7 +51,7 @@ module _ {s : State} {m last : Membership} {before old mid h new : List Happenin
       subst (λ (x : Geometry). IsLive x first.was first_represents.current j) (sym found.geometry)
       (found.live j below here first.was first.left first_represents.current first_current)
 
-  -- behind the superblock places each cell is as it was, or damaged
+  -- after the superblock places each cell is as it was, or damaged
   pub first_behind : (j k : ℕ) → gate_sector ≤ k → ((image j).cell k ≡ (first.was j).cell k) ⊎ ((image j).cell k ≡ Damaged)
   first_behind j k past =
       copied_again (degraded_copies (first.degraded j) k)

@@ -1,4 +1,4 @@
--- Images that are alike: each slot has the same superblocks, and the same cells behind its places. What the one represents, the other
+-- Images that are alike: each slot has the same superblocks, and the same cells after its places. What the one represents, the other
 -- represents.
 use Rattle.std.proofs.Common.{◌≡◌, ℕ, ◌<◌, ◌≤◌, inl, inr, sym, ◌∙◌, subst, arith}
 use Rattle.std.specs.Prelude.{◌↔◌, None}

@@ -58,13 +58,13 @@ calm_going AnyReturns g before h ran calm = calm
 -- CALLS BESIDE
 
 pub record LeadsBeside (returning : Returning) : Type 0 where
-  -- The array serves after calls that are beside all that it has: to slots that don't take part, and to one that is rebuilt behind the
+  -- The array serves after calls that are beside all that it has: to slots that don't take part, and to one that is rebuilt after the
   -- chunks that the rebuild has come to.
   pub beside : (before : List Happening) (a : ArrayState) (words : Codewords) (kept : Content) (old new : List Happening)
       → IsServing returning before a words kept old → Ran (IsBesideArray a) old new → IsGoing returning a.member.array.geometry before new
       → IsServing returning before a words kept new
 
--- at each moment of them an image stands for the state
+-- at each moment of them an image represents the state
 pub beside_stands : (returning : Returning) → LeadsReads returning → LeadsBeside returning → (before : List Happening) (a : ArrayState)
     (words : Codewords) (kept : Content) (old new : List Happening) → IsServing returning before a words kept old → Ran (IsBesideArray a) old new
     → (c : List Happening) → IsMoment old c new → IsCalmTo returning a.member.array.geometry before c → (image : Image) → CrashMayLeave c image
@@ -86,7 +86,7 @@ beside_stands returning reads laws before a words kept old new is ran c at calm 
 
 -- SEATS THAT MOVE
 
--- An image stands for the state, with seats that the array had, or as an epoch for this has them.
+-- An image represents the state, with seats that the array had, or as an epoch for this has them.
 pub record StandsMoved (returning : Returning) (aim : Aim) (gone : Slots) (m : Membership) (kept : Content) (image : Image) : Type 0 where
   pub array : Configuration
   pub stands : StandsForAlone returning (state_with m kept None array) image
@@ -156,7 +156,7 @@ rebuilt_wholly before a words j to gone old new is rebuilt settles done chunks c
         (ran_weakened {allowed = IsOn to Sync} {more = AttachesNone (IsSlot j)} (λ i c may here. subst IsBesideAttach (sym may.1.1) tt) settles.ran) on
 
 pub record LeadsPromotions (returning : Returning) : Type 0 where
-  -- at each moment of it, refused or not, an image stands for the state
+  -- at each moment of it, refused or not, an image represents the state
   pub moments : (before : List Happening) (a : ArrayState) (words : Codewords) (kept : Content) (j : ℕ) (last : Membership)
       (refusal : Option FenceFault) (old new : Telling) → IsServing returning before a words kept old.history
       → IsRebuiltWhole a words old.history j → (e : Establishes (Promote j) a.member last refusal old new) → IsTrue new.honest
@@ -222,7 +222,7 @@ pub record LeadsAdmissions (returning : Returning) : Type 0 where
   pub saw : (before : List Happening) (a : ArrayState) (words : Codewords) (kept : Content) (slot : ℕ) (seen : Membership)
       (old new : List Happening) → IsServing returning before a words kept old → IsLookedAt a slot seen old new
       → IsGoing returning a.member.array.geometry before new → IsServing returning before (seen_by a seen) words kept new
-  -- at each moment of the admission, refused or not, an image stands for the state,
+  -- at each moment of the admission, refused or not, an image represents the state,
   pub moments : (before : List Happening) (a : ArrayState) (words : Codewords) (kept : Content) (slot : ℕ) (seen last : Membership)
       (refusal : Option FenceFault) (first : List Happening) (old new : Telling) → IsServing returning before a words kept first
       → IsLookedAt a slot seen first old.history → (e : Establishes (Admit slot) seen last refusal old new) → IsTrue new.honest

@@ -294,7 +294,7 @@ module _ (r : Redoing) (before : List Happening) (a : ArrayState) (live : ℕ �
 
 -- AN EPOCH THAT STANDS
 
--- a medium's cells lie behind its superblock places
+-- a medium's cells lie after its superblock places
 cells_behind : (g : Geometry) (t i : ℕ) → 2 ≤ cell_sector g t i
 cells_behind g t i = omega arith
 

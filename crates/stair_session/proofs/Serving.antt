@@ -71,7 +71,7 @@ pub record IsServing (returning : Returning) (before : List Happening) (a : Arra
   pub of : IsOfContent a.member words kept
   pub knows : Knows returning (state_with a.member kept None a.member.array) a.member h
 
--- An image stands for the state with the change in doubt, with seats that the array had, or of slots that were dropped.
+-- An image represents the state with the change in doubt, with seats that the array had, or of slots that were dropped.
 pub record StandsIn (returning : Returning) (m : Membership) (kept : Content) (doubt : Option Change) (image : Image) : Type 0 where
   pub array : Configuration
   pub stands : StandsForAlone returning (state_with m kept doubt array) image
@@ -125,7 +125,7 @@ pub record LeadsReads (returning : Returning) : Type 0 where
       → IsServing returning before a words kept old.history → LeavesOut gone None (point a.member old) y → IsTrue y.told.honest
       → ((j : ℕ) → HasSlot gone j → IsHere a.member j) → IsGoing returning a.member.array.geometry before y.told.history
       → IsServing returning before (led_to a y.member) words kept y.told.history
-  -- At each moment at which an epoch is established without them an image stands for the state; those that are live were offline.
+  -- At each moment at which an epoch is established without them an image represents the state; those that are live were offline.
   pub fencing : (before : List Happening) (a : ArrayState) (words : Codewords) (kept : Content) (gone : Slots) (last : Membership)
       (answer : Result Slots FenceFault) (old new : Telling) → IsServing returning before a words kept old.history
       → Fences gone a.member last answer old new → IsTrue new.honest → ((j : ℕ) → HasSlot gone j → IsHere a.member j)
@@ -159,7 +159,7 @@ pub record LeadsRedos (returning : Returning) : Type 0 where
       → Redoes a.member.array.geometry redo stripe AtRest None (point a.member old) z → IsTrue z.told.honest
       → IsGoing returning a.member.array.geometry before z.told.history
       → IsServing returning before (led_to a z.member) new (changed_if change kept) z.told.history
-  -- at each moment of it, refused or not, an image stands for the state with the change in doubt
+  -- at each moment of it, refused or not, an image represents the state with the change in doubt
   pub moments : (before : List Happening) (a : ArrayState) (words new : Codewords) (kept : Content) (change : Option Change) (redo : Redo)
       (stripe : Stripe) (refusal : Option FenceFault) (old : Telling) (z : Point) → IsServing returning before a words kept old.history
       → LeadsTo a words new kept change redo stripe → Redoes a.member.array.geometry redo stripe AtRest refusal (point a.member old) z

@@ -78,7 +78,7 @@ plain_open aim before a words last old new history is none never e honest =
 -- THE LAWS
 
 pub record LeadsStamps (returning : Returning) : Type 0 where
-  -- at each moment of it, refused or not, an image stands for the state with the change in doubt
+  -- at each moment of it, refused or not, an image represents the state with the change in doubt
   pub moments : (before : List Happening) (a : ArrayState) (words : Codewords) (kept : Content) (doubt : Option Change) (aim : Aim)
       (last : Membership) (refusal : Option FenceFault) (old new : Telling) → IsServing returning before a words kept old.history
       → IsPlain aim a.member words kept doubt → Establishes aim a.member last refusal old new → IsTrue new.honest → (c : List Happening)

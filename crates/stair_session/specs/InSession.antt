@@ -81,7 +81,7 @@ pub record IsBesideEpochs (m : Membership) (j : ℕ) (call : SlotCall) : Type 0 
   pub gate : j < m.array.geometry.n → why_of m j ≡ Rebuilding → (bytes : List ℕ) (answer : Reply)
       → call ≢ Write gate_sector bytes answer
 
--- and write nothing behind the places of a slot that is live: they are beside its redos too
+-- and write nothing after the places of a slot that is live: they are beside its redos too
 pub record IsBeside (m : Membership) (j : ℕ) (call : SlotCall) : Type 0 where
   pub epochs : IsBesideEpochs m j call
   pub spares : WritesNone (λ i. (i < m.array.geometry.n) × (why_of m i ≡ Here)) j call

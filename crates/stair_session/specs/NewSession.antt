@@ -73,7 +73,7 @@ new_member g epoch = record {
 }
 
 -- what sector k of slot j holds: the superblock of epoch 1 in the first place, that of this epoch in the second one, a closed
--- gate, and zeros behind it
+-- gate, and zeros after it
 abbrev pub new_sector : Geometry → ℕ → ℕ → ℕ → List ℕ
 new_sector g epoch j k =
     if nat_lt k gate_sector then spelled (new_super g (if k == 0 then 1 else epoch) j)

@@ -138,7 +138,7 @@ own_mark g image j s counts =
 
 -- REASONS
 
--- the reason of a slot that takes part comes behind all that speak of its medium
+-- the reason of a slot that takes part comes after all that speak of its medium
 pub here_late : (m : Membership) (j : ℕ) → IsHere m j → rank OtherJoined < rank (why_of m j)
 here_late m j here =
     elim here.why [

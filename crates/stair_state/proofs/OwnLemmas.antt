@@ -228,7 +228,7 @@ own_found old new j k gone cell bytes j_in k_in good is asked none within = by w
     none_then attached (Untold acts runs answered is_stopped nothing is_so) moment =
         let gone_then = refused (acts ++ within.from) j (Attach reply.Done) is_stopped answered in absurd (cc)
 
-    -- read at a moment behind the attach
+    -- read at a moment after the attach
     behind : (attached at : List Happening) (l : ℕ) → Calls within.from attached j (Attach reply.Done) → Ran any_call attached at → Ran any_call at new
         → content ((slot_state at j).sector l) ≡ Good bytes → IsOwnOrBare (slot_state old j) (slot_state new j)
     behind attached at l called more rest found =

@@ -36,7 +36,7 @@ use Rattle.stair_state.proofs.StageLemmas.{Concerns, PartHas, PartIn, SlotIn, is
 
 module _ (a : Redoing) (stage : Stage) (start : List Happening) (j : ℕ) (gate : List ℕ) (to gone : ℕ → Type 0) (old new : List Happening)
     (phase : Placed (gate_writes gate) to gone old new) (is : SlotIn a stage start old j) where
-  -- it writes nothing behind the gate
+  -- it writes nothing after the gate
   behind : (k : ℕ) (bytes : List ℕ) → gate_sector < k → gate_writes gate j k ≡ Some bytes → ⊥
   behind k bytes after written = let at = (gate_writes_is gate j k bytes written).at in absurd (omega (arith, after, at))
 

@@ -196,7 +196,7 @@ module _ (a : Redoing) (redoing : IsRedoing a) (live : ℕ → Type 0) (image : 
         IdleNew (idle_closed a.new (λ t i j t_in i_in j_in on. left.chunks j t i on j_in t_in i_in) left.gates);
   }
 
-  -- what is left of the live slots in a stage stands for the stage's stripes; while cells are being placed one of the gates
+  -- what is left of the live slots in a stage represents the stage's stripes; while cells are being placed one of the gates
   -- mustn't be lost
   pub stands : (stage : Stage) → ((stage ≡ Placing) → HasGate live image) → IsLeftIn a stage live image
       → RepresentsBy a.geometry (old_in a stage) (new_in a stage) live image

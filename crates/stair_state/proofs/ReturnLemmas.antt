@@ -75,7 +75,7 @@ stay b image from same = record {
 
 -- A MEDIUM THAT IS PULLED
 
--- it lies behind the others
+-- it lies after the others
 pub pulled_last : (count i : ℕ) → i ≡ count → before_pull count (Outside i) ≡ InSlot
 pulled_last count i same = cond-true _ _ _ (eq-eqb i count same)
 
@@ -93,7 +93,7 @@ pulled_twice count (Outside i) =
 pub pulled_apart : (count : ℕ) (p q : Location) → before_pull count p ≡ before_pull count q → p ≡ q
 pulled_apart count p q same = sym (pulled_twice count p) ∙ ap (before_pull count) same ∙ pulled_twice count q
 
--- of the list with one more behind it
+-- of the list with one more after it
 pub pushed_cases : (xs : List Medium) (m x : Medium) (i : ℕ) → slice_get (xs ++ m ∷ []) i ≡ Some x
     → ((i ≡ length xs) × (m ≡ x)) ⊎ ((¬ (i ≡ length xs)) × (slice_get xs i ≡ Some x))
 pushed_cases [] m x zero is = inl (refl, some_once is)
@@ -135,7 +135,7 @@ pulled_came b m settles image left = record {
 
 -- A MEDIUM THAT IS PUT BACK
 
--- those behind it move up
+-- those after it move up
 abbrev pub before_gap : ℕ → ℕ → ℕ
 before_gap i k = if nat_lt k i then k else k + 1
 

@@ -92,7 +92,7 @@ pub record HasGate (live : ℕ → Type 0) (image : Image) : Type 0 where
   pub among : live slot
   pub kept : ¬ IsLost ((image slot).cell gate_sector)
 
--- on these slots each cell behind the superblock places is as it was, or damaged
+-- on these slots each cell after the superblock places is as it was, or damaged
 pub record AreStill (some : ℕ → Type 0) (was is : Image) : Type 0 where
   pub each : (j k : ℕ) → some j → gate_sector ≤ k
       → ((is j).cell k ≡ (was j).cell k) ⊎ ((is j).cell k ≡ Damaged)

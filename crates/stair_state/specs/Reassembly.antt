@@ -22,12 +22,12 @@ abbrev pub IsMediumOf : SlotImage → Location → Medium → Type 0
 IsMediumOf slot InSlot medium = (slot.size ≡ Some medium.size) × (slot.cell ≡ medium.cell)
 IsMediumOf slot (Outside i) medium = slice_get slot.removed i ≡ Some medium
 
--- where the medium lay, before the slot's one was pulled and put behind so many others, that lies there after it
+-- where the medium lay, before the slot's one was pulled and put after so many others, that lies there after it
 abbrev pub before_pull : ℕ → Location → Location
 before_pull count InSlot = Outside count
 before_pull count (Outside i) = if i == count then InSlot else Outside i
 
--- and before this one of them was put back, and those behind it moved up
+-- and before this one of them was put back, and those after it moved up
 abbrev pub before_return : ℕ → Location → Location
 before_return i InSlot = Outside i
 before_return i (Outside k) = Outside (if nat_lt k i then k else k + 1)

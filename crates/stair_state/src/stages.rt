@@ -16,7 +16,7 @@ ghost use Rattle.stair_state.specs.Represents.{IsLargeEnough};
 
 /// The stages of a redo over the devices of an array. It does nothing.
 pub fn stage_laws()
-    // a stage's phase writes no superblock place, and nothing behind what the array needs
+    // a stage's phase writes no superblock place, and nothing after what the array needs
     ensures within { (a : Redoing) (stage : Stage) (j k : ℕ) (bytes : List ℕ) → IsRedoing a →
         writes_in a stage j k ≡ Some bytes →
         (gate_sector ≤ k) × (k < sectors_needed a.geometry) }
@@ -83,7 +83,7 @@ pub fn stage_laws()
         IsIn a stage (HasSlot live) start h → CrashMayLeave h image →
         ((j : ℕ) → HasSlot now j → HasSlot live j × ¬ WasPulled start h j) →
         IsLeftIn a stage (HasSlot now) image }
-    // in each stage what a crash may leave stands for its stripes, over any of the live slots that weren't pulled; while
+    // in each stage what a crash may leave represents its stripes, over any of the live slots that weren't pulled; while
     // cells are being placed one of these must have a gate that isn't lost
     ensures stands { (a : Redoing) (stage : Stage) (live now : Slots) (start h : List Happening)
         (image : Image) →

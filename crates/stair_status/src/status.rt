@@ -40,7 +40,7 @@ pub enum Status {
     /// `Here`.
     TooFew([Why; 32]),
     /// The erased cells of this stripe are not covered. For each of the `n` slots, `counts` has how many of its cells are
-    /// erased, and behind them zeros.
+    /// erased, and after them zeros.
     Lost {
         stripe: u32,
         counts: [u8; 32],

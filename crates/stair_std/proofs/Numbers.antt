@@ -64,7 +64,7 @@ IsNumberOf-at g row slot row_below slot_below = record {
   within = number_in g row slot row_below slot_below;
 }
 
--- behind the last cell of a row comes the first one of the next
+-- after the last cell of a row comes the first one of the next
 pub next_row : (row slot n : ℕ) → slot ≡ n → row * n + slot ≡ (row + 1) * n + 0
 next_row row slot n end = omega arith
 

@@ -61,7 +61,7 @@ pub(crate) fn block_at(geometry: &Geometry, row: u8, slot: u8) -> Option<u16>
     }
 }
 
-/// What each cell is, row by row. The error comes only for want of memory.
+/// What each cell is, row by row. The error comes only for lack of memory.
 pub(crate) fn parts_of(alloc: Global, geometry: &Geometry) -> Result<Vec<Part>, AllocError>
     ensures { IfOk result (λ parts. AreParts geometry.now parts.items) }
 {

@@ -42,7 +42,7 @@ impl Model for Coefficients {
 }
 
 impl Coefficients {
-    /// The coefficients of this geometry. The error comes only for want of memory.
+    /// The coefficients of this geometry. The error comes only for lack of memory.
     ///
     /// A stripe whose data cells are 1 at one byte position each is encoded for each 512 data cells, since the byte positions
     /// of a stripe don't touch each other.

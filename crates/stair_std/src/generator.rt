@@ -37,7 +37,7 @@ impl Model for Generator {
 }
 
 impl Generator {
-    /// The generator of this geometry. The error comes only for want of memory.
+    /// The generator of this geometry. The error comes only for lack of memory.
     ///
     /// It keeps a coefficient of each row parity and each global parity over each of the u data cells, a byte each, and what
     /// each cell is. Beside these it takes a stripe and a canonical stripe, and lets both go.

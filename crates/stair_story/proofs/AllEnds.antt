@@ -142,7 +142,7 @@ module _ {S K : Type 0} (view : Views S K) (Q : Status → Outside S K → Unit 
       ends_at Nowhere view Q means.story plan status a b tt tt (λ deed x y off same. same) means.follows means.bears.gives means.bears.holds
       means.bears.counts (nowhere_along means.story) all
 
--- A plan that by itself ends so alone, where faults and want of memory are so too.
+-- A plan that by itself ends so alone, where faults and lack of memory are so too.
 module _ {X S K : Type 0} (One : Deed → X → X → Type 0) (view : Views S K) (P : Status → Type 0) (input : P InputFault) (output : P OutputFault)
     (memory : P OutOfMemory) where
   pub ends_all : (plan : Plan) (a : Outside S K) (x : X) → EndsIn P plan → AllEnd One view (λ status b y. P status) plan a x

@@ -69,7 +69,7 @@ module _ {R W : Type 0} (view : DeviceView R W) (s : State) (y : Devices R W) wh
   of_deed (Did (Create array) outcome) story x mid works later stands = made_none array outcome story x mid works later (stands works.1)
   of_deed _ story x mid works later stands = tt
 
-  -- behind a step, a survey or a making a session has gone on
+  -- after a step, a survey or a making a session has gone on
   step_begun : (step : Step) (answer : Answer step) (events : List Event) (x mid : Devices R W) → DoesStep step answer events (seen_of view x) (seen_of view mid)
       → mid.session ≡ Begun → ⊥
   step_begun step answer events x mid (inl does) begun = by does.is does.ends

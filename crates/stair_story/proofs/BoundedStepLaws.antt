@@ -59,7 +59,7 @@ rises_same {x} {y} same = let e : y.member.drawn ≡ x.member.drawn = ap (λ (p 
 rises_kept : (x y : Point) → y.member ≡ x.member → Rises x y
 rises_kept x y same = let e : y.member.drawn ≡ x.member.drawn = ap (λ (m : Membership). m.drawn) same in omega arith
 
--- ---- writes behind the superblock places
+-- ---- writes after the superblock places
 
 -- none of these writes is to a superblock place
 abbrev AreBehind : Writes → Type 0

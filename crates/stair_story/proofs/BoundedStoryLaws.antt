@@ -59,7 +59,7 @@ starts_from (SetLabel label) was (Opened a) starts = ap (λ a. a.member) starts.
 starts_from LookAtSeats was (Opened a) starts = ap (λ a. a.member) starts.0
 starts_from _ was _ starts = absurd starts
 
--- what is known behind a step is its own
+-- what is known after a step is its own
 ends_in : {step : Step} {answer : Answer step} {events : List Event} {x y : Seen} (does : Performs step answer events x y)
     → ((n : Membership) → HasMember y.session n → n ≡ does.is.member) × (y.session ≢ Begun)
 ends_in {y = y} does =
@@ -121,7 +121,7 @@ module _ {R W : Type 0} (view : DeviceView R W) (honest : IsTrue view.rack.hones
     pub bounded : IsBoundedAt g now (view.rack.history x.rack)
     pub has : (n : Membership) → HasMember x.session n → HasRoom now story n
 
-  -- so it is behind a deed
+  -- so it is after a deed
   pub record GoesAhead (story : List Deed) (x y : Devices R W) : Type 0 where
     pub then : ℕ
     pub ahead : IsAhead then story y

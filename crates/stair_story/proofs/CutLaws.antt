@@ -65,7 +65,7 @@ same_moment x c at = nothing at.before at.from
 
 -- ---- deeds
 
--- what a crash left of a rack that stands for a state stands for it
+-- what a crash left of a rack that represents a state represents it
 pub left_alone : (returning : Returning) (s : State) (h : List Happening) (image : Image) → IsHistory h → StandsFor returning s h → CrashMayLeave h image
     → StandsForAlone returning s image
 left_alone NoneReturns s h image history stands left = left_stands s h image history stands left

@@ -76,7 +76,7 @@ module _ {R W : Type 0} (view : DeviceView R W) where
 
 -- ---- a command that does one thing to an array, from over a rack alone
 
--- before anything is done to an array, and behind it; no step is taken
+-- before anything is done to an array, and after it; no step is taken
 abbrev pub ActsOnce : Plan → Type 0
 ActsOnce (Over status) = ⊤
 ActsOnce (Ask question k) = (reply : Reply question) → IsReply question reply → ActsOnce (k reply)
@@ -159,7 +159,7 @@ module _ {R W : Type 0} (view : DeviceView R W) (watchers : List W) where
   done_beside (Create g) outcome x y works = (Closed, (works, refl, refl, refl))
   done_beside Survey outcome x y works = (session_after outcome, (works, refl, refl, refl))
 
-  -- what comes behind a deed that leaves all
+  -- what comes after a deed that leaves all
   beside_then : (deed : Deed) (story : List Deed) (x z y : R) → IsOffDevices deed → Works view.rack deed x z
       → (session : Session) × Leads (WorksAll view) story (beside Begun z) (beside session y)
       → (session : Session) × Leads (WorksAll view) (deed ∷ story) (beside Begun x) (beside session y)

@@ -146,7 +146,7 @@ module _ {S K : Type 0} (view : Views S K) (P : Status → Type 0) where
 
 -- ---- what is put out
 
--- the sink behind a deed, where nothing was put out
+-- the sink after a deed, where nothing was put out
 sink_kept : {K : Type 0} (view : SinkView K) (story : List Deed) (end status : Status) (k k' : K) → Leads Moves story (Over end) (Over status)
     → Leads (Holds view) story k k' → k' ≡ k
 sink_kept view [] end status k k' follows holds = holds
@@ -157,7 +157,7 @@ if_none_put Done k k' same = tt
 if_none_put OutputFault k k' same = tt
 if_none_put _ k k' same = same
 
--- behind a sink that a deed left
+-- after a sink that a deed left
 none_put_then : {K : Type 0} (status : Status) (k j k' : K) → j ≡ k → IfNothingIsPutOut status (k' ≡ j) → IfNothingIsPutOut status (k' ≡ k)
 none_put_then {K} status k j k' same later = subst (λ (x : K). IfNothingIsPutOut status (k' ≡ x)) same later
 
@@ -239,7 +239,7 @@ pub nothing_put : {S K : Type 0} (view : Views S K) (plan : Plan) (status : Stat
 nothing_put view plan status a b last means =
     puts_last view.sink means.story plan status a.sink b.sink last means.follows means.bears.holds
 
--- no call ends with a status that is no fault, no want of memory, and none of its plan
+-- no call ends with a status that is no fault, no lack of memory, and none of its plan
 pub ends_otherwise : {S K : Type 0} (view : Views S K) (P : Status → Type 0) (other : Status) → ((end : Status) → P end → end ≢ other)
     → other ≢ InputFault → other ≢ OutputFault → other ≢ OutOfMemory → (plan : Plan) (status : Status) (a b : Outside S K) → EndsIn P plan
     → Means view plan (Over status) a b → status ≢ other
@@ -339,7 +339,7 @@ gives_along view (deed ∷ story) plan rest s none follows =
     let one = gives_none view deed plan follows.0 s none follows.1 in
     (s, one, gives_along view story follows.0 rest s (move_takes view deed plan follows.0 s s none follows.1 one).1 follows.2)
 
--- ---- want of memory
+-- ---- lack of memory
 
 did_asks : (action : Action) (k : OkOf action → Plan) (outcome : Outcome action) → AsksForNone (Do action k) → AsksForNone (after action k outcome)
 did_asks action k (Ok done) none = none.0 done
@@ -368,14 +368,14 @@ move_asks (Stepped did came events left) (RebuildAll slots done k) rest none mov
     subst AsksForNone (sym moves.2) (rebuilt_asks slots done k moves.0 none)
 move_asks _ _ rest none moves = absurd moves
 
--- such a plan doesn't end for want of memory
+-- such a plan doesn't end for lack of memory
 pub never_short : (story : List Deed) (plan : Plan) (status : Status) → AsksForNone plan → Leads Moves story plan (Over status) → status ≢ OutOfMemory
 never_short [] plan status none follows = subst AsksForNone (sym follows) none
 never_short (deed ∷ story) plan status none follows =
     never_short story follows.0 status (move_asks deed plan follows.0 none follows.1) follows.2
 
 module _ {R : Type 0} (rack : RackView R) where
-  -- behind a deed that makes no call
+  -- after a deed that makes no call
   left_then : (x z y : R) → z ≡ x → y ≡ z → y ≡ x
   left_then x z y same later = later ∙ same
 

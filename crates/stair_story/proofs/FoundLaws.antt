@@ -45,7 +45,7 @@ pub calm_between : (returning : Returning) (g : Geometry) (before h : List Happe
 calm_between NoneReturns g before h unwritten calm = calm
 calm_between AnyReturns g before h unwritten calm = (calm.0, calm.1 h (moment_last unwritten.more unwritten.is) unwritten)
 
--- where nothing is written the rack goes on to stand for its state, but for the seats
+-- where nothing is written the rack goes on to represent its state, but for the seats
 pub looked_stands : (returning : Returning) (s : State) (before old new : List Happening) → StandsFor returning s old → Ran no_write old new
     → IsMoment before new new → IsCalmBetween returning s.geometry before old new → StandsFor returning (without_seats s) new
 looked_stands NoneReturns s before old new stands ran at calm = looks_stand s before old new stands ran calm.1 (calm.0 new at)

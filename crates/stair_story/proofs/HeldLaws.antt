@@ -21,7 +21,7 @@ held_in buffer held = record { bytes = take held buffer; room = length buffer }
 pub held_long : (was : Held) (buffer : List ℕ) (held : ℕ) → held_in buffer held ≡ was → held ≤ length buffer → length was.bytes ≡ held
 held_long was buffer held is within = ap (λ (h : Held). length h.bytes) (sym is) ∙ length-take-le held buffer within
 
--- A vector had these bytes, of which so many at its front were held, and a part of it behind them was written.
+-- A vector had these bytes, of which so many at its front were held, and a part of it after them was written.
 module _ {Z : Type 0} (v : Vec ℕ Z) (blocks from held : ℕ) (was : Held) (buffer into : List ℕ) (is : held_in v.items held ≡ was)
     (same : buffer ≡ v.items) (count_is : from ≡ blocks) (within : held ≤ length v.items) (part : length was.bytes < SECTOR)
     (room : SECTOR * blocks ≤ was.room) (some : 0 < blocks) (long : length into ≡ length (take (SECTOR * from - held) (drop held buffer))) where
@@ -46,7 +46,7 @@ module _ {Z : Type 0} (v : Vec ℕ Z) (blocks from held : ℕ) (was : Held) (buf
   stands : (with_items v written).items ≡ written
   stands = with_items_is v written (as_long ∙ ap length same ∙ sym v.ok.0)
 
-  -- What was taken stands behind what was held.
+  -- What was taken stands after what was held.
   pub took_piece : {S : Type 0} (view : SourceView S) (count : ℕ) (first now : Intake) (old new : S)
       → (SECTOR - held ≤ count) × (count ≤ length into) × Gives view (Took (take count into)) old new
       → now ≡ record first { took = first.took + count }
@@ -67,7 +67,7 @@ module _ {Z : Type 0} (v : Vec ℕ Z) (blocks from held : ℕ) (was : Held) (buf
         counted = counted ∙ ap (λ (n : ℕ). let i : Intake = record first { took = first.took + n } in i) (sym bytes);
       }
 
--- The bytes behind the whole blocks moved to the front.
+-- The bytes after the whole blocks moved to the front.
 pub dropped_whole : (was : Held) (items : List ℕ) (held : ℕ) → held_in items held ≡ was → held ≤ length items
     → held_in (copy_within items (held / SECTOR * SECTOR) held 0) (held - held / SECTOR * SECTOR) ≡ record was { bytes = part_of was.bytes }
 dropped_whole was items held is within =

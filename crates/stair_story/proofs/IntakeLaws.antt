@@ -25,7 +25,7 @@ pub if_err_of : {T E : Type 0} (r : Result T E) (e : E) (P : E → Type 0) → I
 if_err_of (Ok x) e P is fact = tt
 if_err_of (Err y) e P is fact = subst P (sym is) fact
 
--- all that was told behind these bytes was taken, so all that was told
+-- all that was told after these bytes was taken, so all that was told
 all-later : (a b : Option (List ℕ)) (xs ys : List ℕ) → Consumes a b xs → IfSome b (λ all. ys ≡ all) → IfSome a (λ all. xs ++ ys ≡ all)
 all-later None b xs ys gives all = tt
 all-later (Some x) None xs ys gives all = absurd gives
@@ -88,7 +88,7 @@ module _ {S : Type 0} (view : SourceView S) where
   pub Gives-took : (bytes : List ℕ) (a b : S) → 0 < length bytes → TookSoFar view bytes a b → Gives view (Took bytes) a b
   Gives-took bytes a b some took = (took.consumed, (took.running some).0, (took.running some).1, took.count)
 
-  -- behind these bytes the source ended
+  -- after these bytes the source ended
   pub Gives-last : (xs ys : List ℕ) (a b c : S) → TookSoFar view xs a b → Gives view (TookLast ys) b c → Gives view (TookLast (xs ++ ys)) a c
   Gives-last xs ys a b c before last = (
     Consumes-trans (view.left a) (view.left b) (view.left c) xs ys before.consumed last.0,
@@ -97,7 +97,7 @@ module _ {S : Type 0} (view : SourceView S) where
     omega (arith, before.count, last.3),
   )
 
-  -- behind these bytes the source failed
+  -- after these bytes the source failed
   pub Gives-failed : (xs ys : List ℕ) (a b c : S) → TookSoFar view xs a b → Gives view (TakeFailed ys) b c → Gives view (TakeFailed (xs ++ ys)) a c
   Gives-failed xs ys a b c before failed = (
     Consumes-trans (view.left a) (view.left b) (view.left c) xs ys before.consumed failed.0,
@@ -110,7 +110,7 @@ module _ {S : Type 0} (view : SourceView S) where
     kept-Rose (view.faults a) (view.faults b) (view.faults c) before.count failed.3 failed.4,
   )
 
-  -- behind these bytes the source was at its end
+  -- after these bytes the source was at its end
   pub Gives-ended : (bytes : List ℕ) (a b c : S) → TookSoFar view bytes a b → IsAtEnd (view.left b) → Keeps (view.left b) (view.left c)
       → view.faults b ≤ view.faults c → IsTrue (view.ended c) → Gives view (TookLast bytes) a c
   Gives-ended bytes a b c before at_end kept count ended = (
@@ -120,7 +120,7 @@ module _ {S : Type 0} (view : SourceView S) where
     omega (arith, before.count, count),
   )
 
-  -- behind these bytes a take failed
+  -- after these bytes a take failed
   pub Gives-unfinished : (bytes : List ℕ) (a b c : S) → TookSoFar view bytes a b → Keeps (view.left b) (view.left c)
       → view.faults b ≤ view.faults c → (IsTrue (view.ended b) → ⊥) → (IsTrue (view.ended c) → ⊥) → Rose (view.faults b) (view.faults c)
       → Gives view (TakeFailed bytes) a c
@@ -217,7 +217,7 @@ module _ {S T : Type 0} (view : SourceView S) (needed : ℕ) (IsInput : T → Li
   }
   whole_cut a b _ cut = absurd cut
 
-  -- the end was seen behind them
+  -- the end was seen after them
   pub whole_ended : (bytes : List ℕ) (a b c : S) (x : T) → 0 < needed → length bytes ≡ needed → TookSoFar view bytes a b → Gives view (TookLast []) b c
       → IsInput x bytes → TakesWhole view needed (Ok x) IsInput a c
   whole_ended bytes a b c x some long took last is = record {

@@ -98,7 +98,7 @@ module _ {R W : Type 0} (view : DeviceView R W) where
     not_open : (session : Session) (m n : Membership) → IsOpenAs session n → session ≡ Found m → ⊥
     not_open session m n is found = subst (λ (s : Session). IsOpenAs s n) found is
 
-    -- the mark behind a step, of a slot that wasn't Down
+    -- the mark after a step, of a slot that wasn't Down
     pub data MarkComes (x y : Devices R W) (m last : Membership) : Type 0 where
       Away : WasAwayIn x.session m → MarkComes x y m last
       Gone : WasGoneTo m j (seen_of view x).told (seen_of view y).told → MarkComes x y m last

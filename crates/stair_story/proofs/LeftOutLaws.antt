@@ -122,7 +122,7 @@ module _ (g : Geometry) (j joined drawn : ℕ) where
     came (Did Survey outcome) x y works begun = absurd (begun works.1)
     came deed x y works begun = Rested (same_session view works) (ap (λ (d : Devices R W). history_of view d) works)
 
-    -- what is known behind a step is its own
+    -- what is known after a step is its own
     ends_in : {step : Step} {answer : Answer step} {events : List Event} {x y : Seen} (does : Performs step answer events x y)
         → ((n : Membership) → HasMember y.session n → n ≡ does.is.member) × (y.session ≢ Begun)
     ends_in {y = y} does =

@@ -76,7 +76,7 @@ module _ (IsSo : Step → Type 0) where
 -- ---- what is taken of bytes that a source tells
 
 module _ (Behind Short : List ℕ → Option (List ℕ) → Type 0) where
-  -- what is so behind each piece that may come, and where what is left is less
+  -- what is so after each piece that may come, and where what is left is less
   abbrev Telling : (least most : ℕ) → Option (List ℕ) → Type 0
   Telling least most left = IsToldSo left (λ told.
       ((bytes rest : List ℕ) → told ≡ bytes ++ rest → AreEnough least most bytes → Behind bytes (Some rest))
@@ -191,7 +191,7 @@ module _ (count : Step → ℕ) (uncounted : count RebuildNext ≡ 0) where
   rebuilt_counts n slots done k (Ok (Dropped j)) allows = allows
   rebuilt_counts n slots done k (Err refusal) allows = tt
 
-  -- what the rest of a plan counts, behind a deed
+  -- what the rest of a plan counts, after a deed
   record Leaves (n : ℕ) (deed : Deed) (rest : Plan) : Type 0 where
     left : ℕ
     within : at_step count deed + left ≤ n

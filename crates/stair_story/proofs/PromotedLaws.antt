@@ -57,7 +57,7 @@ gone_dead m j gone live = let never : why.Gone ≡ why.Here = sym gone ∙ live.
 
 -- ---- epochs
 
--- a slot that is live behind an epoch wasn't gone, and was live before or is to be so
+-- a slot that is live after an epoch wasn't gone, and was live before or is to be so
 live_by : (aim : Aim) (m last : Membership) (refusal : Option FenceFault) (old new : Telling) (e : Establishes aim m last refusal old new) (j : ℕ)
     → IsLiveIn last j → (¬ HasSlot e.gone j) × ((why_of m j ≡ why.Here) ⊎ (aimed aim j (why_of m j) ≡ why.Here))
 live_by aim m last refusal old new e j live =
@@ -108,7 +108,7 @@ stripe_live t into _ _ _ (Stopped was read gathered fault x y loads) j live =
 same_live : (x y : Point) → y.member ≡ x.member → (j : ℕ) → IsLiveIn y.member j → IsLiveIn x.member j
 same_live x y same j live = subst (λ (m : Membership). IsLiveIn m j) same live
 
--- a slot that is live behind such a step was so before, or this is its promotion; or the array stops
+-- a slot that is live after such a step was so before, or this is its promotion; or the array stops
 abbrev MayRise : ℕ → Result Progress Refusal → Membership → Type 0
 MayRise j answer m = IsLiveIn m j ⊎ ((answer ≡ Ok (Promoted j)) ⊎ Stops answer)
 
@@ -165,7 +165,7 @@ rebuilt_live was _ _ _ (OnlyPromotes i t answer x y next all promotes) j live = 
 
 -- ---- steps
 
--- a slot that is live behind a step was so before, or this is its promotion; or the array stops
+-- a slot that is live after a step was so before, or this is its promotion; or the array stops
 step_live : (step : Step) (answer : Answer step) (events : List Event) (left : Bool) (x y : Seen) (does : Performs step answer events x y) (j : ℕ)
     → IsLiveIn does.is.member j → IsLiveIn does.was.member j ⊎ (IsPromotionOf j (Stepped step answer events left) ⊎ Stops answer)
 step_live RebuildNext answer events left x y does j live =

@@ -88,7 +88,7 @@ starts_found : (was : ArrayState) (session : Session) → StartsFrom Recover was
 starts_found was (Found m) starts = ap Found (sym (ap (λ a. a.member) starts))
 starts_found was _ starts = absurd starts
 
--- behind which no slot is under way
+-- after which no slot is under way
 pub opened_fresh : (answer : Answer Recover) (was is : ArrayState) → KeepsRebuild Recover answer was is → IsOk answer → is.rebuild ≡ None
 opened_fresh (Ok g) was is kept ok = kept
 opened_fresh (Err refusal) was is kept ok = absurd (let same = ok in cc)
@@ -265,7 +265,7 @@ ran_before done (Some next) session m j t ran comes =
     (subst (λ (u : ℕ). EndsWith (chunks_below next.slot u) done) (sym comes.1) ran.0)
 ran_before done None session m j t ran comes = subst (λ (u : ℕ). EndsWith (chunks_below j u) done) (sym comes.1) (ends_none done)
 
--- the last stripe is the one whose chunk comes next where none is behind it
+-- the last stripe is the one whose chunk comes next where none is after it
 last_stripe : (done : List Deed) (next : Option NextChunk) (session : Session) (m : Membership) (j t : ℕ) → Ran done next session
     → HasMember session m → ComesNext next m j t → m.array.geometry.stripes ≤ t + 1 → t ≡ m.array.geometry.stripes - 1
 last_stripe done (Some next) session m j t ran has comes last =
@@ -354,7 +354,7 @@ module _ {R W : Type 0} (view : DeviceView R W) where
       (sym (subst (λ (s : Session). Follows next s) works.1 follows)) tt
   ran_next done deed next x y follows turn works ran = ran_stays done deed next x y refl follows works ran
 
-  -- where it stands behind a story
+  -- where it stands after a story
   pub record HasRan (story : List Deed) (y : Devices R W) : Type 0 where
     pub next : Option NextChunk
     pub follows : Follows next y.session

@@ -61,7 +61,7 @@ forgets NoneReturns s h stands = record {
 }
 forgets AnyReturns s h stands = looked_consistent s h h stands (ran_none h)
 
--- where nothing was written a rack goes on to stand for a state whose seats aren't known
+-- where nothing was written a rack goes on to represent a state whose seats aren't known
 unwritten_stands : (returning : Returning) (s : State) (old new : List Happening) → s.seats ≡ None → StandsFor returning s old → Ran no_write old new
     → IsCalm returning s.geometry false old new → StandsFor returning s new
 unwritten_stands returning s old new unknown stands ran calm =
@@ -185,7 +185,7 @@ module _ {R W : Type 0} (view : DeviceView R W) where
     did_unwritten returning array Survey found x y c works at calm =
         unwritten_ran (ran_before (asked_ran 32 (h_of x) (h_of y) (works.0.asked honest)) at)
 
-    -- so the rack stands for its state at that moment
+    -- so the rack represents its state at that moment
     pub did_stands : (returning : Returning) (before : List Happening) (s : State) (action : Action) (came : Outcome action) (x y : Devices R W)
         (c : List Happening) → WorksAll view (Did action came) x y → IsInState returning before s (seen_of view x) → IsMoment (h_of x) c (h_of y)
         → ((h : List Happening) → IsMoment (h_of x) h (h_of y) → IsUpTo h c → IsCalm returning s.geometry (is_open x.session) before h)

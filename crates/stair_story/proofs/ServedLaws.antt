@@ -117,7 +117,7 @@ module _ {R W : Type 0} (returning : Returning) (view : DeviceView R W) (honest 
   abbrev Ready : (s : State) (story : List Deed) (x y : Devices R W) → Leads (WorksAll view) story x y → Type 0
   Ready s story x y works = IsReadyWith returning view honest before [] s story x y works
 
-  -- a step is done where it passes its tests, and behind it the array is ready again
+  -- a step is done where it passes its tests, and after it the array is ready again
   step_served : (s : State) (step : Step) (answer : Answer step) (events : List Event) (left : Bool) (story : List Deed) (x y : Devices R W)
       (works : Leads (WorksAll view) (Stepped step answer events left ∷ story) x y) → Ready s (Stepped step answer events left ∷ story) x y works
       → Performs step answer events (seen_of view x) (seen_of view works.0)
@@ -181,7 +181,7 @@ planned_served {R} {W} view streams returning plan status s a b x y watchers lef
     (all_lead returning view (all_performed returning) story first last whole.with.works)
     (planned_draws view streams returning plan (Over status) s a b x y watchers left whole allowed serves) can)
 
--- ---- what is served behind a deed
+-- ---- what is served after a deed
 
 -- the story is served from a state of this geometry
 record IsServedFor (g : Geometry) (story : List Deed) : Type 0 where
@@ -194,7 +194,7 @@ abbrev pub MakesNone : Deed → Type 0
 MakesNone (Did (Create g) outcome) = ⊥
 MakesNone _ = ⊤
 
--- behind a deed so is the rest
+-- after a deed so is the rest
 served_on : (g : Geometry) (deed : Deed) (story : List Deed) → MakesNone deed → IsServedFor g (deed ∷ story) → IsServedFor g story
 served_on g (Did (Create array) outcome) story none from = absurd none
 served_on g (Did Survey (Ok member)) story none from = record { state = from.state; geometry = from.geometry; served = from.served.1 }
@@ -241,7 +241,7 @@ module _ (g : Geometry) (IsSo : Step → Type 0) where
   rebuilt_for slots done k (Ok (Dropped j)) each = each
   rebuilt_for slots done k (Err refusal) each = tt
 
-  -- what is so of a deed, and behind it
+  -- what is so of a deed, and after it
   abbrev GoesFor : Deed → Plan → Type 0
   GoesFor deed rest = MakesNone deed × OfDeed IsSo deed × EachStepFor g IsSo rest
 
@@ -299,7 +299,7 @@ module _ {S K : Type 0} (streams : Views S K) (g : Geometry) where
       subst (λ (a : Answer Recover). EndsDone g (k a gone) left) (sym (opened_for g answer events gone story from)) (ends gone)
   tried_done step k answer events gone story left from ends = ends answer gone
 
-  -- behind a deed the rest of the plan ends so, or memory was short
+  -- after a deed the rest of the plan ends so, or memory was short
   abbrev EndsOn : Plan → S → Type 0
   EndsOn rest b = EndsDone g rest (streams.source.left b) ⊎ (rest ≡ Over OutOfMemory)
 
@@ -361,7 +361,7 @@ module _ {S K : Type 0} (streams : Views S K) (g : Geometry) where
         | inr short ↦ inr (ends_so story OutOfMemory status (subst (λ (p : Plan). Leads Moves story p (Over status)) short follows.2))
       ]
 
--- a plan that ends with Done, whatever an open array of this geometry answers, ends so in a call that is served, or for want of memory
+-- a plan that ends with Done, whatever an open array of this geometry answers, ends so in a call that is served, or for lack of memory
 pub ends_anyhow : {R W S K : Type 0} (view : DeviceView R W) (streams : Views S K) (plan : Plan) (status : Status) (s : State) (a b : Outside S K)
     (x y : R) (watchers left : List W) (whole : MeansWhole view streams plan (Over status) a b x y watchers left)
     → IsServed (without_seats s) whole.with.means.story → HasNoFault streams a b → EndsDone s.geometry plan (streams.source.left a.source) → IsDone status
@@ -373,7 +373,7 @@ ends_anyhow view streams plan status s a b x y watchers left whole served none e
 -- ---- how a plan ends by the states of an array that serves
 
 module _ {S K : Type 0} (streams : Views S K) (IsEnd : Status → Type 0) where
-  -- behind a deed the story is served from a state in which the rest of the plan ends so; or memory was short
+  -- after a deed the story is served from a state in which the rest of the plan ends so; or memory was short
   abbrev ServedOn : Plan → List Deed → Type 0
   ServedOn rest story = ((s : State) × IsServed s story × EndsServed IsEnd rest s) ⊎ (rest ≡ Over OutOfMemory)
 
@@ -425,7 +425,7 @@ module _ {S K : Type 0} (streams : Views S K) (IsEnd : Status → Type 0) where
         | inr short ↦ inr (ends_so story OutOfMemory status (subst (λ (p : Plan). Leads Moves story p (Over status)) short follows.2))
       ]
 
-  -- so a call that is served ends so, or for want of memory
+  -- so a call that is served ends so, or for lack of memory
   pub ends_as_served : {R W : Type 0} (view : DeviceView R W) (plan : Plan) (status : Status) (s : State) (a b : Outside S K) (x y : R) (watchers left : List W)
       (whole : MeansWhole view streams plan (Over status) a b x y watchers left) → IsServed (without_seats s) whole.with.means.story
       → HasNoFault streams a b → EndsServed IsEnd plan (without_seats s) → IsEnd status ⊎ (status ≡ OutOfMemory)

@@ -169,7 +169,7 @@ life_geometry (turn ∷ life) first s lives = turn_geometry turn lives.0 s lives
 forgotten : (s : State) → s.seats ≡ None → without_seats s ≡ s
 forgotten s unknown = λ i. record s { seats = sym unknown i }
 
--- what it stands for after looks, and whatever the outside did
+-- what it represents after looks, and whatever the outside did
 stands_between : (returning : Returning) (s : State) (old new : List Happening) → StandsFor returning s old → Ran no_write old new
     → IsCalmMeanwhile returning s.geometry old new → StandsFor returning (without_seats s) new
 stands_between NoneReturns s old new stands acted calm = looks_stand s old old new stands acted calm.0 calm.1

@@ -121,7 +121,7 @@ module _ (answer : Result Progress Refusal) (events : List Event) (x y : Seen) (
       by None none = omega (arith, ap stripes_done none)
       by (Some rebuild) under = omega (arith, ap stripes_done under, (array.rebuilds rebuild under).1)
 
--- So the steps that are left are fewer behind each but the one that finds nothing.
+-- So the steps that are left are fewer after each but the one that finds nothing.
 pub sooner : (progress : Progress) (events : List Event) (x y : Seen) (performs : Performs RebuildNext (Ok progress) events x y)
     → IsArray performs.was → (progress ≡ Nothing → ⊥) → steps_left performs.is < steps_left performs.was
 sooner Nothing events x y performs array other = absurd (other refl)

@@ -121,7 +121,7 @@ module _ (first old new : List Happening) (was is : ArrayState) (same : is.membe
 
 -- ---- deeds
 
--- behind a step that isn't the opening, and behind one that was done, the session has the array as it is next_is
+-- after a step that isn't the opening, and after one that was done, the session has the array as it is next_is
 open_then : (step : Step) (answer : Answer step) (is : ArrayState) (session : Session) → (step ≡ Recover → ⊥) → EndsIn step answer is session
     → HasMember session is.member
 open_then step answer is session other (Ends recovers err closed) = absurd (other recovers)

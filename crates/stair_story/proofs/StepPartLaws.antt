@@ -39,7 +39,7 @@ use Rattle.stair_array.specs.Promise.{Does}
 use Rattle.stair_array.proofs.ReadPartLemmas.{asked_ran}
 use Rattle.stair_array.proofs.RecoveredLemmas.{cleared_honest}
 
--- ---- writes behind the superblock places
+-- ---- writes after the superblock places
 
 -- none of these writes is to a superblock place
 abbrev AreBehind : Writes → Type 0

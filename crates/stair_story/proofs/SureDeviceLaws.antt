@@ -353,7 +353,7 @@ module _ {R W : Type 0} (returning : Returning) (view : DeviceView R W) (honest 
   not_begun (Did Survey outcome) x y works begun is = begun works.1
   not_begun deed x y works begun is = begun (sym (ap (λ (d : Devices R W). d.session) works) ∙ is)
 
-  -- behind the survey
+  -- after the survey
   found_can : (story : List Deed) (plan rest : Plan) (x y : Devices R W) (works : Leads (WorksAll view) story x y) → Leads Moves story plan rest
       → AdmitsOnce slot plan → x.session ≢ Begun → IsOut slot x.session → Ran any_call first (h_of x) → HasDevice returning g first (h_of y) slot
       → EachDeed view (CanReplaceAt view g (h_of y)) story x y works
@@ -395,7 +395,7 @@ module _ {R W : Type 0} (returning : Returning) (view : DeviceView R W) (s : Sta
                 (survey_calm returning view s y came story x works serves) device.out,
           )
 
-  -- behind what was done to the array
+  -- after what was done to the array
   behind_can : (deed : Deed) (story : List Deed) (plan rest : Plan) (x : Devices R W) (works : Leads (WorksAll view) (deed ∷ story) x y)
       → IsTrue view.rack.honest → HasOne x → Leads Moves story plan rest → AdmitsOnce slot plan → works.0.session ≢ Begun → IsOut slot works.0.session
       → EachDeed view (CanReplaceAt view s.geometry (view.rack.history y.rack)) story works.0 y works.2

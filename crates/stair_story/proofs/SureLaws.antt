@@ -51,7 +51,7 @@ pub record IsSteppedOn {X : Type 0} (One : Deed → X → X → Type 0) (IsReady
   pub done : IsDoneFrom counted step given s later
   pub ready : IsReady (counted_behind step counted) later story works.0 y works.2
 
--- What holds as a story begins goes on behind each of its deeds, and what can be done there is done.
+-- What holds as a story begins goes on after each of its deeds, and what can be done there is done.
 pub record CarriesOn {X : Type 0} (One : Deed → X → X → Type 0) (IsReady : List ℕ → State → (story : List Deed) → (x y : X) → Leads One story x y → Type 0)
     : Type 0 where
   pub still : (counted : List ℕ) (s : State) (deed : Deed) (story : List Deed) (x y : X) (works : Leads One (deed ∷ story) x y) → IsOffDevices deed
@@ -64,7 +64,7 @@ pub record CarriesOn {X : Type 0} (One : Deed → X → X → Type 0) (IsReady :
       → IsReady counted s (Stepped step answer events left ∷ story) x y works
       → IsSteppedOn One IsReady counted s step answer events left story x y works
 
--- where no fault of a source came over a story, none came at its first deed, and none behind it
+-- where no fault of a source came over a story, none came at its first deed, and none after it
 pub source_unfailed : {S : Type 0} (view : SourceView S) (deed : Deed) (story : List Deed) (a b : S) (gives : Leads (Gives view) (deed ∷ story) a b)
     → ¬ Rose (view.faults a) (view.faults b) → (¬ Rose (view.faults a) (view.faults gives.0)) × (¬ Rose (view.faults gives.0) (view.faults b))
 source_unfailed view deed story a b gives sound = (λ rose. sound (Rose-kept _ _ _ rose later), λ rose. sound (kept-Rose _ _ _ first later rose))
@@ -88,7 +88,7 @@ sink_unfailed view deed story k l holds whole = (λ rose. whole (Rose-kept _ _ _
 
 module _ {X S K : Type 0} (One : Deed → X → X → Type 0)
     (IsReady : List ℕ → State → (story : List Deed) → (x y : X) → Leads One story x y → Type 0) (carries : CarriesOn One IsReady) (streams : Views S K) where
-  -- behind a deed the rest of the plan is sure, or memory was short
+  -- after a deed the rest of the plan is sure, or memory was short
   data GoesSure (rest : Plan) (story : List Deed) (x y : X) (works : Leads One story x y) (left : Option (List ℕ)) : Type 0 where
     StaysSure : (counted : List ℕ) (later : State) → IsReady counted later story x y works → IsSure counted rest later left → GoesSure rest story x y works left
     Short : rest ≡ Over OutOfMemory → GoesSure rest story x y works left
@@ -120,7 +120,7 @@ module _ {X S K : Type 0} (One : Deed → X → X → Type 0)
   rebuild_sure counted slots done k (Promoted j) s later left sure did = λ count end rebuilt. sure count end (More s later (Promoted j) did rebuilt)
   rebuild_sure counted slots done k (Dropped j) s later left sure did = λ count end rebuilt. sure count end (More s later (Dropped j) did rebuilt)
 
-  -- a step was taken, which passes its tests, and behind which the rest is sure
+  -- a step was taken, which passes its tests, and after which the rest is sure
   stepped_sure : (counted : List ℕ) (s : State) (step : Step) (answer : Answer step) (events : List Event) (left : Bool) (goes_on : Answer step → Plan) (rest : Plan)
       (story : List Deed) (x y : X) (a b : S) → rest ≡ goes_on answer → b ≡ a → ((seats : Seats) → s.seats ≡ Some seats → IsFreeFor step seats → PassesTests step s seats)
       → ((given : GivenBy step) (later : State) → IsDoneFrom counted step given s later → IsSure (counted_behind step counted) (goes_on (Ok given)) later (streams.source.left a))
@@ -175,7 +175,7 @@ module _ {X S K : Type 0} (One : Deed → X → X → Type 0)
       (λ given later did. rebuild_sure counted slots done next given s later (streams.source.left a) sure did)) works ready
   one_sure counted s _ _ rest story x y works a b k l moves gives holds sound whole ready sure = absurd moves
 
-  -- a sure plan ends with Done, or for want of memory
+  -- a sure plan ends with Done, or for lack of memory
   pub ends_done : (counted : List ℕ) (story : List Deed) (plan : Plan) (status : Status) (s : State) (x y : X) (works : Leads One story x y) (a b : S) (k l : K)
       → Leads Moves story plan (Over status) → Leads (Gives streams.source) story a b → Leads (Holds streams.sink) story k l
       → ¬ Rose (streams.source.faults a) (streams.source.faults b) → ¬ Rose (streams.sink.faults k) (streams.sink.faults l)

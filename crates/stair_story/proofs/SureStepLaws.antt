@@ -1,5 +1,5 @@
 -- Over a rack, a session and watchers a sure plan ends with Done: a step that can be done is done and leads on, and what comes
--- behind it is sure again.
+-- after it is sure again.
 use Rattle.std.proofs.Common.{◌≡◌, ◌≢◌, ◌∙◌, ℕ, ◌<◌, List, [], ◌∷◌, Option, None, Some, Result, Ok, Err, inl, inr, refl, sym, ap, subst, arith}
 use Rattle.std.proofs.lemmas.Bool.{false≢true}
 use Rattle.std.specs.Prelude.{Bool, IsErr, IsOk, IsSome, IsTrue, false}
@@ -56,7 +56,7 @@ starts_drawn Recover was _ starts draws = absurd starts
 starts_drawn _ was (Opened a) starts draws = subst (λ (b : ArrayState). HasDraws b.member) (sym starts.0) draws
 starts_drawn _ was _ starts draws = absurd starts
 
--- behind a step that was done the array is open, and isn't stopped
+-- after a step that was done the array is open, and isn't stopped
 pub ends_open : (step : Step) (given : GivenBy step) (is : ArrayState) (session : Session) → EndsIn step (Ok given) is session → IsOpened is session
 ends_open step given is session (Ends opens err same) = absurd (false≢true err)
 ends_open step given is session (GoesOn opens keeps same) = record { is_open = same; unstopped = keeps }
@@ -67,7 +67,7 @@ never_kept (Err (TooFew whys)) kept going keeps = absurd (going tt)
 never_kept (Err EpochsSpent) kept going keeps = absurd (going tt)
 never_kept _ kept going keeps = keeps
 
--- so it is behind any step but a refused opening, where the answer doesn't stop the array
+-- so it is after any step but a refused opening, where the answer doesn't stop the array
 pub goes_open : (step : Step) (answer : Answer step) (is : ArrayState) (session : Session) → (step ≡ Recover → IsOk answer) → ¬ Stops answer
     → EndsIn step answer is session → IsOpened is session
 goes_open step answer is session done going (Ends opens err same) = absurd (refused answer (done opens) err)
@@ -214,7 +214,7 @@ module _ {R W : Type 0} (returning : Returning) (view : DeviceView R W) (honest 
     pub can : EachCanReplace view s.geometry story x y works
     pub stay : StayUp counted s.geometry (h_of x) (h_of y)
 
-  -- what comes behind a deed
+  -- what comes after a deed
   behind : (counted after : List ℕ) (s later : State) (deed : Deed) (story : List Deed) (x y : Devices R W)
       (works : Leads (WorksAll view) (deed ∷ story) x y) → later.geometry ≡ s.geometry → IsAt view returning before later None works.0
       → StayUp after s.geometry (h_of works.0) (h_of y) → IsReadyWith counted s (deed ∷ story) x y works → IsReadyWith after later story works.0 y works.2
@@ -299,7 +299,7 @@ module _ {R W : Type 0} (returning : Returning) (view : DeviceView R W) (honest 
         below = below;
       }) step does.is.member other up (does.goes_on.marks j below)
 
-  -- behind a replacement its slot is counted on too
+  -- after a replacement its slot is counted on too
   stay_behind : (counted : List ℕ) (g : Geometry) (step : Step) (given : GivenBy step) (answer : Answer step) (events : List Event) (x y : Devices R W)
       (last : List Happening) (does : Performs step answer events (seen_of view x) (seen_of view y)) → answer ≡ Ok given
       → ((j : ℕ) → step ≡ ReplaceSlot j → (j < g.n) × IsFitFrom g (h_of x) last j) → StayUp counted g (h_of x) last
@@ -322,7 +322,7 @@ module _ {R W : Type 0} (returning : Returning) (view : DeviceView R W) (honest 
       (x y : Devices R W) (works : Leads (WorksAll view) (Stepped step answer events left ∷ story) x y)
       (ready : IsReadyWith counted s (Stepped step answer events left ∷ story) x y works)
       (does : Performs step answer events (seen_of view x) (seen_of view works.0)) where
-    -- the rack goes on over it, and behind it
+    -- the rack goes on over it, and after it
     step_ran : Ran any_call (h_of x) (h_of works.0)
     step_ran = does.later.ran honest
 
@@ -367,7 +367,7 @@ module _ {R W : Type 0} (returning : Returning) (view : DeviceView R W) (honest 
           fit = fit_for step s.geometry (h_of x) (h_of works.0) (h_of y) step_ran rest_ran (λ j is. (can_replace j is).1) ready.draws.0.1;
         })
 
-    -- where the array is open behind it, it is ready again
+    -- where the array is open after it, it is ready again
     pub step_behind : (after : List ℕ) → IsOpened does.is works.0.session → StayUp after s.geometry (h_of works.0) (h_of y)
         → IsReadyWith after step_led.state story works.0 y works.2
     step_behind after opened stay =

@@ -22,14 +22,14 @@ IsPart-front part xs ys in_xs =
       omega (arith, in_xs.2, length-append rest ys),
     )
 
--- the front, and a part of what is behind it
+-- the front, and a part of what is after it
 IsPart-behind : (part xs ys : List ℕ) → IsPart part ys → IsPart (xs ++ part) (xs ++ ys)
 IsPart-behind part xs ys in_ys =
     let rest = in_ys.0 in
     (rest, ap (λ bytes. xs ++ bytes) in_ys.1 ∙ sym (append_assoc xs part rest), in_ys.2)
 
 module _ {K T E : Type 0} (view : SinkView K) where
-  -- a piece, and what is behind it
+  -- a piece, and what is after it
   pub puts_then : (r : Result T E) (xs ys : List ℕ) (a b c : K) → Holds view (HasPut xs) a b → PutsAll view r ys b c → PutsAll view r (xs ++ ys) a c
   puts_then (Ok x) xs ys a b c first then =
       (Appends-trans (view.held a) (view.held b) (view.held c) xs ys first.0 then.0, omega (arith, first.1, then.1))

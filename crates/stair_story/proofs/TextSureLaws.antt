@@ -13,7 +13,7 @@ pub record AreShort {L : Type 0} (Spells : List ℕ → L → Type 0) (longest :
   pub short : (bytes : List ℕ) (said : L) → Spells bytes said → length bytes ≤ longest
   pub inner : (bytes : List ℕ) (said : L) → Spells bytes said → All (λ b. b ≢ 10) bytes
 
--- What is so of the plan of what is left of a text, where its source tells it, if it is so of each node by what comes behind.
+-- What is so of the plan of what is left of a text, where its source tells it, if it is so of each node by what comes after.
 pub record IsOfText {L X : Type 0} (Spells : List ℕ → L → Type 0) (does : LineDoes X) (ends : X → Plan) (IsOk : L → Type 0)
     (IsSo : Plan → Option (List ℕ) → Type 0) : Type 0 where
   pub over : (x : X) → IsSo (ends x) (Some [])
@@ -48,7 +48,7 @@ module _ {L X : Type 0} (Spells : List ℕ → L → Type 0) (longest : ℕ) (ar
       within [] all = All-head (λ b. b ≢ 10) byte rest all
       within (first ∷ line) all = within line (All-tail (λ b. b ≢ 10) first (line ++ byte ∷ rest) all)
 
-  -- how the plan goes on behind a byte, which ends the line or doesn't
+  -- how the plan goes on after a byte, which ends the line or doesn't
   abbrev behind_byte : (room number : ℕ) → List ℕ → X → (byte : ℕ) → Bool → Plan
   behind_byte room number line x byte is_end = if_so is_end (does number line x (lines room (number + 1) []))
       (if_so (nat_lt (length line) longest) (lines room number (line ++ byte ∷ []) x) (Over (BadLine number)))
@@ -77,7 +77,7 @@ module _ {L X : Type 0} (Spells : List ℕ → L → Type 0) (longest : ℕ) (ar
       (All-head IsOk said script each) nodes.over
   last_so number (byte ∷ line) x (said ∷ script) (inr more) each = absurd (omega (arith, ap length more.3, length-append more.0 (10 ∷ more.1)))
 
-  -- behind a byte, where it is so of each way in which the line and the text may go on
+  -- after a byte, where it is so of each way in which the line and the text may go on
   module _ (room : ℕ) (told : List ℕ)
       (next : (number : ℕ) (line : List ℕ) (x : X) (script : List L) → IsAmid script line told → All IsOk script → IsSo (lines room number line x) (Some told))
       (number : ℕ) (line : List ℕ) (x : X) (byte : ℕ) where

@@ -30,7 +30,7 @@ part_short bytes = omega (arith, length-drop (length bytes / SECTOR * SECTOR) by
 pub blocks_count : (bytes : List ℕ) → length (blocks_of (whole_of bytes)) ≡ length bytes / SECTOR
 blocks_count bytes = blocks_counted (whole_of bytes) ∙ omega (arith, whole_long bytes)
 
--- so many chunks, one behind the other, are the bytes
+-- so many chunks, one after the other, are the bytes
 chunks_joined : (n : ℕ) (bytes : List ℕ) → length bytes ≡ n * SECTOR → concat (first_chunks SECTOR n bytes) ≡ bytes
 chunks_joined zero bytes long = sym (nil_from_length bytes (omega (arith, long)))
 chunks_joined (suc n) bytes long =

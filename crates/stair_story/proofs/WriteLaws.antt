@@ -31,7 +31,7 @@ use Rattle.stair_story.specs.Pieces.{Held, TakesPiece, part_of, piece_blocks, wh
 use Rattle.stair_story.specs.Transfers.{writes, wrote, wrote_line}
 use Rattle.stair_story.proofs.TurnLaws.{all_within, few_whole, part_long, part_short, some_whole, whole_long}
 
--- behind the bytes of a piece
+-- after the bytes of a piece
 abbrev pub write_on : Geometry → (first all turns done : ℕ) → (have : List ℕ) → Plan
 write_on g first all turns done have =
     take_step g.n (WriteBlocks (first + done) (blocks_of (whole_of have))) (λ ok. writes g first all turns (done + length have / SECTOR) (part_of have))
@@ -222,7 +222,7 @@ module _ {R W S K : Type 0} (view : DeviceView R W) (streams : Views S K) (g : G
         subst (λ (plan : Plan). MeansWith view streams (writes g first all all 0 []) plan (outside source sink counter) (outside rest sink counter)
         (devices rack (Opened array) watchers) (devices now (Opened is) left)) (writes_done g first all so_far.turns done held.bytes past) (so_far.means counter)
 
-    -- the end wasn't seen behind the last block
+    -- the end wasn't seen after the last block
     pub no_end : (why : Fault) (looked : ℕ) (later : S) → looked ≡ SECTOR * all → GoesOn streams.source looked rest later why
         → Comes now is left later sink (Over (status_of_fault why))
     no_end (fault.Length needed took) looked later same more counter =

@@ -20,7 +20,7 @@ HasMember (Found found) m = m ≡ found
 HasMember (Opened array) m = m ≡ array.member
 HasMember _ m = ⊥
 
--- this is so of a deed of the story, at the moments before and behind it
+-- this is so of a deed of the story, at the moments before and after it
 abbrev pub SomeDeed : {R W : Type 0} → (view : DeviceView R W)
     → (Deed → Devices R W → Devices R W → Type 0) → (story : List Deed) → (old new : Devices R W)
     → Leads (WorksAll view) story old new → Type 0

@@ -34,7 +34,7 @@ NothingIsPutOut S K = (view : Views S K) (plan : Plan) (status : Status) (old ne
     → PutsLast plan → Means view plan (Over status) old new
     → IfNothingIsPutOut status (new.sink ≡ old.sink)
 
--- a status that is no fault, no want of memory, and none that the plan ends with by itself doesn't come
+-- a status that is no fault, no lack of memory, and none that the plan ends with by itself doesn't come
 abbrev pub OthersNeverCome : (S K : Type 0) → Type 0
 OthersNeverCome S K = (view : Views S K) (plan : Plan) (status other : Status)
     (old new : Outside S K) → IsNoFault other → other ≢ OutOfMemory

@@ -37,7 +37,7 @@ if_so false this that = that
 abbrev pub take_exactly : ℕ → (List ℕ → Plan) → (List ℕ → Plan) → Plan
 take_exactly n k short = Take n n k short
 
--- All of the input is so many bytes, behind which one more is looked for.
+-- All of the input is so many bytes, after which one more is looked for.
 abbrev pub whole_input : ℕ → (List ℕ → Plan) → Plan
 whole_input needed k = take_exactly needed
     (λ bytes. take_exactly 1 (λ more. Over (Input needed (needed + 1))) (λ none. k bytes))

@@ -42,7 +42,7 @@ abbrev pub still_in : Session → Option NextChunk → Option NextChunk
 still_in (Opened array) (Some next) = if is_rebuilt array.member next.slot then Some next else None
 still_in _ next = None
 
--- Where it stands behind a deed, which left the session so: a chunk leads to the next stripe of its slot; a promotion ends it,
+-- Where it stands after a deed, which left the session so: a chunk leads to the next stripe of its slot; a promotion ends it,
 -- and so does the loss of its slot, at any step; and what is no step leaves it.
 abbrev pub next_behind : Deed → Session → Option NextChunk → Option NextChunk
 next_behind (Stepped RebuildNext (Ok (Chunk j t)) events left) later next = Some (next_chunk j (t + 1))
@@ -58,7 +58,7 @@ abbrev pub ComesNext : Option NextChunk → Membership → ℕ → ℕ → Type 
 ComesNext (Some next) m j t = (j ≡ next.slot) × (t ≡ next.stripe)
 ComesNext None m j t = IsLowestRebuilt m j × (t ≡ 0)
 
--- What is answered of a rebuild is in turn where it stands so: a chunk is the one that comes next, with another stripe behind
+-- What is answered of a rebuild is in turn where it stands so: a chunk is the one that comes next, with another stripe after
 -- it; a promotion comes with the chunk of the last stripe; and it is the slot of the next chunk that is dropped.
 abbrev pub IsInTurn : Deed → Option NextChunk → Session → Type 0
 IsInTurn (Stepped RebuildNext (Ok (Chunk j t)) events left) next (Opened array) =
@@ -109,8 +109,8 @@ pub record EndsWith (answers : List Progress) (story : List Deed) : Type 0 where
   pub joined : story ≡ before ++ run
   pub answered : progress_of run ≡ answers
 
--- A chunk comes behind all chunks of its slot that are below it, in order and with nothing else of a rebuild between; and a
--- promotion behind all chunks but that of the last stripe, with which it comes.
+-- A chunk comes after all chunks of its slot that are below it, in order and with nothing else of a rebuild between; and a
+-- promotion after all chunks but that of the last stripe, with which it comes.
 abbrev pub ComesBehind : Deed → List Deed → Session → Type 0
 ComesBehind (Stepped RebuildNext (Ok (Chunk j t)) events left) story session =
     EndsWith (chunks_below j t) story
@@ -119,7 +119,7 @@ ComesBehind (Stepped RebuildNext (Ok (Promoted j)) events left) story (Opened ar
 ComesBehind (Stepped RebuildNext (Ok (Promoted j)) events left) story session = ⊥
 ComesBehind _ story session = ⊤
 
--- So it is of a deed behind any story that began where no slot was under way, as a call begins, and an array once it is open.
+-- So it is of a deed after any story that began where no slot was under way, as a call begins, and an array once it is open.
 abbrev pub RunsAreWhole : (R W : Type 0) → Type 0
 RunsAreWhole R W = (view : DeviceView R W) (story : List Deed) (deed : Deed)
     (old mid new : Devices R W) → Leads (WorksAll view) story old mid → WorksAll view deed mid new

@@ -23,7 +23,7 @@ pub record HoldsCells (g : Geometry) (erased : CellSet) (stripe codeword : Strip
   pub meets_equations : IsCodeword g codeword
   pub held : SameHeld g erased codeword stripe
 
--- how many cells of each slot are erased, and zeros behind them
+-- how many cells of each slot are erased, and zeros after them
 pub record CountsErased (g : Geometry) (erased : CellSet) (counts : List ℕ) : Type 0 where
   pub count : length counts ≡ 32
   pub slots : (j : ℕ) → j < g.n → slice_index counts j ≡ count_in_slot erased j

@@ -149,7 +149,7 @@ abbrev pub IsOpenAt : {R W : Type 0} → (view : DeviceView R W) → List Happen
 IsOpenAt view c [] x y works = ⊤
 IsOpenAt view c (deed ∷ story) x y works = IsBefore c (history_of view works.0)
 
--- the image stands for what a crash at c leaves, within the next step of an array that wasn't stopped
+-- the image represents what a crash at c leaves, within the next step of an array that wasn't stopped
 pub record IsLeftByNext (returning : Returning) (before c : List Happening) (rest : Plan)
     (from : Now) (image : Image) : Type 0 where
   pub step : Step

@@ -127,7 +127,7 @@ IsLifeOf view streams returning first h (Cut c image later plan rest old new x y
 
 -- LAWS
 
--- a life that goes on, behind these turns, in a new session, whose rack is made over this image
+-- a life that goes on, after these turns, in a new session, whose rack is made over this image
 pub record NextSession (returning : Returning) (first : State) (turns : List Turn) (image : Image)
     : Type 0 where
   pub state : State

@@ -58,7 +58,7 @@ abbrev pub HasDeed : (Deed → Type 0) → List Deed → Type 0
 HasDeed IsSo [] = ⊥
 HasDeed IsSo (deed ∷ story) = IsSo deed ⊎ HasDeed IsSo story
 
--- The session knew this of its slots at some moment of the story: as the array was found, or behind a step of the open array.
+-- The session knew this of its slots at some moment of the story: as the array was found, or after a step of the open array.
 abbrev pub KnewOnce : {R W : Type 0} → (view : DeviceView R W) → Membership → (story : List Deed)
     → (old new : Devices R W) → Leads (WorksAll view) story old new → Type 0
 KnewOnce view m [] old new works = HasMember old.session m

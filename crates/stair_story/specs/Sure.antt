@@ -120,7 +120,7 @@ IsSure counted (RebuildAll slots done k) s left = (count : ℕ) (later : State)
 
 -- STORIES
 
--- this is so of each deed, at the moments before and behind it
+-- this is so of each deed, at the moments before and after it
 abbrev pub EachDeed : {R W : Type 0} → (view : DeviceView R W)
     → (Deed → Devices R W → Devices R W → Type 0) → (story : List Deed) → (old new : Devices R W)
     → Leads (WorksAll view) story old new → Type 0
@@ -250,7 +250,7 @@ abbrev pub most_borne : ℕ
 most_borne = 2 ^ 64 - 2 ^ 40
 
 -- On an honest rack an array is in this state as a call begins, and stays within tolerance to its end. No medium comes back, and no
--- superblock of the array bears a draw behind which too few are left.
+-- superblock of the array bears a draw after which too few are left.
 pub record ServesThroughout {R : Type 0} (rack : RackView R) (s : State) (first last : R) : Type 0
   where
     pub honest : IsTrue rack.honest

@@ -49,7 +49,7 @@ PieceIsCut view least intake old new fault.Input =
     (taken : List ℕ) × (length taken < least) × Gives view (TakeFailed taken) old new
 PieceIsCut view least intake old new _ = ⊥
 
--- Why the end was not found behind the bytes that are needed: one more came, or the source failed.
+-- Why the end was not found after the bytes that are needed: one more came, or the source failed.
 abbrev pub GoesOn : {S : Type 0} → SourceView S → ℕ → S → S → Fault → Type 0
 GoesOn view bytes old new (fault.Length needed took) = (needed ≡ bytes) × (took ≡ bytes + 1)
     × ((more : List ℕ) × (length more ≡ 1) × Gives view (Took more) old new)
@@ -69,7 +69,7 @@ abbrev pub after_input : {T : Type 0} → Result T Fault → List ℕ → (List 
 after_input (Ok x) bytes k = k bytes
 after_input (Err fault) bytes k = Over (status_of_fault fault)
 
--- All of the input was taken, these bytes, and the end was seen behind them; or it was refused.
+-- All of the input was taken, these bytes, and the end was seen after them; or it was refused.
 pub record TakesWhole {S T : Type 0} (view : SourceView S) (needed : ℕ) (result : Result T Fault)
     (IsInput : T → List ℕ → Type 0) (old new : S) : Type 0 where
   pub bytes : List ℕ

@@ -38,13 +38,13 @@ pub record FailsByte {S : Type 0} (view : SourceView S) (why : Fault) (old new :
 abbrev pub LineDoes : Type 0 → Type 0
 LineDoes X = (number : ℕ) → List ℕ → X → (X → Plan) → Plan
 
--- What stands behind the last end of a line, up to the end of the text, is its last line, unless it is nothing.
+-- What stands after the last end of a line, up to the end of the text, is its last line, unless it is nothing.
 abbrev pub last_of : {X : Type 0} → LineDoes X → (X → Plan) → (number : ℕ) → List ℕ → X → Plan
 last_of does ends number [] x = ends x
 last_of does ends number (byte ∷ line) x = does number (byte ∷ line) x ends
 
 -- What is left of a text of at most so many bytes more, of whose line of this number these bytes came. A line has at most `longest`,
--- without its end. The text is taken byte by byte, so nothing is taken behind the end of a line before that is done.
+-- without its end. The text is taken byte by byte, so nothing is taken after the end of a line before that is done.
 abbrev pub by_lines : {X : Type 0} → (longest : ℕ) → LineDoes X → (X → Plan) → (room number : ℕ)
     → List ℕ → X → Plan
 by_lines longest does ends zero number line x =

@@ -34,12 +34,12 @@ reads g first (suc count) =
 abbrev pub wrote_line : ℕ → List ℕ
 wrote_line count = codes "wrote " ++ (decimal count ++ (codes " blocks" ++ 10 ∷ []))
 
--- behind the last of so many blocks one more byte is looked for
+-- after the last of so many blocks one more byte is looked for
 abbrev pub wrote : ℕ → Plan
 wrote all = take_exactly 1 (λ more. Over (Input (SECTOR * all) (SECTOR * all + 1)))
     (λ none. Put (wrote_line all) (Over Done))
 
--- What is left of a write of `all` blocks from `first` on, of which so many are done, behind bytes that were taken and are less
+-- What is left of a write of `all` blocks from `first` on, of which so many are done, after bytes that were taken and are less
 -- than a block. A piece has one whole block at least, and is within a stripe; its whole blocks are written as one step. So there
 -- are no more turns than blocks.
 abbrev pub writes : Geometry → (first all turns done : ℕ) → List ℕ → Plan

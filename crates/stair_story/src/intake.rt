@@ -67,7 +67,7 @@ impl Intake {
         }
     }
 
-    /// Looks for the end behind all the bytes that are needed.
+    /// Looks for the end after all the bytes that are needed.
     pub fn end<S: Source>(&self, input: &mut S) -> Result<(), Fault>
         requires all { self.now.took ≡ self.now.needed }
         requires fits { self.now.needed < 2 ^ 63 }

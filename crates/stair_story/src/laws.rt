@@ -19,7 +19,7 @@ pub fn story_laws<R, W, S, K>()
     ensures faults { FaultsAreTold S K }
     // a plan that puts out last puts out nothing of what isn't done
     ensures unput { NothingIsPutOut S K }
-    // no status comes that is no fault, no want of memory, and none of the plan's own
+    // no status comes that is no fault, no lack of memory, and none of the plan's own
     ensures others { OthersNeverCome S K }
     // a plan that takes nothing leaves the source, which can't fail it
     ensures untaken { SourcesAreLeft S K }

@@ -21,7 +21,7 @@ pub fn session_laws<R, W>()
     ensures left_out { LiveSlotsAreLeftOutByNone R W }
     // the chunks of a rebuild come in order, and a promotion with the last of them
     ensures rebuilt { ChunksInOrder R W }
-    // so a chunk comes behind all that are below it, and a promotion behind all but the last
+    // so a chunk comes after all that are below it, and a promotion after all but the last
     ensures whole { RunsAreWhole R W }
     // the greatest draw rises by no more than the weights of the slots and the steps allow
     ensures drawn { DrawsAreFew R W }

@@ -169,7 +169,7 @@ pub length_is : (bytes : List ℕ) (s : Superblock) (h : SpellsSuperblock bytes 
 unfolding label_part
 length_is bytes s h both = sym (get_or-drop 384 bytes 1 0) ∙ ap (λ (l : List ℕ). get_or l 1 0) (later_notes bytes s h both)
 
--- the label stands behind its length
+-- the label stands after its length
 pub label_among : (frozen : ℕ) (label : List ℕ) (n : ℕ) → n ≡ length label → take n (drop 2 (frozen ∷ label_part label)) ≡ label
 unfolding label_part
 label_among frozen label n sized = take_at label (zeros (126 - length label)) n (sym sized)

@@ -7,7 +7,7 @@ use Rattle.stair_super.specs.Superblock.{Superblock, IsSuperblock, mark_at, join
 use Rattle.stair_super.specs.Spelling.{padded, zeros, number32, number64, code, entry, entries, counts, geometry_part, numbers_part, fields}
 use Rattle.stair_super.proofs.PageLemmas.{length-zeros}
 
--- what stands there is the field, and behind it the rest
+-- what stands there is the field, and after it the rest
 field_at : (bytes field rest : List ℕ) (at size : ℕ) → drop at bytes ≡ field ++ rest → length field ≡ size → take size (drop at bytes) ≡ field
 field_at bytes field rest at size here sized = ap (λ (l : List ℕ). take size l) here ∙ take_at field rest size sized
 

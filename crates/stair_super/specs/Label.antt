@@ -16,6 +16,6 @@ pub record IsLabel (text : List ℕ) : Type 0 where
 abbrev pub IsNoLabel : List ℕ → Type 0
 IsNoLabel text = (64 < length text) ⊎ Any IsUnprintable text
 
--- a text with zeros behind it, in an array of a fixed length
+-- a text with zeros after it, in an array of a fixed length
 abbrev pub padded : List ℕ → List ℕ
 padded text = text ++ replicate (64 - length text) 0

@@ -4,7 +4,7 @@ use Rattle.stair_model.specs.Stripe.{SECTOR}
 use Rattle.stair_super.specs.Spelling.{zeros}
 use Rattle.stair_super.specs.declared.page.Page.TheInside.{Inside}
 
--- behind it all is zero
+-- after it all is zero
 pub record IsPage (a : Inside) : Type 0 where
   pub fits : a.len ≤ SECTOR
   pub whole : length a.bytes ≡ SECTOR

@@ -7,7 +7,7 @@ use std::marker::Model;
 #[derive(Clone, Copy, Debug, PartialEq, Eq)]
 pub struct Label {
     len: u8,
-    // zeros behind the label, so that equal labels are equal
+    // zeros after the label, so that equal labels are equal
     text: [u8; 64],
 }
 
@@ -40,7 +40,7 @@ fn is_printable(text: &[u8]) -> bool
     true
 }
 
-/// The text, with zeros behind it.
+/// The text, with zeros after it.
 fn padded_text(text: &[u8]) -> [u8; 64]
     requires { length text.now ≤ 64 }
     ensures { result ≡ padded text.now }

@@ -36,7 +36,7 @@ impl Page {
         }
     }
 
-    /// Writes the bytes behind those that are written.
+    /// Writes the bytes after those that are written.
     pub fn put(&mut self, field: &[u8])
         requires { length self.old + length field.now ≤ SECTOR }
         ensures text { self.new ≡ self.old ++ field.now }

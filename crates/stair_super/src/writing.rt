@@ -21,7 +21,7 @@ fn code_of(mark: Mark) -> u8
     }
 }
 
-/// The coverage vector, with zeros behind it.
+/// The coverage vector, with zeros after it.
 fn put_coverage(page: &mut Page, geometry: &Geometry)
     requires { length page.old + 32 ≤ SECTOR }
     ensures text { page.new ≡ page.old ++ padded geometry.now.e }
@@ -83,7 +83,7 @@ fn frozen_code_of(frozen: bool) -> u8
     if frozen { 1 } else { 0 }
 }
 
-/// The label's length and the label. Behind it the page stays zero.
+/// The label's length and the label. After it the page stays zero.
 fn put_label(page: &mut Page, label: &Label)
     requires { length page.old + 127 ≤ SECTOR }
     ensures text { page.new ≡ page.old ++ label_part label.now }

@@ -8,12 +8,12 @@ use std::alloc::{AllocError, Global};
 /// What fills each of the 15 blocks.
 pub(crate) type Fillings = [u8; 15];
 
-/// What stands for a table without volumes, and for one with a volume, in the place of what fills a block.
+/// What represents a table without volumes, and for one with a volume, in the place of what fills a block.
 pub(crate) const NO_VOLUME: u8 = 0xF0;
 
 pub(crate) const ONE_VOLUME: u8 = 0xF1;
 
-// What fills a block, or stands for it.
+// What fills a block, or represents it.
 fn filling_of(block: &[u8]) -> Option<u8> {
     if block == table(false).as_slice() {
         return Some(NO_VOLUME);
@@ -88,7 +88,7 @@ pub(crate) fn reads(
     Ok(read_all(alloc, rack)? == Some(Blocks::new(fillings, told)))
 }
 
-/// Whether all blocks are these, also in a second call behind a crash, and nothing is told.
+/// Whether all blocks are these, also in a second call after a crash, and nothing is told.
 pub(crate) fn holds(alloc: Global, rack: MemRack, fillings: &Fillings) -> Result<bool, AllocError> {
     let mut rack = rack;
     if !reads(alloc, &mut rack, fillings, NOTHING_TOLD)? {

@@ -1,4 +1,4 @@
-// A slot that is pulled before a call of a write, and put back before a call of the opening behind it.
+// A slot that is pulled before a call of a write, and put back before a call of the opening after it.
 use crate::contents::{reads, with_block};
 use crate::racks::{OPENING, UP_TO_PLACING, WRITTEN};
 use crate::tally::{Extent, Part, Tally};
@@ -51,7 +51,7 @@ impl Turn {
         self.back > look_at(self.slot())
     }
 
-    // The rack behind the write, where that is done and told of the slot just where it missed it; the slot is put back by then or
+    // The rack after the write, where that is done and told of the slot just where it missed it; the slot is put back by then or
     // before a call of the next opening.
     fn written(self, alloc: Global) -> Result<Option<MemRack>, AllocError> {
         let (slot, pull) = pull_by(self.number);

@@ -28,7 +28,7 @@ enum Fault {
     Sink,
 }
 
-// Where it does: before the first byte, behind it, or before the last.
+// Where it does: before the first byte, after it, or before the last.
 #[derive(Clone, Copy, PartialEq, Eq)]
 enum Place {
     First,

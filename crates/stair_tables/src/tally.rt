@@ -46,7 +46,7 @@ impl From<AllocError> for Fault {
 /// Which other bytes are tried at the places of superblocks and gates.
 #[derive(Clone, Copy, PartialEq, Eq)]
 pub(crate) enum Extent {
-    /// Some, and behind the fields at some places alone.
+    /// Some, and after the fields at some places alone.
     Some,
     /// All, or many, at all places.
     Whole,

@@ -50,7 +50,7 @@ cell_start steps d sum none = rw none (omega arith)
 pub cell_none : (old now d sum next : ℕ) → now ≡ old + d * sum → next ≡ sum + 0 → now ≡ old + d * next
 cell_none old now d sum next before is = rw is (omega (arith, before))
 
--- a stretch of erased cells, and a cell behind it that isn't erased
+-- a stretch of erased cells, and a cell after it that isn't erased
 pub stretch_counted : (f : ℕ → ℕ) (start k : ℕ) → ((p : ℕ) → start ≤ p → p < start + k → f p ≡ 1) → sum_below (start + k) f ≡ sum_below start f + k
 stretch_counted f start zero ones =
     let none : start + 0 ≡ start = omega arith in

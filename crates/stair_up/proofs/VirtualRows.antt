@@ -1,4 +1,4 @@
--- Virtual symbols of the chunks from place m of the order up to one place, from those of the chunks behind it and the
+-- Virtual symbols of the chunks from place m of the order up to one place, from those of the chunks after it and the
 -- zeros of the intermediate chunks.
 use Rattle.std.proofs.Common.{◌≡◌, ℕ, ◌+◌, ◌-◌, ◌*◌, ◌<◌, ◌≤◌, List, length, take, drop, slice_index, inl, inr, sym, subst, ap, ap₂, ◌∙◌, arith}
 use Rattle.std.specs.Prelude.{All, Contains}
@@ -104,7 +104,7 @@ module _ (old : CanonicalStripe) (erased : CellSet) (columns : List ℕ) (limits
       pub finds_rows : FindsVirtualRows erased columns place start end old new
       finds_rows x canonical given behind = (stays, found)
         where
-          -- what is known: the chunks behind, and zeros
+          -- what is known: the chunks after, and zeros
           known_at : (h p : ℕ) → h < end → place + 1 ≤ p → p < place + 1 + data_chunks old.geometry
               → IsFound x old (old.geometry.r + h) (slice_index columns p)
           known_at h p below low high =

@@ -5,7 +5,7 @@ use Rattle.std.specs.List.Sorted.{IsPermutation}
 use Rattle.stair_model.specs.CellSet.{CellSet, HasCell, count_in_slot}
 
 -- each of the first r rows is held, or one of the first virtual rows, of which there are as many as rows are erased; these
--- stand behind, and then the other virtual rows
+-- stand after, and then the other virtual rows
 pub record AreRowsByNeed (erased : CellSet) (slot r : ℕ) (rows : List ℕ) : Type 0 where
   pub permutation : IsPermutation (range_with_len 0 64) rows
   pub known :

@@ -41,7 +41,7 @@ FindsChunk erased slot height old new =
     StaysFound x old new × ((i : ℕ) → i < old.geometry.r + height → IsFound x new i slot)
 
 -- the virtual symbols from `from` on and below `to` of the chunks from place m on of the order are found where they were in
--- those behind this place
+-- those after this place
 abbrev pub FindsVirtualRows : CellSet → List ℕ → ℕ → ℕ → ℕ → CanonicalStripe → CanonicalStripe →
     Type 0
 FindsVirtualRows erased columns place from to old new =

@@ -6,7 +6,7 @@ use stair_base::CellSet;
 use stair_mds::{MAX_PLACES, numbers_from};
 
 /// The rows of a canonical stripe in the order in which a chunk is solved: its first r symbols by this order are known, and
-/// those behind them are wanted.
+/// those after them are wanted.
 ///
 /// In the place of each erased row stands a virtual row, from row r on, and the erased row in the place of that.
 pub(crate) fn rows_by_need(erased: &CellSet, slot: u8, r: u8) -> [u16; MAX_PLACES]

@@ -206,7 +206,7 @@ fn solve_first_cells<L: Ledger>(canon: &mut Canon, order: &Order, row: u8, steps
 }
 
 /// Solves the cells in this row of the chunks from place `from` of the order up to `to`, which are among the first m and
-/// erased, from all chunks behind the first m.
+/// erased, from all chunks after the first m.
 fn solve_stretch<L: Ledger>(
     canon: &mut Canon,
     order: &Order,

@@ -202,7 +202,7 @@ module _ {W : Type 0} (view : WatcherView W) where
             (stays, stayed_stay list)
       ]
 
-  -- one that hasn't left, behind the others
+  -- one that hasn't left, after the others
   pub AllStay-more : (list : List W) (w : W) → AllStay view list → (view w).left ≡ false → AllStay view (list ++ w ∷ [])
   AllStay-more [] w still stays = (stays, tt)
   AllStay-more (x ∷ list) w still stays = (still.0, AllStay-more list w still.1 stays)

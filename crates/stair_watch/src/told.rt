@@ -7,7 +7,7 @@ ghost use Rattle.stair_watch.specs.WatcherList.{AllStay, Tells};
 use stair_rack::{Event, Next, Watcher};
 use std::alloc::AllocError;
 
-/// Puts a watcher that hasn't left behind the others. The only error is want of memory: the list is then as it was, and the
+/// Puts a watcher that hasn't left behind the others. The only error is lack of memory: the list is then as it was, and the
 /// watcher is dropped.
 pub fn add(
     watchers: &mut Vec<Box<dyn Watcher>>,

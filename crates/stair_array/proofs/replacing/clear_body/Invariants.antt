@@ -1,4 +1,4 @@
--- the sectors behind the gate, up to this one, were written, and none was gone
+-- the sectors after the gate, up to this one, were written, and none was gone
 use Rattle.std.proofs.Common.{◌<◌}
 use Rattle.stair_model.specs.Device.{gate_sector}
 use Rattle.stair_rack.specs.declared.rack.Reply.TheVariants as reply

@@ -1,4 +1,4 @@
--- The entries so far, with zeros behind them.
+-- The entries so far, with zeros after them.
 use Rattle.std.proofs.Common.{◌≡◌, ◌-◌, ◌++◌, take, replicate}
 use Rattle.stair_base.proofs.geometry.padded_coverage.Given as goal
 

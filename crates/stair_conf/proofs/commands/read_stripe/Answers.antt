@@ -32,7 +32,7 @@ returns-in_err-method-clause-usage c is_usage method n m r e spells =
     let none = c.in_err-method.ensures.ok_part in
     cc
 
--- the words behind it are no geometry
+-- the words after it are no geometry
 pub returns-in_err-geometry_of-clause-usage : goal.returns-in_err-geometry_of-clause-usage
 returns-in_err-geometry_of-clause-usage c is_usage method n m r e spells =
     let words = map string_bytes c.args.words.now in

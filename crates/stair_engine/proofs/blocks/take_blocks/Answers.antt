@@ -1,4 +1,4 @@
--- No block, and one block more; one that was cut short behind the blocks so far; and all blocks.
+-- No block, and one block more; one that was cut short after the blocks so far; and all blocks.
 use Rattle.std.proofs.Common.{◌≡◌, ℕ, ◌%◌, ◌<◌, rules, ap, ◌∙◌, arith, length, subst}
 use Rattle.std.proofs.Math.Nat.{mod-eq_of_lt}
 use Rattle.stair_model.specs.Cell.{Data, cell_at}

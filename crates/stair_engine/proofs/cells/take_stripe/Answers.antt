@@ -1,4 +1,4 @@
--- No cell, one cell more, and a whole row; a piece that was cut short behind the cells so far; and all cells.
+-- No cell, one cell more, and a whole row; a piece that was cut short after the cells so far; and all cells.
 use Rattle.std.proofs.Common.{◌≡◌, ℕ, ◌+◌, ◌*◌, ◌<◌, ap, arith, length, rules, subst}
 use Rattle.stair_story.specs.Outside.{source_view}
 use Rattle.stair_engine.proofs.CellLaws.{HasTaken, HasTaken-all, HasTaken-more, HasTaken-none, row_more}

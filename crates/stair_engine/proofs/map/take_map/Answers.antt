@@ -1,4 +1,4 @@
--- One row more; a row that was cut short behind the rows so far; and all rows.
+-- One row more; a row that was cut short after the rows so far; and all rows.
 use Rattle.std.proofs.Common.{◌≡◌, ◌<◌, arith, rules, length, length-take}
 use Rattle.stair_story.specs.Outside.{source_view}
 use Rattle.stair_story.proofs.IntakeLaws.{CutsShort-later, if_err_of}

@@ -10,7 +10,7 @@ use Rattle.stair_engine.proofs.show.put_array.Goals as goal
 use Rattle.std.specs.Prelude.{IsErr}
 
 module _ {K T E : Type 0} (view : SinkView K) (r : Result T E) (bytes line behind : List ℕ) (same : bytes ≡ line) where
-  -- bytes that are a line, and what is behind it
+  -- bytes that are a line, and what is after it
   line_then : (a b c : K) → Holds view (HasPut bytes) a b → PutsAll view r behind b c → PutsAll view r (line ++ behind) a c
   line_then a b c first then = puts_then view r line behind a b c (subst (λ (text : List ℕ). Holds view (HasPut text) a b) same first) then
 

@@ -14,7 +14,7 @@ lines_more : (m : Membership) (text : List ℕ) (j : ℕ) → (text ++ slot_line
 lines_more m text j =
     append_assoc text (slot_lines m j) (slot_line m j) ∙ ap (λ (k : ℕ). text ++ slot_lines m k) (sym (add-one j))
 
--- the lines behind those of the first slots
+-- the lines after those of the first slots
 lines_behind : (m : Membership) (j n : ℕ) → j ≤ n → (behind : List ℕ) × (slot_lines m j ++ behind ≡ slot_lines m n)
 lines_behind m j zero in_all =
     let none : j ≡ zero = omega (arith, in_all) in

@@ -1,4 +1,4 @@
--- The first eight bytes are the copied ones, and those behind them are zero.
+-- The first eight bytes are the copied ones, and those after them are zero.
 use Rattle.std.proofs.Common.{◌≡◌, ℕ, List, ◌++◌, replicate, refl}
 use Rattle.stair_journal.specs.Gate.{MAGIC, closed_gate}
 use Rattle.stair_journal.proofs.gate.closed_gate.Goals as goal

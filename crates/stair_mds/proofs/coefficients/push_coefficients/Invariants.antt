@@ -1,4 +1,4 @@
--- The coefficients of the known places so far stand behind those that were there.
+-- The coefficients of the known places so far stand after those that were there.
 use Rattle.std.proofs.Common.{◌≡◌, ℕ, ◌+◌, ◌<◌, ◌≤◌, length, slice_index, vec_len}
 use Rattle.std.specs.Vec.{vec_capacity}
 use Rattle.stair_mds.specs.Lagrange.{solving}

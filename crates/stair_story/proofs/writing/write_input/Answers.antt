@@ -1,4 +1,4 @@
--- One piece after the other, and the end behind them.
+-- One piece after the other, and the end after them.
 use Rattle.std.proofs.Common.{◌∙◌, ◌+◌, ◌-◌, ap, arith, refl, rules}
 use Rattle.stair_model.specs.Geometry.{Geometry}
 use Rattle.stair_story.specs.Devices.{device_view}

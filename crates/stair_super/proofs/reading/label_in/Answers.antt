@@ -1,4 +1,4 @@
--- The label stands behind its length.
+-- The label stands after its length.
 use Rattle.std.proofs.Common.{◌≡◌, ℕ, ◌+◌, ◌-◌, Some, take, drop, sym, ap, subst, ◌∙◌, arith}
 use Rattle.stair_super.specs.Label.{IsLabel}
 use Rattle.stair_super.proofs.Fields.{later_has, length_is, label_is}

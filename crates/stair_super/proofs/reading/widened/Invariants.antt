@@ -1,4 +1,4 @@
--- The bytes so far, with zeros behind them.
+-- The bytes so far, with zeros after them.
 use Rattle.std.proofs.Common.{◌≡◌, ◌-◌, ◌++◌, take, replicate}
 use Rattle.stair_super.proofs.reading.widened.Given as goal
 

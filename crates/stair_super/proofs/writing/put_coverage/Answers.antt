@@ -1,4 +1,4 @@
--- All entries are written, and zeros behind them.
+-- All entries are written, and zeros after them.
 use Rattle.std.proofs.Common.{ℕ, ◌+◌, length, ap, ◌∙◌, arith}
 use Rattle.std.proofs.lemmas.List.{length-append}
 use Rattle.stair_super.specs.Spelling.{padded}

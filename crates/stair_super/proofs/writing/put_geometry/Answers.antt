@@ -1,4 +1,4 @@
--- One part behind the other.
+-- One part after the other.
 use Rattle.std.proofs.Common.{◌≡◌, ℕ, List, ◌++◌, ap, ◌∙◌}
 use Rattle.stair_super.specs.Spelling.{padded, number32, counts}
 use Rattle.stair_super.proofs.Written.{both}

@@ -1,4 +1,4 @@
--- One part behind the other.
+-- One part after the other.
 use Rattle.std.proofs.Common.{ℕ, ◌-◌, List, [], ◌∷◌, ◌++◌, length, ap, ◌∙◌}
 use Rattle.stair_super.specs.Spelling.{zeros, label_part}
 use Rattle.stair_super.proofs.Written.{both}

@@ -1,4 +1,4 @@
--- One number behind the other.
+-- One number after the other.
 use Rattle.std.proofs.Common.{◌≡◌, ℕ, ◌∷◌, [], ◌++◌, ap, ◌∙◌}
 use Rattle.stair_super.specs.Spelling.{number64, zeros}
 use Rattle.stair_super.proofs.Written.{both}

@@ -1,4 +1,4 @@
--- One part behind the other.
+-- One part after the other.
 use Rattle.std.proofs.Common.{◌≡◌, ℕ, ◌-◌, List, ◌++◌, length, ap, ◌∙◌, arith}
 use Rattle.std.proofs.lemmas.List.{append-nil}
 use Rattle.stair_super.specs.Spelling.{zeros, spelled_in, magic, geometry_part, numbers_part, entries, fields, notes_part}

@@ -1,4 +1,4 @@
--- The held cells behind place m of the order are known, and the erased ones before it are wanted.
+-- The held cells after place m of the order are known, and the erased ones before it are wanted.
 use Rattle.std.proofs.Common.{ℕ, ◌-◌, ◌∙◌, drop, slice_index, subst, take, ap}
 use Rattle.stair_model.specs.Geometry.{Geometry, IsWithinLimits}
 use Rattle.stair_canon.specs.Solving.{SolvesRow}

@@ -1,4 +1,4 @@
--- The first r rows by need are known, and those behind them wanted.
+-- The first r rows by need are known, and those after them wanted.
 use Rattle.std.proofs.Common.{◌≡◌, ℕ, ap, subst, ◌∙◌}
 use Rattle.stair_model.specs.Geometry.{IsWithinLimits}
 use Rattle.stair_up.specs.RowsSteps.{AreRowsByNeed}

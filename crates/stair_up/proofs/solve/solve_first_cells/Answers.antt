@@ -1,4 +1,4 @@
--- A stretch ends where a cell isn't erased, and behind the last place.
+-- A stretch ends where a cell isn't erased, and after the last place.
 use Rattle.std.proofs.Common.{◌≡◌, ℕ, ◌+◌, ◌-◌, ◌*◌, add-one, inl, inr, sym, subst, ap, ◌∙◌, arith}
 use Rattle.std.specs.Prelude.{slice_index}
 use Rattle.std.proofs.lemmas.Bool.{cases_eq, false≢true}

@@ -1,4 +1,4 @@
--- The columns behind this place are known, and those up to it wanted, in each of the rows.
+-- The columns after this place are known, and those up to it wanted, in each of the rows.
 use Rattle.std.proofs.Common.{◌+◌, ap, ap₂, subst, sym, ◌∙◌, arith}
 use Rattle.stair_model.specs.Geometry.{IsWithinLimits}
 use Rattle.stair_up.proofs.VirtualRows.{small, are_rows, may_know, may_want, rows_in, rows_distinct, keeps_rows, finds_rows, rows_cost}

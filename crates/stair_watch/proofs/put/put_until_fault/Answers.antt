@@ -1,4 +1,4 @@
--- One put more; a fault behind a part; and all of it.
+-- One put more; a fault after a part; and all of it.
 use Rattle.std.proofs.Common.{ℕ, ◌-◌, ◌≤◌, arith, length, length-take, length-drop, refl}
 use Rattle.std.proofs.KnownBytes.{Appends-kept, Appends-trans}
 use Rattle.stair_rack.specs.Count.{kept-Rose}

@@ -1,4 +1,4 @@
--- The new one stands behind the others.
+-- The new one stands after the others.
 use Rattle.stair_watch.proofs.WatchLemmas.{AllStay-more}
 use Rattle.stair_watch.proofs.told.add.Goals as goal
 

@@ -1,4 +1,4 @@
--- Of the places so far, none behind those to be read is known.
+-- Of the places so far, none after those to be read is known.
 use Rattle.std.proofs.Common.{◌≤◌}
 use Rattle.stair_canon.proofs.SolvedLines.{HasNoneBehind}
 use Rattle.stair_canon.proofs.known.KnownSymbols.count_to_read.Given as goal

@@ -1,4 +1,4 @@
--- the slots so far were let go of, and the others are as they were
+-- the slots so far were released, and the others are as they were
 use Rattle.std.proofs.Common.{◌≡◌, ◌≤◌, ◌<◌, ℕ, [], get_or}
 use Rattle.stair_filerack.specs.Slot.{untouched, detached}
 use Rattle.stair_filerack.proofs.rack.FileRack.probe.Given as goal

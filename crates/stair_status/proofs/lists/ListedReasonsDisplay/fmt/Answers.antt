@@ -37,7 +37,7 @@ with_here before j MarkedDown differs same is = cc
 with_here before j OtherJoined differs same is = cc
 with_here before j Rebuilding differs same is = cc
 
--- the first of the list, and one behind others
+-- the first of the list, and one after others
 listed_first : (before text : List ℕ) (first : Bool) → first ≡ is_empty before → first ≡ true → before ++ text ≡ listed before text
 listed_first [] text first same is = refl
 listed_first (x ∷ xs) text first same is = cc
@@ -51,7 +51,7 @@ some_behind : (front : List ℕ) (x : ℕ) (xs back : List ℕ) → false ≡ is
 some_behind [] x xs back = refl
 some_behind (y ∷ ys) x xs back = refl
 
--- the slot, and the words behind it
+-- the slot, and the words after it
 words_told : (j : ℕ) (why : Why) (words : List ℕ) → words ≡ words_of why → decimal j ++ (codes " " ++ words) ≡ slot_reason j why
 words_told j why words is =
     ap (λ (text : List ℕ). decimal j ++ (codes " " ++ text)) is ∙ sym (append_assoc (decimal j) (codes " ") (words_of why))

@@ -1,4 +1,4 @@
--- What came stands behind what was held.
+-- What came stands after what was held.
 use Rattle.std.proofs.Common.{◌≡◌, ◌-◌, ℕ, length, subst, sym}
 use Rattle.stair_model.specs.Stripe.{SECTOR}
 use Rattle.stair_story.specs.Outside.{source_view}

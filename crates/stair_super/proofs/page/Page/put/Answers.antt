@@ -1,4 +1,4 @@
--- The field stands behind what was written, and behind it all is zero still.
+-- The field stands after what was written, and after it all is zero still.
 use Rattle.std.proofs.Common.{◌+◌, ◌≤◌, length, ap, ◌∙◌, arith}
 use Rattle.std.proofs.lemmas.List.{length-append, length-take-le}
 use Rattle.stair_super.proofs.PageLemmas.{put_rest, put_front, put_whole}

@@ -1,4 +1,4 @@
--- What is behind the bytes so far is zero already.
+-- What is after the bytes so far is zero already.
 use Rattle.std.proofs.Common.{ℕ, ◌+◌, ◌≤◌, length, ap, ◌∙◌, arith}
 use Rattle.std.proofs.lemmas.List.{length-append, length-take-le}
 use Rattle.stair_super.specs.Spelling.{zeros}
