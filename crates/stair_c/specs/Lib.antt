@@ -1,3 +1,4 @@
--- What the calls for C answer.
+-- What the calls for C answer, and how stripes lie in memory.
+pub mod Chunks
 pub mod Costs
 pub mod Statuses

@@ -1,15 +1,23 @@
-ghost use Rattle.std.specs.Prelude.{replicate};
+ghost use Rattle.std.specs.Prelude.{◌<◌, ◌≤◌, IfNone, IfSome, replicate};
 ghost use Rattle.stair_model.specs.Geometry.{geometry_of};
-ghost use Rattle.stair_c.specs.Statuses.{Counts, Places};
+ghost use Rattle.stair_c.specs.Statuses.{Checks, Counts, Encodes, Places};
 ghost use Rattle.stair_c.specs.Costs.{plan_of};
 
-use stair_base::Geometry;
+use crate::stripes::{encode_each, first_broken_stripe, stripe_count};
+use stair_base::{Geometry, SECTOR, Stripe};
+use stair_codec::{By, Codec};
 use stair_plan::plan;
 use std::alloc::Global;
+use std::marker::Brand;
+use std::sync::ledger::Blank;
 
 const OK: u32 = 0;
 
 const SIZE: u32 = 9;
+
+const METHOD: u32 = 10;
+
+const BROKEN: u32 = 12;
 
 const MEMORY: u32 = 13;
 
@@ -31,6 +39,97 @@ pub struct Cost {
     pub least: u64,
     /// The greatest number of other cells that change with a block.
     pub greatest: u64,
+}
+
+/// Encodes the stripes in place, by method 0 (standard), 1 (upstairs), 2 (downstairs) or 3 (fewest multiply-adds).
+///
+/// Memory is n chunks in order; each has r sectors of 512 bytes of each stripe, stripe after stripe. All memory that the call
+/// needs is allocated before the first write. Each status but 0 leaves the sectors as they were:
+///
+/// - 0: each stripe is the codeword of its data cells, which are as they were.
+/// - 1 to 8: the first broken limit of the geometry.
+/// - 9: the sectors aren't whole stripes.
+/// - 10: the method is none of the four.
+/// - 13: out of memory.
+#[unsafe(no_mangle)]
+pub extern "C" fn stair_encode(
+    alloc: Global,
+    n: u64,
+    m: u64,
+    r: u64,
+    e: &[u64],
+    method: u32,
+    sectors: &mut [[u8; SECTOR]],
+) -> u32
+    ensures { Encodes (geometry_of n m r e.now 1 (replicate 16 0)) method sectors.old sectors.new
+        result }
+{
+    let geometry = match Geometry::large(n, m, r, e, 1, [0; 16]) {
+        Ok(geometry) => geometry,
+        Err(fault) => return u32::from(fault.limit),
+    };
+    let Some(by) = by_number(method) else {
+        return METHOD;
+    };
+    let Some(count) = stripe_count(&geometry, sectors.len()) else {
+        return SIZE;
+    };
+    let Ok(mut codec) = Codec::new(alloc, &geometry, by) else {
+        return MEMORY;
+    };
+    let Ok(mut stripe) = Stripe::new(alloc, &geometry) else {
+        return MEMORY;
+    };
+    encode_each::<Brand>(
+        Blank::new(1),
+        &mut codec,
+        &geometry,
+        &mut stripe,
+        count,
+        sectors,
+    );
+    OK
+}
+
+/// Tests whether each stripe is a codeword. Memory is laid out as [`stair_encode`] has it.
+///
+/// - 0: all are.
+/// - 1 to 8: the first broken limit of the geometry.
+/// - 9: the sectors aren't whole stripes.
+/// - 12: one isn't, and `broken` is the number of the first that isn't.
+/// - 13: out of memory.
+///
+/// `broken` changes at status 12 only.
+#[unsafe(no_mangle)]
+pub extern "C" fn stair_check(
+    alloc: Global,
+    n: u64,
+    m: u64,
+    r: u64,
+    e: &[u64],
+    sectors: &[[u8; SECTOR]],
+    broken: &mut u64,
+) -> u32
+    ensures { Checks (geometry_of n m r e.now 1 (replicate 16 0)) sectors.now broken.old broken.new
+        result }
+{
+    let geometry = match Geometry::large(n, m, r, e, 1, [0; 16]) {
+        Ok(geometry) => geometry,
+        Err(fault) => return u32::from(fault.limit),
+    };
+    let Some(count) = stripe_count(&geometry, sectors.len()) else {
+        return SIZE;
+    };
+    let Ok(mut stripe) = Stripe::new(alloc, &geometry) else {
+        return MEMORY;
+    };
+    match first_broken_stripe(&geometry, &mut stripe, count, sectors) {
+        None => OK,
+        Some(number) => {
+            *broken = number as u64;
+            BROKEN
+        }
+    }
 }
 
 /// Sets `slot` and `sector` to where a block lies in the chunks of so many stripes: in chunk `slot`, at sector `sector` of it.
@@ -99,4 +198,18 @@ pub extern "C" fn stair_cost(
         greatest: plan.greatest,
     };
     OK
+}
+
+/// The way of encoding with this number, or None where there is none.
+fn by_number(method: u32) -> Option<By>
+    ensures some { IfSome result (λ _. method < 4) }
+    ensures none { IfNone result (4 ≤ method) }
+{
+    match method {
+        0 => Some(By::Standard),
+        1 => Some(By::Upstairs),
+        2 => Some(By::Downstairs),
+        3 => Some(By::Fewest),
+        _ => None,
+    }
 }

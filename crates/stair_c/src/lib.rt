@@ -3,6 +3,7 @@
 //! Each export tests what it is handed, and answers a status.
 #![tactic(auto)]
 
-pub use exports::{Cost, stair_cost, stair_place};
+pub use exports::{Cost, stair_check, stair_cost, stair_encode, stair_place};
 
 mod exports;
+mod stripes;

@@ -1,0 +1,2 @@
+-- Lemmas on sectors of stripes.
+pub mod SectorLemmas
