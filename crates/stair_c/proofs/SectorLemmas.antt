@@ -6,7 +6,7 @@ use Rattle.std.proofs.lemmas.Nat.{div-add-mod', div-mul-add, div_below, mod-mul-
 use Rattle.stair_model.specs.Geometry.{Geometry}
 use Rattle.stair_model.specs.Stripe.{Stripe, IsStripeOf, IsWellFormed, cell, with_cell}
 use Rattle.stair_model.proofs.StripeLaws.{cell-with_cell_other, cell-with_cell_same}
-use Rattle.stair_c.specs.Chunks.{HasChunkOf, HasStripes, IsSameAt, IsStripeAt, sector_at, sector_number}
+use Rattle.stair_c.specs.Chunks.{HasChunkOf, HasStripes, IsCodewordAt, IsSameAt, IsStripeAt, sector_at, sector_number}
 
 -- a number below w and one more digit have one sum
 two_digits : (w a b c d : ℕ) → b < w → d < w → a * w + b ≡ c * w + d → (a ≡ c) × (b ≡ d)
@@ -155,6 +155,15 @@ was_at g k old new s stripe same at = record {
   of = at.of;
   formed = at.formed;
   cells = λ i j i_in j_in. at.cells i j i_in j_in ∙ same i j i_in j_in;
+}
+
+-- and is a codeword as before
+pub codeword_kept : (g : Geometry) (k : ℕ) (old new : List (List ℕ)) (s : ℕ) → IsSameAt g k old new s
+    → IsCodewordAt g k old s → IsCodewordAt g k new s
+codeword_kept g k old new s same before = record {
+  stripe = before.stripe;
+  at = kept_at g k old new s before.stripe same before.at;
+  codeword = before.codeword;
 }
 
 -- ---- whole stripes

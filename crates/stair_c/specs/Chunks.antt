@@ -2,7 +2,6 @@
 use Rattle.std.specs.Prelude.{◌≡◌, ℕ, ◌+◌, ◌*◌, ◌<◌, List, [], length, slice_index_or}
 use Rattle.stair_model.specs.Cell.{Data, cell_at}
 use Rattle.stair_model.specs.Codeword.{IsCodeword}
-use Rattle.stair_model.specs.Encoding.{IsEncodedFrom}
 use Rattle.stair_model.specs.Geometry.{Geometry}
 use Rattle.stair_model.specs.Stripe.{Stripe, IsStripeOf, IsWellFormed, cell}
 
@@ -30,13 +29,11 @@ pub record IsCodewordAt (g : Geometry) (k : ℕ) (sectors : List (List ℕ)) (s 
   pub at : IsStripeAt g k sectors s stripe
   pub codeword : IsCodeword g stripe
 
--- stripe s of k was encoded in place
+-- stripe s of k was encoded in place: it is a codeword, and its data sectors are as they were
 pub record IsEncodedAt (g : Geometry) (k : ℕ) (old new : List (List ℕ)) (s : ℕ) : Type 0 where
-  pub before : Stripe
-  pub after : Stripe
-  pub was : IsStripeAt g k old s before
-  pub is : IsStripeAt g k new s after
-  pub encoded : IsEncodedFrom g before after
+  pub codeword : IsCodewordAt g k new s
+  pub same_data : (i j d : ℕ) → i < g.r → j < g.n → cell_at g i j ≡ Data d →
+      sector_at g k new s i j ≡ sector_at g k old s i j
 
 -- each sector of stripe s of k is the same in both
 abbrev pub IsSameAt : Geometry → ℕ → List (List ℕ) → List (List ℕ) → ℕ → Type 0

@@ -39,28 +39,30 @@ pub(crate) fn first_sector(
     (usize::from(slot) * count + stripe) * rows
 }
 
-/// Loads the chunk in this slot, of this stripe of `count`.
+/// Loads the first `rows` sectors of the chunk in this slot, of this stripe of `count`; the cells of all other chunks stay.
 fn load_chunk(
     geometry: &Geometry,
     count: usize,
     sectors: &[[u8; SECTOR]],
     stripe: usize,
     slot: u8,
+    rows: u8,
     into: &mut Stripe,
 )
     requires whole { HasStripes geometry.now count sectors.now }
     requires stripe_in { stripe < count }
     requires slot_in { slot < geometry.now.n }
+    requires rows_in { rows ≤ geometry.now.r }
     requires of { IsStripeOf geometry.now into.old }
     requires formed { IsWellFormed into.old }
     ensures of { IsStripeOf geometry.now into.new }
     ensures formed { IsWellFormed into.new }
-    ensures loaded { HasChunkOf geometry.now count sectors.now stripe into.new slot geometry.now.r }
+    ensures loaded { HasChunkOf geometry.now count sectors.now stripe into.new slot rows }
     ensures others { (i j : ℕ) → j < geometry.now.n → ¬ (j ≡ slot) →
         cell into.new i j ≡ cell into.old i j }
 {
     let first = first_sector(geometry, count, sectors.len(), stripe, slot);
-    for row in 0..geometry.r() {
+    for row in 0..rows {
         into.put(row, slot, &sectors[first + usize::from(row)]);
     }
 }
@@ -80,7 +82,28 @@ pub(crate) fn load(
     ensures { IsStripeAt geometry.now count sectors.now stripe into.new }
 {
     for slot in 0..geometry.n() {
-        load_chunk(geometry, count, sectors, stripe, slot, into);
+        load_chunk(geometry, count, sectors, stripe, slot, geometry.r(), into);
+    }
+}
+
+/// Loads the data cells of this stripe of `count`.
+fn load_data(
+    geometry: &Geometry,
+    count: usize,
+    sectors: &[[u8; SECTOR]],
+    stripe: usize,
+    into: &mut Stripe,
+)
+    requires whole { HasStripes geometry.now count sectors.now }
+    requires stripe_in { stripe < count }
+    requires of { IsStripeOf geometry.now into.old }
+    requires formed { IsWellFormed into.old }
+    ensures of { IsStripeOf geometry.now into.new }
+    ensures loaded { HasDataOf geometry.now count sectors.now stripe into.new }
+{
+    for slot in 0..geometry.n() {
+        let rows = data_rows(geometry, slot);
+        load_chunk(geometry, count, sectors, stripe, slot, rows, into);
     }
 }
 
@@ -118,6 +141,7 @@ fn data_rows(geometry: &Geometry, slot: u8) -> u8
     requires { slot < geometry.now.n }
     ensures within { result ≤ geometry.now.r }
     ensures data { (i : ℕ) → i < result → (d : ℕ) × (cell_at geometry.now i slot ≡ Data d) }
+    ensures all { (i d : ℕ) → i < geometry.now.r → cell_at geometry.now i slot ≡ Data d → i < result }
 {
     let data_chunks = geometry.n() - geometry.m();
     let first_global_chunk = data_chunks - geometry.classes();
@@ -177,7 +201,7 @@ pub(crate) fn encode_each<L: Ledger>(
 {
     let mut steps = Steps::<L>::new(blank);
     for number in 0..count {
-        load(geometry, count, sectors, number, stripe);
+        load_data(geometry, count, sectors, number, stripe);
         codec.encode(stripe, &mut steps);
         store_parities(geometry, count, sectors, number, stripe);
     }
