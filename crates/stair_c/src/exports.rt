@@ -3,9 +3,10 @@ ghost use Rattle.stair_model.specs.Geometry.{geometry_of};
 ghost use Rattle.stair_c.specs.Statuses.{Checks, Counts, Encodes, Places};
 ghost use Rattle.stair_c.specs.Costs.{plan_of};
 
+use crate::encoders::prepare;
 use crate::stripes::{encode_each, first_broken_stripe, stripe_count};
 use stair_base::{Geometry, SECTOR, Stripe};
-use stair_codec::{By, Codec};
+use stair_codec::By;
 use stair_plan::plan;
 use std::alloc::Global;
 use std::marker::Brand;
@@ -74,7 +75,7 @@ pub extern "C" fn stair_encode(
     let Some(count) = stripe_count(&geometry, sectors.len()) else {
         return SIZE;
     };
-    let Ok(mut codec) = Codec::new(alloc, &geometry, by) else {
+    let Ok(mut prepared) = prepare(alloc, &geometry, by) else {
         return MEMORY;
     };
     let Ok(mut stripe) = Stripe::new(alloc, &geometry) else {
@@ -82,7 +83,7 @@ pub extern "C" fn stair_encode(
     };
     encode_each::<Brand>(
         Blank::new(1),
-        &mut codec,
+        &mut prepared,
         &geometry,
         &mut stripe,
         count,

@@ -5,5 +5,6 @@
 
 pub use exports::{Cost, stair_check, stair_cost, stair_encode, stair_place};
 
+mod encoders;
 mod exports;
 mod stripes;

@@ -1,10 +1,11 @@
 ghost use Rattle.std.specs.Prelude.{◌≡◌, ℕ, ◌+◌, ◌*◌, ◌<◌, ◌≤◌, IfNone, IfSome, length};
 ghost use Rattle.stair_model.specs.Cell.{Data, cell_at};
 ghost use Rattle.stair_model.specs.Stripe.{IsStripeOf, IsWellFormed, cell};
+ghost use Rattle.stair_c.specs.Encoders.{shape};
 ghost use Rattle.stair_c.specs.Chunks.{HasChunkOf, HasDataOf, HasStripes, IsCodewordAt, IsEncodedAt, IsSameAt, IsStripeAt, sector_at};
 
-use stair_base::{Geometry, SECTOR, Stripe, StripeCode, first_broken};
-use stair_codec::Codec;
+use crate::encoders::{Prepared, encode};
+use stair_base::{Geometry, SECTOR, Stripe, first_broken};
 use stair_gf::Steps;
 use std::sync::ledger::{Blank, Ledger};
 
@@ -182,7 +183,7 @@ fn store_parities(
 /// Encodes each stripe of `count` in place.
 pub(crate) fn encode_each<L: Ledger>(
     blank: Blank,
-    codec: &mut Codec,
+    prepared: &mut Prepared,
     geometry: &Geometry,
     stripe: &mut Stripe,
     count: usize,
@@ -191,7 +192,7 @@ pub(crate) fn encode_each<L: Ledger>(
     requires name { blank.name ≡ L.name }
     requires parts { blank.parts ≡ L.parts }
     requires some { 0 < L.parts }
-    requires fits { codec.old.geometry ≡ geometry.now }
+    requires fits { shape prepared.old ≡ geometry.now }
     requires of { IsStripeOf geometry.now stripe.old }
     requires formed { IsWellFormed stripe.old }
     requires whole { HasStripes geometry.now count sectors.old }
@@ -202,7 +203,7 @@ pub(crate) fn encode_each<L: Ledger>(
     let mut steps = Steps::<L>::new(blank);
     for number in 0..count {
         load_data(geometry, count, sectors, number, stripe);
-        codec.encode(stripe, &mut steps);
+        encode(prepared, stripe, &mut steps);
         store_parities(geometry, count, sectors, number, stripe);
     }
 }

@@ -21,8 +21,8 @@ pub returns-in_default-new : goal.returns-in_default-new
 returns-in_default-new c =
     memory (c.in-Ok.ensures.within.0 refl) c.in-Some.ensures.some refl
 
-pub returns-in_default-new-2 : goal.returns-in_default-new-2
-returns-in_default-new-2 c =
+pub returns-in_default-prepare : goal.returns-in_default-prepare
+returns-in_default-prepare c =
     memory (c.in-Ok.ensures.within.0 refl) c.in-Some.ensures.some refl
 
 pub returns : goal.returns
