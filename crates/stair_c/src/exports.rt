@@ -1,5 +1,5 @@
-ghost use Rattle.std.specs.Prelude.{◌<◌, ◌≤◌, IfNone, IfSome, replicate};
-ghost use Rattle.stair_model.specs.Geometry.{geometry_of};
+ghost use Rattle.std.specs.Prelude.{◌≡◌, ◌<◌, ◌≤◌, IfErr, IfNone, IfOk, IfSome, replicate};
+ghost use Rattle.stair_model.specs.Geometry.{IsFirstBrokenLimit, IsWithinLimits, geometry_of};
 ghost use Rattle.stair_c.specs.Statuses.{Checks, Counts, Encodes, Places};
 ghost use Rattle.stair_c.specs.Costs.{plan_of};
 
@@ -65,9 +65,9 @@ pub extern "C" fn stair_encode(
     ensures { Encodes (geometry_of n m r e.now 1 (replicate 16 0)) method sectors.old sectors.new
         result }
 {
-    let geometry = match Geometry::large(n, m, r, e, 1, [0; 16]) {
+    let geometry = match geometry_within(n, m, r, e) {
         Ok(geometry) => geometry,
-        Err(fault) => return u32::from(fault.limit),
+        Err(limit) => return limit,
     };
     let Some(by) = by_number(method) else {
         return METHOD;
@@ -114,9 +114,9 @@ pub extern "C" fn stair_check(
     ensures { Checks (geometry_of n m r e.now 1 (replicate 16 0)) sectors.now broken.old broken.new
         result }
 {
-    let geometry = match Geometry::large(n, m, r, e, 1, [0; 16]) {
+    let geometry = match geometry_within(n, m, r, e) {
         Ok(geometry) => geometry,
-        Err(fault) => return u32::from(fault.limit),
+        Err(limit) => return limit,
     };
     let Some(count) = stripe_count(&geometry, sectors.len()) else {
         return SIZE;
@@ -182,9 +182,9 @@ pub extern "C" fn stair_cost(
     ensures { Counts (geometry_of n m r e.now 1 (replicate 16 0)) (plan_of cost.old)
         (plan_of cost.new) result }
 {
-    let geometry = match Geometry::large(n, m, r, e, 1, [0; 16]) {
+    let geometry = match geometry_within(n, m, r, e) {
         Ok(geometry) => geometry,
-        Err(fault) => return u32::from(fault.limit),
+        Err(limit) => return limit,
     };
     let Ok(plan) = plan(alloc, &geometry) else {
         return MEMORY;
@@ -199,6 +199,18 @@ pub extern "C" fn stair_cost(
         greatest: plan.greatest,
     };
     OK
+}
+
+/// The geometry with these numbers, of one stripe, or the number of the first limit that it breaks.
+pub(crate) fn geometry_within(n: u64, m: u64, r: u64, e: &[u64]) -> Result<Geometry, u32>
+    ensures ok { IfOk result (λ geometry. geometry ≡ geometry_of n m r e.now 1 (replicate 16 0)) }
+    ensures within { IfOk result (λ geometry. IsWithinLimits geometry) }
+    ensures err { IfErr result (IsFirstBrokenLimit (geometry_of n m r e.now 1 (replicate 16 0))) }
+{
+    match Geometry::large(n, m, r, e, 1, [0; 16]) {
+        Ok(geometry) => Ok(geometry),
+        Err(fault) => Err(u32::from(fault.limit)),
+    }
 }
 
 /// The way of encoding with this number, or None where there is none.

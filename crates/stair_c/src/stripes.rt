@@ -224,10 +224,10 @@ pub(crate) fn first_broken_stripe(
         IsCodewordAt geometry.now count sectors.now s) }
     ensures broken { IfSome result (λ b. ¬ IsCodewordAt geometry.now count sectors.now b) }
 {
-    for number in 0..count {
-        load(geometry, count, sectors, number, stripe);
+    for candidate in 0..count {
+        load(geometry, count, sectors, candidate, stripe);
         if first_broken(geometry, stripe).is_some() {
-            return Some(number);
+            return Some(candidate);
         }
     }
     None

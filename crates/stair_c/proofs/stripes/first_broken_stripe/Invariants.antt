@@ -4,9 +4,9 @@ use Rattle.stair_model.specs.Stripe.{IsStripeOf, IsWellFormed}
 use Rattle.stair_c.specs.Chunks.{IsCodewordAt}
 use Rattle.stair_c.proofs.stripes.first_broken_stripe.Given as goal
 
-abbrev pub invariant-loop-number : goal.invariant-loop-number
-invariant-loop-number l = record {
+abbrev pub invariant-loop-candidate : goal.invariant-loop-candidate
+invariant-loop-candidate l = record {
   of : IsStripeOf l.geometry l.stripe;
   formed : IsWellFormed l.stripe;
-  earlier : (s : ℕ) → s < l.number → IsCodewordAt l.geometry l.count l.sectors s;
+  earlier : (s : ℕ) → s < l.candidate → IsCodewordAt l.geometry l.count l.sectors s;
 }
