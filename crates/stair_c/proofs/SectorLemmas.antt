@@ -8,6 +8,11 @@ use Rattle.stair_model.specs.Stripe.{Stripe, IsStripeOf, IsWellFormed, cell, wit
 use Rattle.stair_model.proofs.StripeLaws.{cell-with_cell_other, cell-with_cell_same}
 use Rattle.stair_c.specs.Chunks.{HasChunkOf, HasStripes, IsCodewordAt, IsSameAt, IsStripeAt, sector_at, sector_number}
 
+-- a product that isn't zero
+right_some : (k r n : ℕ) → k < r * n → 0 < n
+right_some k r zero below = omega arith
+right_some k r (suc n) below = omega arith
+
 -- a number below w and one more digit have one sum
 two_digits : (w a b c d : ℕ) → b < w → d < w → a * w + b ≡ c * w + d → (a ≡ c) × (b ≡ d)
 two_digits w a b c d b_in d_in same =
@@ -28,6 +33,28 @@ pub number_below : (g : Geometry) (k s i j : ℕ) → s < k → i < g.r → j < 
 number_below g k s i j s_in i_in j_in =
     let group : j * k + s < g.n * k = omega (arith, mul-add-lt j k s g.n j_in s_in) in
     omega (arith, mul-add-lt (j * k + s) g.r i (g.n * k) group i_in)
+
+-- each sector is that of a cell
+pub has_cell : (g : Geometry) (k p : ℕ) → p < g.n * k * g.r
+    → (s : ℕ) × (i : ℕ) × (j : ℕ) × (s < k) × (i < g.r) × (j < g.n) × (p ≡ sector_number g k s i j)
+has_cell g k p within =
+    let rows : 0 < g.r = right_some p (g.n * k) g.r within in
+    let q = p / g.r in
+    let among : q < g.n * k = div_below p g.r (g.n * k) rows within in
+    let stripes : 0 < k = right_some q g.n k among in
+    let chunk : q / k < g.n = div_below q k g.n stripes among in (
+      q % k,
+      p % g.r,
+      q / k,
+      mod_below q k stripes,
+      mod_below p g.r rows,
+      chunk,
+      sym (ap (λ (x : ℕ). x * g.r + p % g.r) (div-add-mod' q k) ∙ div-add-mod' p g.r),
+    )
+
+-- the sectors of a slot follow those of the slots before
+pub in_chunks : (g : Geometry) (k s i j : ℕ) → sector_number g k s i j ≡ j * (k * g.r) + (s * g.r + i)
+in_chunks g k s i j = grind arith
 
 -- the chunk of a stripe is among the chunks, and its sectors among the sectors
 pub chunk_within : (n k r j s sectors : ℕ) → sectors ≡ n * k * r → 0 < r → j < n → s < k
@@ -100,11 +127,6 @@ module _ (g : Geometry) (k : ℕ) (sectors : List (List ℕ)) (s j row place : �
       ]
 
 -- ---- one stripe for its sectors
-
--- a product that isn't zero
-right_some : (k r n : ℕ) → k < r * n → 0 < n
-right_some k r zero below = omega arith
-right_some k r (suc n) below = omega arith
 
 -- a stripe by its three fields
 abbrev stripe_from : ℕ → ℕ → List (List ℕ) → Stripe

@@ -7,4 +7,5 @@ pub use exports::{Cost, stair_check, stair_cost, stair_encode, stair_place};
 
 mod encoders;
 mod exports;
+pub mod laws;
 mod stripes;
