@@ -99,7 +99,6 @@ pub mod RebuildOutcomeLemmas
 pub mod RebuildStepLemmas
 pub mod NewJournalLemmas
 pub mod RebuildingLemmas
-pub mod ReplacingLemmas
 pub mod StampsLeadLemmas
 pub mod MendsLeadLemmas
 pub mod StayDownLemmas

@@ -10,18 +10,18 @@ ghost use Rattle.stair_member.specs.declared.fault.FenceFault.{FenceFault as Fau
 ghost use Rattle.stair_state.specs.Blocks.{AreOfOneStripe};
 ghost use Rattle.stair_session.specs.Courses.{point};
 ghost use Rattle.stair_session.specs.Session.{IsRebuiltIn};
-ghost use Rattle.stair_array.specs.Arrays.{IsOfRemembered, IsUnderWay, LacksCell, LacksOne, Opens, answer_as, blocks_of, cells_of, outcome, replaced_as, state_of};
+ghost use Rattle.stair_array.specs.Arrays.{IsOfRemembered, IsUnderWay, LacksCell, LacksOne, Opens, answer_as, blocks_of, cells_of, outcome, state_of};
 ghost use Rattle.stair_array.specs.Calls.{AreOfBlocks, Reads, WritesBlocks};
 ghost use Rattle.stair_array.specs.Causes.{IsFree, IsNextChunk};
-ghost use Rattle.stair_array.specs.Faults.{array_fault, replace_fault};
+ghost use Rattle.stair_array.specs.Faults.{array_fault};
 ghost use Rattle.stair_array.specs.Machine.{ReadBlock, RebuildNext, Recover, ReplaceSlot, ScrubStripe, SetFrozen, SetLabel, WriteBlocks, write_block};
 ghost use Rattle.stair_array.specs.MendingCalls.{AdmitsSlot, admitted_as, chunk_as, promotion_as, rebuild_past};
 ghost use Rattle.stair_array.specs.MendingSteps.{WritesNext};
-ghost use Rattle.stair_array.specs.Mends.{Promotes, Replaces, Scrubs, StampsAs};
+ghost use Rattle.stair_array.specs.Mends.{Promotes, Scrubs, StampsAs};
 ghost use Rattle.stair_array.specs.News.{AddsFallen, AddsNews, StayDown, no_news};
-ghost use Rattle.stair_array.specs.Promise.{Keeps, KeepsRebuild, rebuild_after};
+ghost use Rattle.stair_array.specs.Promise.{Keeps, rebuild_after};
 
-use crate::fault::{ArrayFault, RecoverFault, ReplaceFault};
+use crate::fault::{ArrayFault, RecoverFault};
 use crate::news::News;
 use crate::rebuilding::{Rebuild, left_of, left_past};
 use crate::session::Session;
@@ -301,51 +301,6 @@ impl<C: StripeCode> Array<C> {
         let cells = scrubbed?;
         self.news.repaired = Some((stripe, cells));
         Ok(cells)
-    }
-
-    /// Replaces a slot that is Down: admits the device in it, which is rebuilt from then on.
-    ///
-    /// The slot is attached, its device must have the sectors that the array needs, and both of its superblock places are read. An
-    /// earlier medium of this array may be admitted again. It gets a closed gate and zeros for the body of a redo, and is synced; its
-    /// chunks are left as they are. Then an epoch is established in which the slot is Rebuilding. What the device held is told to the
-    /// epoch, so that no superblock of an earlier life hides those of this one.
-    ///
-    /// They are refused in this order:
-    ///
-    /// - `OutOfRange`: the array has no such slot. No call is made.
-    /// - `SlotBusy`: the slot isn't Down. No call is made.
-    /// - `Gone`: the slot was gone. Its journal may have been written, and nothing else; or, where it was gone while the epoch was
-    ///   established, one stands in which it is Down.
-    /// - `SmallDevice`, `AlreadyArray`: its device has too few sectors, or holds a superblock of another array. Nothing was written.
-    /// - `TooFew`, `EpochsSpent`: the epoch was refused. The array is stopped.
-    pub fn replace<R: Rack>(&mut self, rack: &mut R, slot: u8) -> Result<(), ReplaceFault>
-        ensures told { self.old.stopped ≡ None → Replaces slot (replaced_as result)
-            (point self.old.member (told R.Rack rack.old))
-            (point self.new.member (told R.Rack rack.new)) }
-        ensures kept { self.old.stopped ≡ None → Keeps (replaced_as result) self.new.stopped }
-        ensures stopped { (fault : Fault) → self.old.stopped ≡ Some fault →
-            (result ≡ Err (replace_fault fault)) × (rack.new ≡ rack.old) × (self.new ≡ self.old) }
-        ensures past { self.old.member.array.geometry.n ≤ slot → rack.new ≡ rack.old }
-        ensures rebuild { self.new.rebuild ≡ rebuild_after self.new.member self.old.rebuild }
-        ensures remembers { self.old.stopped ≡ None → self.new.remembered ≡ None }
-        ensures goes_on { self.old.stopped ≡ None → KeepsRebuild (ReplaceSlot slot) (replaced_as result)
-            (state_of self.old) (state_of self.new) }
-        ensures news { AddsNews (ReplaceSlot slot) (replaced_as result) self.old.member.array
-            self.new.member.array self.old.news self.new.news }
-        ensures reads { RisesAtMost 2 (R.reads rack.old) (R.reads rack.new) }
-    {
-        if let Some(fault) = self.session.stopped {
-            return Err(ReplaceFault::from(fault));
-        }
-        self.remembered = None;
-        self.session.is_free(slot)?;
-        let before = self.session.member;
-        let replaced = self.session.replace(rack, slot);
-        self.rebuild = left_of(self.rebuild, &self.session.member);
-        self.news.add_fallen(&before, &self.session.member);
-        replaced?;
-        self.news.admitted = Some(slot);
-        Ok(())
     }
 
     /// Takes in what was read of the medium in a slot that is Down and is to be admitted: the superblocks in its two places, of

@@ -1,6 +1,7 @@
 //! An array over the devices of a rack.
 #![tactic(auto)]
 
+mod admitting;
 mod array;
 mod fault;
 pub mod laws;
@@ -20,7 +21,6 @@ pub mod recovered;
 mod recovery;
 mod redoing;
 pub mod replaces;
-mod replacing;
 pub mod scrubs;
 mod session;
 pub mod stamps;

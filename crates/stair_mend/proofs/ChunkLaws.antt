@@ -23,10 +23,8 @@ use Rattle.stair_session.proofs.Mending.{LeadsBeside, LeadsPromotions}
 use Rattle.stair_session.proofs.Serving.{IsCalmTo, IsServing, LeadsReads}
 use Rattle.stair_array.specs.Causes.{IsNextChunk}
 use Rattle.stair_array.specs.Machine.{EpochsSpent, Progress, RebuildNext, Refusal, Row, SeatsAfter}
-use Rattle.stair_array.specs.MendingCalls.{AdmitsSlot}
 use Rattle.stair_array.specs.MendingSteps.{WritesNext}
-use Rattle.stair_array.specs.Mends.{PreparesSlot, Rebuilds, Replaces}
-use Rattle.stair_array.specs.Causes.{IsFree}
+use Rattle.stair_array.specs.Mends.{Rebuilds}
 use Rattle.stair_array.specs.Promise.{IsInState, IsLeftBy, IsOpenFor, Opened, ServesState, running}
 use Rattle.stair_array.proofs.LoadingLemmas.{Serves, stripe_moments}
 use Rattle.stair_array.proofs.OpenStepLemmas.{calm_over, forgets_open, forgetting}
@@ -39,7 +37,7 @@ use Rattle.stair_array.proofs.RebuildStripeLemmas.{chunk_moments, fell_moments, 
 use Rattle.stair_mend.specs.Steps.{chunk_came}
 use Rattle.stair_mend.proofs.StepLemmas.{next_dropped, next_refused, next_wrote}
 
--- A CHUNK AND AN ADMISSION AS STEPS
+-- A CHUNK AS A STEP
 
 module _ (was : ArrayState) (j t : ℕ) (next : IsNextChunk was j t) (answer : Result Reply Refusal) (x y : Point) (writes : WritesNext j t answer x y) where
   pub chunk_step : t < x.member.array.geometry.stripes → t + 1 < x.member.array.geometry.stripes → (given : Result Reply Refusal) → answer ≡ given
@@ -47,10 +45,6 @@ module _ (was : ArrayState) (j t : ℕ) (next : IsNextChunk was j t) (answer : R
   chunk_step below more (Ok reply.Done) same = next_wrote was j t next answer x y writes more same
   chunk_step below more (Ok reply.Gone) same = next_dropped was j t next answer x y writes below same
   chunk_step below more (Err refusal) same = next_refused was j t next answer x y writes below refusal same
-
-pub admission_step : (slot : ℕ) (answer : Result (Unit {0}) Refusal) (x y z : Point) → IsFree x.member slot → PreparesSlot slot (Ok tt) x y
-    → AdmitsSlot slot answer y z → Replaces slot answer x z
-admission_step slot _ x _ _ free prepares (AdmitsSlot.Joined given y z joins) = Replaces.Admitted given x y z free prepares joins
 
 -- AT EACH MOMENT
 

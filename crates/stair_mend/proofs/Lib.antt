@@ -1,3 +1,4 @@
 -- Lemmas of this crate.
 pub mod StepLemmas
 pub mod ChunkLaws
+pub mod ReplacingLemmas

@@ -6,6 +6,7 @@
 
 pub mod laws;
 mod rebuilding;
+mod replacing;
 
 ghost use Rattle.std.specs.Prelude.{◌≡◌, ◌≤◌, Err, None, Some};
 ghost use Rattle.stair_rack.specs.RackCounts.{RisesAtMost};
@@ -20,6 +21,7 @@ ghost use Rattle.stair_array.specs.News.{AddsNews};
 ghost use Rattle.stair_array.specs.Promise.{Keeps, KeepsRebuild, rebuild_after, rebuild_then};
 
 use crate::rebuilding::{fault_of, is_next, promote};
+use crate::replacing::{is_free, prepare_slot};
 pub use stair_array::{Progress, RebuildFault, ReplaceFault};
 use stair_array::{Array, ArrayFault};
 use stair_base::StripeCode;
@@ -83,7 +85,16 @@ pub fn replace<R: Rack, C: StripeCode>(
         array.new.member.array array.old.news array.new.news }
     ensures reads { RisesAtMost 2 (R.reads rack.old) (R.reads rack.new) }
 {
-    array.replace(rack, slot)
+    // by whose rules a rebuild that is under way is of a slot that is rebuilt
+    let _ = array.geometry();
+    if let Some(fault) = array.stopped() {
+        return Err(ReplaceFault::from(fault));
+    }
+    array.forget();
+    is_free(array, slot)?;
+    prepare_slot(array, rack, slot)?;
+    array.admit_slot(rack, slot)?;
+    Ok(())
 }
 
 /// Makes one step of a rebuild: the next chunk of the slot that is under way, or else of the lowest one that is Rebuilding, from its

@@ -2,7 +2,7 @@
 use Rattle.std.proofs.Common.{◌∙◌, sym}
 use Rattle.stair_rack.proofs.PassCounts.{Done-compared, Gone-compared}
 use Rattle.stair_array.proofs.NewJournalLemmas.{gate_gone, gate_then}
-use Rattle.stair_array.proofs.replacing.write_journal.Goals as goal
+use Rattle.stair_mend.proofs.replacing.write_journal.Goals as goal
 
 pub returns-then-eq-clause-told : goal.returns-then-eq-clause-told
 returns-then-eq-clause-told g c =

@@ -5,7 +5,7 @@ use Rattle.stair_rack.specs.declared.rack.Reply.TheVariants as reply
 use Rattle.stair_rack.proofs.PhaseCounts.{WritesSlot}
 use Rattle.stair_array.specs.Mends.{new_journal}
 use Rattle.stair_array.proofs.NewJournalLemmas.{IsUpTo}
-use Rattle.stair_array.proofs.replacing.clear_body.Given as goal
+use Rattle.stair_mend.proofs.replacing.clear_body.Given as goal
 
 abbrev pub invariant-loop-sector : goal.invariant-loop-sector
 invariant-loop-sector g l =

@@ -3,7 +3,7 @@ use Rattle.std.proofs.Common.{◌∙◌, arith, sym}
 use Rattle.stair_rack.specs.declared.rack.Reply.TheVariants as reply
 use Rattle.stair_rack.proofs.PassCounts.{Done-compared, Gone-compared}
 use Rattle.stair_array.proofs.NewJournalLemmas.{body_end, body_more, body_start, body_stopped}
-use Rattle.stair_array.proofs.replacing.clear_body.Goals as goal
+use Rattle.stair_mend.proofs.replacing.clear_body.Goals as goal
 
 pub loop-sector-init : goal.loop-sector-init
 loop-sector-init g c = (body_start c.args.geometry.now c.args.slot g.R.Rack.is_honest _, omega arith)

@@ -3,7 +3,6 @@ use Rattle.std.proofs.Common.{◌≡◌, ◌<◌, ◌≤◌, ℕ, None, Option, 
 use Rattle.std.specs.Prelude.{◌⊎◌, Bool, Err, IsTrue, List, Ok, Result}
 use Rattle.std.specs.Result.{IsErrAnd}
 use Rattle.stair_model.specs.Geometry.{Geometry, sectors_needed}
-use Rattle.stair_model.specs.Slots.{Slots}
 use Rattle.stair_rack.specs.Answers.{Calls, IsBesideAttach, IsHistory, Ran, any_call}
 use Rattle.stair_rack.specs.Count.{Rose}
 use Rattle.stair_rack.specs.History.{Attach, Happening, Read, Sectors, SlotCall, Sync, Write}
@@ -20,30 +19,35 @@ use Rattle.stair_rack.proofs.OfflineLemmas.{offline_now}
 use Rattle.stair_rack.proofs.PlacedLemmas.{Placed-same}
 use Rattle.stair_rack.proofs.TellingLemmas.{later_called, later_join, later_none, reading_wider}
 use Rattle.stair_super.specs.Superblock.{Superblock}
-use Rattle.stair_member.specs.Establishing.{Joins}
+use Rattle.stair_super.specs.declared.configuration.Configuration.{Configuration}
 use Rattle.stair_member.specs.Membership.{IsMembership, Membership}
 use Rattle.stair_member.specs.Probing.{ProbesSlot, WasGone, block_in}
 use Rattle.stair_member.specs.Seeing.{Sees}
 use Rattle.stair_member.specs.Superblocks.{HoldsSuper, HoldsThis}
-use Rattle.stair_member.specs.declared.aim.Aim.TheVariants.{Admit}
 use Rattle.stair_member.specs.declared.fault.AdmitFault.{AdmitFault}
 use Rattle.stair_member.specs.declared.fault.AdmitFault.TheVariants as admit
 use Rattle.stair_member.specs.declared.probe.SlotProbe.{SlotProbe}
 use Rattle.stair_member.proofs.ProbeLemmas.{probe_gone, probe_later, probe_readings}
 use Rattle.stair_member.proofs.SightLemmas.{both, place_cases}
 use Rattle.stair_member.proofs.SuperLemmas.{holds_once}
+use Rattle.stair_member.specs.declared.why.Why.{Why}
 use Rattle.stair_session.specs.Courses.{Point, point}
-use Rattle.stair_array.specs.Arrays.{replaced_as}
+use Rattle.stair_session.specs.Rebuilding.{Rebuild}
+use Rattle.stair_array.specs.Arrays.{IsUnderWay, replaced_as}
 use Rattle.stair_array.specs.Causes.{BearsOther, HadEnough, IsFree, IsSmall}
 use Rattle.stair_array.specs.Faults.{admission_fault, replace_refusal}
 use Rattle.stair_array.specs.Look.{IsLookAt, IsReadOf}
 use Rattle.stair_array.specs.Looking.{HadSectors}
-use Rattle.stair_array.specs.Machine.{AlreadyArray, Gone, Refusal, SmallDevice}
-use Rattle.stair_array.specs.Mends.{IsFit, IsPreparing, IsSecondLook, Looks, PreparesSlot, Replaces, joined_as, new_journal}
-use Rattle.stair_array.specs.MendingSteps.{IsNotFree, IsOther, IsOwn, LooksAt, WasFit, WasGoneToLook, WasLookedAt}
+use Rattle.stair_array.specs.Machine.{AlreadyArray, Gone, Refusal, ReplaceSlot, SmallDevice}
+use Rattle.stair_array.specs.MendingCalls.{AdmitsSlot, admitted_as}
+use Rattle.stair_array.specs.News.{AddsNews}
+use Rattle.stair_array.specs.Promise.{rebuild_after, rebuild_of}
+use Rattle.stair_array.specs.declared.news.News.{News}
+use Rattle.stair_array.specs.Mends.{IsFit, IsPreparing, IsSecondLook, Looks, PreparesSlot, Replaces, new_journal}
+use Rattle.stair_mend.specs.MediumLook.{IsNotFree, IsOther, IsOwn, LooksAt, WasFit, WasGoneToLook, WasLookedAt}
 use Rattle.stair_array.specs.declared.fault.ReplaceFault.{ReplaceFault}
 use Rattle.stair_array.specs.declared.fault.ReplaceFault.TheVariants as fault
-use Rattle.stair_array.specs.declared.replacing.Places.{Places}
+use Rattle.stair_mend.specs.declared.replacing.Places.{Places}
 use Rattle.stair_array.proofs.DeviceLemmas.{taken_held, taken_reach}
 use Rattle.stair_array.proofs.NewJournalLemmas.{journal_is}
 use Rattle.stair_array.proofs.LookLemmas.{gone_after, gone_attach, look_ran, probe_ran, reads_beside, reads_look, reads_no_attach, reads_ran, taken_from}
@@ -326,11 +330,11 @@ module _ (m : Membership) (g : Geometry) (same : g ≡ m.array.geometry) (slot :
 
 -- what an admission that was refused answers
 admission_answer : (result : Result (Unit {0}) ReplaceFault) (why : AdmitFault) → IsErrAnd result (λ e. e ≡ admission_fault why)
-    → replaced_as result ≡ joined_as (Err why)
+    → replaced_as result ≡ admitted_as (Err why)
 admission_answer (Ok done) why is = absurd is
 admission_answer (Err e) why same = ap (λ (f : ReplaceFault). Err (replace_refusal f)) same ∙ alike why
   where
-    alike : (f : AdmitFault) → Err (replace_refusal (admission_fault f)) ≡ joined_as (Err f)
+    alike : (f : AdmitFault) → Err (replace_refusal (admission_fault f)) ≡ admitted_as (Err f)
     alike (admit.TooFew whys) = refl
     alike admit.EpochsSpent = refl
     alike (admit.Gone slot) = refl
@@ -341,15 +345,14 @@ unprepared slot x y result why is free prepares =
     subst (λ (r : Result (Unit {0}) Refusal). Replaces slot r x y) (sym (handed_refusal result why is))
     (Replaces.Unprepared (replace_refusal why) x y free prepares)
 
-module _ (slot : ℕ) (x y : Point) (free : IsFree x.member slot) (prepares : PreparesSlot slot (Ok tt) x y) (last : Membership) (later : Telling) where
-  pub unadmitted : (why : AdmitFault) (result : Result (Unit {0}) ReplaceFault) → IsErrAnd result (λ e. e ≡ admission_fault why)
-      → Joins (Admit slot) slot y.member last (Err why) y.told later → Replaces slot (replaced_as result) x (point last later)
-  unadmitted why result is joins =
-      subst (λ (r : Result (Unit {0}) Refusal). Replaces slot r x (point last later)) (sym (admission_answer result why is))
-      (Replaces.Admitted (Err why) x y (point last later) free prepares joins)
+pub admitted : (slot : ℕ) (x y z : Point) (answer : Result (Unit {0}) Refusal) → IsFree x.member slot → PreparesSlot slot (Ok tt) x y
+    → AdmitsSlot slot answer y z → Replaces slot answer x z
+admitted slot x _ _ _ free prepares (AdmitsSlot.Joined given y z joins) = Replaces.Admitted given x y z free prepares joins
 
-  pub replaced : (fallen : Slots) → Joins (Admit slot) slot y.member last (Ok fallen) y.told later → Replaces slot (Ok tt) x (point last later)
-  replaced fallen joins = Replaces.Admitted (Ok fallen) x y (point last later) free prepares joins
+pub unadmitted : (slot : ℕ) (x y z : Point) (why : AdmitFault) (result : Result (Unit {0}) ReplaceFault) → IsErrAnd result (λ e. e ≡ admission_fault why)
+    → IsFree x.member slot → PreparesSlot slot (Ok tt) x y → AdmitsSlot slot (admitted_as (Err why)) y z → Replaces slot (replaced_as result) x z
+unadmitted slot x y z why result is free prepares admits =
+    rw (admission_answer result why is) (admitted slot x y z (admitted_as (Err why)) free prepares admits)
 
 -- what refuses a slot before its device is looked at
 pub not_free : (x : Point) (slot : ℕ) (why : ReplaceFault) (result : Result (Unit {0}) ReplaceFault) → IsErrAnd result (λ e. e ≡ why)
@@ -369,3 +372,21 @@ not_free x slot why result is not =
     by (fault.AlreadyArray at) was = absurd was
     by (fault.TooFew whys) was = absurd was
     by fault.EpochsSpent was = absurd was
+
+-- a rebuild that is under way stays so where nothing is changed
+pub rebuild_stays : (m : Membership) (rebuild : Option Rebuild) → IsUnderWay m rebuild → rebuild ≡ rebuild_after m rebuild
+rebuild_stays m None under = refl
+rebuild_stays m (Some one) under = sym (ap (λ (w : Why). rebuild_of w one) (under one refl).0.why)
+
+-- THE NEWS OF A REPLACEMENT
+
+-- where the member names what it named before
+pub admitted_news : (slot : ℕ) (answer : Result (Unit {0}) Refusal) (a b c : Configuration) (was is : News) → b ≡ a
+    → AddsNews (ReplaceSlot slot) answer b c was is → AddsNews (ReplaceSlot slot) answer a c was is
+admitted_news slot answer a b c was is same = subst (λ (k : Configuration). AddsNews (ReplaceSlot slot) answer k c was is) same
+
+pub unadmitted_news : (slot : ℕ) (why : AdmitFault) (result : Result (Unit {0}) ReplaceFault) → IsErrAnd result (λ e. e ≡ admission_fault why)
+    → (a b c : Configuration) (was is : News) → b ≡ a → AddsNews (ReplaceSlot slot) (admitted_as (Err why)) b c was is
+    → AddsNews (ReplaceSlot slot) (replaced_as result) a c was is
+unadmitted_news slot why result same a b c was is seen adds =
+    rw (admission_answer result why same) (admitted_news slot (admitted_as (Err why)) a b c was is seen adds)

@@ -1,4 +1,4 @@
-// How a session replaces a device: what it looks at before it writes anything, the new journal, and the admission.
+// The parts of a replacement: what is looked at before anything is written, and the new journal.
 ghost use Rattle.std.specs.Prelude.{◌≡◌, ◌≤◌, ◌<◌, ◌↔◌, IfErr, IfSome, IsTrue, MatchBool, None, OnOk};
 ghost use Rattle.stair_rack.specs.Answers.{IsHistory};
 ghost use Rattle.stair_rack.specs.Count.{Rose};
@@ -7,20 +7,18 @@ ghost use Rattle.stair_rack.specs.RackCounts.{NoneFalls, RisesAtMost};
 ghost use Rattle.stair_rack.specs.Told.{told};
 ghost use Rattle.stair_rack.specs.Writing.{IsOnSlot, Writing};
 ghost use Rattle.stair_super.specs.Superblock.{Superblock};
-ghost use Rattle.stair_member.specs.Establishing.{Joins};
-ghost use Rattle.stair_member.specs.declared.aim.Aim.TheVariants.{Admit};
 ghost use Rattle.stair_session.specs.Courses.{point};
 ghost use Rattle.stair_array.specs.Arrays.{replaced_as};
 ghost use Rattle.stair_array.specs.Causes.{IsFree};
-ghost use Rattle.stair_array.specs.Mends.{PreparesSlot, Replaces, joined_as, new_journal};
-ghost use Rattle.stair_array.specs.MendingSteps.{IsBodyOf, IsNotFree, IsOther, IsOwn, LooksAt};
+ghost use Rattle.stair_array.specs.MendingSteps.{IsBodyOf};
+ghost use Rattle.stair_array.specs.Mends.{PreparesSlot, new_journal};
 ghost use Rattle.stair_array.specs.Promise.{Keeps};
+ghost use Rattle.stair_mend.specs.MediumLook.{IsNotFree, IsOther, IsOwn, LooksAt};
 
-use crate::fault::ReplaceFault;
-use crate::session::Session;
-use stair_base::{BODY_START, GATE_SECTOR, Geometry, SECTOR, Slots};
+use stair_array::{Array, ReplaceFault};
+use stair_base::{BODY_START, GATE_SECTOR, Geometry, SECTOR, StripeCode};
 use stair_journal::closed_gate;
-use stair_member::{AdmitFault, FenceFault, admit, probe_slot};
+use stair_member::probe_slot;
 use stair_rack::{Rack, Reply};
 use stair_super::{Mark, Super};
 
@@ -31,92 +29,54 @@ pub(crate) struct Places {
     second: Option<Super>,
 }
 
-impl Session {
-    // Refuses a slot that may not be replaced, whatever device is in it.
-    pub(crate) fn is_free(&self, slot: u8) -> Result<(), ReplaceFault>
-        ensures free { OnOk result (IsFree self.now.member slot) }
-        ensures not { IfErr result (λ fault. IsNotFree self.now.member slot fault) }
-    {
-        let n = self.member.geometry().n();
-        if slot >= n {
-            return Err(ReplaceFault::OutOfRange {
-                asked: u64::from(slot),
-                limit: u64::from(n),
-            });
-        }
-        let marks = self.member.marks();
-        let mark = marks[usize::from(slot)];
-        if mark != Mark::Down {
-            return Err(ReplaceFault::SlotBusy { slot, mark });
-        }
-        Ok(())
+// Refuses a slot that may not be replaced, whatever device is in it.
+pub(crate) fn is_free<C: StripeCode>(array: &Array<C>, slot: u8) -> Result<(), ReplaceFault>
+    ensures free { OnOk result (IsFree array.now.member slot) }
+    ensures not { IfErr result (λ fault. IsNotFree array.now.member slot fault) }
+{
+    let n = array.geometry().n();
+    if slot >= n {
+        return Err(ReplaceFault::OutOfRange {
+            asked: u64::from(slot),
+            limit: u64::from(n),
+        });
     }
+    let marks = array.marks();
+    let mark = marks[usize::from(slot)];
+    if mark != Mark::Down {
+        return Err(ReplaceFault::SlotBusy { slot, mark });
+    }
+    Ok(())
+}
 
-    // Replaces a slot that is free: makes its device ready, and admits it.
-    pub(crate) fn replace<R: Rack>(&mut self, rack: &mut R, slot: u8) -> Result<(), ReplaceFault>
-        requires free { IsFree self.old.member slot }
-        ensures told { Replaces slot (replaced_as result)
-            (point self.old.member (told R.Rack rack.old))
-            (point self.new.member (told R.Rack rack.new)) }
-        ensures geometry { self.new.member.array.geometry ≡ self.old.member.array.geometry }
-        ensures kept { self.old.stopped ≡ None → Keeps (replaced_as result) self.new.stopped }
-        ensures reads { RisesAtMost 2 (R.reads rack.old) (R.reads rack.new) }
-    {
-        self.prepare_slot(rack, slot)?;
-        self.admit_slot(rack, slot)?;
-        Ok(())
+// Makes the device in a slot that is free ready to be admitted: looks at it, lays out its journal, and has the array note what it
+// holds. The array notes it last, so that a refusal leaves it as it was.
+pub(crate) fn prepare_slot<R: Rack, C: StripeCode>(
+    array: &mut Array<C>,
+    rack: &mut R,
+    slot: u8,
+) -> Result<(), ReplaceFault>
+    requires free { IsFree array.old.member slot }
+    requires going { array.old.stopped ≡ None }
+    ensures told { PreparesSlot slot (replaced_as result)
+        (point array.old.member (told R.Rack rack.old))
+        (point array.new.member (told R.Rack rack.new)) }
+    ensures array { array.new.member.array ≡ array.old.member.array }
+    ensures kept { Keeps (replaced_as result) array.new.stopped }
+    ensures going { array.new.stopped ≡ None }
+    ensures same { IfErr result (λ _. array.new ≡ array.old) }
+    ensures rebuild { array.new.rebuild ≡ array.old.rebuild }
+    ensures remembers { array.new.remembered ≡ array.old.remembered }
+    ensures news { array.new.news ≡ array.old.news }
+    ensures reads { RisesAtMost 2 (R.reads rack.old) (R.reads rack.new) }
+{
+    let geometry = array.geometry();
+    let places = look_for(rack, &geometry, slot)?;
+    if lay_out_journal(rack, &geometry, slot) == Reply::Gone {
+        return Err(ReplaceFault::Gone(slot));
     }
-
-    // Makes the device in a slot that is free ready to be admitted: looks at it, lays out its journal, and tells the member what
-    // it holds. The member sees it last, so that a refusal leaves it as it was.
-    fn prepare_slot<R: Rack>(&mut self, rack: &mut R, slot: u8) -> Result<(), ReplaceFault>
-        requires free { IsFree self.old.member slot }
-        ensures told { PreparesSlot slot (replaced_as result)
-            (point self.old.member (told R.Rack rack.old))
-            (point self.new.member (told R.Rack rack.new)) }
-        ensures array { self.new.member.array ≡ self.old.member.array }
-        ensures kept { self.old.stopped ≡ None → Keeps (replaced_as result) self.new.stopped }
-        ensures reads { RisesAtMost 2 (R.reads rack.old) (R.reads rack.new) }
-    {
-        let geometry = self.member.geometry();
-        let places = look_for(rack, &geometry, slot)?;
-        if lay_out_journal(rack, &geometry, slot) == Reply::Gone {
-            return Err(ReplaceFault::Gone(slot));
-        }
-        self.member.see(slot, places.first, places.second);
-        Ok(())
-    }
-
-    // Admits the device in a slot that is free and was made ready. The session stops where the epoch is refused.
-    pub(crate) fn admit_slot<R: Rack>(
-        &mut self,
-        rack: &mut R,
-        slot: u8,
-    ) -> Result<Slots, AdmitFault>
-        requires free { IsFree self.old.member slot }
-        ensures told { Joins (Admit slot) slot self.old.member self.new.member result
-            (told R.Rack rack.old) (told R.Rack rack.new) }
-        ensures geometry { self.new.member.array.geometry ≡ self.old.member.array.geometry }
-        ensures kept { self.old.stopped ≡ None → Keeps (joined_as result) self.new.stopped }
-        ensures reads { R.reads rack.new ≡ R.reads rack.old }
-    {
-        let joined = admit(rack, &mut self.member, slot);
-        self.stop_if_refused(&joined);
-        joined
-    }
-
-    // Stops where an epoch was refused. That its slot was gone is no reason to.
-    pub(crate) fn stop_if_refused(&mut self, joined: &Result<Slots, AdmitFault>)
-        ensures member { self.new.member ≡ self.old.member }
-        ensures stripe { self.new.stripe ≡ self.old.stripe }
-        ensures kept { self.old.stopped ≡ None → Keeps (joined_as joined.now) self.new.stopped }
-    {
-        match joined {
-            Err(AdmitFault::TooFew(whys)) => self.stopped = Some(FenceFault::TooFew(*whys)),
-            Err(AdmitFault::EpochsSpent) => self.stopped = Some(FenceFault::EpochsSpent),
-            Ok(_) | Err(AdmitFault::Gone(_)) => {}
-        }
-    }
+    array.note_medium(slot, places.first, places.second);
+    Ok(())
 }
 
 // Attaches the slot, measures its device, and reads both of its superblock places, each once. They are judged once both were read,

@@ -4,9 +4,9 @@ use Rattle.std.proofs.lemmas.Bool.{false≢true}
 use Rattle.stair_model.specs.Geometry.{sectors_needed}
 use Rattle.stair_rack.specs.declared.rack.Reply.TheVariants as reply
 use Rattle.stair_rack.proofs.PassCounts.{Done-compared, Gone-compared}
-use Rattle.stair_array.proofs.ReplacingLemmas.{gone_at_attach, gone_probed, looked_fit, looked_other, looked_small}
-use Rattle.stair_array.proofs.replacing.look_for.Goals as goal
-use Rattle.stair_array.proofs.replacing.look_for.Goals.{then-is_other-via-then-is_other, then-is_other-via-else-is_other+then-is_other-2}
+use Rattle.stair_mend.proofs.ReplacingLemmas.{gone_at_attach, gone_probed, looked_fit, looked_other, looked_small}
+use Rattle.stair_mend.proofs.replacing.look_for.Goals as goal
+use Rattle.stair_mend.proofs.replacing.look_for.Goals.{then-is_other-via-then-is_other, then-is_other-via-else-is_other+then-is_other-2}
 
 pub returns-then-eq-clause-told : goal.returns-then-eq-clause-told
 returns-then-eq-clause-told g c =
