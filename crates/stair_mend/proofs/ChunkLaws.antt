@@ -1,6 +1,6 @@
 -- What a chunk that is written leaves at each moment, the last one of its slot too, whether media come back or not.
-use Rattle.std.proofs.Common.{List, None, Option, Some, ap, inl, inr, refl, subst, sym, ℕ, ◌+◌, ◌<◌, ◌∙◌, ◌≡◌}
-use Rattle.std.specs.Prelude.{Err, IsSome, IsTrue, Ok, Result, true}
+use Rattle.std.proofs.Common.{List, None, Option, inl, inr, refl, subst, sym, ℕ, ◌+◌, ◌<◌, ◌≡◌}
+use Rattle.std.specs.Prelude.{Err, IsTrue, Ok, Result, true}
 use Rattle.stair_model.specs.Geometry.{Geometry}
 use Rattle.stair_rack.specs.Answers.{IsHistory, any_call}
 use Rattle.stair_rack.specs.Crash.{EachImage}
@@ -22,7 +22,7 @@ use Rattle.stair_session.specs.Session.{ArrayState, Remembered, seats_in}
 use Rattle.stair_session.proofs.Mending.{LeadsBeside, LeadsPromotions}
 use Rattle.stair_session.proofs.Serving.{IsCalmTo, IsServing, LeadsReads}
 use Rattle.stair_array.specs.Causes.{IsNextChunk}
-use Rattle.stair_array.specs.Machine.{EpochsSpent, Progress, RebuildNext, Refusal, Row, SeatsAfter}
+use Rattle.stair_array.specs.Machine.{EpochsSpent, RebuildNext, Refusal, Row, SeatsAfter}
 use Rattle.stair_array.specs.MendingSteps.{WritesNext}
 use Rattle.stair_array.specs.Mends.{Rebuilds}
 use Rattle.stair_array.specs.Promise.{IsInState, IsLeftBy, IsOpenFor, Opened, ServesState, running}

@@ -381,12 +381,14 @@ rebuild_stays m (Some one) under = sym (ap (λ (w : Why). rebuild_of w one) (und
 -- THE NEWS OF A REPLACEMENT
 
 -- where the member names what it named before
-pub admitted_news : (slot : ℕ) (answer : Result (Unit {0}) Refusal) (a b c : Configuration) (was is : News) → b ≡ a
-    → AddsNews (ReplaceSlot slot) answer b c was is → AddsNews (ReplaceSlot slot) answer a c was is
-admitted_news slot answer a b c was is same = subst (λ (k : Configuration). AddsNews (ReplaceSlot slot) answer k c was is) same
+pub admitted_news : (slot : ℕ) (answer : Result (Unit {0}) Refusal) (a b c : Configuration) (was mid is : News) → b ≡ a → mid ≡ was
+    → AddsNews (ReplaceSlot slot) answer b c mid is → AddsNews (ReplaceSlot slot) answer a c was is
+admitted_news slot answer a b c was mid is same were adds =
+    subst (λ (k : Configuration). AddsNews (ReplaceSlot slot) answer k c was is) same
+    (subst (λ (n : News). AddsNews (ReplaceSlot slot) answer b c n is) were adds)
 
 pub unadmitted_news : (slot : ℕ) (why : AdmitFault) (result : Result (Unit {0}) ReplaceFault) → IsErrAnd result (λ e. e ≡ admission_fault why)
-    → (a b c : Configuration) (was is : News) → b ≡ a → AddsNews (ReplaceSlot slot) (admitted_as (Err why)) b c was is
+    → (a b c : Configuration) (was mid is : News) → b ≡ a → mid ≡ was → AddsNews (ReplaceSlot slot) (admitted_as (Err why)) b c mid is
     → AddsNews (ReplaceSlot slot) (replaced_as result) a c was is
-unadmitted_news slot why result same a b c was is seen adds =
-    rw (admission_answer result why same) (admitted_news slot (admitted_as (Err why)) a b c was is seen adds)
+unadmitted_news slot why result same a b c was mid is seen were adds =
+    rw (admission_answer result why same) (admitted_news slot (admitted_as (Err why)) a b c was mid is seen were adds)

@@ -1,6 +1,6 @@
 -- One step of a rebuild, by the calls that it makes.
 use Rattle.std.proofs.Common.{◌≡◌, ◌≢◌, ◌+◌, ◌<◌, ◌≤◌, ℕ, None, Option, Some, ap, arith, inl, inr, refl, subst, sym, ◌∙◌}
-use Rattle.std.specs.Prelude.{◌⊎◌, ◌==◌, Err, Ok, Result, ⊤}
+use Rattle.std.specs.Prelude.{Err, Ok, Result, ⊤}
 use Rattle.std.proofs.lemmas.Bool.{cases_lt, cond-true, eq-eqb}
 use Rattle.stair_model.specs.Geometry.{Geometry}
 use Rattle.stair_model.specs.Slots.{HasSlot, Slots}
@@ -22,12 +22,12 @@ use Rattle.stair_session.specs.Rebuilding.{Rebuild}
 use Rattle.stair_session.specs.Session.{ArrayState, IsLiveIn, IsRebuiltIn}
 use Rattle.stair_array.specs.Arrays.{IsUnderWay}
 use Rattle.stair_array.specs.Calls.{LoadsStripe, refused}
-use Rattle.stair_array.specs.Causes.{IsLowestRebuilt, IsNextChunk}
+use Rattle.stair_array.specs.Causes.{IsNextChunk}
 use Rattle.stair_array.specs.Faults.{IsOfLoading, refusal_for}
-use Rattle.stair_array.specs.Machine.{Answer, Chunk, Dropped, EpochsSpent, Lost, Nothing, Promoted, RebuildNext, Refusal, TooFew, Progress as Came}
-use Rattle.stair_array.specs.MendingCalls.{rebuild_past, reply_for}
+use Rattle.stair_array.specs.Machine.{Answer, Chunk, Dropped, EpochsSpent, Lost, RebuildNext, Refusal, TooFew, Progress as Came}
+use Rattle.stair_array.specs.MendingCalls.{rebuild_past}
 use Rattle.stair_array.specs.MendingSteps.{WritesNext}
-use Rattle.stair_array.specs.Mends.{Promotes, Rebuilds, SyncsSlot, promoted_as}
+use Rattle.stair_array.specs.Mends.{Promotes, Rebuilds, SyncsSlot}
 use Rattle.stair_array.specs.News.{AddsFallen, AddsNews, StayDown, promoted_after}
 use Rattle.stair_array.specs.Promise.{KeepsRebuild, rebuild_of, rebuild_then}
 use Rattle.stair_array.specs.declared.fault.ArrayFault.{ArrayFault}
@@ -35,7 +35,7 @@ use Rattle.stair_array.specs.declared.fault.ArrayFault.TheVariants as array
 use Rattle.stair_array.specs.declared.news.News.{News}
 use Rattle.stair_array.proofs.NewsLemmas.{slots_news}
 use Rattle.stair_array.proofs.OutLemmas.{left_live}
-use Rattle.stair_array.proofs.RebuildingLemmas.{dropped_away, ends, goes_on, progress_by, reply_gone}
+use Rattle.stair_array.proofs.RebuildingLemmas.{dropped_away, ends, goes_on, progress_by}
 use Rattle.stair_array.proofs.StayDownLemmas.{fallen_join}
 
 -- A CHUNK

@@ -1,15 +1,11 @@
 -- The slot isn't free, or its device was refused or admitted. A rebuild goes on where its slot is still rebuilt.
-use Rattle.std.proofs.Common.{◌∙◌, ◌≡◌, ap, refl, subst, None}
-use Rattle.std.specs.Prelude.{Err, Ok}
+use Rattle.std.proofs.Common.{◌∙◌, ◌≡◌, ap, refl, None}
+use Rattle.std.specs.Prelude.{Ok}
 use Rattle.stair_rack.specs.Told.{told}
 use Rattle.stair_super.specs.declared.configuration.Configuration.{Configuration}
 use Rattle.stair_session.specs.Courses.{point}
 use Rattle.stair_array.specs.Arrays.{OpenArray, state_of}
-use Rattle.stair_array.specs.Machine.{ReplaceSlot}
-use Rattle.stair_array.specs.MendingCalls.{admitted_as}
-use Rattle.stair_array.specs.News.{AddsNews}
 use Rattle.stair_array.specs.Promise.{rebuild_after}
-use Rattle.stair_array.specs.declared.news.News.{News}
 use Rattle.stair_array.proofs.GoesOnLemmas.{progress_then}
 use Rattle.stair_array.proofs.RebuildingLemmas.{progress_by, progress_none}
 use Rattle.stair_mend.proofs.ReplacingLemmas.{admitted, admitted_news, not_free, rebuild_stays, unadmitted, unadmitted_news, unprepared}
@@ -94,10 +90,8 @@ returns-in_err-admit_slot-clause-news g c =
     c.prepare_slot.ensures.news ∙ ap (λ (a : OpenArray). a.news) c.forget.ensures in
     let named : c.prepare_slot.new.array.member.array ≡ c.args.array.now.member.array =
     c.prepare_slot.ensures.array ∙ ap (λ (a : OpenArray). a.member.array) c.forget.ensures in
-    unadmitted_news c.args.slot _ _ c.from_residual-in_err-admit_slot.ensures.1 _ c.prepare_slot.new.array.member.array _ _ _ named
-    (subst
-    (λ (n : News). AddsNews (ReplaceSlot c.args.slot) (admitted_as (Err c.in_err-admit_slot.field-0)) c.prepare_slot.new.array.member.array
-    c.admit_slot.new.self.member.array n c.admit_slot.new.self.news) were c.in_err-admit_slot.ensures.news)
+    unadmitted_news c.args.slot _ _ c.from_residual-in_err-admit_slot.ensures.1 _ c.prepare_slot.new.array.member.array _ _ c.prepare_slot.new.array.news _
+    named were c.in_err-admit_slot.ensures.news
 
 pub returns-clause-news : goal.returns-clause-news
 returns-clause-news g c =
@@ -105,10 +99,8 @@ returns-clause-news g c =
     c.prepare_slot.ensures.news ∙ ap (λ (a : OpenArray). a.news) c.forget.ensures in
     let named : c.prepare_slot.new.array.member.array ≡ c.args.array.now.member.array =
     c.prepare_slot.ensures.array ∙ ap (λ (a : OpenArray). a.member.array) c.forget.ensures in
-    admitted_news c.args.slot (Ok tt) _ c.prepare_slot.new.array.member.array _ _ _ named
-    (subst
-    (λ (n : News). AddsNews (ReplaceSlot c.args.slot) (Ok tt) c.prepare_slot.new.array.member.array c.admit_slot.new.self.member.array n
-    c.admit_slot.new.self.news) were c.in_ok-admit_slot.ensures.news)
+    admitted_news c.args.slot (Ok tt) _ c.prepare_slot.new.array.member.array _ _ c.prepare_slot.new.array.news _ named were
+    c.in_ok-admit_slot.ensures.news
 
 pub returns-clause-told : goal.returns-clause-told
 returns-clause-told g c none =
