@@ -14,3 +14,5 @@ pub use printing::{TEXT_LIMIT, print_event};
 pub use quota::Quota;
 pub use reading::read_event;
 pub use reporting::{ReportFault, report};
+/// The kinds of events, of which a [`Quota`] prints one.
+pub use stair_rack::EventKind;
