@@ -1,0 +1,5 @@
+-- Lemmas of this crate.
+pub mod ByteLemmas
+pub mod HeldBytes
+pub mod JobBytes
+pub mod LivesLaws

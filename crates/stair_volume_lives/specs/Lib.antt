@@ -1,0 +1,2 @@
+-- What is read of the volumes of an array over its life.
+pub mod Lives
