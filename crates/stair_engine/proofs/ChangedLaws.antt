@@ -55,7 +55,7 @@ module _ (returning : Returning) (before : List Happening) (words : List (List �
   reached_read (_ ∷ story) rest h new follows runs = absurd follows.1
 
   -- the whole call
-  reached_words : (story : List Deed) (rest : Plan) (h : List Happening) (new : Now) → Leads Moves story (plan_of words) rest
+  pub reached_words : (story : List Deed) (rest : Plan) (h : List Happening) (new : Now) → Leads Moves story (plan_of words) rest
       → Runs returning before story (now s h None) new → At (taken_in story) (put_in story) rest new
   reached_words [] rest h new follows runs =
       before_at returning before job is s limits [] [] (plan_of words) rest new follows (λ step next. absurd next) (λ done. cc)

@@ -3,3 +3,5 @@ pub mod ByteLemmas
 pub mod HeldBytes
 pub mod JobBytes
 pub mod LivesLaws
+pub mod CallLaws
+pub mod ExampleLaws

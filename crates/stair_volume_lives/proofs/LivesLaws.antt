@@ -24,12 +24,12 @@ use Rattle.stair_volume_lives.proofs.HeldBytes.{AllWhole, HoldsWhole, keeps_byte
 use Rattle.stair_volume_lives.proofs.JobBytes.{after_same, done_bytes, done_whole, place_in, read_bytes}
 
 -- an array in which nothing is in doubt holds its content
-settled_certain : (s : State) (held : Blocks) → s.in_doubt ≡ None → IsSettled s held → held ≡ s.content.blocks
+pub settled_certain : (s : State) (held : Blocks) → s.in_doubt ≡ None → IsSettled s held → held ≡ s.content.blocks
 settled_certain s held certain (inl is) = is
 settled_certain s held certain (inr is) = is ∙ ap (λ (o : Option Change). (changed_if o s.content).blocks) certain
 
 -- the geometry stays
-same_geometry : (life : List Turn) (s new : State) → Lives life s new → new.geometry ≡ s.geometry
+pub same_geometry : (life : List Turn) (s new : State) → Lives life s new → new.geometry ≡ s.geometry
 same_geometry [] s new lives = ap (λ (t : State). t.geometry) lives
 same_geometry (turn ∷ life) s new lives = lives.2 ∙ same_geometry life s lives.0 lives.1
 
@@ -152,7 +152,7 @@ whole_first count held each volumes has = subst AllWhole (sym has.are) (All-map 
 
 -- ---- a turn more
 
-settled_before : (old now : State) (held : Blocks) → IsAsItWas old now → IsSettled now held → IsSettled old held
+pub settled_before : (old now : State) (held : Blocks) → IsAsItWas old now → IsSettled now held → IsSettled old held
 settled_before old now held same (inl is) = inl (is ∙ ap (λ (c : Content). c.blocks) same.content)
 settled_before old now held same (inr is) = inr (is ∙ (λ i. (changed_if (same.in_doubt i) (same.content i)).blocks))
 
@@ -210,7 +210,7 @@ lives_are_explained s new life held begins lives settled = (known s begins life 
 -- ---- one read of a life
 
 -- a list of fates that explains the reads before it, and what it gives
-record IsReadOf (s : State) (before : List Turn) (name : List ℕ) (block count : ℕ) (put : List ℕ) : Type 0 where
+pub record IsReadOf (s : State) (before : List Turn) (name : List ℕ) (block count : ℕ) (put : List ℕ) : Type 0 where
   pub fates : List Fate
   pub reads : EachReadsLast before fates (bytes_in s)
   pub are : AreBytes (last_written before fates (bytes_in s)) name (SECTOR * block) (SECTOR * count) put
@@ -219,7 +219,7 @@ lives_part : (after rest : List Turn) (s new : State) → Lives (after ++ rest) 
 lives_part [] rest s new lives = (new, lives)
 lives_part (turn ∷ after) rest s new lives = lives_part after rest s lives.0 lives.1
 
-read_explained : (s new : State) (before after : List Turn) (name : List ℕ) (block count : ℕ) (taken put : List ℕ) → Begins s
+pub read_explained : (s new : State) (before after : List Turn) (name : List ℕ) (block count : ℕ) (taken put : List ℕ) → Begins s
     → Lives (after ++ Did (volume.Read name block count) taken put ∷ before) s new → IsReadOf s before name block count put
 read_explained s new before after name block count taken put begins lives =
     let part = lives_part after (Did (volume.Read name block count) taken put ∷ before) s new lives in

@@ -1,6 +1,8 @@
 //! What the reads of volumes give, over a life.
 
 ghost use Rattle.stair_volume_lives.specs.Lives.{LivesAreExplained, MadeIsZero, ReadsAgree, ReadsAreLast, WrittenIsRead};
+ghost use Rattle.stair_volume_lives.specs.CallLives.{CallsAreLived};
+ghost use Rattle.stair_volume_lives.specs.Example.{EachIsReadAgain, EitherIsLived};
 
 /// What follows of every list of commands on an array with volumes, each whole or cut. It does nothing.
 pub fn volume_lives()
@@ -14,4 +16,18 @@ pub fn volume_lives()
     ensures made { MadeIsZero }
     // two reads give the same where nothing changed the byte between them, so that a write that was cut is settled once
     ensures settled { ReadsAgree }
+{}
+
+/// What calls of the program come to for the volumes of an array, each whole or cut by a crash. It does nothing.
+pub fn volume_calls<R, W, S, K>()
+    // calls on volumes, and others that write none of their blocks, are one life of the volumes, which explains each `vread` that was done
+    ensures lived { CallsAreLived R W S K }
+{}
+
+/// A volume of two blocks, a write of both that a crash cuts, and reads after it. It does nothing.
+pub fn volume_example()
+    // the read finds the write made, or not
+    ensures either { EitherIsLived }
+    // and a second read gives the same
+    ensures again { EachIsReadAgain }
 {}

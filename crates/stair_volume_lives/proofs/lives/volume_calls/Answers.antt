@@ -1,0 +1,8 @@
+-- The law is a lemma.
+use Rattle.stair_volume_lives.proofs.CallLaws.{calls_volumes}
+use Rattle.stair_volume_lives.proofs.lives.volume_calls.Goals as goal
+
+pub returns : goal.returns
+returns g c = record {
+  lived = λ view streams returning first h calls kinds honest limits. calls_volumes view streams returning first honest limits h calls kinds;
+}

@@ -1,0 +1,118 @@
+-- Calls of the program on an array, each whole or cut by a crash, as turns of the life of its volumes.
+use Rattle.std.specs.Prelude.{◌≡◌, ℕ, List, [], ◌∷◌, ◌++◌, None, IsTrue, ⊤}
+use Rattle.stair_model.specs.Geometry.{IsWithinLimits, block_count}
+use Rattle.stair_rack.specs.History.{Happening}
+use Rattle.stair_state.specs.Blocks.{Blocks}
+use Rattle.stair_state.specs.State.{State, without_seats}
+use Rattle.stair_session.specs.Returning.{Returning, StandsFor}
+use Rattle.stair_array.specs.Machine.{Step}
+use Rattle.stair_conf.specs.Words.{Spells}
+use Rattle.stair_conf.specs.declared.job.Job.TheVariants.{Volume}
+use Rattle.stair_conf.specs.declared.job.VolumeJob.{VolumeJob}
+use Rattle.stair_story.specs.Devices.{DeviceView}
+use Rattle.stair_story.specs.Lives.{IsWriteOf}
+use Rattle.stair_story.specs.Outside.{Views}
+use Rattle.stair_story.specs.Plan.{Plan, Over}
+use Rattle.stair_story.specs.Run.{IsNext}
+use Rattle.stair_story.specs.Sessions.{Calls, Cut, Ends, Starts}
+use Rattle.stair_story.specs.Story.{Deed, Leads, Moves, put_in, taken_in}
+use Rattle.stair_status.specs.declared.status.Status.{Status}
+use Rattle.stair_status.specs.declared.status.Status.TheVariants.{Done}
+use Rattle.stair_volume.specs.Volumes.{IsSettled}
+use Rattle.stair_engine.specs.Plans.{plan_of}
+use Rattle.stair_volume_lives.specs.Lives.{Began, Begins, Did, IsExplained, IsOfVolumes, Lives, Other, Turn}
+
+-- WHAT A CALL IS TO VOLUMES
+
+-- no step that the call took, or that came next when it was cut, writes this block
+abbrev pub WritesNone : (b : ℕ) → Plan → (story : List Deed) → Type 0
+WritesNone b plan story = (done later : List Deed) (rest : Plan) (step : Step)
+    → story ≡ done ++ later → Leads Moves done plan rest → IsNext rest step → ¬ IsWriteOf b step
+
+-- so it is of each block of the table and of the volumes that the rack holds
+abbrev pub LeavesBlocks : Returning → List Happening → Plan → (story : List Deed) → Type 0
+LeavesBlocks returning h plan story = (s : State) (held : Blocks) (b : ℕ)
+    → StandsFor returning s h → IsSettled s held
+    → IsOfVolumes (block_count s.geometry) held b → WritesNone b plan story
+
+-- The words of the call spell a command on volumes, or it writes no block of the table or of a volume.
+pub data Kind (returning : Returning) (h : List Happening) (plan rest : Plan) (story : List Deed)
+    : Type 0 where
+  OnVolumes : (words : List (List ℕ)) → (job : VolumeJob) → (status : Status)
+      → Spells words (Volume job) → plan ≡ plan_of words → rest ≡ Over status
+      → Kind returning h plan rest story
+  Leaves : LeavesBlocks returning h plan story → Kind returning h plan rest story
+
+-- each of these calls is of a kind
+abbrev pub Kinds : {R W S K : Type 0} (view : DeviceView R W) (streams : Views S K)
+    (returning : Returning) (first : State) (h : List Happening)
+    → Calls view streams returning first h → Type 0
+Kinds view streams returning first h (Starts h' history stands) = ⊤
+Kinds view streams returning first h (Ends later plan rest old new x y watchers left calls borne calm acted between) =
+    Kinds view streams returning first (view.rack.history x) calls
+    × Kind returning (view.rack.history x) plan rest borne.over.means.story
+Kinds view streams returning first h (Cut c image later plan rest old new x y watchers left calls borne at calm crash acted between) =
+    Kinds view streams returning first (view.rack.history x) calls
+    × Kind returning (view.rack.history x) plan rest borne.over.means.story
+
+-- ITS TURN
+
+-- a command that ended with this status, and with these bytes taken and put out
+abbrev pub turn_of : VolumeJob → Status → (taken put : List ℕ) → Turn
+turn_of job Done taken put = Did job taken put
+turn_of job _ taken put = Began job taken
+
+-- the turn of a call that ended
+abbrev pub IsTurnOf : {returning : Returning} {h : List Happening} {plan rest : Plan} {story : List Deed}
+    → Kind returning h plan rest story → Turn → Type 0
+IsTurnOf {returning} {h} {plan} {rest} {story} (OnVolumes words job status spells is ends) turn =
+    turn ≡ turn_of job status (taken_in story) (put_in story)
+IsTurnOf (Leaves leaves) turn = turn ≡ Other
+
+-- The turn of a call that a crash cut: by then it had done the first of its deeds.
+abbrev pub IsCutTurnOf : {returning : Returning} {h : List Happening} {plan rest : Plan}
+    {story : List Deed} → Kind returning h plan rest story → Turn → Type 0
+IsCutTurnOf {returning} {h} {plan} {rest} {story} (OnVolumes words job status spells is ends) turn =
+    (done : List Deed) × (later : List Deed) × (story ≡ done ++ later)
+    × (turn ≡ Began job (taken_in done))
+IsCutTurnOf (Leaves leaves) turn = turn ≡ Other
+
+-- one turn a call
+abbrev pub AreTurnsOf : {R W S K : Type 0} (view : DeviceView R W) (streams : Views S K)
+    (returning : Returning) (first : State) (h : List Happening)
+    (calls : Calls view streams returning first h)
+    → Kinds view streams returning first h calls → List Turn → Type 0
+AreTurnsOf view streams returning first h (Starts h' history stands) kinds life = life ≡ []
+AreTurnsOf view streams returning first h (Ends later plan rest old new x y watchers left calls borne calm acted between) kinds life =
+    (turn : Turn) × (before : List Turn)
+    × AreTurnsOf view streams returning first (view.rack.history x) calls kinds.0 before
+    × IsTurnOf kinds.1 turn × (life ≡ turn ∷ before)
+AreTurnsOf view streams returning first h (Cut c image later plan rest old new x y watchers left calls borne at calm crash acted between) kinds life =
+    (turn : Turn) × (before : List Turn)
+    × AreTurnsOf view streams returning first (view.rack.history x) calls kinds.0 before
+    × IsCutTurnOf kinds.1 turn × (life ≡ turn ∷ before)
+
+-- THE LAW
+
+-- what becomes of volumes by these calls
+pub record IsVolumesLife {R W S K : Type 0} (view : DeviceView R W) (streams : Views S K)
+    (returning : Returning) (first : State) (h : List Happening)
+    (calls : Calls view streams returning first h)
+    (kinds : Kinds view streams returning first h calls) : Type 0 where
+  pub life : List Turn
+  pub state : State
+  pub turns : AreTurnsOf view streams returning first h calls kinds life
+  pub lives : Lives life (without_seats first) state
+  pub unknown : state.seats ≡ None
+  pub stands : StandsFor returning state h
+  -- one list of fates, given once for all, explains each `vread` that was done, and what the array then holds
+  pub explained : Begins first → (held : Blocks) → IsSettled state held
+      → IsExplained life (without_seats first) held
+
+-- Calls one after the other, each whole or cut by a crash, are one life of the volumes, and the rack is the array that it leads to,
+-- whether media come back or not. Each call is a command on volumes, or writes none of their blocks.
+abbrev pub CallsAreLived : (R W S K : Type 0) → Type 0
+CallsAreLived R W S K = (view : DeviceView R W) (streams : Views S K) (returning : Returning)
+    (first : State) (h : List Happening) (calls : Calls view streams returning first h)
+    (kinds : Kinds view streams returning first h calls) → IsTrue view.rack.honest
+    → IsWithinLimits first.geometry → IsVolumesLife view streams returning first h calls kinds
