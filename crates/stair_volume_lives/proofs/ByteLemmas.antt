@@ -28,8 +28,12 @@ AreWhole blocks = All (λ bytes. length bytes ≡ SECTOR) blocks
 pub length-whole : (blocks : List (List ℕ)) → AreWhole blocks → length (concat blocks) ≡ SECTOR * length blocks
 length-whole [] whole = refl
 length-whole (bytes ∷ blocks) whole =
-    omega (arith, length-append bytes (concat blocks), All-head (λ bytes. length bytes ≡ SECTOR) bytes blocks whole,
-    length-whole blocks (All-tail (λ bytes. length bytes ≡ SECTOR) bytes blocks whole))
+    omega (
+      arith,
+      length-append bytes (concat blocks),
+      All-head (λ bytes. length bytes ≡ SECTOR) bytes blocks whole,
+      length-whole blocks (All-tail (λ bytes. length bytes ≡ SECTOR) bytes blocks whole),
+    )
 
 pub whole-take : (n : ℕ) (blocks : List (List ℕ)) → AreWhole blocks → AreWhole (take n blocks)
 whole-take n blocks whole k d within =

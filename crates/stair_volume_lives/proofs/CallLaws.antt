@@ -21,6 +21,7 @@ use Rattle.stair_conf.specs.Words.{Spells}
 use Rattle.stair_conf.specs.declared.job.Job.TheVariants.{Volume}
 use Rattle.stair_conf.specs.declared.job.VolumeJob.{VolumeJob}
 use Rattle.stair_story.specs.Devices.{DeviceView, Devices, MeansWith, devices}
+use Rattle.stair_story.specs.Ending.{EachStep}
 use Rattle.stair_story.specs.Headline.{IsBorneOut}
 use Rattle.stair_story.specs.Lives.{IsWriteOf}
 use Rattle.stair_story.specs.Outside.{Outside, Views}
@@ -29,7 +30,7 @@ use Rattle.stair_story.specs.Run.{Goes as DeedGoes, IsNext, IsRun, IsSafe, Now, 
 use Rattle.stair_story.specs.Sessions.{Calls, Cut, Ends, IsCalmMeanwhile, IsCalmOver, Starts, turns_of}
 use Rattle.stair_story.specs.Story.{Deed, Found, Took, TookLast, TakeFailed, HasPut, PutFailed, Grew, RanOut, Did as DidTo, Stepped, Leads, Moves, put_in, taken_in}
 use Rattle.stair_story.proofs.LifeLaws.{Came, Changed, Doubted, Kept, Settled, came_row, kept_whole, other_step}
-use Rattle.stair_story.proofs.PlannedLaws.{AllSteps, OfDeed}
+use Rattle.stair_story.proofs.PlannedLaws.{AllSteps, OfDeed, rest_along}
 use Rattle.stair_story.proofs.RunLaws.{forgets, works_ran}
 use Rattle.stair_story.proofs.SessionLaws.{life_geometry, runs_are_lived}
 use Rattle.stair_status.specs.declared.status.Status.{Status}
@@ -39,7 +40,7 @@ use Rattle.stair_volume.proofs.OpenedLaws.{Reached, cut_goes, finished, goes_so}
 use Rattle.stair_engine.specs.Plans.{plan_of}
 use Rattle.stair_engine.proofs.ChangedLaws.{reached_words}
 use Rattle.stair_engine.proofs.VolumesLaws.{spelled_command}
-use Rattle.stair_volume_lives.specs.CallLives.{AreTurnsOf, CallsAreLived, IsCutTurnOf, IsTurnOf, IsVolumesLife, Kind, Kinds, Leaves, LeavesBlocks, OnVolumes, WritesNone, turn_of}
+use Rattle.stair_volume_lives.specs.CallLives.{AreTurnsOf, CallsAreLived, IsCutTurnOf, IsTurnOf, IsVolumesLife, Kind, Kinds, Leaves, LeavesBlocks, OnVolumes, PlansWriteNone, WritesNone, turn_of}
 use Rattle.stair_volume_lives.specs.Lives.{Began, Begins, Did, IsExplained, IsOfVolumes, LeavesVolumes, Lives, Other, Turn, Turns}
 use Rattle.stair_volume_lives.proofs.LivesLaws.{lives_are_explained, same_geometry, settled_before, settled_certain}
 
@@ -86,9 +87,12 @@ came_left step old new held (Changed none is) settled =
     (old.content.blocks, inl refl, λ b off. ap (λ (f : Blocks). f b) (same ∙ ap (λ (c : Content). c.blocks) is.content) ∙ other_step step old.content b off)
 came_left step old new held (Doubted none what some is) (inl same) =
     (old.content.blocks, inl refl, λ b off. ap (λ (f : Blocks). f b) (same ∙ ap (λ (c : Content). c.blocks) is.content))
-came_left step old new held (Doubted none what some is) (inr same) =
-    (old.content.blocks, inl refl, λ b off.
-        ap (λ (f : Blocks). f b) (same ∙ (λ i. (changed_if ((is.in_doubt ∙ sym some) i) (is.content i)).blocks)) ∙ other_step step old.content b off)
+came_left step old new held (Doubted none what some is) (inr same) = (
+  old.content.blocks,
+  inl refl,
+  λ b off.
+      ap (λ (f : Blocks). f b) (same ∙ (λ i. (changed_if ((is.in_doubt ∙ sym some) i) (is.content i)).blocks)) ∙ other_step step old.content b off,
+)
 
 cut_left : (step : Step) (begun : Seats) (old new : State) (held : Blocks) → CutWithin step begun old new → IsSettled new held
     → IsLeft old held (λ b. NoWrite b step)
@@ -152,12 +156,22 @@ steps_unwritten b (deed ∷ story) plan rest follows none = (
   deed_unwritten b deed plan follows.0 follows.1 (λ step next. none [] (deed ∷ story) plan step refl refl next),
   steps_unwritten b story follows.0 rest follows.2
       (λ done later left step part leads next.
-          none (deed ∷ done) later left step (ap (λ (l : List Deed). deed ∷ l) part) (follows.0, follows.1, leads) next),
+      none (deed ∷ done) later left step (ap (λ (l : List Deed). deed ∷ l) part) (follows.0, follows.1, leads) next),
 )
 
 part_unwritten : (b : ℕ) (story done later : List Deed) (plan : Plan) → story ≡ done ++ later → WritesNone b plan story → WritesNone b plan done
 part_unwritten b story done later plan part none first more rest step is leads next =
     none first (more ++ later) rest step (part ∙ ap (λ (l : List Deed). l ++ later) is ∙ append_assoc first more later) leads next
+
+-- a plan that has no write of a block
+next_unwritten : (b : ℕ) (plan : Plan) (step : Step) → EachStep (NoWrite b) plan → IsNext plan step → NoWrite b step
+next_unwritten b (Try step k) next each is = subst (NoWrite b) (sym is) each.0
+next_unwritten b (RebuildAll slots done k) next each is = subst (NoWrite b) (sym is) each.0
+next_unwritten b _ next each is = absurd is
+
+pub plans_write_none : PlansWriteNone
+plans_write_none b plan story each done later rest step part leads next =
+    next_unwritten b rest step (rest_along (NoWrite b) done plan rest each leads) next
 
 -- ---- a call that ended
 
@@ -190,8 +204,7 @@ module _ {R W S K : Type 0} (view : DeviceView R W) (streams : Views S K) (retur
         let end : Now = now run.state (history_of view y) run.stopped in
         let reached =
         subst (λ (p : Plan). Reached returning before job (spelled_command words job spells) s limits (taken_in story) (put_in story) p end) ends
-        (came words job spells is story rest end over.means.follows run.runs) in
-        (
+        (came words job spells is story rest end over.means.follows run.runs) in (
           turn_of job status (taken_in story) (put_in story),
           refl,
           by_status job status (taken_in story) (put_in story) s (without_seats run.state)
@@ -206,9 +219,12 @@ module _ {R W S K : Type 0} (view : DeviceView R W) (streams : Views S K) (retur
       where
         kept : LeavesVolumes s (without_seats run.state)
         kept held settled =
-            let was = run_left returning before story (now s before None) (now run.state (history_of view y) run.stopped) held run.runs settled in
-            (was.0, was.1, λ b of.
-                was.2 b (steps_unwritten b story plan rest over.means.follows (leaves s was.0 b rack_is was.1 of)))
+            let was = run_left returning before story (now s before None) (now run.state (history_of view y) run.stopped) held run.runs settled in (
+              was.0,
+              was.1,
+              λ b of.
+                  was.2 b (steps_unwritten b story plan rest over.means.follows (leaves s was.0 b rack_is was.1 of)),
+            )
 
     -- ---- or that a crash cut
 
@@ -232,11 +248,14 @@ module _ {R W S K : Type 0} (view : DeviceView R W) (streams : Views S K) (retur
           → ((b : ℕ) → ((step : Step) → IsNext safe.rest step → NoWrite b step) → held b ≡ was b)
           → (first : Blocks) × IsSettled s first × ((b : ℕ) → IsOfVolumes (block_count s.geometry) first b → held b ≡ first b)
       left_to leaves held was settled same =
-          let first = run_left returning before safe.done (now s before None) mid was safe.runs settled in
-          (first.0, first.1, λ b of.
-              let none = leaves s first.0 b rack_is first.1 of in
-              same b (λ step next. none safe.done safe.later safe.rest step safe.part safe.follows next)
-              ∙ first.2 b (steps_unwritten b safe.done plan safe.rest safe.follows (part_unwritten b story safe.done safe.later plan safe.part none)))
+          let first = run_left returning before safe.done (now s before None) mid was safe.runs settled in (
+            first.0,
+            first.1,
+            λ b of.
+                let none = leaves s first.0 b rack_is first.1 of in
+                same b (λ step next. none safe.done safe.later safe.rest step safe.part safe.follows next)
+                ∙ first.2 b (steps_unwritten b safe.done plan safe.rest safe.follows (part_unwritten b story safe.done safe.later plan safe.part none)),
+          )
 
       cut_to : (kind : Kind returning before plan rest story) (image : Image) → CrashMayLeave c image → IsCutTo kind image
       cut_to (OnVolumes words job status spells is ends) image crash =

@@ -136,9 +136,9 @@ either_is_lived false = (
 one_put : (held : Bytes) (name : List ℕ) (from count : ℕ) (a b : List ℕ) → AreBytes held name from count a → AreBytes held name from count b → a ≡ b
 one_put held name from count a b one other =
     same_lists a b (one.length ∙ sym other.length) (λ k d within.
-        same_Some (get_or a k d) (get_or b k d)
-        (sym (slice_get-get_or a k d within) ∙ one.each k (omega (arith, within, one.length)) ∙ sym (other.each k (omega (arith, within, one.length)))
-        ∙ slice_get-get_or b k d (omega (arith, within, one.length, other.length))))
+    same_Some (get_or a k d) (get_or b k d)
+    (sym (slice_get-get_or a k d within) ∙ one.each k (omega (arith, within, one.length)) ∙ sym (other.each k (omega (arith, within, one.length)))
+    ∙ slice_get-get_or b k d (omega (arith, within, one.length, other.length))))
 
 pub each_is_read_again : EachIsReadAgain
 each_is_read_again made put now lives =

@@ -157,37 +157,37 @@ settled_before old now held same (inl is) = inl (is ∙ ap (λ (c : Content). c.
 settled_before old now held same (inr is) = inr (is ∙ (λ i. (changed_if (same.in_doubt i) (same.content i)).blocks))
 
 module _ (s : State) (life : List Turn) (mid new : State) (same : mid.geometry ≡ s.geometry) (before : (h : Blocks) → IsSettled mid h → Known life s h)
-    where
-  same_count : block_count mid.geometry ≡ block_count s.geometry
-  same_count = ap (λ (g : Geometry). block_count g) same
+  where
+    same_count : block_count mid.geometry ≡ block_count s.geometry
+    same_count = ap (λ (g : Geometry). block_count g) same
 
-  did_known : (job : VolumeJob) (taken put : List ℕ) (held : Blocks) → IsFinished job taken put mid new → IsSettled new held
-      → Known (Did job taken put ∷ life) s held
-  did_known job taken put held fin settled =
-      let moved : (done : HasDone job fin.contents (block_count s.geometry) fin.held new.content.blocks) × PutsOut job done.volumes put =
-      subst (λ (n : ℕ). (done : HasDone job fin.contents n fin.held new.content.blocks) × PutsOut job done.volumes put) same_count (fin.done, fin.puts) in
-      subst (Known (Did job taken put ∷ life) s) (sym (settled_certain new held fin.certain settled))
-      (after_done s life job taken put fin.held new.content.blocks fin.contents fin.front fin.all moved.0 moved.1 (before fin.held fin.settled))
+    did_known : (job : VolumeJob) (taken put : List ℕ) (held : Blocks) → IsFinished job taken put mid new → IsSettled new held
+        → Known (Did job taken put ∷ life) s held
+    did_known job taken put held fin settled =
+        let moved : (done : HasDone job fin.contents (block_count s.geometry) fin.held new.content.blocks) × PutsOut job done.volumes put =
+        subst (λ (n : ℕ). (done : HasDone job fin.contents n fin.held new.content.blocks) × PutsOut job done.volumes put) same_count (fin.done, fin.puts) in
+        subst (Known (Did job taken put ∷ life) s) (sym (settled_certain new held fin.certain settled))
+        (after_done s life job taken put fin.held new.content.blocks fin.contents fin.front fin.all moved.0 moved.1 (before fin.held fin.settled))
 
-  may_known : (job : VolumeJob) (taken : List ℕ) (was held : Blocks) → IsSettled mid was → MayHold job taken (block_count mid.geometry) was held
-      → Known (Began job taken ∷ life) s held
-  may_known job taken was held settled may =
-      after_begun s life job taken was held (subst (λ (n : ℕ). MayHold job taken n was held) same_count may) (before was settled)
+    may_known : (job : VolumeJob) (taken : List ℕ) (was held : Blocks) → IsSettled mid was → MayHold job taken (block_count mid.geometry) was held
+        → Known (Began job taken ∷ life) s held
+    may_known job taken was held settled may =
+        after_begun s life job taken was held (subst (λ (n : ℕ). MayHold job taken n was held) same_count may) (before was settled)
 
-  began_known : (job : VolumeJob) (taken : List ℕ) (held : Blocks) → Goes job taken mid new → IsSettled new held → Known (Began job taken ∷ life) s held
-  began_known job taken held (inl kept) settled =
-      may_known job taken held held (settled_before mid new held kept settled) (inl (keeps_same (block_count mid.geometry) held))
-  began_known job taken held (inr opened) (inl is) =
-      subst (Known (Began job taken ∷ life) s) (sym is) (may_known job taken opened.held new.content.blocks opened.settled opened.holds)
-  began_known job taken held (inr opened) (inr is) =
-      subst (Known (Began job taken ∷ life) s) (sym is) (may_known job taken opened.held (new_content new).blocks opened.settled opened.may_hold)
+    began_known : (job : VolumeJob) (taken : List ℕ) (held : Blocks) → Goes job taken mid new → IsSettled new held → Known (Began job taken ∷ life) s held
+    began_known job taken held (inl kept) settled =
+        may_known job taken held held (settled_before mid new held kept settled) (inl (keeps_same (block_count mid.geometry) held))
+    began_known job taken held (inr opened) (inl is) =
+        subst (Known (Began job taken ∷ life) s) (sym is) (may_known job taken opened.held new.content.blocks opened.settled opened.holds)
+    began_known job taken held (inr opened) (inr is) =
+        subst (Known (Began job taken ∷ life) s) (sym is) (may_known job taken opened.held (new_content new).blocks opened.settled opened.may_hold)
 
-  other_known : (held : Blocks) → LeavesVolumes mid new → IsSettled new held → Known (Other ∷ life) s held
-  other_known held leaves settled =
-      let was = leaves held settled in
-      after_other s life was.0 held
-      (leaves_keeps (block_count s.geometry) was.0 held (subst (λ (n : ℕ). (b : ℕ) → IsOfVolumes n was.0 b → held b ≡ was.0 b) same_count was.2))
-      (before was.0 was.1)
+    other_known : (held : Blocks) → LeavesVolumes mid new → IsSettled new held → Known (Other ∷ life) s held
+    other_known held leaves settled =
+        let was = leaves held settled in
+        after_other s life was.0 held
+        (leaves_keeps (block_count s.geometry) was.0 held (subst (λ (n : ℕ). (b : ℕ) → IsOfVolumes n was.0 b → held b ≡ was.0 b) same_count was.2))
+        (before was.0 was.1)
 
 -- each life is explained up to each outcome of what is in doubt
 known : (s : State) → Begins s → (life : List Turn) (new : State) (held : Blocks) → Lives life s new → IsSettled new held → Known life s held
@@ -316,9 +316,12 @@ job_last (volume.Remove removed) taken written old name at byte is = elim (one_n
 job_last (volume.Write other block count) taken written old name at byte is =
     elim (cases_Bool (bytes_eq other name && has_place block (min written count) at)) [
       | inl here ↦ inl (written_here other name block count written at here, sym (cond-true _ _ _ here) ∙ is)
-      | inr off ↦ inr (sym (cond-false _ _ _ off) ∙ is, λ all changes.
-          clash (sym (and_from (bytes_eq other name) (has_place block (min written count) at) (same_name other name changes.0)
-          (place_in block (min written count) at changes.1 (let below = changes.2 in omega (arith, below, all)))) ∙ off))
+      | inr off ↦ inr (
+        sym (cond-false _ _ _ off) ∙ is,
+        λ all changes.
+            clash (sym (and_from (bytes_eq other name) (has_place block (min written count) at) (same_name other name changes.0)
+            (place_in block (min written count) at changes.1 (let below = changes.2 in omega (arith, below, all)))) ∙ off),
+      )
     ]
 job_last volume.List taken written old name at byte is = inr (is, λ all changes. changes)
 job_last (volume.Read other block count) taken written old name at byte is = inr (is, λ all changes. changes)
@@ -358,9 +361,12 @@ module _ (first : Bytes) (name : List ℕ) (at byte : ℕ) where
 pub reads_are_last : ReadsAreLast
 reads_are_last s new before after name block count taken put i at begins lives is =
     let read = read_explained s new before after name block count taken put begins lives in
-    let some : slice_get put i ≡ Some (get_or put i 0) = slice_get-get_or put i 0 (omega (arith, is.within, read.are.length)) in
-    (get_or put i 0, some, is_last (bytes_in s) name at (get_or put i 0) before read.fates
-    (sym (byte_at (last_written before read.fates (bytes_in s)) name block count put i at read.are is) ∙ some))
+    let some : slice_get put i ≡ Some (get_or put i 0) = slice_get-get_or put i 0 (omega (arith, is.within, read.are.length)) in (
+      get_or put i 0,
+      some,
+      is_last (bytes_in s) name at (get_or put i 0) before read.fates
+          (sym (byte_at (last_written before read.fates (bytes_in s)) name block count put i at read.are is) ∙ some),
+    )
 
 pub written_is_read : WrittenIsRead
 written_is_read s new before between after name block count first blocks taken input put none i k at begins lives is wrote same =

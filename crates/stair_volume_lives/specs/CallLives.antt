@@ -10,6 +10,7 @@ use Rattle.stair_conf.specs.Words.{Spells}
 use Rattle.stair_conf.specs.declared.job.Job.TheVariants.{Volume}
 use Rattle.stair_conf.specs.declared.job.VolumeJob.{VolumeJob}
 use Rattle.stair_story.specs.Devices.{DeviceView}
+use Rattle.stair_story.specs.Ending.{EachStep}
 use Rattle.stair_story.specs.Lives.{IsWriteOf}
 use Rattle.stair_story.specs.Outside.{Views}
 use Rattle.stair_story.specs.Plan.{Plan, Over}
@@ -92,7 +93,7 @@ AreTurnsOf view streams returning first h (Cut c image later plan rest old new x
     × AreTurnsOf view streams returning first (view.rack.history x) calls kinds.0 before
     × IsCutTurnOf kinds.1 turn × (life ≡ turn ∷ before)
 
--- THE LAW
+-- THE LAWS
 
 -- what becomes of volumes by these calls
 pub record IsVolumesLife {R W S K : Type 0} (view : DeviceView R W) (streams : Views S K)
@@ -116,3 +117,8 @@ CallsAreLived R W S K = (view : DeviceView R W) (streams : Views S K) (returning
     (first : State) (h : List Happening) (calls : Calls view streams returning first h)
     (kinds : Kinds view streams returning first h calls) → IsTrue view.rack.honest
     → IsWithinLimits first.geometry → IsVolumesLife view streams returning first h calls kinds
+
+-- A call leaves a block if its plan has no write of it.
+abbrev pub PlansWriteNone : Type 0
+PlansWriteNone = (b : ℕ) (plan : Plan) (story : List Deed)
+    → EachStep (λ step. ¬ IsWriteOf b step) plan → WritesNone b plan story

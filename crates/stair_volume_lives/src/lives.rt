@@ -1,7 +1,7 @@
 //! What the reads of volumes give, over a life.
 
 ghost use Rattle.stair_volume_lives.specs.Lives.{LivesAreExplained, MadeIsZero, ReadsAgree, ReadsAreLast, WrittenIsRead};
-ghost use Rattle.stair_volume_lives.specs.CallLives.{CallsAreLived};
+ghost use Rattle.stair_volume_lives.specs.CallLives.{CallsAreLived, PlansWriteNone};
 ghost use Rattle.stair_volume_lives.specs.Example.{EachIsReadAgain, EitherIsLived};
 
 /// What follows of every list of commands on an array with volumes, each whole or cut. It does nothing.
@@ -18,10 +18,13 @@ pub fn volume_lives()
     ensures settled { ReadsAgree }
 {}
 
-/// What calls of the program come to for the volumes of an array, each whole or cut by a crash. It does nothing.
+/// What becomes of the volumes of an array by calls of the program, each whole or cut by a crash. It does nothing.
 pub fn volume_calls<R, W, S, K>()
-    // calls on volumes, and others that write none of their blocks, are one life of the volumes, which explains each `vread` that was done
+    // commands on volumes, and calls that write none of their blocks, are one life of the volumes, which explains each `vread` that was
+    // done
     ensures lived { CallsAreLived R W S K }
+    // a call whose plan has no write of a block leaves it
+    ensures unwritten { PlansWriteNone }
 {}
 
 /// A volume of two blocks, a write of both that a crash cuts, and reads after it. It does nothing.
