@@ -1,2 +1,4 @@
 -- Lemmas on sectors of stripes.
+pub mod ErasedLemmas
+pub mod RestoreLemmas
 pub mod SectorLemmas

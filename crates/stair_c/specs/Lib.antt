@@ -2,4 +2,5 @@
 pub mod Chunks
 pub mod Costs
 pub mod Encoders
+pub mod Restores
 pub mod Statuses

@@ -4,8 +4,10 @@
 #![tactic(auto)]
 
 pub use exports::{Cost, stair_check, stair_cost, stair_encode, stair_place};
+pub use restore::stair_restore;
 
 mod encoders;
 mod exports;
 pub mod laws;
+mod restore;
 mod stripes;
