@@ -137,7 +137,7 @@ class LosesPower(Cut):
     def test_losses_of_power(self):
         self.needs("strace")
         power, trace = tool("power"), self.room / "trace"
-        shown = ["-y", "-xx", "-s", "600", "-e", "trace=open,openat,lseek,read,write,fdatasync"]
+        shown = ["-y", "-xx", "-s", "69632", "-e", "trace=open,openat,lseek,read,write,fdatasync"]
         self.runs_whole(["strace", "-qq", "-o", trace, *shown])
         calls = power.calls_of(trace)
         for _ in range(self.ROUNDS):

@@ -53,7 +53,7 @@ class Epochs(Case):
         """Returns the calls of a command on these image files. The write of this number fails, counted from 1."""
         self.needs("strace")
         trace = self.room / "trace"
-        shown = ["-y", "-xx", "-s", "600", "-e", "trace=open,openat,lseek,read,write,fdatasync"]
+        shown = ["-y", "-xx", "-s", "69632", "-e", "trace=open,openat,lseek,read,write,fdatasync"]
         fault = ["-e", f"inject=write:error=ENODEV:when={fails}"] if fails else []
         self.ran(files, words, ["strace", "-qq", "-o", trace, *shown, *fault])
         return tool("power").calls_of(trace)

@@ -5,7 +5,10 @@ from messages import *
 
 
 class Calls(Story):
-    """Each command makes so many writes of sectors and so many syncs more than an opening. EIGHT has 20 blocks a stripe."""
+    """Each command makes so many writes of image files, of so many sectors, and so many syncs more than an opening.
+
+    EIGHT has 20 blocks a stripe. A step writes to each of its 8 devices the body of the journal, and opens and closes the gate: 3 writes.
+    And it writes the cells that change (tests/tools/factors), one write for those that follow each other on a device."""
 
     def setUp(self):
         super().setUp()
@@ -21,16 +24,19 @@ class Calls(Story):
         return trace.read_text().splitlines()
 
     def count(self, trace):
-        writes = sum(bool(re.search(r"^\d* *write\(.*, 544\) *= 544$", line)) for line in trace)
-        return writes, sum("fdatasync(" in line for line in trace)
+        """Returns how many writes of image files a trace has, of one to 128 sectors each, how many sectors these are, and how many syncs."""
+        found = [re.search(r"^\d* *write\((\d+), .*\) *= (\d+)$", line) for line in trace]
+        sizes = [int(write[2]) for write in found if write and int(write[1]) > 2]
+        self.assertTrue(all(size % SEALED == 0 and size // SEALED in range(1, 129) for size in sizes), sizes)
+        return len(sizes), sum(sizes) // SEALED, sum("fdatasync(" in line for line in trace)
 
-    def costs(self, case, writes, syncs, words, input=b""):
+    def costs(self, case, writes, sectors, syncs, words, input=b""):
         """Returns the trace."""
         trace = []
         with self.subTest(case):
             opening, trace = self.count(self.traced("read 0 0")), self.traced(words, input)
             found = self.count(trace)
-            self.assertEqual((writes, syncs), (found[0] - opening[0], found[1] - opening[1]))
+            self.assertEqual((writes, sectors, syncs), tuple(more - less for more, less in zip(found, opening)))
         return trace
 
     def done(self, *words):
@@ -38,32 +44,32 @@ class Calls(Story):
             self.assertEqual(0, self.run_program(command, folder=self.work).status)
 
     def test_blocks(self):
-        self.costs("a block", 106, 32, "write 10 1", ONE)
-        self.costs("a whole stripe", 304, 32, "write 20 20", bytes(range(256)) * 40)
-        self.costs("a read", 0, 0, "read 0 40")
-        self.costs("two blocks that come slowly", 203, 64, "write 10 2", Pipe(ONE, TAKEN, 0.5, ONE))
+        self.costs("a block", 29, 106, 32, "write 10 1", ONE)
+        self.costs("a whole stripe", 32, 304, 32, "write 20 20", bytes(range(256)) * 40)
+        self.costs("a read", 0, 0, 0, "read 0 40")
+        self.costs("two blocks that come slowly", 56, 203, 64, "write 10 2", Pipe(ONE, TAKEN, 0.5, ONE))
 
     def test_lines(self):
-        self.costs("two lines", 203, 64, "run", Pipe(lines(f"write 10 {digits('01')}", f"write 11 {digits('01')}")))
+        self.costs("two lines", 56, 203, 64, "run", Pipe(lines(f"write 10 {digits('01')}", f"write 11 {digits('01')}")))
 
     def test_volumes(self):
         # The zeros of a stripe are one step, and the table is another one. The blocks of a stripe that come at once are one step, too.
         self.done("vinit")
-        self.costs("a volume of the rest of a stripe", 410, 64, "vmake v 19")
-        self.costs("a volume of a stripe", 419, 64, "vmake w 20")
-        self.costs("a volume that is dropped", 115, 32, "vdrop v")
-        self.costs("two blocks of a volume", 124, 32, "vwrite w 0 2", Pipe(ONE + ONE))
-        self.costs("two blocks of a volume that come slowly", 230, 64, "vwrite w 0 2", Pipe(ONE, TAKEN, 0.5, ONE))
-        self.costs("a list", 0, 0, "vlist")
+        self.costs("a volume of the rest of a stripe", 64, 410, 64, "vmake v 19")
+        self.costs("a volume of a stripe", 64, 419, 64, "vmake w 20")
+        self.costs("a volume that is dropped", 32, 115, 32, "vdrop v")
+        self.costs("two blocks of a volume", 33, 124, 32, "vwrite w 0 2", Pipe(ONE + ONE))
+        self.costs("two blocks of a volume that come slowly", 64, 230, 64, "vwrite w 0 2", Pipe(ONE, TAKEN, 0.5, ONE))
+        self.costs("a list", 0, 0, 0, "vlist")
 
     def test_sessions(self):
         # A READ is put out in few pieces, and a WRITE is done a stripe at a time.
-        trace = self.costs("a READ of all blocks", 0, 0, "serve", BEGUN + request(READ, 0, 655360))
+        trace = self.costs("a READ of all blocks", 0, 0, 0, "serve", BEGUN + request(READ, 0, 655360))
         with self.subTest("its pieces"):
             self.assertIn(sum(bool(re.search(r"^\d* *write\(1,", line)) for line in trace), range(1, 16))
         whole = Pipe(BEGUN + request(WRITE, 10240, 10240) + bytes(range(256)) * 40)
-        self.costs("a WRITE of a whole stripe", 304, 32, "serve", whole)
-        self.costs("a WRITE over two stripes", 185, 64, "serve", Pipe(BEGUN + request(WRITE, 10239, 2) + spelt("AABB")))
+        self.costs("a WRITE of a whole stripe", 32, 304, 32, "serve", whole)
+        self.costs("a WRITE over two stripes", 62, 185, 64, "serve", Pipe(BEGUN + request(WRITE, 10239, 2) + spelt("AABB")))
 
 
 class Failing(Sessions):

@@ -169,12 +169,12 @@ class Failing(Media):
         self.shown({"slot2": "live 1 gone"}, "dev02.img: No such device", wrap=failing("read:error=ENODEV"))
 
     def test_a_device_that_is_full(self):
-        # Sectors are written one after the other on all devices, the gate first.
+        # All sectors but the superblocks are gathered, and go out as each device is synced.
         after = self.folder("full", FOUR.blank)
         for slot in 0, 1, 3:
             with open(image(after, slot), "r+b") as file:
                 file.seek(SEALED * 2)
-                file.write(image(FOUR.fresh, slot).read_bytes()[SEALED * 2 : SEALED * 3])
+                file.write(image(FOUR.fresh, slot).read_bytes()[SEALED * 2 :])
         said_of_it = ["dev02.img: No space left on device", "gone: slot 2"]
         self.not_created(said_of_it, after=after, wrap=failing("write:error=ENOSPC"))
 

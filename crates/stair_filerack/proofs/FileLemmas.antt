@@ -1,5 +1,5 @@
 -- What is read from a file.
-use Rattle.std.proofs.Common.{◌≡◌, ◌≤◌, ◌<◌, ℕ, ◌+◌, List, ◌++◌, length, take, Option, None, Some, Result, Ok, Err, OnErr, subst, ap, ◌∙◌, sym, inr, length-take-le}
+use Rattle.std.proofs.Common.{◌≡◌, ◌≤◌, ◌<◌, ℕ, ◌+◌, List, ◌++◌, length, take, Option, None, Some, Result, Ok, Err, OnErr, OnOk, subst, ap, ◌∙◌, sym, inr, length-take-le}
 use Rattle.std.specs.Prelude.{MatchOption}
 use Rattle.std.specs.Option.{SomeIff}
 use Rattle.std.specs.Io.KnownBytes.{Consumes, Keeps}
@@ -44,3 +44,7 @@ read-fewer old mid new filled count bytes within short taken kept = (
 pub OnErr-of : {T E : Type 0} (result : Result T E) (P : Type 0) → P → OnErr result P
 OnErr-of (Ok value) P holds = tt
 OnErr-of (Err error) P holds = holds
+
+pub OnOk-of : {T E : Type 0} (result : Result T E) (P : Type 0) → P → OnOk result P
+OnOk-of (Ok value) P holds = holds
+OnOk-of (Err error) P holds = tt

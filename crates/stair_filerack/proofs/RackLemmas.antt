@@ -1,7 +1,7 @@
 -- A slot of the rack is changed, and the others stay.
 use Rattle.std.proofs.Common.{◌≡◌, ◌<◌, ℕ, List, [], length, get_or, set, inl, inr, sym, ◌∙◌, ap, subst, arith, refl}
-use Rattle.std.proofs.lemmas.Bool.{cases_eq}
-use Rattle.std.proofs.lemmas.List.{get_or_default, get_or-set_same, get_or-set_other, length-set, set-get_or}
+use Rattle.std.proofs.lemmas.Bool.{cases_eq, cases_lt}
+use Rattle.std.proofs.lemmas.List.{get_or_default, get_or_past, get_or-set_same, get_or-set_other, length-set, set-get_or}
 use Rattle.stair_rack.specs.Count.{Rose}
 use Rattle.stair_rack.specs.RackCounts.{IsLaterCount, NoneFalls}
 use Rattle.stair_filerack.specs.declared.access.Access.{Access}
@@ -113,11 +113,43 @@ rack_changed old access bads slots i j was slot change parts c is =
     with_slots old access bads slots (set slots i slot) (set old.slots j (change (slot_at old j))) parts
     (set_changed old slots i j was slot change c is)
 
+-- what a call says of that slot, of the rack's slot before and after it
+pub changed_says : {File : Type 0} (old : FileRackState File) (slots : List (FileSlot File)) (i j : ℕ) (was slot : FileSlot File)
+    (Says : FileSlot File → FileSlot File → Type 0) → Changes old slots i j was slot → Says was slot
+    → Says (slot_at old j) (get_or (set slots i slot) j (untouched []))
+changed_says {File} old slots i j was slot Says c says =
+    subst (λ (s : FileSlot File). Says (slot_at old j) s) (sym (slot_same slots i j slot c.within c.same))
+    (subst (λ (s : FileSlot File). Says s slot) (slot_was old slots i j was slot c) says)
+
+-- the slots and the rack afterwards, where that slot changed so by parts of its own
+pub set_changed_as : {File : Type 0} (old : FileRackState File) (slots : List (FileSlot File)) (i j : ℕ) (was slot : FileSlot File)
+    (change : FileSlot File → FileSlot File → FileSlot File) → Changes old slots i j was slot → slot ≡ change slot was
+    → set slots i slot ≡ set old.slots j (change (get_or (set slots i slot) j (untouched [])) (slot_at old j))
+set_changed_as {File} old slots i j was slot change c is =
+    subst (λ (s : FileSlot File). set slots i slot ≡ set old.slots j (change s (slot_at old j)))
+    (sym (slot_same slots i j slot c.within c.same))
+    (set_changed old slots i j was slot (change slot) c is)
+
+pub rack_changed_as : {File : Type 0} (old : FileRackState File) (access : Access) (bads : ℕ) (slots : List (FileSlot File)) (i j : ℕ) (was slot : FileSlot File)
+    (change : FileSlot File → FileSlot File → FileSlot File) → rack_of access bads slots ≡ old → Changes old slots i j was slot → slot ≡ change slot was
+    → rack_of access bads (set slots i slot) ≡ record old { slots = set old.slots j (change (get_or (set slots i slot) j (untouched [])) (slot_at old j)) }
+rack_changed_as old access bads slots i j was slot change parts c is =
+    with_slots old access bads slots (set slots i slot) _ parts (set_changed_as old slots i j was slot change c is)
+
 -- the slots afterwards, where that one is as it was
 pub set_same : {File : Type 0} (old : FileRackState File) (slots : List (FileSlot File)) (i j : ℕ) (was slot : FileSlot File)
     → Changes old slots i j was slot → slot ≡ was → set slots i slot ≡ old.slots
 set_same old slots i j was slot c is =
     set_changed old slots i j was slot (λ s. s) c is ∙ set-get_or old.slots j (untouched [])
+
+-- the count of each slot of a new rack, and of each that there is none of
+pub none_gone : {File : Type 0} (slots : List (FileSlot File)) (path : ℕ → List ℕ) → length slots ≡ 32
+    → ((j : ℕ) → j < 32 → get_or slots j (untouched []) ≡ untouched (path j)) → (j : ℕ) → (get_or slots j (untouched [])).gones ≡ 0
+none_gone {File} slots path count each j =
+    elim (cases_lt j 32) [
+      | inl below ↦ ap (λ (s : FileSlot File). s.gones) (each j below)
+      | inr past ↦ ap (λ (s : FileSlot File). s.gones) (get_or_past slots j (untouched []) (omega (arith, count, past)))
+    ]
 
 -- Of two racks the second differs in what its slots hold alone.
 pub record AreHeldAlone {File : Type 0} (old new : FileRackState File) : Type 0 where

@@ -1,5 +1,5 @@
 -- Sectors of an image file: sector T is the 544 bytes from byte 544·T on.
-use Rattle.std.specs.Prelude.{◌≡◌, ◌≢◌, ◌⊎◌, ◌≤◌, ◌<◌, length, ℕ, pos, ◌+◌, ◌-◌, ◌*◌, ◌/◌, ◌^◌, List, ◌++◌, Option, None, Some, Result, Ok, Err, IfSome, IsSomeAnd, min}
+use Rattle.std.specs.Prelude.{◌≡◌, ◌≢◌, ◌⊎◌, ◌≤◌, ◌<◌, length, ℕ, pos, ◌+◌, ◌-◌, ◌*◌, ◌/◌, ◌^◌, List, [], ◌++◌, Option, None, Some, Result, Ok, Err, IfSome, IsSomeAnd, min}
 use Rattle.std.specs.Io.KnownBytes.{Consumes, Appends, IsAtEnd}
 use Rattle.std.specs.Io.Seek.{StaysAt, SeekMoves}
 use Rattle.std.specs.declared.io.Error.{Error}
@@ -10,7 +10,7 @@ use Rattle.stair_rack.specs.declared.rack.Got.{Got}
 use Rattle.stair_rack.specs.declared.rack.Got.TheVariants as got
 use Rattle.stair_image.specs.Seal.{sealed, IsSealed}
 use Rattle.stair_filerack.specs.Reason.{IsBadSector}
-use Rattle.stair_filerack.specs.Slot.{OpenFile, ReadAhead, missed_at, released}
+use Rattle.stair_filerack.specs.Slot.{HeldFile, OpenFile, ReadAhead, missed_at, pending_bytes, released, without_ahead}
 
 -- the byte at which a sector begins
 abbrev pub offset_of : ℕ → ℕ
@@ -163,19 +163,58 @@ ReadsBadSector place left sector old new =
     GivesUnsealed left sector old new
     ⊎ GoesAlone left sector (ReadsBadAlone place left sector) old new
 
--- the file was at the sector, and then this payload, sealed, was written. What was held was released.
+-- all that was pending went to the file, in order; if nothing was, the file is as it was
+abbrev pub PutsOut : {T : Type 0} → (T → Option (List ℕ)) → HeldFile T → T → Type 0
+PutsOut held old out =
+    Appends (held old.image.file) (held out) old.pending
+    × (old.pending ≡ [] → out ≡ old.image.file)
+
+-- all that was pending went to the file, in order, and then the file went on so; nothing is pending
+abbrev pub AfterPending : {T : Type 0} → (T → Option (List ℕ)) →
+    (OpenFile T → OpenFile T → Type 0) → HeldFile T → HeldFile T → Type 0
+AfterPending {T} held How old new =
+    (out : T) × PutsOut held old out × How (record old.image { file = out }) new.image
+    × (new.pending ≡ [])
+
+-- an open file on which no call was made
+abbrev pub IsUnchanged : {T : Type 0} → OpenFile T → OpenFile T → Type 0
+IsUnchanged old new = new ≡ old
+
+-- a sector that is written is gathered with those that are pending: it follows them, and there is room for it
+abbrev pub IsGathered : {T : Type 0} → HeldFile T → ℕ → Type 0
+IsGathered old sector = (old.image.next ≡ Some sector) × (length old.pending + 544 ≤ pending_bytes)
+
+-- what a write of a sector does first with those that are pending: they stay if it is gathered with them, and else they go out
+abbrev pub MakesWay : {T : Type 0} → (T → Option (List ℕ)) → ℕ → HeldFile T → HeldFile T → Type 0
+MakesWay held sector old new =
+    (IsGathered old sector × (new ≡ old))
+    ⊎ ((¬ IsGathered old sector) × AfterPending held IsUnchanged old new)
+
+-- A sector with this payload was written: sealed, it is pending after those with which it is gathered. If none is, the file was
+-- brought to the sector. What was held was released.
 abbrev pub WritesSector : {T : Type 0} → (T → Option ℕ) → (T → Option (List ℕ)) → ℕ → List ℕ →
-    OpenFile T → OpenFile T → Type 0
+    HeldFile T → HeldFile T → Type 0
 WritesSector {T} place held sector payload old new =
-    (found : T) × FindsSector place sector old found
-    × Appends (held found) (held new.file) (sealed sector payload)
-    × (new.next ≡ Some (sector + 1)) × (new.ahead ≡ released old.ahead)
+    (before : HeldFile T) × MakesWay held sector old before
+    × FindsSector place sector before.image new.image.file
+    × (new.pending ≡ before.pending ++ sealed sector payload)
+    × (new.image.next ≡ Some (sector + 1)) × (new.image.ahead ≡ released old.image.ahead)
+
+-- a file was synced: all that was pending went to it, and what was held was released
+abbrev pub SyncsAll : {T : Type 0} → (T → Option (List ℕ)) → HeldFile T → HeldFile T → Type 0
+SyncsAll held old new = AfterPending held (λ out new. new ≡ without_ahead out) old new
 
 -- there was a file, it is there still, and went on so
 abbrev pub GoesOn : {T : Type 0} → (T → T → Type 0) → Option T → Option T → Type 0
 GoesOn How None new = ⊥
 GoesOn How (Some old) None = ⊥
 GoesOn How (Some old) (Some new) = How old new
+
+-- nothing is pending: there was no file, or all that was pending went to it
+abbrev pub IsPutOut : {T : Type 0} → (T → Option (List ℕ)) → Option (HeldFile T) →
+    Option (HeldFile T) → Type 0
+IsPutOut held None new = new ≡ None
+IsPutOut held (Some old) new = GoesOn (AfterPending held IsUnchanged) (Some old) new
 
 -- What a read answers for its outcome: a payload, none, or an error of the file. A sector that the system can't read any
 -- more is bad; by every other error the slot is gone.

@@ -2,3 +2,5 @@ pub mod Reason
 pub mod Slot
 pub mod Files
 pub mod FileRack
+pub mod Finish
+pub mod Gathered

@@ -1,6 +1,5 @@
 -- A slot of a rack over files, as contracts see it.
-use Rattle.std.specs.Prelude.{ℕ, ◌++◌, ◌/◌, ◌%◌, Bool, List, [], Option, None, Some, codes, is_some, nat_lt, if◌then◌else◌}
-use Rattle.std.specs.Option.{option_map}
+use Rattle.std.specs.Prelude.{ℕ, ◌*◌, ◌++◌, ◌/◌, ◌%◌, Bool, List, [], Option, None, Some, codes, is_some, nat_lt, if◌then◌else◌}
 use Rattle.std.specs.Fmt.{decimal}
 use Rattle.stair_rack.specs.Count.{one_more}
 use Rattle.stair_rack.specs.declared.rack.Reply.{Reply}
@@ -34,7 +33,8 @@ missed_at sector ahead = record ahead { bytes = []; missed = Some sector }
 -- an image file that is open
 pub record OpenFile (File : Type 0) : Type 0 where
   pub file : File
-  -- the sector at whose first byte the file is, where the last call on the file was a read or write that ended there
+  -- The sector at whose first byte the file is once all that is pending went to it. It is known where the last call on the file
+  -- was a read or write that ended there.
   pub next : Option ℕ
   pub ahead : ReadAhead
 
@@ -42,11 +42,25 @@ pub record OpenFile (File : Type 0) : Type 0 where
 abbrev pub without_ahead : {File : Type 0} → OpenFile File → OpenFile File
 without_ahead held = record held { ahead = released held.ahead }
 
+-- an image file that is open, and the sectors that are to go to it
+pub record HeldFile (File : Type 0) : Type 0 where
+  pub image : OpenFile File
+  -- the bytes of the sectors that were written and didn't go to the file yet, sealed, in order
+  pub pending : List ℕ
+
+-- how many bytes are pending at most: those of 128 sectors
+abbrev pub pending_bytes : ℕ
+pending_bytes = 128 * 544
+
+-- an image file of which this is pending
+abbrev pub held_as : {File : Type 0} → List ℕ → OpenFile File → HeldFile File
+held_as pending image = record { image = image; pending = pending }
+
 pub record FileSlot (File : Type 0) : Type 0 where
   -- the path of its image file
   pub path : List ℕ
   -- the file that it holds open
-  pub file : Option (OpenFile File)
+  pub file : Option (HeldFile File)
   -- the number of sectors that the last attach found, 0 where it was gone or there was none
   pub sectors : ℕ
   -- how often it was gone
@@ -80,21 +94,21 @@ abbrev pub let_go : {File : Type 0} → Option Reason → FileSlot File → File
 let_go reason slot = record (gone_once_more slot) { file = None; reason = reason }
 
 -- a file that was just opened
-abbrev pub opened : {File : Type 0} → File → OpenFile File
-opened file = record { file = file; next = None; ahead = nothing_read }
+abbrev pub opened : {File : Type 0} → File → HeldFile File
+opened file = held_as [] (record { file = file; next = None; ahead = nothing_read })
 
 -- a slot that holds a file of so many sectors open
-abbrev pub holding : {File : Type 0} → Option (OpenFile File) → ℕ → FileSlot File → FileSlot File
+abbrev pub holding : {File : Type 0} → Option (HeldFile File) → ℕ → FileSlot File → FileSlot File
 holding file sectors slot = record slot { file = file; sectors = sectors }
 
 -- a slot after an attach with this answer, which found this file of so many sectors, or keeps this reason
-abbrev pub attached_as : {File : Type 0} → Reply → Option (OpenFile File) → ℕ → Option Reason →
+abbrev pub attached_as : {File : Type 0} → Reply → Option (HeldFile File) → ℕ → Option Reason →
     FileSlot File → FileSlot File
 attached_as reply.Done file sectors reason slot = holding file sectors slot
 attached_as reply.Gone file sectors reason slot = record (let_go reason slot) { sectors = 0 }
 
 -- a slot after a read with this answer, which left its file so, or keeps this reason
-abbrev pub read_as : {File : Type 0} → Got → Option (OpenFile File) → Option Reason →
+abbrev pub read_as : {File : Type 0} → Got → Option (HeldFile File) → Option Reason →
     FileSlot File → FileSlot File
 read_as got.Good file reason slot = record slot { file = file }
 read_as got.Bad file reason slot = record slot { file = file }
@@ -108,7 +122,7 @@ file_after_write reply.Done sectors sector new old = new
 file_after_write reply.Gone sectors sector new old = if nat_lt sector sectors then None else old
 
 -- a slot after a write of this sector with this answer, which left its file so, or keeps this reason
-abbrev pub written_as : {File : Type 0} → ℕ → Reply → Option (OpenFile File) → Option Reason →
+abbrev pub written_as : {File : Type 0} → ℕ → Reply → Option (HeldFile File) → Option Reason →
     FileSlot File → FileSlot File
 written_as sector reply.Done file reason slot = record slot { file = file }
 written_as sector reply.Gone file reason slot = record (gone_once_more slot) {
@@ -116,7 +130,8 @@ written_as sector reply.Gone file reason slot = record (gone_once_more slot) {
   reason = reason;
 }
 
--- a slot after a sync with this answer, which keeps this reason: what was read ahead of its file is held no more
-abbrev pub synced_as : {File : Type 0} → Reply → Option Reason → FileSlot File → FileSlot File
-synced_as reply.Done reason slot = record slot { file = option_map without_ahead slot.file }
-synced_as reply.Gone reason slot = let_go reason slot
+-- a slot after a sync with this answer, which left its file so, or keeps this reason
+abbrev pub synced_as : {File : Type 0} → Reply → Option (HeldFile File) → Option Reason →
+    FileSlot File → FileSlot File
+synced_as reply.Done file reason slot = record slot { file = file }
+synced_as reply.Gone file reason slot = let_go reason slot

@@ -1,30 +1,31 @@
 // An image file, which may be open.
-ghost use Rattle.std.specs.Prelude.{◌≡◌, ◌≢◌, ◌≤◌, ◌<◌, true, false, take, IsTrue, IsSome, None, Some, IfOk, IfErr, IfSome, OnErr, MatchOption, MatchResult, OnOk, ◌⊎◌};
-ghost use Rattle.std.specs.Option.{option_map};
+ghost use Rattle.std.specs.Prelude.{◌≡◌, ◌≢◌, ◌≤◌, ◌<◌, true, false, take, length, ◌+◌, IsTrue, IsSome, None, Some, IfOk, IfErr, IfSome, OnErr, MatchOption, MatchResult, OnOk, ◌⊎◌};
 ghost use Rattle.std.specs.Fs.{asks_read, asks_write, asks_append, asks_truncate, asks_create, asks_create_new};
 ghost use Rattle.std.specs.Io.KnownBytes.{Consumes, Appends};
 ghost use Rattle.std.specs.Io.Seek.{StaysAt};
 ghost use Rattle.stair_image.specs.Seal.{sealed};
 ghost use Rattle.stair_filerack.specs.Reason.{IsBadSector, KeepsReason, first_reason, had_of};
-ghost use Rattle.stair_filerack.specs.Files.{CountsSectors, SeeksSector, FindsSector, ReadsAlone, ReadsSector, IsNoSector, ReadsNoSector, ReadsBadSector, ReadsFewer, FailsToRead, WritesSector, GoesAlone, GivesUnsealed, LacksSector, HoldsSector, IsHeld, IsNear, IsOfEight, MissesEight, ReadsEight, GoesOn, IsGotOf, buffer_after, reply_of, sectors_in};
-ghost use Rattle.stair_filerack.specs.Slot.{opened, released, without_ahead, file_after_write};
+ghost use Rattle.stair_filerack.specs.Files.{CountsSectors, SeeksSector, FindsSector, ReadsAlone, ReadsSector, IsNoSector, ReadsNoSector, ReadsBadSector, ReadsFewer, FailsToRead, WritesSector, AfterPending, IsPutOut, IsUnchanged, MakesWay, SyncsAll, GoesAlone, GivesUnsealed, LacksSector, HoldsSector, IsHeld, IsNear, IsOfEight, MissesEight, ReadsEight, GoesOn, IsGotOf, buffer_after, reply_of, sectors_in};
+ghost use Rattle.stair_filerack.specs.Slot.{file_after_write, held_as, nothing_read, opened, pending_bytes, released};
 
 use crate::access::Access;
 use crate::ahead;
 use crate::ahead::Ahead;
 use crate::full::read_full;
 use crate::lock::{Lock, Locking};
+use crate::pending::Pending;
 use crate::reason::{Reason, is_bad_sector, keep_first};
 use stair_image::{SECTOR_BYTES, Seals, unseal};
 use stair_rack::{Got, Reply};
+use std::alloc::{AllocError, Global};
 use std::fs::{Files, Metadata, OpenFile, OpenOptions};
 use std::io::{Read, Seek, SeekFrom, Write};
 use std::marker::Model;
 use std::os::unix::fs::FileTypeExt;
 use std::{fs, io};
 
-/// An image file that is open. `next` is the sector at whose first byte the file is, if the last call on it was a read or write
-/// that ended there: a read or write of that sector needs no seek.
+/// An image file that is open. `next` is the sector at whose first byte the file is once what is pending went to it, if the last
+/// call was a read or write that ended there: a read or write of that sector needs no seek.
 #[derive(Drop)]
 pub(crate) struct Opened<T> {
     file: T,
@@ -43,7 +44,7 @@ impl<T> Model for Opened<T> {
 impl<T> Opened<T> {
     /// A file that was just opened.
     pub(crate) fn new(file: T) -> Opened<T>
-        ensures { result ≡ opened file }
+        ensures { result ≡ record { file = file; next = None; ahead = nothing_read } }
     {
         Opened {
             file,
@@ -51,6 +52,59 @@ impl<T> Opened<T> {
             ahead: Ahead::new(),
         }
     }
+}
+
+/// An image file, which may be open, and the sectors that are to go to it.
+#[derive(Drop)]
+pub(crate) struct Held<T> {
+    image: Option<Opened<T>>,
+    pending: Pending,
+}
+
+impl<T> Model for Held<T> {
+    ghost use Rattle.std.specs.Prelude.{Option};
+    ghost use Rattle.std.specs.Option.{option_map};
+    ghost use Rattle.stair_filerack.specs.Slot.{HeldFile, held_as};
+
+    ghost Value = { Option (HeldFile T) };
+
+    ghost view = { λ s. option_map (held_as s.pending) s.image };
+}
+
+impl<T: Drop> Held<T> {
+    /// Returns no open file, with room for the sectors that are to go to one. It takes the memory for them here, and none later.
+    pub(crate) fn new(alloc: Global) -> Result<Held<T>, AllocError>
+        ensures { IfOk result (λ file. file ≡ None) }
+    {
+        Ok(Held {
+            image: None,
+            pending: Pending::new(alloc)?,
+        })
+    }
+
+    /// Closes the earlier file, and holds this one, which was just opened. What is pending is dropped.
+    pub(crate) fn hold(&mut self, file: T)
+        ensures { self.new ≡ Some (opened file) }
+    {
+        self.pending.clear();
+        self.image = Some(Opened::new(file));
+    }
+
+    /// Closes the file. What is pending is dropped.
+    pub(crate) fn close(&mut self)
+        ensures { self.new ≡ None }
+    {
+        close_image(&mut self.image);
+        self.pending.clear();
+    }
+}
+
+// Closes an image file. An open file is large, and only this function makes room for one as it begins.
+#[inline(never)]
+fn close_image<T: Drop>(image: &mut Option<Opened<T>>)
+    ensures { image.new ≡ None }
+{
+    *image = None;
 }
 
 /// An image file that was found, and the number of its sectors.
@@ -127,18 +181,19 @@ fn sectors_of(bytes: u64) -> u32
     u32::try_from(bytes / SECTOR_BYTES as u64).unwrap_or(u32::MAX)
 }
 
-/// Reads a sector of an open file of so many sectors. A file that fails is closed, and the reason kept.
-pub(crate) fn read<T: Read + Seek + Drop>(
-    file: &mut Option<Opened<T>>,
+/// Reads a sector of an open file of so many sectors, once all that is pending went to it. A file that fails is closed, and the
+/// reason kept.
+pub(crate) fn read<T: Read + Write + Seek + Drop>(
+    file: &mut Held<T>,
     reason: &mut Option<Reason>,
     sectors: u32,
     sector: u32,
     into: &mut [u8; 512],
 ) -> Got
-    ensures good { result ≡ Got.Good →
-        GoesOn (ReadsSector T.stream_position T.remaining sector into.new) file.old file.new }
-    ensures bad { result ≡ Got.Bad → sector < sectors →
-        GoesOn (ReadsBadSector T.stream_position T.remaining sector) file.old file.new }
+    ensures good { result ≡ Got.Good → GoesOn (AfterPending T.contents
+        (ReadsSector T.stream_position T.remaining sector into.new)) file.old file.new }
+    ensures bad { result ≡ Got.Bad → sector < sectors → GoesOn (AfterPending T.contents
+        (ReadsBadSector T.stream_position T.remaining sector)) file.old file.new }
     ensures unread { result ≢ Got.Good → into.new ≡ into.old }
     ensures unattached { file.old ≡ None → (result ≡ Got.Gone) × (reason.new ≡ reason.old) }
     ensures past_end { IsSome file.old → sectors ≤ sector →
@@ -148,17 +203,45 @@ pub(crate) fn read<T: Read + Seek + Drop>(
     ensures told { result ≡ Got.Gone → IsSome file.old → IsSome reason.new }
     ensures untold { result ≢ Got.Gone → reason.new ≡ reason.old }
 {
-    let Some(image) = file else {
+    let Some(image) = &mut file.image else {
         return Got::Gone;
     };
     if sector >= sectors {
         return Got::Bad;
     }
-    let got = got_of(read_sector(image, sectors, sector), into, reason);
+    let got = read_after(image, &mut file.pending, reason, sectors, sector, into);
     if got == Got::Gone {
-        *file = None;
+        file.close();
     }
     got
+}
+
+// Reads a sector once all that is pending went to the file. If that fails the slot is gone, also by an error that makes a sector
+// bad if a read fails by it.
+fn read_after<T: Read + Write + Seek>(
+    image: &mut Opened<T>,
+    pending: &mut Pending,
+    reason: &mut Option<Reason>,
+    sectors: u32,
+    sector: u32,
+    into: &mut [u8; 512],
+) -> Got
+    ensures good { result ≡ Got.Good → AfterPending T.contents
+        (ReadsSector T.stream_position T.remaining sector into.new)
+        (held_as pending.old image.old) (held_as pending.new image.new) }
+    ensures bad { result ≡ Got.Bad → AfterPending T.contents
+        (ReadsBadSector T.stream_position T.remaining sector)
+        (held_as pending.old image.old) (held_as pending.new image.new) }
+    ensures unread { result ≢ Got.Good → into.new ≡ into.old }
+    ensures kept { KeepsReason reason.old reason.new }
+    ensures told { result ≡ Got.Gone → IsSome reason.new }
+    ensures untold { result ≢ Got.Gone → reason.new ≡ reason.old }
+{
+    if let Err(error) = pending.put_out(&mut image.file) {
+        keep_first(reason, Reason::Failed(error));
+        return Got::Gone;
+    }
+    got_of(read_sector(image, sectors, sector), into, reason)
 }
 
 // What a read with this outcome answers, what the buffer holds then, and which reason is kept.
@@ -189,9 +272,10 @@ fn got_of(
     }
 }
 
-/// Writes a sector of an open file of so many sectors, which never grows. A file that fails is closed, and the reason kept.
+/// Writes a sector of an open file of so many sectors, which never grows: it is pending until a later call. A file that fails is
+/// closed, and the reason kept.
 pub(crate) fn write<T: Write + Seek + Drop>(
-    file: &mut Option<Opened<T>>,
+    file: &mut Held<T>,
     reason: &mut Option<Reason>,
     access: Access,
     sectors: u32,
@@ -210,42 +294,66 @@ pub(crate) fn write<T: Write + Seek + Drop>(
     ensures told { result ≡ Reply.Gone → IsSome file.old → sector < sectors → IsSome reason.new }
     ensures untold { result ≡ Reply.Done → reason.new ≡ reason.old }
 {
-    let Some(image) = file else {
+    let Some(image) = &mut file.image else {
         return Reply::Gone;
     };
     if sectors <= sector {
         return Reply::Gone;
     }
-    let reply = reply_of(write_sector(image, access, sector, from, seals), reason);
+    let outcome = write_sector(image, &mut file.pending, access, sector, from, seals);
+    let reply = reply_of(outcome, reason);
     if reply == Reply::Gone {
-        *file = None;
+        file.close();
     }
     reply
 }
 
-/// Syncs the data of an open file, and releases what was read ahead. A file that fails is closed, and the reason kept.
-pub(crate) fn sync<T: OpenFile + Drop>(
-    file: &mut Option<Opened<T>>,
+/// Syncs the data of an open file, once all that is pending went to it, and releases what was read ahead. A file that fails is
+/// closed, and the reason kept.
+pub(crate) fn sync<T: Write + OpenFile + Drop>(
+    file: &mut Held<T>,
     reason: &mut Option<Reason>,
     access: Access,
 ) -> Reply
+    ensures done { result ≡ Reply.Done → GoesOn (SyncsAll T.contents) file.old file.new }
     ensures reading { access ≡ Access.Reading → result ≡ Reply.Gone }
     ensures unattached { file.old ≡ None → (result ≡ Reply.Gone) × (reason.new ≡ reason.old) }
     ensures closed { result ≡ Reply.Gone → file.new ≡ None }
-    ensures open { result ≡ Reply.Done → (file.new ≡ option_map without_ahead file.old)
-        × (reason.new ≡ reason.old) }
     ensures kept { KeepsReason reason.old reason.new }
     ensures told { result ≡ Reply.Gone → IsSome file.old → IsSome reason.new }
+    ensures untold { result ≡ Reply.Done → reason.new ≡ reason.old }
 {
-    let Some(image) = file else {
+    let Some(image) = &mut file.image else {
         return Reply::Gone;
     };
-    let reply = reply_of(sync_data(image, access), reason);
-    match reply {
-        Reply::Done => image.ahead.release(),
-        Reply::Gone => *file = None,
+    let reply = reply_of(sync_data(image, &mut file.pending, access), reason);
+    if reply == Reply::Gone {
+        file.close();
     }
     reply
+}
+
+/// Writes all that is pending to the file, if one is open. A file that fails is closed.
+pub(crate) fn put_out<T: Write + Drop>(file: &mut Held<T>) -> Result<(), Reason>
+    ensures done { OnOk result (IsPutOut T.contents file.old file.new) }
+    ensures failed { OnErr result (IsSome file.old × (file.new ≡ None)) }
+{
+    let Some(image) = &mut file.image else {
+        return Ok(());
+    };
+    let outcome = put_out_all(image, &mut file.pending);
+    if outcome.is_err() {
+        file.close();
+    }
+    outcome
+}
+
+// Writes all that is pending to an open file.
+fn put_out_all<T: Write>(image: &mut Opened<T>, pending: &mut Pending) -> Result<(), Reason>
+    ensures { OnOk result (AfterPending T.contents IsUnchanged
+        (held_as pending.old image.old) (held_as pending.new image.new)) }
+{
+    Ok(pending.put_out(&mut image.file)?)
 }
 
 // What a write or a sync with this outcome answers, and which reason is kept.
@@ -265,14 +373,23 @@ fn reply_of(outcome: Result<(), Reason>, reason: &mut Option<Reason>) -> Reply
     }
 }
 
-// Syncs the data of a file that was opened for writing.
-fn sync_data<T: OpenFile>(image: &Opened<T>, access: Access) -> Result<(), Reason>
-    ensures { access ≡ Access.Reading → result ≡ Err Reason.OpenForReading }
+// Syncs the data of a file that was opened for writing, once all that is pending went to it, and releases what was read ahead.
+fn sync_data<T: Write + OpenFile>(
+    image: &mut Opened<T>,
+    pending: &mut Pending,
+    access: Access,
+) -> Result<(), Reason>
+    ensures done { OnOk result (SyncsAll T.contents
+        (held_as pending.old image.old) (held_as pending.new image.new)) }
+    ensures reading { access ≡ Access.Reading → result ≡ Err Reason.OpenForReading }
 {
     if access == Access::Reading {
         return Err(Reason::OpenForReading);
     }
-    Ok(image.file.sync_data()?)
+    put_out_all(image, pending)?;
+    image.file.sync_data()?;
+    image.ahead.release();
+    Ok(())
 }
 
 // Reads a sector's payload: `None` where the file ends within the sector, or what is there isn't sealed.
@@ -361,25 +478,44 @@ fn read_alone<T: Read + Seek>(image: &mut Opened<T>, sector: u32) -> io::Result<
     }
 }
 
-// Writes a sector of a file that was opened for writing, sealed.
+// Seals a sector of a file that was opened for writing. It is pending after the others if it follows them and there is room; if
+// not, these go out first.
 fn write_sector<T: Write + Seek>(
     image: &mut Opened<T>,
+    pending: &mut Pending,
     access: Access,
     sector: u32,
     from: &[u8; 512],
     seals: &mut Seals,
 ) -> Result<(), Reason>
-    ensures done { OnOk result (WritesSector T.stream_position T.contents sector from.now image.old
-        image.new) }
+    ensures done { OnOk result (WritesSector T.stream_position T.contents sector from.now
+        (held_as pending.old image.old) (held_as pending.new image.new)) }
     ensures reading { access ≡ Access.Reading → result ≡ Err Reason.OpenForReading }
 {
     if access == Access::Reading {
         return Err(Reason::OpenForReading);
     }
+    make_way(image, pending, sector)?;
     find_sector(image, sector)?;
-    image.file.write_all(seals.seal(u64::from(sector), from))?;
+    pending.add(seals.seal(u64::from(sector), from));
     image.next = Some(u64::from(sector) + 1);
     Ok(())
+}
+
+// Writes all that is pending to an open file, unless this sector can be gathered with it.
+fn make_way<T: Write>(
+    image: &mut Opened<T>,
+    pending: &mut Pending,
+    sector: u32,
+) -> Result<(), Reason>
+    ensures way { OnOk result (MakesWay T.contents sector
+        (held_as pending.old image.old) (held_as pending.new image.new)) }
+    ensures room { OnOk result (length pending.new + 544 ≤ pending_bytes) }
+{
+    if image.next == Some(u64::from(sector)) && pending.has_room() {
+        return Ok(());
+    }
+    put_out_all(image, pending)
 }
 
 // Brings a file to the place of a sector, by a seek unless the last read or write ended there, and releases what was read ahead.

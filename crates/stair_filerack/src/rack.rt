@@ -1,11 +1,12 @@
 // A rack over image files.
-ghost use Rattle.std.specs.Prelude.{◌≡◌, ◌≢◌, ◌≤◌, ◌<◌, ℕ, false, [], None, IfErr, IfOk, IsSome, IsSomeAnd, string_bytes};
+ghost use Rattle.std.specs.Prelude.{◌≡◌, ◌≢◌, ◌≤◌, ◌<◌, ℕ, false, [], Option, None, IfErr, IfOk, IsSome, IsSomeAnd, string_bytes};
 ghost use Rattle.stair_rack.specs.Count.{Rose};
 ghost use Rattle.stair_rack.specs.RackCounts.{IsLaterCount, NoneFalls};
 ghost use Rattle.stair_filerack.specs.Reason.{IsCallers, KeepsReason};
-ghost use Rattle.stair_filerack.specs.Files.{CountsSectors, ReadsSector, ReadsBadSector, WritesSector, GoesOn};
-ghost use Rattle.stair_filerack.specs.Slot.{untouched, detached, nothing_read, path_of, attached_as, gone_once_more, read_as, written_as, synced_as};
+ghost use Rattle.stair_filerack.specs.Files.{CountsSectors, ReadsSector, ReadsBadSector, WritesSector, AfterPending, SyncsAll, GoesOn, IsPutOut};
+ghost use Rattle.stair_filerack.specs.Slot.{HeldFile, untouched, detached, nothing_read, path_of, attached_as, gone_once_more, read_as, written_as, synced_as};
 ghost use Rattle.stair_filerack.specs.FileRack.{slot_at, gones_of, with_slot, bads_after, IsDetached};
+ghost use Rattle.stair_filerack.specs.Finish.{FinishesAll};
 
 use crate::access::Access;
 use crate::lock::Lock;
@@ -25,6 +26,9 @@ const SLOTS: u8 = 32;
 ///
 /// Sector T of a file is the 544 bytes from byte 544·T on, sealed as `stair_image` says. A file has as many sectors as
 /// it has whole ones up to its end when it is attached, and at most 4,294,967,295.
+///
+/// Following sectors of a slot that are written are gathered, up to 128 of them, and go to the file in one call of the system. They
+/// are pending until a sync, a read or an attach of the slot, a write of another sector, or [`FileRack::finish`].
 ///
 /// An attached slot holds its file open, with its lock where the rack is to write: that the file was removed, or another put
 /// in its place, is noticed when the slot is attached anew. A file that is open never grows past what was attached. A sync
@@ -75,7 +79,7 @@ where
     {
         let mut slots = Vec::with_capacity(alloc, usize::from(SLOTS))?;
         for slot in 0..SLOTS {
-            slots.push(Slot::new(path_of(alloc, folder, slot)?))?;
+            slots.push(Slot::new(alloc, path_of(alloc, folder, slot)?)?)?;
         }
         Ok(FileRack {
             runtime: rt,
@@ -87,7 +91,7 @@ where
     }
 
     /// Opens all devices that are there, each as an attach would, so that all are open at once, and releases them again.
-    /// Nothing is read or written, and no count rises.
+    /// Nothing is read or written, and no count rises. What is pending is lost.
     ///
     /// `Refused`: the first device that can't be had for a reason of the caller's ([`Reason::is_callers`]). A device that
     /// fails otherwise, or isn't there, is passed over.
@@ -117,6 +121,20 @@ where
             }
         }
         Ok(())
+    }
+
+    /// Writes to the files all that is pending. It is the last call on a rack that was written to: what is pending when the rack is
+    /// dropped is lost.
+    ///
+    /// A slot whose file fails is gone, as by a sync, and keeps the reason.
+    pub fn finish(&mut self)
+        ensures counts { NoneFalls self.old.bads self.new.bads (gones_of self.old)
+            (gones_of self.new) }
+        ensures after { FinishesAll F.File.contents self.old self.new }
+    {
+        for slot in self.slots.iter_mut() {
+            slot.finish();
+        }
     }
 
     /// The first reason for which this slot was gone to a call, but that there was no file.
@@ -171,14 +189,19 @@ where
             (gones_of self.new slot) }
 
         // What the rack is afterwards: the slot holds some file open where it is attached, which wasn't read or written
-        // yet, and released the earlier one. It has as many sectors as that file has up to its end.
+        // yet. All that was pending went to the earlier one before that was closed. It has as many sectors as the new one has
+        // up to its end.
         ensures attached { result ≡ Reply.Done →
-            IsSomeAnd (slot_at self.new slot).file (λ held. held.next ≡ None) }
+            IsSomeAnd (slot_at self.new slot).file (λ held. held.image.next ≡ None) }
         ensures unread { result ≡ Reply.Done →
-            IsSomeAnd (slot_at self.new slot).file (λ held. held.ahead ≡ nothing_read) }
+            IsSomeAnd (slot_at self.new slot).file (λ held. held.image.ahead ≡ nothing_read) }
+        ensures earlier { result ≡ Reply.Done → (out : Option (HeldFile F.File))
+            × IsPutOut F.File.contents (slot_at self.old slot).file out }
+        ensures settled { result ≡ Reply.Done →
+            IsSomeAnd (slot_at self.new slot).file (λ held. held.pending ≡ []) }
         ensures counted { result ≡ Reply.Done →
             IsSomeAnd (slot_at self.new slot).file (λ held. (before : F.File)
-            × CountsSectors F.File.stream_position F.File.stream_bytes before held.file
+            × CountsSectors F.File.stream_position F.File.stream_bytes before held.image.file
             (slot_at self.new slot).sectors) }
         ensures after { self.new ≡
             with_slot slot (attached_as result (slot_at self.new slot).file
@@ -212,12 +235,14 @@ where
             (slot_at self.old slot).sectors ≤ sector →
             (result ≡ Got.Bad) × (self.new.slots ≡ self.old.slots) }
 
-        // What was read of a file that tells its place and its bytes.
+        // What was read of a file that tells its place and its bytes, once all that was pending went to it.
         ensures sealed { result ≡ Got.Good →
-            GoesOn (ReadsSector F.File.stream_position F.File.remaining sector into.new)
+            GoesOn (AfterPending F.File.contents
+            (ReadsSector F.File.stream_position F.File.remaining sector into.new))
             (slot_at self.old slot).file (slot_at self.new slot).file }
         ensures unsealed { result ≡ Got.Bad → sector < (slot_at self.old slot).sectors →
-            GoesOn (ReadsBadSector F.File.stream_position F.File.remaining sector)
+            GoesOn (AfterPending F.File.contents
+            (ReadsBadSector F.File.stream_position F.File.remaining sector))
             (slot_at self.old slot).file (slot_at self.new slot).file }
 
         // What the rack is afterwards.
@@ -252,7 +277,7 @@ where
         ensures past_end { (slot_at self.old slot).sectors ≤ sector → (result ≡ Reply.Gone)
             × (self.new ≡ with_slot slot (gone_once_more (slot_at self.old slot)) self.old) }
 
-        // What was written to a file that tells its place and its bytes.
+        // What is pending of a file that tells its place and its bytes.
         ensures done { result ≡ Reply.Done →
             GoesOn (WritesSector F.File.stream_position F.File.contents sector from.now)
             (slot_at self.old slot).file (slot_at self.new slot).file }
@@ -278,9 +303,14 @@ where
         ensures unattached { (slot_at self.old slot).file ≡ None → (result ≡ Reply.Gone)
             × (self.new ≡ with_slot slot (gone_once_more (slot_at self.old slot)) self.old) }
 
+        // All that was pending went to a file that tells its place and its bytes.
+        ensures done { result ≡ Reply.Done → GoesOn (SyncsAll F.File.contents)
+            (slot_at self.old slot).file (slot_at self.new slot).file }
+
         // What the rack is afterwards.
         ensures after { self.new ≡ with_slot slot
-            (synced_as result (slot_at self.new slot).reason (slot_at self.old slot)) self.old }
+            (synced_as result (slot_at self.new slot).file (slot_at self.new slot).reason
+            (slot_at self.old slot)) self.old }
         ensures kept { KeepsReason (slot_at self.old slot).reason (slot_at self.new slot).reason }
         ensures reason { result ≡ Reply.Gone → IsSome (slot_at self.old slot).file →
             IsSome (slot_at self.new slot).reason }

@@ -1,18 +1,20 @@
 // A slot of the rack.
-ghost use Rattle.std.specs.Prelude.{◌≡◌, ◌≢◌, ◌≤◌, ◌<◌, None, Some, IfOk, IfErr, OnOk, IsSome, IsSomeAnd, SomeIff, string_bytes};
+ghost use Rattle.std.specs.Prelude.{◌≡◌, ◌≢◌, ◌≤◌, ◌<◌, [], Option, None, Some, IfOk, IfErr, OnOk, IsSome, IsSomeAnd, SomeIff, string_bytes};
 ghost use Rattle.stair_rack.specs.Count.{Rose};
 ghost use Rattle.stair_rack.specs.RackCounts.{IsLaterCount};
 ghost use Rattle.stair_filerack.specs.Reason.{IsCallers, IsNoFile, KeepsReason, first_reason};
-ghost use Rattle.stair_filerack.specs.Files.{CountsSectors, ReadsSector, ReadsBadSector, WritesSector, GoesOn};
-ghost use Rattle.stair_filerack.specs.Slot.{untouched, detached, opened, nothing_read, holding, attached_as, gone_once_more, read_as, written_as, synced_as};
+ghost use Rattle.stair_filerack.specs.Files.{CountsSectors, ReadsSector, ReadsBadSector, WritesSector, AfterPending, SyncsAll, GoesOn, IsPutOut};
+ghost use Rattle.stair_filerack.specs.Slot.{HeldFile, untouched, detached, opened, nothing_read, holding, attached_as, gone_once_more, read_as, written_as, synced_as};
+ghost use Rattle.stair_filerack.specs.Finish.{Finishes};
 
 use crate::access::Access;
 use crate::file;
-use crate::file::{Found, Opened};
+use crate::file::{Found, Held};
 use crate::lock::Lock;
 use crate::reason::{Reason, keep_first};
 use stair_image::Seals;
 use stair_rack::{Got, Reply};
+use std::alloc::{AllocError, Global};
 use std::fs::{Files, OpenFile};
 use std::io;
 use std::io::{Read, Seek, Write};
@@ -23,7 +25,7 @@ use std::marker::Model;
 #[derive(Drop)]
 pub(crate) struct Slot<T> {
     path: String,
-    file: Option<Opened<T>>,
+    file: Held<T>,
     sectors: u32,
     gones: u64,
     reason: Option<Reason>,
@@ -45,17 +47,17 @@ impl<T> Model for Slot<T> {
 }
 
 impl<T: Read + Write + Seek + OpenFile + Lock + Drop> Slot<T> {
-    /// The slot of this image file, which isn't opened.
-    pub(crate) fn new(path: String) -> Slot<T>
-        ensures { result ≡ untouched (string_bytes path) }
+    /// The slot of this image file, which isn't opened. It takes all memory here, and none later.
+    pub(crate) fn new(alloc: Global, path: String) -> Result<Slot<T>, AllocError>
+        ensures { IfOk result (λ slot. slot ≡ untouched (string_bytes path)) }
     {
-        Slot {
+        Ok(Slot {
             path,
-            file: None,
+            file: Held::new(alloc)?,
             sectors: 0,
             gones: 0,
             reason: None,
-        }
+        })
     }
 
     /// The number of sectors that the last attach found.
@@ -86,15 +88,17 @@ impl<T: Read + Write + Seek + OpenFile + Lock + Drop> Slot<T> {
         if let Some(reason) = refusal(&found) {
             return Err(reason);
         }
-        self.file = found.ok().map(|found| Opened::new(found.file));
+        if let Ok(found) = found {
+            self.file.hold(found.file);
+        }
         Ok(())
     }
 
-    /// Lets go of the file, and forgets what the last attach found.
+    /// Lets go of the file with what is pending, and forgets what the last attach found.
     pub(crate) fn detach(&mut self)
         ensures { self.new ≡ detached self.old }
     {
-        self.file = None;
+        self.file.close();
         self.sectors = 0;
     }
 
@@ -103,19 +107,38 @@ impl<T: Read + Write + Seek + OpenFile + Lock + Drop> Slot<T> {
         ensures after { self.new ≡
             attached_as result self.new.file self.new.sectors self.new.reason self.old }
         ensures attached { result ≡ Reply.Done →
-            IsSomeAnd self.new.file (λ held. held.next ≡ None) }
+            IsSomeAnd self.new.file (λ held. held.image.next ≡ None) }
         ensures unread { result ≡ Reply.Done →
-            IsSomeAnd self.new.file (λ held. held.ahead ≡ nothing_read) }
+            IsSomeAnd self.new.file (λ held. held.image.ahead ≡ nothing_read) }
+        ensures earlier { result ≡ Reply.Done → (out : Option (HeldFile T))
+            × IsPutOut T.contents self.old.file out }
+        ensures settled { result ≡ Reply.Done →
+            IsSomeAnd self.new.file (λ held. held.pending ≡ []) }
         ensures counted { result ≡ Reply.Done → IsSomeAnd self.new.file (λ held. (before : T)
-            × CountsSectors T.stream_position T.stream_bytes before held.file self.new.sectors) }
+            × CountsSectors T.stream_position T.stream_bytes before held.image.file self.new.sectors) }
         ensures kept { KeepsReason self.old.reason self.new.reason }
         ensures count { IsLaterCount self.old.gones self.new.gones }
         ensures gone { result ≡ Reply.Gone → Rose self.old.gones self.new.gones }
     {
-        // The earlier file is closed before the path is opened again.
-        drop(self.file.take());
-        let found = file::open(runtime, access, self.path.as_str());
+        let found = self.reopen(runtime, access);
         self.hold(found)
+    }
+
+    // Opens the slot's file anew. What is pending of the earlier one goes out first, and it is closed before the path is opened again.
+    fn reopen<F: Files<File = T>>(
+        &mut self,
+        runtime: &F,
+        access: Access,
+    ) -> Result<Found<T>, Reason>
+        ensures after { self.new ≡ record self.old { file = None } }
+        ensures earlier { OnOk result ((out : Option (HeldFile T))
+            × IsPutOut T.contents self.old.file out) }
+        ensures counted { IfOk result (λ found. (before : T)
+            × CountsSectors T.stream_position T.stream_bytes before found.file found.sectors) }
+    {
+        file::put_out(&mut self.file)?;
+        self.file.close();
+        file::open(runtime, access, self.path.as_str())
     }
 
     /// Holds the file that was opened, and so many sectors; where none was, the slot is gone.
@@ -134,12 +157,12 @@ impl<T: Read + Write + Seek + OpenFile + Lock + Drop> Slot<T> {
     {
         match found {
             Ok(Found { file, sectors }) => {
-                self.file = Some(Opened::new(file));
+                self.file.hold(file);
                 self.sectors = sectors;
                 Reply::Done
             }
             Err(reason) => {
-                self.file = None;
+                self.file.close();
                 self.sectors = 0;
                 self.gones = self.gones.saturating_add(1);
                 if !reason.is_no_file() {
@@ -150,13 +173,14 @@ impl<T: Read + Write + Seek + OpenFile + Lock + Drop> Slot<T> {
         }
     }
 
-    /// Reads a sector.
+    /// Reads a sector, once all that is pending went to the file.
     pub(crate) fn read(&mut self, sector: u32, into: &mut [u8; 512]) -> Got
-        ensures good { result ≡ Got.Good →
-            GoesOn (ReadsSector T.stream_position T.remaining sector into.new)
+        ensures good { result ≡ Got.Good → GoesOn (AfterPending T.contents
+            (ReadsSector T.stream_position T.remaining sector into.new))
             self.old.file self.new.file }
         ensures bad { result ≡ Got.Bad → sector < self.old.sectors →
-            GoesOn (ReadsBadSector T.stream_position T.remaining sector)
+            GoesOn (AfterPending T.contents
+            (ReadsBadSector T.stream_position T.remaining sector))
             self.old.file self.new.file }
         ensures unread { result ≢ Got.Good → into.new ≡ into.old }
         ensures unattached { self.old.file ≡ None →
@@ -176,7 +200,7 @@ impl<T: Read + Write + Seek + OpenFile + Lock + Drop> Slot<T> {
         got
     }
 
-    /// Writes a sector, sealed.
+    /// Writes a sector: sealed, it is pending until a later call.
     pub(crate) fn write(
         &mut self,
         access: Access,
@@ -207,12 +231,14 @@ impl<T: Read + Write + Seek + OpenFile + Lock + Drop> Slot<T> {
         reply
     }
 
-    /// Syncs the data of the slot's file, and releases what was read ahead of it.
+    /// Syncs the data of the slot's file, once all that is pending went to it, and releases what was read ahead of it.
     pub(crate) fn sync(&mut self, access: Access) -> Reply
+        ensures done { result ≡ Reply.Done →
+            GoesOn (SyncsAll T.contents) self.old.file self.new.file }
         ensures reading { access ≡ Access.Reading → result ≡ Reply.Gone }
         ensures unattached { self.old.file ≡ None →
             (result ≡ Reply.Gone) × (self.new ≡ gone_once_more self.old) }
-        ensures after { self.new ≡ synced_as result self.new.reason self.old }
+        ensures after { self.new ≡ synced_as result self.new.file self.new.reason self.old }
         ensures kept { KeepsReason self.old.reason self.new.reason }
         ensures told { result ≡ Reply.Gone → IsSome self.old.file → IsSome self.new.reason }
         ensures count { IsLaterCount self.old.gones self.new.gones }
@@ -223,6 +249,23 @@ impl<T: Read + Write + Seek + OpenFile + Lock + Drop> Slot<T> {
             self.gones = self.gones.saturating_add(1);
         }
         reply
+    }
+
+    /// Writes all that is pending to the slot's file.
+    pub(crate) fn finish(&mut self) -> Reply
+        ensures after { Finishes T.contents result self.old self.new }
+        ensures kept { KeepsReason self.old.reason self.new.reason }
+        ensures count { IsLaterCount self.old.gones self.new.gones }
+        ensures gone { result ≡ Reply.Gone → Rose self.old.gones self.new.gones }
+    {
+        match file::put_out(&mut self.file) {
+            Ok(()) => Reply::Done,
+            Err(reason) => {
+                self.gones = self.gones.saturating_add(1);
+                keep_first(&mut self.reason, reason);
+                Reply::Gone
+            }
+        }
     }
 }
 

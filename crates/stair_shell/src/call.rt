@@ -147,7 +147,9 @@ pub(crate) fn call<'a, T: TopCall, L: Ledger>(
     if let Some(tally) = watchers.get(1) {
         *counts = tally.counts();
     }
-    let (rack, bad) = rack.into_parts();
+    let (mut rack, bad) = rack.into_parts();
+    // what isn't written yet; a file that fails keeps the reason, and it is reported with those of the call
+    rack.finish();
     Ok(Called {
         status,
         rack,

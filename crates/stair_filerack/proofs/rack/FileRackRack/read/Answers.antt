@@ -1,8 +1,10 @@
 use Rattle.std.proofs.Common.{◌≡◌, ◌≤◌, ℕ, set, ap, sym, ◌∙◌, subst, arith}
-use Rattle.std.specs.Prelude.{IsSome}
-use Rattle.stair_filerack.specs.Slot.{gone_once_more}
+use Rattle.std.specs.Prelude.{IsSome, ◌<◌}
+use Rattle.stair_filerack.specs.Reason.{KeepsReason}
+use Rattle.stair_filerack.specs.Files.{AfterPending, GoesOn, ReadsBadSector, ReadsSector}
+use Rattle.stair_filerack.specs.Slot.{gone_once_more, read_as}
 use Rattle.stair_filerack.specs.FileRack.{bads_after}
-use Rattle.stair_filerack.proofs.RackLemmas.{Changes, changed_slot, slot_was, counts_kept, gone_rose, rack_of, rack_changed, set_same}
+use Rattle.stair_filerack.proofs.RackLemmas.{Changes, changed_slot, slot_was, counts_kept, gone_rose, rack_of, rack_changed, set_same, changed_says, set_changed_as}
 use Rattle.stair_filerack.proofs.rack.FileRackRack.read.Goals as goal
 
 changes : (g : _) (c : goal.After-self-2-1 g) → Changes c.args.self.now c.self.inside.slots.items c.from.result c.args.slot c.index_mut.result.now c.read-got.new.self
@@ -37,3 +39,29 @@ returns-clause-past_end g c some past =
     let here = c.read-got.ensures.past_end (subst (λ s. IsSome s.file) (sym was) some)
     (subst (λ s. s.sectors ≤ c.args.sector) (sym was) past) in
     (here.0, set_same c.args.self.now _ _ _ _ _ (changes g c) here.1)
+
+pub returns-clause-sealed : goal.returns-clause-sealed
+returns-clause-sealed g c good =
+    changed_says c.args.self.now _ _ _ _ _
+    (λ was slot. GoesOn (AfterPending g.F.File.Write.contents
+    (ReadsSector g.F.File.Seek.stream_position g.F.File.Read.remaining c.args.sector c.read-got.new.into)) was.file slot.file)
+    (changes g c) (c.read-got.ensures.good good)
+
+pub returns-clause-unsealed : goal.returns-clause-unsealed
+returns-clause-unsealed g c bad =
+    changed_says c.args.self.now _ _ _ _ _
+    (λ was slot. c.args.sector < was.sectors → GoesOn (AfterPending g.F.File.Write.contents
+    (ReadsBadSector g.F.File.Seek.stream_position g.F.File.Read.remaining c.args.sector)) was.file slot.file)
+    (changes g c) (c.read-got.ensures.bad bad)
+
+pub returns-clause-after : goal.returns-clause-after
+returns-clause-after g c =
+    set_changed_as c.args.self.now _ _ _ _ _ (λ slot was. read_as c.read-got.result slot.file slot.reason was) (changes g c) c.read-got.ensures.after
+
+pub returns-clause-kept : goal.returns-clause-kept
+returns-clause-kept g c =
+    changed_says c.args.self.now _ _ _ _ _ (λ was slot. KeepsReason was.reason slot.reason) (changes g c) c.read-got.ensures.kept
+
+pub returns-clause-reason : goal.returns-clause-reason
+returns-clause-reason g c gone =
+    changed_says c.args.self.now _ _ _ _ _ (λ was slot. IsSome was.file → IsSome slot.reason) (changes g c) (c.read-got.ensures.told gone)
