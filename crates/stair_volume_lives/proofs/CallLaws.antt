@@ -1,9 +1,9 @@
--- Calls on an array, one after the other, are a life of its volumes.
-use Rattle.std.proofs.Common.{◌≡◌, ◌∙◌, ◌++◌, ◌⊎◌, ℕ, List, [], ◌∷◌, None, Some, Ok, Err, append_assoc, inl, inr, refl, sym, ap, subst}
-use Rattle.std.specs.Prelude.{IsTrue, Option}
+-- Calls on an array, one after the other, are a life of each of its volumes.
+use Rattle.std.proofs.Common.{◌≡◌, ◌∙◌, ◌++◌, ℕ, List, [], ◌∷◌, None, append_assoc, inl, inr, refl, sym, ap, subst}
+use Rattle.std.specs.Prelude.{IsTrue}
 use Rattle.stair_model.specs.Geometry.{Geometry, IsWithinLimits, block_count}
 use Rattle.stair_rack.specs.Answers.{IsHistory, Ran}
-use Rattle.stair_rack.specs.Crash.{CrashMayLeave, EachImage}
+use Rattle.stair_rack.specs.Crash.{CrashMayLeave}
 use Rattle.stair_rack.specs.History.{Happening, Made}
 use Rattle.stair_rack.specs.Media.{Image}
 use Rattle.stair_rack.specs.Moments.{IsMoment}
@@ -11,11 +11,11 @@ use Rattle.stair_rack.proofs.TidyLemmas.{history_made, history_on}
 use Rattle.stair_member.specs.Seats.{Seats}
 use Rattle.stair_state.specs.Blocks.{Blocks}
 use Rattle.stair_state.specs.Represents.{no_write}
-use Rattle.stair_state.specs.State.{Change, Content, State, changed_if, new_content, without_seats}
+use Rattle.stair_state.specs.State.{Content, State, changed_if, without_seats}
 use Rattle.stair_state.proofs.OutsideLemmas.{looks_stand}
 use Rattle.stair_state.proofs.ReturnLemmas.{looked_consistent}
 use Rattle.stair_session.specs.Returning.{AnyReturns, NoneReturns, Returning, StandsFor, StandsForAlone}
-use Rattle.stair_array.specs.Machine.{Answer, CutWithin, IsAsItWas, IsDecided, RebuildNext, Step, change_of}
+use Rattle.stair_array.specs.Machine.{CutWithin, RebuildNext, Step, change_of}
 use Rattle.stair_array.specs.Promise.{Begun}
 use Rattle.stair_conf.specs.Words.{Spells}
 use Rattle.stair_conf.specs.declared.job.Job.TheVariants.{Volume}
@@ -35,13 +35,13 @@ use Rattle.stair_story.proofs.RunLaws.{forgets, works_ran}
 use Rattle.stair_story.proofs.SessionLaws.{life_geometry, runs_are_lived}
 use Rattle.stair_status.specs.declared.status.Status.{Status}
 use Rattle.stair_status.specs.declared.status.Status.TheVariants.{Done}
-use Rattle.stair_volume.specs.Volumes.{Goes, IsCommand, IsFinished, IsSettled}
+use Rattle.stair_volume.specs.Volumes.{Goes, IsFinished, IsSettled}
 use Rattle.stair_volume.proofs.OpenedLaws.{Reached, cut_goes, finished, goes_so}
 use Rattle.stair_engine.specs.Plans.{plan_of}
 use Rattle.stair_engine.proofs.ChangedLaws.{reached_words}
 use Rattle.stair_engine.proofs.VolumesLaws.{spelled_command}
-use Rattle.stair_volume_lives.specs.CallLives.{AreTurnsOf, CallsAreLived, IsCutTurnOf, IsTurnOf, IsVolumesLife, Kind, Kinds, Leaves, LeavesBlocks, OnVolumes, PlansWriteNone, WritesNone, turn_of}
-use Rattle.stair_volume_lives.specs.Lives.{Began, Begins, Did, IsExplained, IsOfVolumes, LeavesVolumes, Lives, Other, Turn, Turns}
+use Rattle.stair_volume_lives.specs.CallLives.{IsCutTurnOf, IsTurnOf, IsVolumeLife, Kind, Kinds, Leaves, LeavesBlocks, OnVolumes, PlansWriteNone, WritesNone, turn_of}
+use Rattle.stair_volume_lives.specs.Lives.{Began, Begins, IsExplained, IsOfVolume, LeavesVolume, Lives, Other, Turn, Turns}
 use Rattle.stair_volume_lives.proofs.LivesLaws.{lives_are_explained, same_geometry, settled_before, settled_certain}
 
 -- ---- a state whose seats are forgotten holds the same
@@ -175,12 +175,12 @@ plans_write_none b plan story each done later rest step part leads next =
 
 -- ---- a call that ended
 
-by_status : (job : VolumeJob) (status : Status) (taken put : List ℕ) (s now : State) → Goes job taken s now
-    → (status ≡ Done → IsFinished job taken put s now) → Turns (turn_of job status taken put) s now
-by_status job Done taken put s now goes fin = fin refl
-by_status job _ taken put s now goes fin = goes
+by_status : (name : List ℕ) (job : VolumeJob) (status : Status) (taken put : List ℕ) (s now : State) → Goes job taken s now
+    → (status ≡ Done → IsFinished job taken put s now) → Turns name (turn_of job status taken put) s now
+by_status name job Done taken put s now goes fin = fin refl
+by_status name job _ taken put s now goes fin = goes
 
-module _ {R W S K : Type 0} (view : DeviceView R W) (streams : Views S K) (returning : Returning) where
+module _ (name : List ℕ) {R W S K : Type 0} (view : DeviceView R W) (streams : Views S K) (returning : Returning) where
   module _ (plan rest : Plan) (old new : Outside S K) (x y : Devices R W) (over : MeansWith view streams plan rest old new x y) (s : State)
       (limits : IsWithinLimits s.geometry) (rack_is : StandsFor returning s (history_of view x)) where
     abbrev story : List Deed
@@ -198,8 +198,8 @@ module _ {R W S K : Type 0} (view : DeviceView R W) (streams : Views S K) (retur
         (subst (λ (p : Plan). Leads Moves done p left) is follows) runs
 
     -- its turn
-    ended : (kind : Kind returning before plan rest story) (run : IsRun view returning before s story x y)
-        → (turn : Turn) × IsTurnOf kind turn × Turns turn s (without_seats run.state)
+    ended : (kind : Kind name returning before plan rest story) (run : IsRun view returning before s story x y)
+        → (turn : Turn) × IsTurnOf kind turn × Turns name turn s (without_seats run.state)
     ended (OnVolumes words job status spells is ends) run =
         let end : Now = now run.state (history_of view y) run.stopped in
         let reached =
@@ -207,7 +207,7 @@ module _ {R W S K : Type 0} (view : DeviceView R W) (streams : Views S K) (retur
         (came words job spells is story rest end over.means.follows run.runs) in (
           turn_of job status (taken_in story) (put_in story),
           refl,
-          by_status job status (taken_in story) (put_in story) s (without_seats run.state)
+          by_status name job status (taken_in story) (put_in story) s (without_seats run.state)
               (goes_forgotten job (taken_in story) s run.state
               (goes_so returning before job (spelled_command words job spells) s limits story (Over status) end reached))
               (λ done. finished_forgotten job (taken_in story) (put_in story) s run.state
@@ -217,7 +217,7 @@ module _ {R W S K : Type 0} (view : DeviceView R W) (streams : Views S K) (retur
         )
     ended (Leaves leaves) run = (Other, refl, kept)
       where
-        kept : LeavesVolumes s (without_seats run.state)
+        kept : LeavesVolume name s (without_seats run.state)
         kept held settled =
             let was = run_left returning before story (now s before None) (now run.state (history_of view y) run.stopped) held run.runs settled in (
               was.0,
@@ -228,13 +228,13 @@ module _ {R W S K : Type 0} (view : DeviceView R W) (streams : Views S K) (retur
 
     -- ---- or that a crash cut
 
-    record IsCutTo (kind : Kind returning before plan rest story) (image : Image) : Type 0 where
+    record IsCutTo (kind : Kind name returning before plan rest story) (image : Image) : Type 0 where
       pub turn : Turn
       pub is_of : IsCutTurnOf kind turn
       pub state : State
       pub geometry : state.geometry ≡ s.geometry
       pub stands : StandsForAlone returning state image
-      pub turns : Turns turn s (without_seats state)
+      pub turns : Turns name turn s (without_seats state)
 
     module _ (c : List Happening) (safe : IsSafe view returning before s plan story x y c) where
       abbrev mid : Now
@@ -244,9 +244,9 @@ module _ {R W S K : Type 0} (view : DeviceView R W) (streams : Views S K) (retur
       mid_geometry = run_geometry returning before safe.done s before mid safe.runs
 
       -- of another call
-      left_to : (leaves : LeavesBlocks returning before plan story) (held was : Blocks) → IsSettled safe.state was
+      left_to : (leaves : LeavesBlocks name returning before plan story) (held was : Blocks) → IsSettled safe.state was
           → ((b : ℕ) → ((step : Step) → IsNext safe.rest step → NoWrite b step) → held b ≡ was b)
-          → (first : Blocks) × IsSettled s first × ((b : ℕ) → IsOfVolumes (block_count s.geometry) first b → held b ≡ first b)
+          → (first : Blocks) × IsSettled s first × ((b : ℕ) → IsOfVolume name (block_count s.geometry) first b → held b ≡ first b)
       left_to leaves held was settled same =
           let first = run_left returning before safe.done (now s before None) mid was safe.runs settled in (
             first.0,
@@ -257,7 +257,7 @@ module _ {R W S K : Type 0} (view : DeviceView R W) (streams : Views S K) (retur
                 ∙ first.2 b (steps_unwritten b safe.done plan safe.rest safe.follows (part_unwritten b story safe.done safe.later plan safe.part none)),
           )
 
-      cut_to : (kind : Kind returning before plan rest story) (image : Image) → CrashMayLeave c image → IsCutTo kind image
+      cut_to : (kind : Kind name returning before plan rest story) (image : Image) → CrashMayLeave c image → IsCutTo kind image
       cut_to (OnVolumes words job status spells is ends) image crash =
           let reached = came words job spells is safe.done safe.rest mid safe.follows safe.runs in
           elim (safe.images image crash) as (λ _. IsCutTo (OnVolumes words job status spells is ends) image) [
@@ -314,10 +314,10 @@ module _ {R W S K : Type 0} (view : DeviceView R W) (streams : Views S K) (retur
     calls_history h (Cut c image later plan rest old new x y watchers left calls borne at calm crash acted between) =
         history_on (history_made image) acted
 
-    explains : (life : List Turn) (state : State) → Lives life (without_seats first) state → Begins first → (held : Blocks) → IsSettled state held
-        → IsExplained life (without_seats first) held
+    explains : (life : List Turn) (state : State) → Lives name life (without_seats first) state → Begins first → (held : Blocks) → IsSettled state held
+        → IsExplained name life (without_seats first) held
     explains life state lives begins held settled =
-        lives_are_explained (without_seats first) state life held (record { certain = begins.certain; whole = begins.whole }) lives settled
+        lives_are_explained name (without_seats first) state life held (record { certain = begins.certain; whole = begins.whole }) lives settled
 
     -- a state whose seats aren't known is as it is without them
     unseated : (s : State) → s.seats ≡ None → without_seats s ≡ s
@@ -344,8 +344,8 @@ module _ {R W S K : Type 0} (view : DeviceView R W) (streams : Views S K) (retur
     stands_then NoneReturns s old new stands acted calm = looks_stand s old old new stands acted calm.0 calm.1
     stands_then AnyReturns s old new stands acted calm = looked_consistent s old new stands acted
 
-    pub calls_volumes : (h : List Happening) (calls : Calls view streams returning first h) (kinds : Kinds view streams returning first h calls)
-        → IsVolumesLife view streams returning first h calls kinds
+    pub calls_volumes : (h : List Happening) (calls : Calls view streams returning first h) (kinds : Kinds name view streams returning first h calls)
+        → IsVolumeLife name view streams returning first h calls kinds
     calls_volumes h (Starts h' history stands) kinds = record {
       life = [];
       state = without_seats first;
@@ -358,7 +358,7 @@ module _ {R W S K : Type 0} (view : DeviceView R W) (streams : Views S K) (retur
     calls_volumes h (Ends later plan rest old new x y watchers left calls borne calm acted between) kinds =
         let before = calls_volumes (view.rack.history x) calls kinds.0 in
         let history = calls_history (view.rack.history x) calls in
-        let same : before.state.geometry ≡ first.geometry = same_geometry before.life (without_seats first) before.state before.lives in
+        let same : before.state.geometry ≡ first.geometry = same_geometry name before.life (without_seats first) before.state before.lives in
         let from = devices x Begun watchers in
         let end = devices y borne.session left in
         let run = subst (λ (s : State). IsRun view returning (view.rack.history x) s borne.over.means.story from end)
@@ -368,7 +368,7 @@ module _ {R W S K : Type 0} (view : DeviceView R W) (streams : Views S K) (retur
         let stays = run_geometry returning (view.rack.history x) borne.over.means.story before.state (view.rack.history x)
         (now run.state (view.rack.history y) run.stopped) run.runs in
         let turn = ended plan rest old new from end borne.over before.state (subst IsWithinLimits (sym same) limits) before.stands kinds.1 run in
-        let lives : Lives (turn.0 ∷ before.life) (without_seats first) (without_seats run.state) = (before.state, before.lives, stays, turn.2) in
+        let lives : Lives name (turn.0 ∷ before.life) (without_seats first) (without_seats run.state) = (before.state, before.lives, stays, turn.2) in
         record {
           life = turn.0 ∷ before.life;
           state = without_seats run.state;
@@ -382,7 +382,7 @@ module _ {R W S K : Type 0} (view : DeviceView R W) (streams : Views S K) (retur
     calls_volumes h (Cut c image later plan rest old new x y watchers left calls borne at calm crash acted between) kinds =
         let before = calls_volumes (view.rack.history x) calls kinds.0 in
         let history = calls_history (view.rack.history x) calls in
-        let same : before.state.geometry ≡ first.geometry = same_geometry before.life (without_seats first) before.state before.lives in
+        let same : before.state.geometry ≡ first.geometry = same_geometry name before.life (without_seats first) before.state before.lives in
         let from = devices x Begun watchers in
         let end = devices y borne.session left in
         let safe = subst (λ (s : State). IsSafe view returning (view.rack.history x) s plan borne.over.means.story from end c)
@@ -390,7 +390,7 @@ module _ {R W S K : Type 0} (view : DeviceView R W) (streams : Views S K) (retur
         (cut_of returning before.state plan rest old new x y watchers left borne c history before.stands at
         (subst (λ (g : Geometry). IsCalmOver view returning g c borne.over.means.story from end borne.over.works) (sym same) calm)) in
         let cut = cut_to plan rest old new from end borne.over before.state (subst IsWithinLimits (sym same) limits) before.stands c safe kinds.1 image crash in
-        let lives : Lives (cut.turn ∷ before.life) (without_seats first) (without_seats cut.state) = (before.state, before.lives, cut.geometry, cut.turns) in
+        let lives : Lives name (cut.turn ∷ before.life) (without_seats first) (without_seats cut.state) = (before.state, before.lives, cut.geometry, cut.turns) in
         record {
           life = cut.turn ∷ before.life;
           state = without_seats cut.state;

@@ -1,6 +1,5 @@
 -- The example is a life in each outcome, and a second read gives the same.
-use Rattle.std.proofs.Common.{◌≡◌, ◌∙◌, ◌+◌, ◌*◌, ◌<◌, ◌≤◌, ◌++◌, ◌⊎◌, ℕ, zero, suc, Bool, true, false, List, [], ◌∷◌, None, Some, append-nil, length, map, get_or, inl, inr, refl, sym, ap, subst, arith}
-use Rattle.std.specs.Prelude.{All, slice_get}
+use Rattle.std.proofs.Common.{◌≡◌, ◌∙◌, ◌*◌, ◌<◌, ℕ, zero, suc, true, false, List, [], ◌∷◌, append-nil, length, get_or, inl, inr, refl, sym, ap, arith}
 use Rattle.std.specs.List.{concat}
 use Rattle.std.proofs.lemmas.Bool.{cond-false, ne_eqb}
 use Rattle.std.proofs.lemmas.List.{length-replicate, same_lists}
@@ -8,13 +7,13 @@ use Rattle.std.proofs.lemmas.Option.{same_Some, slice_get-get_or}
 use Rattle.std.proofs.lemmas.List.Elements.{All-cons, All-nil}
 use Rattle.stair_model.specs.Geometry.{block_count}
 use Rattle.stair_model.specs.Stripe.{SECTOR}
-use Rattle.stair_state.specs.Blocks.{Blocks, with_block, with_blocks, zero_block, zero_blocks}
-use Rattle.stair_state.specs.State.{State, new_content}
+use Rattle.stair_state.specs.Blocks.{Blocks, zero_block}
+use Rattle.stair_state.specs.State.{new_content}
 use Rattle.stair_conf.specs.declared.job.VolumeJob.TheVariants as volume
 use Rattle.stair_story.specs.LifeExample.{block_of, example_geometry}
 use Rattle.stair_volume.specs.Page.{HasTable, table_bytes}
 use Rattle.stair_volume.specs.Table.{Table, table_with}
-use Rattle.stair_volume.specs.Volumes.{AreFront, HasDone, HasVolumes, IsAmong, IsFinished, IsSettled, Volume, WasOpened}
+use Rattle.stair_volume.specs.Volumes.{AreFront, HasDone, HasVolumes, IsAmong, IsSettled, Volume}
 use Rattle.stair_volume.proofs.HeldLaws.{keeps_same}
 use Rattle.stair_volume.proofs.PageLaws.{table_is_sector}
 use Rattle.stair_volume.proofs.TestLaws.{Decides-table}
@@ -52,7 +51,7 @@ has_written : HasVolumes size written_blocks (volumes_with new_blocks)
 has_written = record { table = table; is_table = has_table written_blocks refl; are = refl }
 
 -- the write was cut before it wrote, and is in doubt
-cut : Turns cut_write (holding first_blocks) in_doubt
+cut : Turns example_name cut_write (holding first_blocks) in_doubt
 cut = inr (record {
   held = first_blocks;
   settled = inl refl;
@@ -82,7 +81,7 @@ cut = inr (record {
 
 -- and the read finds it made, or not
 read : (held : Blocks) (blocks : List (List ℕ)) → length blocks ≡ 2 → HasVolumes size held (volumes_with blocks) → IsSettled in_doubt held
-    → (put : List ℕ) → put ≡ concat blocks → Turns (read_both put) in_doubt (holding held)
+    → (put : List ℕ) → put ≡ concat blocks → Turns example_name (read_both put) in_doubt (holding held)
 read held [] two has settled put puts = absurd (omega (arith, two))
 read held (a ∷ []) two has settled put puts = absurd (omega (arith, two))
 read held (a ∷ b ∷ c ∷ more) two has settled put puts = absurd (omega (arith, two))
@@ -144,4 +143,4 @@ pub each_is_read_again : EachIsReadAgain
 each_is_read_again made put now lives =
     let again = read_explained (holding first_blocks) now (read_both (bytes_if made) ∷ cut_write ∷ []) [] example_name 0 2 [] put begins lives in
     one_put (last_written (cut_write ∷ []) (earlier again.fates) (bytes_in (holding first_blocks))) example_name (SECTOR * 0) (SECTOR * 2) put (bytes_if made)
-    (record { length = again.are.length; each = again.are.each }) again.reads.0
+    (record { length = again.are.length; each = again.are.each }) (again.reads.0 refl)

@@ -1,26 +1,23 @@
 -- The bytes that an array holds of its volumes, and what becomes of them by a command that was done.
-use Rattle.std.proofs.Common.{◌≡◌, ◌≢◌, ◌∙◌, ◌+◌, ◌*◌, ◌-◌, ◌<◌, ◌≤◌, ◌++◌, ◌&&◌, ◌⊎◌, ℕ, zero, suc, Bool, true, false, cond, not, List, [], ◌∷◌, Option, None, Some, length, map, drop, take, get_or, replicate, inl, inr, refl, sym, ap, subst, arith}
-use Rattle.std.specs.Prelude.{All, AllPairs, bytes_eq, filter, min, nat_le, nat_lt, slice_get}
+use Rattle.std.proofs.Common.{◌≡◌, ◌≢◌, ◌∙◌, ◌+◌, ◌-◌, ◌<◌, ◌++◌, ◌⊎◌, ℕ, Bool, true, false, List, [], ◌∷◌, Option, None, Some, length, map, get_or, inl, inr, refl, sym, ap, subst, arith}
+use Rattle.std.specs.Prelude.{All, AllPairs, bytes_eq, slice_get}
 use Rattle.std.specs.List.{concat}
-use Rattle.std.proofs.lemmas.Bool.{and_from, and_left, and_right, cases_Bool, cases_order, cond-false, cond-true, false_from_ne_true, leb-true, leb-false, ltb-true, ltb-false}
-use Rattle.std.proofs.lemmas.List.{get_or-map, get_or_default, length-append, length-map, map-append}
-use Rattle.std.proofs.lemmas.List.Elements.{All-append, All-cons, All-filter, All-head, All-map, All-nil, All-replicate, All-tail, All-weaker}
+use Rattle.std.proofs.lemmas.Bool.{cases_Bool, cases_order, cond-false, cond-true, false_from_ne_true}
+use Rattle.std.proofs.lemmas.List.{get_or-map, length-append, length-map}
+use Rattle.std.proofs.lemmas.List.Elements.{All-head, All-tail}
 use Rattle.std.proofs.lemmas.Slice.Eq.{bytes_eq-Decides}
 use Rattle.std.proofs.Math.ListN.{get_or-append}
 use Rattle.std.proofs.Math.Seq.{get_or-append_seam}
-use Rattle.stair_model.specs.Stripe.{SECTOR}
-use Rattle.stair_state.specs.Blocks.{Blocks, zero_block}
-use Rattle.stair_conf.specs.declared.job.VolumeJob.{VolumeJob}
+use Rattle.stair_state.specs.Blocks.{Blocks}
 use Rattle.stair_conf.specs.declared.job.VolumeJob.TheVariants as volume
 use Rattle.stair_volume.specs.declared.extent.Entry.{Entry}
 use Rattle.stair_volume.specs.Changes.{volume_of}
-use Rattle.stair_volume.specs.Page.{HasTable, table_of}
+use Rattle.stair_volume.specs.Page.{table_of}
 use Rattle.stair_volume.specs.Table.{Table, extent_of}
-use Rattle.stair_volume.specs.Volumes.{AreFront, HasDone, HasNone, HasRange, HasVolumes, IsAmong, KeepsVolumes, Volume, after_job as volumes_after, is_of, most_written, overwritten, volume_at}
-use Rattle.stair_volume.proofs.BlockLemmas.{overwritten-none}
+use Rattle.stair_volume.specs.Volumes.{HasNone, HasVolumes, IsAmong, KeepsVolumes, Volume, volume_at}
 use Rattle.stair_volume.proofs.ReadingLaws.{has_table_read, none_read, one_table, table_of-has_table}
-use Rattle.stair_volume_lives.specs.Lives.{AreBytes, Bytes, after_job, bytes_by, bytes_held, bytes_of, has_place}
-use Rattle.stair_volume_lives.proofs.ByteLemmas.{AreWhole, at_range, length-range, over_back, over_front, over_here, slice_get-left, whole-drop, whole-take, zeros_joined}
+use Rattle.stair_volume_lives.specs.Lives.{bytes_by, bytes_held, bytes_of}
+use Rattle.stair_volume_lives.proofs.ByteLemmas.{AreWhole}
 
 -- ---- names
 
@@ -140,12 +137,15 @@ one_list count held a b first second =
     first.are ∙ ap (λ (t : Table). map (volume_at held) t.entries) (one_table count (held 0) first.table second.table first.is_table second.is_table)
     ∙ sym second.are
 
--- the blocks of each volume have all their bytes
-abbrev pub AllWhole : List Volume → Type 0
-AllWhole volumes = All (λ v. AreWhole v.blocks) volumes
+-- the blocks of a volume of this name have all their bytes
+abbrev pub IsWholeOf : (name : List ℕ) → Volume → Type 0
+IsWholeOf name v = v.name ≡ name → AreWhole v.blocks
 
-abbrev pub HoldsWhole : (count : ℕ) → Blocks → Type 0
-HoldsWhole count held = (volumes : List Volume) → HasVolumes count held volumes → AllWhole volumes
+abbrev pub AllWhole : (name : List ℕ) → List Volume → Type 0
+AllWhole name volumes = All (IsWholeOf name) volumes
+
+abbrev pub HoldsWhole : (name : List ℕ) → (count : ℕ) → Blocks → Type 0
+HoldsWhole name count held = (volumes : List Volume) → HasVolumes count held volumes → AllWhole name volumes
 
 -- ---- what is kept
 
@@ -156,8 +156,8 @@ keeps_bytes count held now keeps name at = elim (some_or_none count held) [
   | inr none ↦ held_none count now (keeps.none none) name at ∙ sym (held_none count held none name at)
 ]
 
-pub keeps_whole : (count : ℕ) (held now : Blocks) → KeepsVolumes count held now → HoldsWhole count held → HoldsWhole count now
-keeps_whole count held now keeps whole volumes has = elim (some_or_none count held) [
-  | inl some ↦ subst AllWhole (one_list count now some.0 volumes (keeps.some some.0 some.1) has) (whole some.0 some.1)
+pub keeps_whole : (name : List ℕ) (count : ℕ) (held now : Blocks) → KeepsVolumes count held now → HoldsWhole name count held → HoldsWhole name count now
+keeps_whole name count held now keeps whole volumes has = elim (some_or_none count held) [
+  | inl some ↦ subst (AllWhole name) (one_list count now some.0 volumes (keeps.some some.0 some.1) has) (whole some.0 some.1)
   | inr none ↦ absurd (keeps.none none has.table has.is_table)
 ]

@@ -1,21 +1,21 @@
 -- What a command that was done makes of the bytes of volumes.
-use Rattle.std.proofs.Common.{◌≡◌, ◌≢◌, ◌∙◌, ◌+◌, ◌*◌, ◌-◌, ◌<◌, ◌≤◌, ◌++◌, ◌&&◌, ◌⊎◌, ℕ, zero, suc, Bool, true, false, cond, not, List, [], ◌∷◌, None, Some, length, map, drop, take, get_or, replicate, inl, inr, refl, sym, ap, subst, arith}
+use Rattle.std.proofs.Common.{◌≡◌, ◌≢◌, ◌∙◌, ◌+◌, ◌*◌, ◌-◌, ◌<◌, ◌≤◌, ◌++◌, ◌&&◌, ◌⊎◌, ℕ, zero, suc, Bool, true, false, cond, not, List, [], ◌∷◌, None, length, map, drop, take, get_or, replicate, inl, inr, refl, sym, ap, subst, arith}
 use Rattle.std.specs.Prelude.{All, bytes_eq, filter, min, nat_le, nat_lt, slice_get}
 use Rattle.std.specs.List.{concat}
 use Rattle.std.proofs.lemmas.Bool.{and_from, and_left, and_right, cases_Bool, cases_lt, cond-false, cond-true, false_from_ne_true, leb-true, le-leb, ltb-true, lt-ltb}
 use Rattle.std.proofs.lemmas.List.{length-append, length-replicate, map-append}
-use Rattle.std.proofs.lemmas.List.Elements.{All-append, All-cons, All-filter, All-head, All-map, All-nil, All-replicate, All-tail, All-weaker}
+use Rattle.std.proofs.lemmas.List.Elements.{All-append, All-cons, All-filter, All-map, All-nil, All-replicate, All-weaker}
 use Rattle.std.proofs.lemmas.Slice.Eq.{bytes_eq-Decides}
 use Rattle.std.proofs.Math.Seq.{get_or-append_seam}
 use Rattle.stair_model.specs.Stripe.{SECTOR}
 use Rattle.stair_state.specs.Blocks.{Blocks, zero_block}
 use Rattle.stair_conf.specs.declared.job.VolumeJob.{VolumeJob}
 use Rattle.stair_conf.specs.declared.job.VolumeJob.TheVariants as volume
-use Rattle.stair_volume.specs.Volumes.{AreFront, HasDone, HasVolumes, IsAmong, Volume, after_job as volumes_after, is_of, most_written, overwritten}
+use Rattle.stair_volume.specs.Volumes.{AreFront, HasDone, IsAmong, Volume, after_job as volumes_after, is_of, most_written, overwritten}
 use Rattle.stair_volume.proofs.BlockLemmas.{overwritten-none}
 use Rattle.stair_volume_lives.specs.Lives.{AreBytes, Bytes, after_job, bytes_held, bytes_of, has_place}
 use Rattle.stair_volume_lives.proofs.ByteLemmas.{AreWhole, at_range, length-range, length-whole, over_back, over_front, over_here, slice_get-left, whole-drop, whole-take, zeros_joined}
-use Rattle.stair_volume_lives.proofs.HeldBytes.{AllWhole, Apart, HoldsWhole, among_bytes, apart, first_named, held_none, held_some, here, next, none_before, one_list, one_name, one_named, other_name, same_name}
+use Rattle.stair_volume_lives.proofs.HeldBytes.{AllWhole, IsWholeOf, Apart, HoldsWhole, among_bytes, apart, first_named, held_some, next, none_before, one_list, one_name, one_named, other_name, same_name}
 
 -- ---- places
 
@@ -126,27 +126,26 @@ over_at block at (bytes ∷ more) blocks rest taken new old fits are =
 -- ---- a command that was done
 
 -- a write, where there is such a volume
-written_bytes : (volumes : List Volume) (other : List ℕ) (block count : ℕ) (contents : List (List ℕ)) (rest taken : List ℕ) (v : Volume)
-    (among : IsAmong volumes other v) → Apart volumes → AllWhole volumes → AreWhole contents
-    → (0 < length contents → block + length contents ≤ length v.blocks) → taken ≡ concat contents ++ rest → length contents ≤ count
-    → (name : List ℕ) (at : ℕ)
+written_bytes : (name : List ℕ) (volumes : List Volume) (other : List ℕ) (block count : ℕ) (contents : List (List ℕ)) (rest taken : List ℕ) (v : Volume)
+    (among : IsAmong volumes other v) → Apart volumes → AllWhole name volumes → AreWhole contents
+    → (0 < length contents → block + length contents ≤ length v.blocks) → taken ≡ concat contents ++ rest → length contents ≤ count → (at : ℕ)
     → bytes_of (map (turned other block contents) volumes) name at
     ≡ after_job (volume.Write other block count) taken (length contents) (bytes_of volumes) name at
-written_bytes volumes other block count contents rest taken v among apart whole new fits are few name at = by (one_name other name)
+written_bytes name volumes other block count contents rest taken v among apart whole new fits are few at = by (one_name other name)
   where
-    old : AreWhole v.blocks
-    old = subst AreWhole
-        (ap (λ (w : Volume). w.blocks) (ap (λ (l : List Volume). get_or l (length among.before) v) among.are ∙ get_or-append_seam among.before v among.after v))
+    old : IsWholeOf name v
+    old = subst (IsWholeOf name)
+        (ap (λ (l : List Volume). get_or l (length among.before) v) among.are ∙ get_or-append_seam among.before v among.after v)
         (whole (length among.before) v (omega (arith, ap length among.are, length-append among.before (v ∷ among.after))))
 
     least : min (length contents) count ≡ length contents
     least = omega (arith, few)
 
-    held : slice_get (concat (turned other block contents v).blocks) at
+    held : v.name ≡ name → slice_get (concat (turned other block contents v).blocks) at
         ≡ cond (has_place block (length contents) at) (slice_get taken (at - SECTOR * block)) (slice_get (concat v.blocks) at)
-    held = ap (λ (w : Volume). slice_get (concat w.blocks) at)
+    held named = ap (λ (w : Volume). slice_get (concat w.blocks) at)
         (cond-true (is_of other v) (record v { blocks = overwritten block contents v.blocks }) v (same_name v.name other among.named))
-        ∙ over_at block at contents v.blocks rest taken new old fits are
+        ∙ over_at block at contents v.blocks rest taken new (old named) fits are
 
     by : (other ≡ name) ⊎ (other ≢ name) → bytes_of (map (turned other block contents) volumes) name at
         ≡ after_job (volume.Write other block count) taken (length contents) (bytes_of volumes) name at
@@ -164,7 +163,7 @@ written_bytes volumes other block count contents rest taken v among apart whole 
         ∙ ap (λ (l : List Volume). bytes_of l name at) (map-append (turned other block contents) among.before (v ∷ among.after))
         ∙ first_named (map (turned other block contents) among.before) (map (turned other block contents) among.after) (turned other block contents v) name at
         none_now (turned_name other block contents v ∙ named)
-        ∙ held
+        ∙ held named
         ∙ ap (cond (has_place block (length contents) at) (slice_get taken (at - SECTOR * block))) (sym was)
         ∙ ap (λ (k : ℕ). cond (has_place block k at) (slice_get taken (at - SECTOR * block)) (bytes_of volumes name at)) (sym least)
         ∙ ap (λ (b : Bool). cond (b && has_place block (min (length contents) count) at) (slice_get taken (at - SECTOR * block)) (bytes_of volumes name at))
@@ -185,11 +184,11 @@ after_same (volume.Write other block count) taken written a b name at same =
 after_same volume.List taken written a b name at same = same
 after_same (volume.Read other block count) taken written a b name at same = same
 
-pub done_bytes : (job : VolumeJob) (contents : List (List ℕ)) (count : ℕ) (held now : Blocks) (taken : List ℕ) → HasDone job contents count held now
-    → AreFront contents taken → length contents ≤ most_written job → HoldsWhole count held → (name : List ℕ) (at : ℕ)
+pub done_bytes : (name : List ℕ) (job : VolumeJob) (contents : List (List ℕ)) (count : ℕ) (held now : Blocks) (taken : List ℕ) → HasDone job contents count held now
+    → AreFront contents taken → length contents ≤ most_written job → HoldsWhole name count held → (at : ℕ)
     → bytes_held count now name at ≡ after_job job taken (length contents) (bytes_held count held) name at
-done_bytes volume.Ready contents count held now taken done front few whole name at = held_some count now [] done.has name at
-done_bytes (volume.Make made blocks) contents count held now taken done front few whole name at = by (one_name made name)
+done_bytes name volume.Ready contents count held now taken done front few whole at = held_some count now [] done.has name at
+done_bytes name (volume.Make made blocks) contents count held now taken done front few whole at = by (one_name made name)
   where
     by : (made ≡ name) ⊎ (made ≢ name) → bytes_held count now name at
         ≡ after_job (volume.Make made blocks) taken (length contents) (bytes_held count held) name at
@@ -201,7 +200,7 @@ done_bytes (volume.Make made blocks) contents count held now taken done front fe
     by (inr other) =
         held_some count now (done.volumes ++ zeroed made blocks ∷ []) done.has name at ∙ added_other done.volumes (zeroed made blocks) name at other
         ∙ sym (held_some count held done.volumes done.begins name at) ∙ sym (cond-false _ _ _ (other_name made name other))
-done_bytes (volume.Remove removed) contents count held now taken done front few whole name at = by (one_name removed name)
+done_bytes name (volume.Remove removed) contents count held now taken done front few whole at = by (one_name removed name)
   where
     by : (removed ≡ name) ⊎ (removed ≢ name) → bytes_held count now name at
         ≡ after_job (volume.Remove removed) taken (length contents) (bytes_held count held) name at
@@ -212,15 +211,15 @@ done_bytes (volume.Remove removed) contents count held now taken done front few 
     by (inr other) =
         held_some count now _ done.has name at ∙ removed_other done.volumes removed name at other
         ∙ sym (held_some count held done.volumes done.begins name at) ∙ sym (cond-false _ _ _ (other_name removed name other))
-done_bytes (volume.Write other block all) contents count held now taken done front few whole name at =
+done_bytes name (volume.Write other block all) contents count held now taken done front few whole at =
     held_some count now _ done.has name at
-    ∙ written_bytes done.volumes other block all contents front.rest taken done.fits.0 done.fits.1 (apart count held done.volumes done.begins)
-    (whole done.volumes done.begins) front.whole done.fits.2 front.are few name at
+    ∙ written_bytes name done.volumes other block all contents front.rest taken done.fits.0 done.fits.1 (apart count held done.volumes done.begins)
+    (whole done.volumes done.begins) front.whole done.fits.2 front.are few at
     ∙ after_same (volume.Write other block all) taken (length contents) (bytes_of done.volumes) (bytes_held count held) name at
     (sym (held_some count held done.volumes done.begins name at))
-done_bytes volume.List contents count held now taken done front few whole name at =
+done_bytes name volume.List contents count held now taken done front few whole at =
     held_some count now done.volumes done.has name at ∙ sym (held_some count held done.volumes done.begins name at)
-done_bytes (volume.Read other block all) contents count held now taken done front few whole name at =
+done_bytes name (volume.Read other block all) contents count held now taken done front few whole at =
     held_some count now done.volumes done.has name at ∙ sym (held_some count held done.volumes done.begins name at)
 
 -- ---- and the blocks stay whole
@@ -234,40 +233,43 @@ turned_whole other block contents v new old = elim (cases_Bool (is_of other v)) 
   | inr isnt ↦ subst (λ (w : Volume). AreWhole w.blocks) (sym (cond-false (is_of other v) (record v { blocks = overwritten block contents v.blocks }) v isnt)) old
 ]
 
-all_after : (job : VolumeJob) (contents : List (List ℕ)) (volumes : List Volume) → AreWhole contents → AllWhole volumes → AllWhole (volumes_after job contents volumes)
-all_after volume.Ready contents volumes new whole = All-nil (λ v. AreWhole v.blocks)
-all_after (volume.Make made blocks) contents volumes new whole =
-    All-append (λ v. AreWhole v.blocks) volumes _ whole
-    (All-cons (λ v. AreWhole v.blocks) _ [] (All-replicate (λ bytes. length bytes ≡ SECTOR) blocks zero_block (length-replicate {A = ℕ} SECTOR 0)) (All-nil (λ v. AreWhole v.blocks)))
-all_after (volume.Remove removed) contents volumes new whole = All-filter (λ v. not (is_of removed v)) (λ v. AreWhole v.blocks) volumes whole
-all_after (volume.Write other block all) contents volumes new whole =
-    All-map (λ v. AreWhole v.blocks) (turned other block contents) volumes
-    (All-weaker (λ v. AreWhole v.blocks) (λ v. AreWhole (turned other block contents v).blocks) (λ v old. turned_whole other block contents v new old) volumes whole)
-all_after volume.List contents volumes new whole = whole
-all_after (volume.Read other block all) contents volumes new whole = whole
+all_after : (name : List ℕ) (job : VolumeJob) (contents : List (List ℕ)) (volumes : List Volume) → AreWhole contents → AllWhole name volumes
+    → AllWhole name (volumes_after job contents volumes)
+all_after name volume.Ready contents volumes new whole = All-nil (IsWholeOf name)
+all_after name (volume.Make made blocks) contents volumes new whole =
+    All-append (IsWholeOf name) volumes _ whole
+    (All-cons (IsWholeOf name) _ [] (λ named. All-replicate (λ bytes. length bytes ≡ SECTOR) blocks zero_block (length-replicate {A = ℕ} SECTOR 0))
+    (All-nil (IsWholeOf name)))
+all_after name (volume.Remove removed) contents volumes new whole = All-filter (λ v. not (is_of removed v)) (IsWholeOf name) volumes whole
+all_after name (volume.Write other block all) contents volumes new whole =
+    All-map (IsWholeOf name) (turned other block contents) volumes
+    (All-weaker (IsWholeOf name) (λ v. IsWholeOf name (turned other block contents v))
+    (λ v old named. turned_whole other block contents v new (old (sym (turned_name other block contents v) ∙ named))) volumes whole)
+all_after name volume.List contents volumes new whole = whole
+all_after name (volume.Read other block all) contents volumes new whole = whole
 
 -- the command began with whole blocks, or with no volumes
-begun_whole : (job : VolumeJob) (contents : List (List ℕ)) (count : ℕ) (held now : Blocks) (done : HasDone job contents count held now) → AreWhole contents
-    → HoldsWhole count held → AllWhole (volumes_after job contents done.volumes)
-begun_whole volume.Ready contents count held now done new whole = All-nil (λ v. AreWhole v.blocks)
-begun_whole (volume.Make made blocks) contents count held now done new whole =
-    all_after (volume.Make made blocks) contents done.volumes new (whole done.volumes done.begins)
-begun_whole (volume.Remove removed) contents count held now done new whole =
-    all_after (volume.Remove removed) contents done.volumes new (whole done.volumes done.begins)
-begun_whole (volume.Write other block all) contents count held now done new whole =
-    all_after (volume.Write other block all) contents done.volumes new (whole done.volumes done.begins)
-begun_whole volume.List contents count held now done new whole = whole done.volumes done.begins
-begun_whole (volume.Read other block all) contents count held now done new whole = whole done.volumes done.begins
+begun_whole : (name : List ℕ) (job : VolumeJob) (contents : List (List ℕ)) (count : ℕ) (held now : Blocks) (done : HasDone job contents count held now) → AreWhole contents
+    → HoldsWhole name count held → AllWhole name (volumes_after job contents done.volumes)
+begun_whole name volume.Ready contents count held now done new whole = All-nil (IsWholeOf name)
+begun_whole name (volume.Make made blocks) contents count held now done new whole =
+    all_after name (volume.Make made blocks) contents done.volumes new (whole done.volumes done.begins)
+begun_whole name (volume.Remove removed) contents count held now done new whole =
+    all_after name (volume.Remove removed) contents done.volumes new (whole done.volumes done.begins)
+begun_whole name (volume.Write other block all) contents count held now done new whole =
+    all_after name (volume.Write other block all) contents done.volumes new (whole done.volumes done.begins)
+begun_whole name volume.List contents count held now done new whole = whole done.volumes done.begins
+begun_whole name (volume.Read other block all) contents count held now done new whole = whole done.volumes done.begins
 
-pub done_whole : (job : VolumeJob) (contents : List (List ℕ)) (count : ℕ) (held now : Blocks) (done : HasDone job contents count held now) → AreWhole contents
-    → HoldsWhole count held → HoldsWhole count now
-done_whole job contents count held now done new whole volumes has =
-    subst AllWhole (one_list count now (volumes_after job contents done.volumes) volumes done.has has) (begun_whole job contents count held now done new whole)
+pub done_whole : (name : List ℕ) (job : VolumeJob) (contents : List (List ℕ)) (count : ℕ) (held now : Blocks) (done : HasDone job contents count held now) → AreWhole contents
+    → HoldsWhole name count held → HoldsWhole name count now
+done_whole name job contents count held now done new whole volumes has =
+    subst (AllWhole name) (one_list count now (volumes_after job contents done.volumes) volumes done.has has) (begun_whole name job contents count held now done new whole)
 
 -- what a read puts out is the bytes of its volume
 pub read_bytes : (name : List ℕ) (block all : ℕ) (contents : List (List ℕ)) (count : ℕ) (held now : Blocks) (put : List ℕ)
     (done : HasDone (volume.Read name block all) contents count held now) (v : Volume) → IsAmong done.volumes name v
-    → put ≡ concat (take all (drop block v.blocks)) → HoldsWhole count held
+    → put ≡ concat (take all (drop block v.blocks)) → HoldsWhole name count held
     → AreBytes (bytes_held count held) name (SECTOR * block) (SECTOR * all) put
 read_bytes name block zero contents count held now put done v among puts whole = record {
   length = ap length puts;
@@ -276,9 +278,9 @@ read_bytes name block zero contents count held now put done v among puts whole =
 read_bytes name block (suc more) contents count held now put done v among puts whole =
     let same = one_named done.volumes (apart count held done.volumes done.begins) name done.fits.0 v done.fits.1 among in
     let fits : block + suc more ≤ length v.blocks = subst (λ (w : Volume). block + suc more ≤ length w.blocks) same (done.fits.2 (omega arith)) in
-    let old : AreWhole v.blocks = subst AreWhole
-    (ap (λ (w : Volume). w.blocks) (ap (λ (l : List Volume). get_or l (length among.before) v) among.are ∙ get_or-append_seam among.before v among.after v))
-    (whole done.volumes done.begins (length among.before) v (omega (arith, ap length among.are, length-append among.before (v ∷ among.after)))) in
+    let old : AreWhole v.blocks = subst (IsWholeOf name)
+    (ap (λ (l : List Volume). get_or l (length among.before) v) among.are ∙ get_or-append_seam among.before v among.after v)
+    (whole done.volumes done.begins (length among.before) v (omega (arith, ap length among.are, length-append among.before (v ∷ among.after)))) among.named in
     record {
       length = ap length puts ∙ length-range v.blocks block (suc more) old fits;
       each = λ i below. ap (λ (l : List ℕ). slice_get l i) puts ∙ at_range v.blocks block (suc more) i old fits below

@@ -1,7 +1,9 @@
 -- One list of fates explains every byte of every read of a life, and what follows of it for one byte.
-use Rattle.std.proofs.Common.{◌≡◌, ◌≢◌, ◌∙◌, ◌+◌, ◌*◌, ◌-◌, ◌<◌, ◌≤◌, ◌++◌, ◌&&◌, ◌⊎◌, ℕ, zero, suc, Bool, true, false, List, [], ◌∷◌, Option, None, Some, length, get_or, map, replicate, inl, inr, refl, sym, ap, subst, arith}
-use Rattle.std.specs.Prelude.{All, Contains, bytes_eq, min, nat_le, nat_lt, slice_get}
+use Rattle.std.proofs.Common.{◌≡◌, ◌∙◌, ◌+◌, ◌*◌, ◌-◌, ◌<◌, ◌≤◌, ◌++◌, ◌&&◌, ◌⊎◌, ℕ, zero, suc, Bool, true, false, List, [], ◌∷◌, Option, None, Some, length, get_or, map, replicate, inl, inr, refl, sym, ap, subst, arith}
+use Rattle.std.specs.Prelude.{All, bytes_eq, min, nat_le, nat_lt, slice_get}
 use Rattle.std.proofs.lemmas.Bool.{and_from, cases_Bool, cond-false, cond-true, false_from_ne_true, leb-true, ltb-true}
+use Rattle.std.specs.List.{concat}
+use Rattle.std.proofs.lemmas.List.{get_or-map, length-map}
 use Rattle.std.proofs.lemmas.List.Elements.{All-cons, All-head, All-map, All-nil, All-tail, Contains-get_or}
 use Rattle.std.proofs.lemmas.Option.{same_Some, slice_get-get_or}
 use Rattle.std.proofs.lemmas.Slice.Eq.{bytes_eq-Decides}
@@ -13,14 +15,15 @@ use Rattle.stair_array.specs.Machine.{IsAsItWas}
 use Rattle.stair_conf.specs.declared.job.VolumeJob.{VolumeJob}
 use Rattle.stair_conf.specs.declared.job.VolumeJob.TheVariants as volume
 use Rattle.stair_volume.specs.declared.extent.Entry.{Entry}
-use Rattle.stair_volume.specs.Page.{HasTable}
+use Rattle.stair_volume.specs.Page.{HasTable, table_of}
 use Rattle.stair_volume.specs.Table.{IsVolume, Table}
-use Rattle.stair_volume.specs.Volumes.{AreFront, Goes, HasDone, IsFinished, IsSettled, KeepsVolumes, MayHold, PutsOut, blocks_from, most_written, volume_at}
+use Rattle.stair_volume.specs.Volumes.{AreFront, Goes, HasDone, IsFinished, IsSettled, MayHold, PutsOut, Volume, blocks_from, most_written, volume_at}
 use Rattle.stair_volume.proofs.BlockLemmas.{blocks_from-same, length-blocks_from}
 use Rattle.stair_volume.proofs.HeldLaws.{keeps_same}
-use Rattle.stair_volume_lives.specs.Lives.{AreBytes, AtFirst, Began, Begins, Bytes, Changes, Did, EachReadsLast, Fate, HasChanged, IsAt, IsExplained, IsLast, IsOfVolumes, LeavesVolumes, Lives, LivesAreExplained, MadeIsZero, MayChange, MayWrite, NoneChanges, Other, ReadsAgree, ReadsAreLast, ReadsLast, Turn, Writes, WrittenIsRead, Wrote, after_job, after_turn, bytes_held, bytes_in, earlier, fate, has_place, last_written}
+use Rattle.stair_volume.proofs.ReadingLaws.{has_table_read}
+use Rattle.stair_volume_lives.specs.Lives.{AreBytes, AtFirst, Began, Begins, Bytes, Changes, Did, EachReadsLast, Fate, HasChanged, IsAt, IsExplained, IsLast, IsOfVolume, LeavesVolume, Lives, LivesAreExplained, MadeIsZero, MayChange, MayWrite, NoneChanges, Other, ReadsAgree, ReadsAreLast, ReadsLast, Turn, Writes, WrittenIsRead, Wrote, after_job, after_turn, bytes_by, bytes_held, bytes_in, bytes_of, earlier, fate, has_place, last_written}
 use Rattle.stair_volume_lives.proofs.ByteLemmas.{AreWhole}
-use Rattle.stair_volume_lives.proofs.HeldBytes.{AllWhole, HoldsWhole, keeps_bytes, keeps_whole, one_name, other_name, same_name}
+use Rattle.stair_volume_lives.proofs.HeldBytes.{AllWhole, HoldsWhole, IsWholeOf, here, keeps_bytes, next, keeps_whole, one_name, other_name, same_name}
 use Rattle.stair_volume_lives.proofs.JobBytes.{after_same, done_bytes, done_whole, place_in, read_bytes}
 
 -- an array in which nothing is in doubt holds its content
@@ -29,107 +32,131 @@ settled_certain s held certain (inl is) = is
 settled_certain s held certain (inr is) = is ∙ ap (λ (o : Option Change). (changed_if o s.content).blocks) certain
 
 -- the geometry stays
-pub same_geometry : (life : List Turn) (s new : State) → Lives life s new → new.geometry ≡ s.geometry
-same_geometry [] s new lives = ap (λ (t : State). t.geometry) lives
-same_geometry (turn ∷ life) s new lives = lives.2 ∙ same_geometry life s lives.0 lives.1
+pub same_geometry : (name : List ℕ) (life : List Turn) (s new : State) → Lives name life s new → new.geometry ≡ s.geometry
+same_geometry name [] s new lives = ap (λ (t : State). t.geometry) lives
+same_geometry name (turn ∷ life) s new lives = lives.2 ∙ same_geometry name life s lives.0 lives.1
 
 -- what explains a life up to these blocks, which are whole
-record Known (life : List Turn) (s : State) (held : Blocks) : Type 0 where
-  pub is : IsExplained life s held
-  pub whole : HoldsWhole (block_count s.geometry) held
+record Known (name : List ℕ) (life : List Turn) (s : State) (held : Blocks) : Type 0 where
+  pub is : IsExplained name life s held
+  pub whole : HoldsWhole name (block_count s.geometry) held
 
 -- ---- a command that was done
 
-put_bytes : (job : VolumeJob) (contents : List (List ℕ)) (count : ℕ) (held now : Blocks) (put : List ℕ) (done : HasDone job contents count held now)
-    → PutsOut job done.volumes put → HoldsWhole count held → (last : Bytes) (taken : List ℕ)
-    → ((name : List ℕ) (at : ℕ) → bytes_held count held name at ≡ last name at) → ReadsLast (Did job taken put) last
-put_bytes (volume.Read name block all) contents count held now put done puts whole last taken same =
-    let are = read_bytes name block all contents count held now put done puts.0 puts.1 puts.2 whole in
-    record { length = are.length; each = λ i below. are.each i below ∙ same name (SECTOR * block + i) }
-put_bytes volume.Ready contents count held now put done puts whole last taken same = tt
-put_bytes (volume.Make made blocks) contents count held now put done puts whole last taken same = tt
-put_bytes (volume.Remove removed) contents count held now put done puts whole last taken same = tt
-put_bytes volume.List contents count held now put done puts whole last taken same = tt
-put_bytes (volume.Write other block all) contents count held now put done puts whole last taken same = tt
+put_bytes : (name : List ℕ) (job : VolumeJob) (contents : List (List ℕ)) (count : ℕ) (held now : Blocks) (put : List ℕ)
+    (done : HasDone job contents count held now) → PutsOut job done.volumes put → HoldsWhole name count held → (last : Bytes) (taken : List ℕ)
+    → ((at : ℕ) → bytes_held count held name at ≡ last name at) → ReadsLast name (Did job taken put) last
+put_bytes name (volume.Read other block all) contents count held now put done puts whole last taken same = λ named.
+    let are = read_bytes other block all contents count held now put done puts.0 puts.1 puts.2
+    (subst (λ (n : List ℕ). HoldsWhole n count held) (sym named) whole) in
+    record {
+      length = are.length;
+      each = λ i below. are.each i below ∙ ap (λ (n : List ℕ). bytes_held count held n (SECTOR * block + i)) named ∙ same (SECTOR * block + i);
+    }
+put_bytes name volume.Ready contents count held now put done puts whole last taken same = tt
+put_bytes name (volume.Make made blocks) contents count held now put done puts whole last taken same = tt
+put_bytes name (volume.Remove removed) contents count held now put done puts whole last taken same = tt
+put_bytes name volume.List contents count held now put done puts whole last taken same = tt
+put_bytes name (volume.Write other block all) contents count held now put done puts whole last taken same = tt
 
-module _ (s : State) (life : List Turn) where
+module _ (name : List ℕ) (s : State) (life : List Turn) where
   abbrev size : ℕ
   size = block_count s.geometry
 
   after_done : (job : VolumeJob) (taken put : List ℕ) (held now : Blocks) (contents : List (List ℕ)) → (front : AreFront contents taken)
-      → length contents ≡ most_written job → (done : HasDone job contents size held now) → PutsOut job done.volumes put → Known life s held
-      → Known (Did job taken put ∷ life) s now
+      → length contents ≡ most_written job → (done : HasDone job contents size held now) → PutsOut job done.volumes put → Known name life s held
+      → Known name (Did job taken put ∷ life) s now
   after_done job taken put held now contents front all done puts known = record {
     is = record {
       fates = None ∷ known.is.fates;
-      reads = (put_bytes job contents size held now put done puts known.whole (last_written life known.is.fates (bytes_in s)) taken known.is.holds, known.is.reads);
-      holds = λ name at. done_bytes job contents size held now taken done front (omega (arith, all)) known.whole name at
-          ∙ after_same job taken (length contents) (bytes_held size held) (last_written life known.is.fates (bytes_in s)) name at (known.is.holds name at)
+      reads = (put_bytes name job contents size held now put done puts known.whole (last_written life known.is.fates (bytes_in s)) taken known.is.holds, known.is.reads);
+      holds = λ at. done_bytes name job contents size held now taken done front (omega (arith, all)) known.whole at
+          ∙ after_same job taken (length contents) (bytes_held size held) (last_written life known.is.fates (bytes_in s)) name at (known.is.holds at)
           ∙ ap (λ (k : ℕ). after_job job taken k (last_written life known.is.fates (bytes_in s)) name at) all;
     };
-    whole = done_whole job contents size held now done front.whole known.whole;
+    whole = done_whole name job contents size held now done front.whole known.whole;
   }
 
-  after_begun : (job : VolumeJob) (taken : List ℕ) (held now : Blocks) → MayHold job taken size held now → Known life s held
-      → Known (Began job taken ∷ life) s now
+  after_begun : (job : VolumeJob) (taken : List ℕ) (held now : Blocks) → MayHold job taken size held now → Known name life s held
+      → Known name (Began job taken ∷ life) s now
   after_begun job taken held now (inl keeps) known = record {
     is = record {
       fates = None ∷ known.is.fates;
       reads = (tt, known.is.reads);
-      holds = λ name at. keeps_bytes size held now keeps name at ∙ known.is.holds name at;
+      holds = λ at. keeps_bytes size held now keeps name at ∙ known.is.holds at;
     };
-    whole = keeps_whole size held now keeps known.whole;
+    whole = keeps_whole name size held now keeps known.whole;
   }
   after_begun job taken held now (inr made) known = record {
     is = record {
       fates = Some (length made.0) ∷ known.is.fates;
       reads = (tt, known.is.reads);
-      holds = λ name at. done_bytes job made.0 size held now taken made.3 made.1 made.2 known.whole name at
-          ∙ after_same job taken (length made.0) (bytes_held size held) (last_written life known.is.fates (bytes_in s)) name at (known.is.holds name at);
+      holds = λ at. done_bytes name job made.0 size held now taken made.3 made.1 made.2 known.whole at
+          ∙ after_same job taken (length made.0) (bytes_held size held) (last_written life known.is.fates (bytes_in s)) name at (known.is.holds at);
     };
-    whole = done_whole job made.0 size held now made.3 made.1.whole known.whole;
+    whole = done_whole name job made.0 size held now made.3 made.1.whole known.whole;
   }
 
-  after_other : (held now : Blocks) → KeepsVolumes size held now → Known life s held → Known (Other ∷ life) s now
-  after_other held now keeps known = record {
-    is = record {
-      fates = None ∷ known.is.fates;
-      reads = (tt, known.is.reads);
-      holds = λ name at. keeps_bytes size held now keeps name at ∙ known.is.holds name at;
-    };
-    whole = keeps_whole size held now keeps known.whole;
+  after_other : (held now : Blocks) → ((at : ℕ) → bytes_held size now name at ≡ bytes_held size held name at)
+      → (HoldsWhole name size held → HoldsWhole name size now) → Known name life s held → Known name (Other ∷ life) s now
+  after_other held now same whole known = record {
+    is = record { fates = None ∷ known.is.fates; reads = (tt, known.is.reads); holds = λ at. same at ∙ known.is.holds at };
+    whole = whole known.whole;
   }
 
 -- ---- another command
 
-same_volumes : (was held : Blocks) (entries : List Entry) → All (λ e. volume_at held e ≡ volume_at was e) entries
-    → map (volume_at held) entries ≡ map (volume_at was) entries
-same_volumes was held [] same = refl
-same_volumes was held (e ∷ entries) same = λ i.
-    All-head (λ e. volume_at held e ≡ volume_at was e) e entries same i
-    ∷ same_volumes was held entries (All-tail (λ e. volume_at held e ≡ volume_at was e) e entries same) i
+-- what is held of volumes that are the same, if they have this name
+named_bytes : (was held : Blocks) (name : List ℕ) (at : ℕ) (entries : List Entry)
+    → All (λ e. e.name ≡ name → volume_at held e ≡ volume_at was e) entries
+    → bytes_of (map (volume_at held) entries) name at ≡ bytes_of (map (volume_at was) entries) name at
+named_bytes was held name at [] same = refl
+named_bytes was held name at (e ∷ entries) same =
+    elim (one_name e.name name) [
+      | inl named ↦
+          here (volume_at held e) (map (volume_at held) entries) name at named
+          ∙ ap (λ (v : Volume). slice_get (concat v.blocks) at) (All-head (λ e. e.name ≡ name → volume_at held e ≡ volume_at was e) e entries same named)
+          ∙ sym (here (volume_at was e) (map (volume_at was) entries) name at named)
+      | inr other ↦
+          next (volume_at held e) (map (volume_at held) entries) name at other
+          ∙ named_bytes was held name at entries (All-tail (λ e. e.name ≡ name → volume_at held e ≡ volume_at was e) e entries same)
+          ∙ sym (next (volume_at was e) (map (volume_at was) entries) name at other)
+    ]
 
--- the table and the volumes are kept with their blocks
-leaves_keeps : (count : ℕ) (was held : Blocks) → ((b : ℕ) → IsOfVolumes count was b → held b ≡ was b) → KeepsVolumes count was held
-leaves_keeps count was held same = record {
-  some = λ volumes has. record {
-    table = has.table;
-    is_table = subst (λ (bytes : List ℕ). HasTable count bytes has.table) (sym table_same) has.is_table;
-    are = has.are ∙ sym (same_volumes was held has.table.entries (λ k d within. volume_same has.table has.is_table k d within));
-  };
-  none = λ none table has. none table (subst (λ (bytes : List ℕ). HasTable count bytes table) table_same has);
-}
-  where
-    table_same : held 0 ≡ was 0
-    table_same = same 0 (inl refl)
+-- table and volume are kept with their blocks
+module _ (name : List ℕ) (count : ℕ) (was held : Blocks) (same : (b : ℕ) → IsOfVolume name count was b → held b ≡ was b) where
+  table_same : held 0 ≡ was 0
+  table_same = same 0 (inl refl)
 
-    volume_same : (table : Table) → HasTable count (was 0) table → (k : ℕ) (d : Entry) → k < length table.entries
-        → volume_at held (get_or table.entries k d) ≡ volume_at was (get_or table.entries k d)
-    volume_same table has k d within =
-        let e : Entry = get_or table.entries k d in
-        ap (λ (l : List (List ℕ)). record { name = e.name; blocks = l })
-        (blocks_from-same was held e.extent.first e.extent.blocks
-        (λ b from below. same b (inr (table, e, has, Contains-get_or table.entries k d within, from, below))))
+  volume_same : (table : Table) → HasTable count (was 0) table → All (λ e. e.name ≡ name → volume_at held e ≡ volume_at was e) table.entries
+  volume_same table has k d within named =
+      let e : Entry = get_or table.entries k d in
+      ap (λ (l : List (List ℕ)). record { name = e.name; blocks = l })
+      (blocks_from-same was held e.extent.first e.extent.blocks
+      (λ b from below. same b (inr (table, e, has, Contains-get_or table.entries k d within, named, from, below))))
+
+  leaves_bytes : (at : ℕ) → bytes_held count held name at ≡ bytes_held count was name at
+  leaves_bytes at = ap (λ (bytes : List ℕ). bytes_by (table_of count bytes) held name at) table_same ∙ by (table_of count (was 0)) refl
+    where
+      by : (o : Option Table) → table_of count (was 0) ≡ o → bytes_by o held name at ≡ bytes_by o was name at
+      by None none = refl
+      by (Some table) read = named_bytes was held name at table.entries (volume_same table (has_table_read count (was 0) table read))
+
+  leaves_whole : HoldsWhole name count was → HoldsWhole name count held
+  leaves_whole whole volumes has =
+      subst (AllWhole name) (sym has.are) (All-map (IsWholeOf name) (volume_at held) has.table.entries there)
+    where
+      its_table : HasTable count (was 0) has.table
+      its_table = subst (λ (bytes : List ℕ). HasTable count bytes has.table) table_same has.is_table
+
+      before : AllWhole name (map (volume_at was) has.table.entries)
+      before = whole (map (volume_at was) has.table.entries) (record { table = has.table; is_table = its_table; are = refl })
+
+      there : All (λ e. IsWholeOf name (volume_at held e)) has.table.entries
+      there k d within named =
+          subst (λ (v : Volume). AreWhole v.blocks) (sym (volume_same has.table its_table k d within named))
+          (subst (IsWholeOf name) (get_or-map (volume_at was) has.table.entries k d (volume_at was d) within)
+          (before k (volume_at was d) (omega (arith, within, length-map has.table.entries (volume_at was)))) named)
 
 -- ---- where a life begins
 
@@ -139,11 +166,11 @@ get_or-blocks_from held first (suc count) zero d within = ap held (let here : fi
 get_or-blocks_from held first (suc count) (suc k) d within =
     get_or-blocks_from held (first + 1) count k d (omega (arith, within)) ∙ ap held (let next : first + 1 + k ≡ first + suc k = omega arith in next)
 
-whole_first : (count : ℕ) (held : Blocks) → ((b : ℕ) → b < count → length (held b) ≡ SECTOR) → HoldsWhole count held
-whole_first count held each volumes has = subst AllWhole (sym has.are) (All-map (λ v. AreWhole v.blocks) (volume_at held) has.table.entries there)
+whole_first : (name : List ℕ) (count : ℕ) (held : Blocks) → ((b : ℕ) → b < count → length (held b) ≡ SECTOR) → HoldsWhole name count held
+whole_first name count held each volumes has = subst (AllWhole name) (sym has.are) (All-map (IsWholeOf name) (volume_at held) has.table.entries there)
   where
-    there : All (λ e. AreWhole (volume_at held e).blocks) has.table.entries
-    there k d within i other inside =
+    there : All (λ e. IsWholeOf name (volume_at held e)) has.table.entries
+    there k d within named i other inside =
         let e : Entry = get_or has.table.entries k d in
         let is : IsVolume has.table.blocks e = has.is_table.rules.volumes k d within in
         let below : i < e.extent.blocks = omega (arith, inside, length-blocks_from held e.extent.first e.extent.blocks) in
@@ -156,75 +183,75 @@ pub settled_before : (old now : State) (held : Blocks) → IsAsItWas old now →
 settled_before old now held same (inl is) = inl (is ∙ ap (λ (c : Content). c.blocks) same.content)
 settled_before old now held same (inr is) = inr (is ∙ (λ i. (changed_if (same.in_doubt i) (same.content i)).blocks))
 
-module _ (s : State) (life : List Turn) (mid new : State) (same : mid.geometry ≡ s.geometry) (before : (h : Blocks) → IsSettled mid h → Known life s h)
+module _ (name : List ℕ) (s : State) (life : List Turn) (mid new : State) (same : mid.geometry ≡ s.geometry) (before : (h : Blocks) → IsSettled mid h → Known name life s h)
   where
     same_count : block_count mid.geometry ≡ block_count s.geometry
     same_count = ap (λ (g : Geometry). block_count g) same
 
     did_known : (job : VolumeJob) (taken put : List ℕ) (held : Blocks) → IsFinished job taken put mid new → IsSettled new held
-        → Known (Did job taken put ∷ life) s held
+        → Known name (Did job taken put ∷ life) s held
     did_known job taken put held fin settled =
         let moved : (done : HasDone job fin.contents (block_count s.geometry) fin.held new.content.blocks) × PutsOut job done.volumes put =
         subst (λ (n : ℕ). (done : HasDone job fin.contents n fin.held new.content.blocks) × PutsOut job done.volumes put) same_count (fin.done, fin.puts) in
-        subst (Known (Did job taken put ∷ life) s) (sym (settled_certain new held fin.certain settled))
-        (after_done s life job taken put fin.held new.content.blocks fin.contents fin.front fin.all moved.0 moved.1 (before fin.held fin.settled))
+        subst (Known name (Did job taken put ∷ life) s) (sym (settled_certain new held fin.certain settled))
+        (after_done name s life job taken put fin.held new.content.blocks fin.contents fin.front fin.all moved.0 moved.1 (before fin.held fin.settled))
 
     may_known : (job : VolumeJob) (taken : List ℕ) (was held : Blocks) → IsSettled mid was → MayHold job taken (block_count mid.geometry) was held
-        → Known (Began job taken ∷ life) s held
+        → Known name (Began job taken ∷ life) s held
     may_known job taken was held settled may =
-        after_begun s life job taken was held (subst (λ (n : ℕ). MayHold job taken n was held) same_count may) (before was settled)
+        after_begun name s life job taken was held (subst (λ (n : ℕ). MayHold job taken n was held) same_count may) (before was settled)
 
-    began_known : (job : VolumeJob) (taken : List ℕ) (held : Blocks) → Goes job taken mid new → IsSettled new held → Known (Began job taken ∷ life) s held
+    began_known : (job : VolumeJob) (taken : List ℕ) (held : Blocks) → Goes job taken mid new → IsSettled new held → Known name (Began job taken ∷ life) s held
     began_known job taken held (inl kept) settled =
         may_known job taken held held (settled_before mid new held kept settled) (inl (keeps_same (block_count mid.geometry) held))
     began_known job taken held (inr opened) (inl is) =
-        subst (Known (Began job taken ∷ life) s) (sym is) (may_known job taken opened.held new.content.blocks opened.settled opened.holds)
+        subst (Known name (Began job taken ∷ life) s) (sym is) (may_known job taken opened.held new.content.blocks opened.settled opened.holds)
     began_known job taken held (inr opened) (inr is) =
-        subst (Known (Began job taken ∷ life) s) (sym is) (may_known job taken opened.held (new_content new).blocks opened.settled opened.may_hold)
+        subst (Known name (Began job taken ∷ life) s) (sym is) (may_known job taken opened.held (new_content new).blocks opened.settled opened.may_hold)
 
-    other_known : (held : Blocks) → LeavesVolumes mid new → IsSettled new held → Known (Other ∷ life) s held
+    other_known : (held : Blocks) → LeavesVolume name mid new → IsSettled new held → Known name (Other ∷ life) s held
     other_known held leaves settled =
         let was = leaves held settled in
-        after_other s life was.0 held
-        (leaves_keeps (block_count s.geometry) was.0 held (subst (λ (n : ℕ). (b : ℕ) → IsOfVolumes n was.0 b → held b ≡ was.0 b) same_count was.2))
+        let left = subst (λ (n : ℕ). (b : ℕ) → IsOfVolume name n was.0 b → held b ≡ was.0 b) same_count was.2 in
+        after_other name s life was.0 held (leaves_bytes name (block_count s.geometry) was.0 held left) (leaves_whole name (block_count s.geometry) was.0 held left)
         (before was.0 was.1)
 
 -- each life is explained up to each outcome of what is in doubt
-known : (s : State) → Begins s → (life : List Turn) (new : State) (held : Blocks) → Lives life s new → IsSettled new held → Known life s held
-known s begins [] new held lives settled =
+known : (name : List ℕ) (s : State) → Begins s → (life : List Turn) (new : State) (held : Blocks) → Lives name life s new → IsSettled new held → Known name life s held
+known name s begins [] new held lives settled =
     let is : held ≡ s.content.blocks = settled_certain s held begins.certain (subst (λ (t : State). IsSettled t held) lives settled) in
     record {
-      is = record { fates = []; reads = tt; holds = λ name at. ap (λ (blocks : Blocks). bytes_held (block_count s.geometry) blocks name at) is };
-      whole = subst (HoldsWhole (block_count s.geometry)) (sym is) (whole_first (block_count s.geometry) s.content.blocks begins.whole);
+      is = record { fates = []; reads = tt; holds = λ at. ap (λ (blocks : Blocks). bytes_held (block_count s.geometry) blocks name at) is };
+      whole = subst (HoldsWhole name (block_count s.geometry)) (sym is) (whole_first name (block_count s.geometry) s.content.blocks begins.whole);
     }
-known s begins (Did job taken put ∷ life) new held lives settled =
-    did_known s life lives.0 new (same_geometry life s lives.0 lives.1) (λ h is. known s begins life lives.0 h lives.1 is) job taken put held lives.3 settled
-known s begins (Began job taken ∷ life) new held lives settled =
-    began_known s life lives.0 new (same_geometry life s lives.0 lives.1) (λ h is. known s begins life lives.0 h lives.1 is) job taken held lives.3 settled
-known s begins (Other ∷ life) new held lives settled =
-    other_known s life lives.0 new (same_geometry life s lives.0 lives.1) (λ h is. known s begins life lives.0 h lives.1 is) held lives.3 settled
+known name s begins (Did job taken put ∷ life) new held lives settled =
+    did_known name s life lives.0 new (same_geometry name life s lives.0 lives.1) (λ h is. known name s begins life lives.0 h lives.1 is) job taken put held lives.3 settled
+known name s begins (Began job taken ∷ life) new held lives settled =
+    began_known name s life lives.0 new (same_geometry name life s lives.0 lives.1) (λ h is. known name s begins life lives.0 h lives.1 is) job taken held lives.3 settled
+known name s begins (Other ∷ life) new held lives settled =
+    other_known name s life lives.0 new (same_geometry name life s lives.0 lives.1) (λ h is. known name s begins life lives.0 h lives.1 is) held lives.3 settled
 
 pub lives_are_explained : LivesAreExplained
-lives_are_explained s new life held begins lives settled = (known s begins life new held lives settled).is
+lives_are_explained name s new life held begins lives settled = (known name s begins life new held lives settled).is
 
 -- ---- one read of a life
 
 -- a list of fates that explains the reads before it, and what it gives
 pub record IsReadOf (s : State) (before : List Turn) (name : List ℕ) (block count : ℕ) (put : List ℕ) : Type 0 where
   pub fates : List Fate
-  pub reads : EachReadsLast before fates (bytes_in s)
+  pub reads : EachReadsLast name before fates (bytes_in s)
   pub are : AreBytes (last_written before fates (bytes_in s)) name (SECTOR * block) (SECTOR * count) put
 
-lives_part : (after rest : List Turn) (s new : State) → Lives (after ++ rest) s new → (mid : State) × Lives rest s mid
-lives_part [] rest s new lives = (new, lives)
-lives_part (turn ∷ after) rest s new lives = lives_part after rest s lives.0 lives.1
+lives_part : (name : List ℕ) (after rest : List Turn) (s new : State) → Lives name (after ++ rest) s new → (mid : State) × Lives name rest s mid
+lives_part name [] rest s new lives = (new, lives)
+lives_part name (turn ∷ after) rest s new lives = lives_part name after rest s lives.0 lives.1
 
 pub read_explained : (s new : State) (before after : List Turn) (name : List ℕ) (block count : ℕ) (taken put : List ℕ) → Begins s
-    → Lives (after ++ Did (volume.Read name block count) taken put ∷ before) s new → IsReadOf s before name block count put
+    → Lives name (after ++ Did (volume.Read name block count) taken put ∷ before) s new → IsReadOf s before name block count put
 read_explained s new before after name block count taken put begins lives =
-    let part = lives_part after (Did (volume.Read name block count) taken put ∷ before) s new lives in
-    let all = known s begins (Did (volume.Read name block count) taken put ∷ before) part.0 part.0.content.blocks part.1 (inl refl) in
-    record { fates = earlier all.is.fates; reads = all.is.reads.1; are = all.is.reads.0 }
+    let part = lives_part name after (Did (volume.Read name block count) taken put ∷ before) s new lives in
+    let all = known name s begins (Did (volume.Read name block count) taken put ∷ before) part.0 part.0.content.blocks part.1 (inl refl) in
+    record { fates = earlier all.is.fates; reads = all.is.reads.1; are = all.is.reads.0 refl }
 
 -- one byte of it
 byte_at : (held : Bytes) (name : List ℕ) (block count : ℕ) (put : List ℕ) (i at : ℕ) → AreBytes held name (SECTOR * block) (SECTOR * count) put
@@ -284,10 +311,10 @@ kept_between (turn ∷ between) rest fates first name at none =
     (All-head (λ turn. ¬ MayChange name at turn) turn between none)
     ∙ kept_between between rest (earlier fates) first name at (All-tail (λ turn. ¬ MayChange name at turn) turn between none)
 
-each_dropped : (between rest : List Turn) (fates : List Fate) (first : Bytes) → EachReadsLast (between ++ rest) fates first
-    → EachReadsLast rest (dropped between fates) first
-each_dropped [] rest fates first each = each
-each_dropped (turn ∷ between) rest fates first each = each_dropped between rest (earlier fates) first each.1
+each_dropped : (name : List ℕ) (between rest : List Turn) (fates : List Fate) (first : Bytes) → EachReadsLast name (between ++ rest) fates first
+    → EachReadsLast name rest (dropped between fates) first
+each_dropped name [] rest fates first each = each
+each_dropped name (turn ∷ between) rest fates first each = each_dropped name between rest (earlier fates) first each.1
 
 -- zeros
 zero_at : (n at byte : ℕ) → slice_get {X = ℕ} (replicate n 0) at ≡ Some byte → (at < n) × (byte ≡ 0)
@@ -397,7 +424,7 @@ reads_agree s new before between after name block count block' count' taken put 
     let one : Turn = Did (volume.Read name block count) taken put in
     let life = between ++ one ∷ before in
     let read = read_explained s new life after name block' count' taken' put' begins lives in
-    let each = each_dropped between (one ∷ before) read.fates (bytes_in s) read.reads in
+    let each = each_dropped name between (one ∷ before) read.fates (bytes_in s) read.reads in
     byte_at (last_written life read.fates (bytes_in s)) name block' count' put' i' at read.are is'
     ∙ kept_between between (one ∷ before) read.fates (bytes_in s) name at same
-    ∙ sym (byte_at (last_written before (earlier (dropped between read.fates)) (bytes_in s)) name block count put i at each.0 is)
+    ∙ sym (byte_at (last_written before (earlier (dropped between read.fates)) (bytes_in s)) name block count put i at (each.0 refl) is)

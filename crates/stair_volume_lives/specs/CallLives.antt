@@ -21,7 +21,7 @@ use Rattle.stair_status.specs.declared.status.Status.{Status}
 use Rattle.stair_status.specs.declared.status.Status.TheVariants.{Done}
 use Rattle.stair_volume.specs.Volumes.{IsSettled}
 use Rattle.stair_engine.specs.Plans.{plan_of}
-use Rattle.stair_volume_lives.specs.Lives.{Began, Begins, Did, IsExplained, IsOfVolumes, Lives, Other, Turn}
+use Rattle.stair_volume_lives.specs.Lives.{Began, Begins, Did, IsExplained, IsOfVolume, Lives, Other, Turn}
 
 -- WHAT A CALL IS TO VOLUMES
 
@@ -30,31 +30,31 @@ abbrev pub WritesNone : (b : ℕ) → Plan → (story : List Deed) → Type 0
 WritesNone b plan story = (done later : List Deed) (rest : Plan) (step : Step)
     → story ≡ done ++ later → Leads Moves done plan rest → IsNext rest step → ¬ IsWriteOf b step
 
--- so it is of each block of the table and of the volumes that the rack holds
-abbrev pub LeavesBlocks : Returning → List Happening → Plan → (story : List Deed) → Type 0
-LeavesBlocks returning h plan story = (s : State) (held : Blocks) (b : ℕ)
+-- so it is of each block of the table and of the volume that the rack holds
+abbrev pub LeavesBlocks : (name : List ℕ) → Returning → List Happening → Plan → (story : List Deed) → Type 0
+LeavesBlocks name returning h plan story = (s : State) (held : Blocks) (b : ℕ)
     → StandsFor returning s h → IsSettled s held
-    → IsOfVolumes (block_count s.geometry) held b → WritesNone b plan story
+    → IsOfVolume name (block_count s.geometry) held b → WritesNone b plan story
 
--- The words of the call spell a command on volumes, or it writes no block of the table or of a volume.
-pub data Kind (returning : Returning) (h : List Happening) (plan rest : Plan) (story : List Deed)
+-- The words of the call spell a command on volumes, or it writes no block of the table or of the volume.
+pub data Kind (name : List ℕ) (returning : Returning) (h : List Happening) (plan rest : Plan) (story : List Deed)
     : Type 0 where
   OnVolumes : (words : List (List ℕ)) → (job : VolumeJob) → (status : Status)
       → Spells words (Volume job) → plan ≡ plan_of words → rest ≡ Over status
-      → Kind returning h plan rest story
-  Leaves : LeavesBlocks returning h plan story → Kind returning h plan rest story
+      → Kind name returning h plan rest story
+  Leaves : LeavesBlocks name returning h plan story → Kind name returning h plan rest story
 
 -- each of these calls is of a kind
-abbrev pub Kinds : {R W S K : Type 0} (view : DeviceView R W) (streams : Views S K)
+abbrev pub Kinds : (name : List ℕ) → {R W S K : Type 0} (view : DeviceView R W) (streams : Views S K)
     (returning : Returning) (first : State) (h : List Happening)
     → Calls view streams returning first h → Type 0
-Kinds view streams returning first h (Starts h' history stands) = ⊤
-Kinds view streams returning first h (Ends later plan rest old new x y watchers left calls borne calm acted between) =
-    Kinds view streams returning first (view.rack.history x) calls
-    × Kind returning (view.rack.history x) plan rest borne.over.means.story
-Kinds view streams returning first h (Cut c image later plan rest old new x y watchers left calls borne at calm crash acted between) =
-    Kinds view streams returning first (view.rack.history x) calls
-    × Kind returning (view.rack.history x) plan rest borne.over.means.story
+Kinds name view streams returning first h (Starts h' history stands) = ⊤
+Kinds name view streams returning first h (Ends later plan rest old new x y watchers left calls borne calm acted between) =
+    Kinds name view streams returning first (view.rack.history x) calls
+    × Kind name returning (view.rack.history x) plan rest borne.over.means.story
+Kinds name view streams returning first h (Cut c image later plan rest old new x y watchers left calls borne at calm crash acted between) =
+    Kinds name view streams returning first (view.rack.history x) calls
+    × Kind name returning (view.rack.history x) plan rest borne.over.means.story
 
 -- ITS TURN
 
@@ -64,59 +64,59 @@ turn_of job Done taken put = Did job taken put
 turn_of job _ taken put = Began job taken
 
 -- the turn of a call that ended
-abbrev pub IsTurnOf : {returning : Returning} {h : List Happening} {plan rest : Plan} {story : List Deed}
-    → Kind returning h plan rest story → Turn → Type 0
-IsTurnOf {returning} {h} {plan} {rest} {story} (OnVolumes words job status spells is ends) turn =
+abbrev pub IsTurnOf : {name : List ℕ} {returning : Returning} {h : List Happening} {plan rest : Plan} {story : List Deed}
+    → Kind name returning h plan rest story → Turn → Type 0
+IsTurnOf {name} {returning} {h} {plan} {rest} {story} (OnVolumes words job status spells is ends) turn =
     turn ≡ turn_of job status (taken_in story) (put_in story)
 IsTurnOf (Leaves leaves) turn = turn ≡ Other
 
 -- The turn of a call that a crash cut: by then it had done the first of its deeds.
-abbrev pub IsCutTurnOf : {returning : Returning} {h : List Happening} {plan rest : Plan}
-    {story : List Deed} → Kind returning h plan rest story → Turn → Type 0
-IsCutTurnOf {returning} {h} {plan} {rest} {story} (OnVolumes words job status spells is ends) turn =
+abbrev pub IsCutTurnOf : {name : List ℕ} {returning : Returning} {h : List Happening} {plan rest : Plan}
+    {story : List Deed} → Kind name returning h plan rest story → Turn → Type 0
+IsCutTurnOf {name} {returning} {h} {plan} {rest} {story} (OnVolumes words job status spells is ends) turn =
     (done : List Deed) × (later : List Deed) × (story ≡ done ++ later)
     × (turn ≡ Began job (taken_in done))
 IsCutTurnOf (Leaves leaves) turn = turn ≡ Other
 
 -- one turn a call
-abbrev pub AreTurnsOf : {R W S K : Type 0} (view : DeviceView R W) (streams : Views S K)
+abbrev pub AreTurnsOf : (name : List ℕ) → {R W S K : Type 0} (view : DeviceView R W) (streams : Views S K)
     (returning : Returning) (first : State) (h : List Happening)
     (calls : Calls view streams returning first h)
-    → Kinds view streams returning first h calls → List Turn → Type 0
-AreTurnsOf view streams returning first h (Starts h' history stands) kinds life = life ≡ []
-AreTurnsOf view streams returning first h (Ends later plan rest old new x y watchers left calls borne calm acted between) kinds life =
+    → Kinds name view streams returning first h calls → List Turn → Type 0
+AreTurnsOf name view streams returning first h (Starts h' history stands) kinds life = life ≡ []
+AreTurnsOf name view streams returning first h (Ends later plan rest old new x y watchers left calls borne calm acted between) kinds life =
     (turn : Turn) × (before : List Turn)
-    × AreTurnsOf view streams returning first (view.rack.history x) calls kinds.0 before
+    × AreTurnsOf name view streams returning first (view.rack.history x) calls kinds.0 before
     × IsTurnOf kinds.1 turn × (life ≡ turn ∷ before)
-AreTurnsOf view streams returning first h (Cut c image later plan rest old new x y watchers left calls borne at calm crash acted between) kinds life =
+AreTurnsOf name view streams returning first h (Cut c image later plan rest old new x y watchers left calls borne at calm crash acted between) kinds life =
     (turn : Turn) × (before : List Turn)
-    × AreTurnsOf view streams returning first (view.rack.history x) calls kinds.0 before
+    × AreTurnsOf name view streams returning first (view.rack.history x) calls kinds.0 before
     × IsCutTurnOf kinds.1 turn × (life ≡ turn ∷ before)
 
 -- THE LAWS
 
--- what becomes of volumes by these calls
-pub record IsVolumesLife {R W S K : Type 0} (view : DeviceView R W) (streams : Views S K)
+-- what becomes of the volume of this name by these calls
+pub record IsVolumeLife (name : List ℕ) {R W S K : Type 0} (view : DeviceView R W) (streams : Views S K)
     (returning : Returning) (first : State) (h : List Happening)
     (calls : Calls view streams returning first h)
-    (kinds : Kinds view streams returning first h calls) : Type 0 where
+    (kinds : Kinds name view streams returning first h calls) : Type 0 where
   pub life : List Turn
   pub state : State
-  pub turns : AreTurnsOf view streams returning first h calls kinds life
-  pub lives : Lives life (without_seats first) state
+  pub turns : AreTurnsOf name view streams returning first h calls kinds life
+  pub lives : Lives name life (without_seats first) state
   pub unknown : state.seats ≡ None
   pub stands : StandsFor returning state h
-  -- one list of fates, given once for all, explains each `vread` that was done, and what the array then holds
+  -- one list of fates, given once for all, explains each `vread` of it that was done, and what the array then holds of it
   pub explained : Begins first → (held : Blocks) → IsSettled state held
-      → IsExplained life (without_seats first) held
+      → IsExplained name life (without_seats first) held
 
--- Calls one after the other, each whole or cut by a crash, are one life of the volumes, and the rack is the array that it leads to,
--- whether media come back or not. Each call is a command on volumes, or writes none of their blocks.
+-- Calls one after the other, each whole or cut by a crash, are one life of a volume, and the rack is the array that it leads to,
+-- whether media come back or not. Each call is a command on volumes, or writes no block of this one or of the table.
 abbrev pub CallsAreLived : (R W S K : Type 0) → Type 0
-CallsAreLived R W S K = (view : DeviceView R W) (streams : Views S K) (returning : Returning)
+CallsAreLived R W S K = (name : List ℕ) (view : DeviceView R W) (streams : Views S K) (returning : Returning)
     (first : State) (h : List Happening) (calls : Calls view streams returning first h)
-    (kinds : Kinds view streams returning first h calls) → IsTrue view.rack.honest
-    → IsWithinLimits first.geometry → IsVolumesLife view streams returning first h calls kinds
+    (kinds : Kinds name view streams returning first h calls) → IsTrue view.rack.honest
+    → IsWithinLimits first.geometry → IsVolumeLife name view streams returning first h calls kinds
 
 -- A call leaves a block if its plan has no write of it.
 abbrev pub PlansWriteNone : Type 0

@@ -1,5 +1,5 @@
 -- An example: a write of both blocks of a volume that a crash cuts, and a read after it.
-use Rattle.std.specs.Prelude.{◌≡◌, ℕ, Bool, List, [], ◌∷◌, None, Some, if◌then◌else◌}
+use Rattle.std.specs.Prelude.{◌≡◌, ℕ, Bool, List, [], ◌∷◌, Some, if◌then◌else◌}
 use Rattle.std.specs.List.{concat}
 use Rattle.stair_state.specs.Blocks.{Blocks, with_block, with_blocks, zero_block, zero_blocks}
 use Rattle.stair_state.specs.State.{BlocksAre, State, created_state, first_content}
@@ -55,11 +55,11 @@ blocks_if made = if made then written_blocks else first_blocks
 -- In either outcome it is a life of an array that began with nothing in doubt.
 abbrev pub EitherIsLived : Type 0
 EitherIsLived = (made : Bool) → Begins (holding first_blocks)
-    × Lives (read_both (bytes_if made) ∷ cut_write ∷ []) (holding first_blocks)
+    × Lives example_name (read_both (bytes_if made) ∷ cut_write ∷ []) (holding first_blocks)
     (holding (blocks_if made))
 
 -- A second read gives the same bytes, since the write is settled once.
 abbrev pub EachIsReadAgain : Type 0
 EachIsReadAgain = (made : Bool) (put : List ℕ) (now : State)
-    → Lives (read_both put ∷ read_both (bytes_if made) ∷ cut_write ∷ []) (holding first_blocks) now
+    → Lives example_name (read_both put ∷ read_both (bytes_if made) ∷ cut_write ∷ []) (holding first_blocks) now
     → put ≡ bytes_if made

@@ -19,31 +19,32 @@ pub data Turn : Type 0 where
   Did : VolumeJob → (taken put : List ℕ) → Turn
   -- A crash cut one, or it ended otherwise. By then it had taken these bytes.
   Began : VolumeJob → (taken : List ℕ) → Turn
-  -- another command, which left the blocks of the table and of the volumes
+  -- another command, which left the blocks of the table and of the volume that is looked at
   Other : Turn
 
--- block b is the table, or a volume has it
-abbrev pub IsOfVolumes : (count : ℕ) → Blocks → (b : ℕ) → Type 0
-IsOfVolumes count held b = (b ≡ 0) ⊎ ((table : Table) × (entry : Entry)
-    × HasTable count (held 0) table × Contains table.entries entry
+-- block b is the table, or the volume of this name has it
+abbrev pub IsOfVolume : (name : List ℕ) → (count : ℕ) → Blocks → (b : ℕ) → Type 0
+IsOfVolume name count held b = (b ≡ 0) ⊎ ((table : Table) × (entry : Entry)
+    × HasTable count (held 0) table × Contains table.entries entry × (entry.name ≡ name)
     × (entry.extent.first ≤ b) × (b < end_of entry.extent))
 
--- The blocks of the table and of the volumes are as they were, whatever became of a change in doubt.
-abbrev pub LeavesVolumes : State → State → Type 0
-LeavesVolumes s now = (held : Blocks) → IsSettled now held
+-- The blocks of the table and of the volume are as they were, whatever became of a change in doubt.
+abbrev pub LeavesVolume : (name : List ℕ) → State → State → Type 0
+LeavesVolume name s now = (held : Blocks) → IsSettled now held
     → (was : Blocks) × IsSettled s was
-    × ((b : ℕ) → IsOfVolumes (block_count s.geometry) was b → held b ≡ was b)
+    × ((b : ℕ) → IsOfVolume name (block_count s.geometry) was b → held b ≡ was b)
 
-abbrev pub Turns : Turn → State → State → Type 0
-Turns (Did job taken put) s now = IsFinished job taken put s now
-Turns (Began job taken) s now = Goes job taken s now
-Turns Other s now = LeavesVolumes s now
+-- what the turn is, where the volume of this name is looked at
+abbrev pub Turns : (name : List ℕ) → Turn → State → State → Type 0
+Turns name (Did job taken put) s now = IsFinished job taken put s now
+Turns name (Began job taken) s now = Goes job taken s now
+Turns name Other s now = LeavesVolume name s now
 
--- a life leads from the one state to the other
-abbrev pub Lives : List Turn → State → State → Type 0
-Lives [] s now = now ≡ s
-Lives (turn ∷ life) s now = (mid : State) × Lives life s mid
-    × (now.geometry ≡ mid.geometry) × Turns turn mid now
+-- a life, in which that volume is looked at, leads from the one state to the other
+abbrev pub Lives : (name : List ℕ) → List Turn → State → State → Type 0
+Lives name [] s now = now ≡ s
+Lives name (turn ∷ life) s now = (mid : State) × Lives name life s mid
+    × (now.geometry ≡ mid.geometry) × Turns name turn mid now
 
 -- BYTES OF VOLUMES
 
@@ -114,18 +115,18 @@ pub record AreBytes (held : Bytes) (name : List ℕ) (from size : ℕ) (put : Li
   pub length : length put ≡ size
   pub each : (i : ℕ) → i < size → slice_get put i ≡ held name (from + i)
 
--- where the turn is a read that was done, it gives what the volume holds
-abbrev pub ReadsLast : Turn → Bytes → Type 0
-ReadsLast (Did (volume.Read name block count) taken put) held =
-    AreBytes held name (SECTOR * block) (SECTOR * count) put
-ReadsLast _ held = ⊤
+-- where the turn is a read of this volume that was done, it gives what the volume holds
+abbrev pub ReadsLast : (name : List ℕ) → Turn → Bytes → Type 0
+ReadsLast name (Did (volume.Read other block count) taken put) held =
+    other ≡ name → AreBytes held name (SECTOR * block) (SECTOR * count) put
+ReadsLast name _ held = ⊤
 
--- each read gives the last byte of each place
-abbrev pub EachReadsLast : List Turn → List Fate → Bytes → Type 0
-EachReadsLast [] fates first = ⊤
-EachReadsLast (turn ∷ life) fates first =
-    ReadsLast turn (last_written life (earlier fates) first)
-    × EachReadsLast life (earlier fates) first
+-- each read of it gives the last byte of each place
+abbrev pub EachReadsLast : (name : List ℕ) → List Turn → List Fate → Bytes → Type 0
+EachReadsLast name [] fates first = ⊤
+EachReadsLast name (turn ∷ life) fates first =
+    ReadsLast name turn (last_written life (earlier fates) first)
+    × EachReadsLast name life (earlier fates) first
 
 -- ONE BYTE
 
@@ -193,18 +194,19 @@ pub record Begins (s : State) : Type 0 where
   pub certain : s.in_doubt ≡ None
   pub whole : HasWholeBlocks s
 
--- one list of fates explains every read of a life, and what these blocks hold
-pub record IsExplained (life : List Turn) (s : State) (held : Blocks) : Type 0 where
-  pub fates : List Fate
-  pub reads : EachReadsLast life fates (bytes_in s)
-  pub holds : (name : List ℕ) (at : ℕ) → bytes_held (block_count s.geometry) held name at
-      ≡ last_written life fates (bytes_in s) name at
+-- one list of fates explains every read of a volume, and what these blocks hold of it
+pub record IsExplained (name : List ℕ) (life : List Turn) (s : State) (held : Blocks) : Type 0
+  where
+    pub fates : List Fate
+    pub reads : EachReadsLast name life fates (bytes_in s)
+    pub holds : (at : ℕ) → bytes_held (block_count s.geometry) held name at
+        ≡ last_written life fates (bytes_in s) name at
 
--- One list of fates, given once for all, explains every read and what the array then holds, what is in doubt being made or not. So each
--- command that was cut was settled once.
+-- One list of fates, given once for all, explains every read of a volume and what the array then holds of it, what is in doubt being
+-- made or not. So each command that was cut was settled once.
 abbrev pub LivesAreExplained : Type 0
-LivesAreExplained = (s new : State) (life : List Turn) (held : Blocks) → Begins s
-    → Lives life s new → IsSettled new held → IsExplained life s held
+LivesAreExplained = (name : List ℕ) (s new : State) (life : List Turn) (held : Blocks) → Begins s
+    → Lives name life s new → IsSettled new held → IsExplained name life s held
 
 -- byte i of so many blocks that are read, or written, is the one of this place
 pub record IsAt (block count i at : ℕ) : Type 0 where
@@ -215,7 +217,7 @@ pub record IsAt (block count i at : ℕ) : Type 0 where
 abbrev pub ReadsAreLast : Type 0
 ReadsAreLast = (s new : State) (before after : List Turn) (name : List ℕ) (block count : ℕ)
     (taken put : List ℕ) (i at : ℕ) → Begins s
-    → Lives (after ++ Did (volume.Read name block count) taken put ∷ before) s new
+    → Lives name (after ++ Did (volume.Read name block count) taken put ∷ before) s new
     → IsAt block count i at
     → (byte : ℕ) × (slice_get put i ≡ Some byte) × IsLast (bytes_in s) name at byte before
 
@@ -223,7 +225,7 @@ ReadsAreLast = (s new : State) (before after : List Turn) (name : List ℕ) (blo
 abbrev pub WrittenIsRead : Type 0
 WrittenIsRead = (s new : State) (before between after : List Turn) (name : List ℕ)
     (block count first blocks : ℕ) (taken input put none : List ℕ) (i k at : ℕ) → Begins s
-    → Lives (after ++ Did (volume.Read name block count) taken put
+    → Lives name (after ++ Did (volume.Read name block count) taken put
     ∷ (between ++ Did (volume.Write name first blocks) input none ∷ before)) s new
     → IsAt block count i at → IsAt first blocks k at → NoneChanges name at between
     → slice_get put i ≡ slice_get input k
@@ -232,7 +234,7 @@ WrittenIsRead = (s new : State) (before between after : List Turn) (name : List 
 abbrev pub MadeIsZero : Type 0
 MadeIsZero = (s new : State) (before between after : List Turn) (name : List ℕ)
     (block count blocks : ℕ) (taken put none line : List ℕ) (i at : ℕ) → Begins s
-    → Lives (after ++ Did (volume.Read name block count) taken put
+    → Lives name (after ++ Did (volume.Read name block count) taken put
     ∷ (between ++ Did (volume.Make name blocks) none line ∷ before)) s new
     → IsAt block count i at → at < SECTOR * blocks → NoneChanges name at between
     → slice_get put i ≡ Some 0
@@ -241,7 +243,7 @@ MadeIsZero = (s new : State) (before between after : List Turn) (name : List ℕ
 abbrev pub ReadsAgree : Type 0
 ReadsAgree = (s new : State) (before between after : List Turn) (name : List ℕ)
     (block count block' count' : ℕ) (taken put taken' put' : List ℕ) (i i' at : ℕ) → Begins s
-    → Lives (after ++ Did (volume.Read name block' count') taken' put'
+    → Lives name (after ++ Did (volume.Read name block' count') taken' put'
     ∷ (between ++ Did (volume.Read name block count) taken put ∷ before)) s new
     → IsAt block count i at → IsAt block' count' i' at → NoneChanges name at between
     → slice_get put' i' ≡ slice_get put i

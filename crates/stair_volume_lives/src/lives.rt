@@ -4,9 +4,9 @@ ghost use Rattle.stair_volume_lives.specs.Lives.{LivesAreExplained, MadeIsZero, 
 ghost use Rattle.stair_volume_lives.specs.CallLives.{CallsAreLived, PlansWriteNone};
 ghost use Rattle.stair_volume_lives.specs.Example.{EachIsReadAgain, EitherIsLived};
 
-/// What follows of every list of commands on an array with volumes, each whole or cut. It does nothing.
+/// What follows of every list of commands on an array, each whole or cut, for each volume. It does nothing.
 pub fn volume_lives()
-    // one list of fates, given once for all, explains every byte of every read, and what the array holds
+    // one list of fates, given once for all, explains every byte of every read of a volume, and what the array holds of it
     ensures explained { LivesAreExplained }
     // each byte of a read is that of the last command that was done and writes it, or of one that was begun later
     ensures last { ReadsAreLast }
@@ -20,8 +20,8 @@ pub fn volume_lives()
 
 /// What becomes of the volumes of an array by calls of the program, each whole or cut by a crash. It does nothing.
 pub fn volume_calls<R, W, S, K>()
-    // commands on volumes, and calls that write none of their blocks, are one life of the volumes, which explains each `vread` that was
-    // done
+    // commands on volumes, and calls that write no block of a volume or of the table, are one life of this volume, which explains each
+    // `vread` of it that was done
     ensures lived { CallsAreLived R W S K }
     // a call whose plan has no write of a block leaves it
     ensures unwritten { PlansWriteNone }

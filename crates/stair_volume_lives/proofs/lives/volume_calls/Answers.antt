@@ -4,6 +4,6 @@ use Rattle.stair_volume_lives.proofs.lives.volume_calls.Goals as goal
 
 pub returns : goal.returns
 returns g c = record {
-  lived = λ view streams returning first h calls kinds honest limits. calls_volumes view streams returning first honest limits h calls kinds;
+  lived = λ name view streams returning first h calls kinds honest limits. calls_volumes name view streams returning first honest limits h calls kinds;
   unwritten = plans_write_none;
 }
