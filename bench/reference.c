@@ -4,7 +4,8 @@
 // upstairs encoding takes steps for this geometry, each solved symbol of 512 bytes from as many known ones as it has, which
 // all stand in one array; it copies nothing else. `isal` is `add` by ISA-L's kernel, where that is there: the one with AVX2 where
 // this is compiled for it, else the one with SSE. `dot N M R E..` takes the steps of upstairs encoding by ISA-L's dot products of
-// the same width, up to four symbols at once, in its order and groups; it copies nothing else. `redo N CELLS..` makes the calls of redos, each of so many cells, over the image files
+// the same width, up to four symbols at once, in its order and groups; it copies nothing else. `ec N M R K` encodes K stripes of n-m chunks of r sectors
+// by m further ones (Reed-Solomon), in one call of ISA-L's `ec_encode_data`, which chooses the width itself. `redo N CELLS..` makes the calls of redos, each of so many cells, over the image files
 // of N devices in the current folder: their writes of sealed sectors and their syncs, and no seal.
 #define _GNU_SOURCE
 #include <fcntl.h>
@@ -150,6 +151,18 @@ int main(int argc, char **argv) {
     if (classes > 32) return 2;
     for (int i = 0; i < classes; i++) e[i] = atoi(argv[6 + i]);
     for (long i = 0; i < rounds; i++) encode_by_dots(symbols, tables, atoi(argv[3]), atoi(argv[4]), atoi(argv[5]), e, classes);
+  } else if (!strcmp(argv[1], "ec") && argc > 6) {
+    int n = atoi(argv[3]), m = atoi(argv[4]), known = n - m, bytes = atoi(argv[5]) * atoi(argv[6]) * SYMBOL;
+    uint8_t *chunks[32], matrix[32 * 32], *tables = malloc(32 * 32 * 32);
+    if (m < 1 || known < 1 || n > 32 || !tables) return 2;
+    for (int j = 0; j < n; j++) {
+      if (!(chunks[j] = malloc(bytes))) return 1;
+      for (int i = 0; i < bytes; i++) chunks[j][i] = 31 * j + 7 * i + 1;
+    }
+    gf_gen_cauchy1_matrix(matrix, n, known);
+    ec_init_tables(known, m, matrix + known * known, tables);
+    for (long i = 0; i < rounds; i++) ec_encode_data(bytes, known, m, tables, chunks, chunks + known);
+    memcpy(symbols[0], chunks[known], SYMBOL);
 #endif
   } else {
     return 2;

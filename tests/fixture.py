@@ -21,7 +21,9 @@ from streams import *
 
 # The tools that suites can use, and their Debian packages.
 PACKAGES = {
+    "ar": "binutils",
     "bash": "bash",
+    "cc": "gcc",
     "ddrescue": "gddrescue",
     "debugfs": "e2fsprogs",
     "e2fsck": "e2fsprogs",
