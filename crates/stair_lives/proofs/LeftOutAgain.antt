@@ -55,7 +55,7 @@ use Rattle.stair_lives.specs.Example.{HaveAllBut, IsLeftOutAgain, left_out, made
 use Rattle.stair_lives.proofs.BehindPlaces.{NamesSince, names}
 use Rattle.stair_lives.proofs.NewestLemmas.{NamesNewest, found_newest, looked_current}
 
-live_up : Live ≢ Down
+pub live_up : Live ≢ Down
 live_up same = cc
 
 live_built : Live ≢ Rebuilding
@@ -67,12 +67,12 @@ down_built same = cc
 abbrev pub newest : Edition
 newest = left_out 0
 
-other_is : (j : ℕ) → j ≢ 3 → left_out j ≡ newest
+pub other_is : (j : ℕ) → j ≢ 3 → left_out j ≡ newest
 other_is j other = cond-false _ _ _ (ne_eqb j 3 other)
 
 -- SUPERBLOCKS
 
-stale_super : IsSuperblock (copy_of all_live 3)
+pub stale_super : IsSuperblock (copy_of all_live 3)
 stale_super =
     named_super 4 Live Live Live Live Live 1 1 1 1 1 (omega arith) (omega arith, omega arith) (omega arith, omega arith) (omega arith, omega arith)
     (omega arith, omega arith) (omega arith, omega arith) 4 3 (omega arith) (omega arith) (omega arith) live_up
@@ -82,7 +82,7 @@ newest_super j below up =
     named_super 5 Live Live Live Down Live 1 1 1 0 1 (omega arith) (omega arith, omega arith) (omega arith, omega arith) (omega arith, omega arith)
     refl (omega arith, omega arith) 5 j (omega arith) (omega arith) below up
 
-newest_supers : (j : ℕ) → j < 5 → j ≢ 3 → IsSuperblock (copy_of newest j)
+pub newest_supers : (j : ℕ) → j < 5 → j ≢ 3 → IsSuperblock (copy_of newest j)
 newest_supers =
     five_cases (λ j. j < 5 → j ≢ 3 → IsSuperblock (copy_of newest j)) (λ b other. newest_super 0 b live_up) (λ b other. newest_super 1 b live_up)
     (λ b other. newest_super 2 b live_up) (λ b other. absurd (other refl)) (λ b other. newest_super 4 b live_up)
@@ -90,28 +90,28 @@ newest_supers =
 
 -- SLOTS
 
-abbrev third : Slots
+abbrev pub third : Slots
 third = record { marks = false ∷ false ∷ false ∷ true ∷ false ∷ replicate 27 false }
 
-abbrev beside : Slots
+abbrev pub beside : Slots
 beside = record { marks = true ∷ true ∷ true ∷ false ∷ true ∷ replicate 27 false }
 
-few_third : slot_count third ≤ 2
+pub few_third : slot_count third ≤ 2
 unfolding sum_below
 few_third = let one : slot_count third ≡ 1 = refl in omega (arith, one)
 
-many_beside : 2 < slot_count beside
+pub many_beside : 2 < slot_count beside
 unfolding sum_below
 many_beside = let four : slot_count beside ≡ 4 = refl in omega (arith, four)
 
-beside_kept : (j : ℕ) → HasSlot beside j → (j < 5) × ¬ HasSlot third j
+pub beside_kept : (j : ℕ) → HasSlot beside j → (j < 5) × ¬ HasSlot third j
 beside_kept =
     five_cases (λ j. HasSlot beside j → (j < 5) × ¬ HasSlot third j) (λ has. (omega arith, λ out. false≢true out))
     (λ has. (omega arith, λ out. false≢true out)) (λ has. (omega arith, λ out. false≢true out)) (λ has. absurd (false≢true has))
     (λ has. (omega arith, λ out. false≢true out))
     (λ j past has. absurd (false≢true (sym (past_none true true true false true j past) ∙ has)))
 
-out_other : (j : ℕ) → ¬ HasSlot third j → j ≢ 3
+pub out_other : (j : ℕ) → ¬ HasSlot third j → j ≢ 3
 out_other j out same = out (subst (HasSlot third) (sym same) refl)
 
 module _ (words : Codewords) where
@@ -274,10 +274,10 @@ module _ (words : Codewords) where
         (subst (HoldsDevice words left_out j) (sym same) (made_holds words left_out j below), refl);
   }
 
-  goes : GoesOn words left_out third (reinserted words)
+  pub goes : GoesOn words left_out third (reinserted words)
   goes = goes_back words left_out third (made_without words) 3 refl (omega arith) refl made_goes
 
-  are : AreEditions words left_out
+  pub are : AreEditions words left_out
   are = record {
     formed = λ j below.
         elim (cases_eq j 3) [
@@ -299,7 +299,7 @@ module _ (words : Codewords) where
         | inr other ↦ inr (ap (λ (e : Edition). e.array.epoch) (other_is j other), omega arith)
       ]
 
-  online : (j : ℕ) → j < 5 → ¬ HasSlot third j → ¬ IsOffline (reinserted words) (reinserted words) j
+  pub online : (j : ℕ) → j < 5 → ¬ HasSlot third j → ¬ IsOffline (reinserted words) (reinserted words) j
   online j below out (NoMedium none) = not_both words left_out j (slot_state (reinserted words) j) none (goes.kept j below out).0
   online j below out (Unattached off pulled) = omega (arith, pulled)
   online j below out (RackStopped stops) = false≢true stops

@@ -8,5 +8,7 @@ pub mod SessionLine
 pub mod LivesLaws
 pub mod ReadsOf
 pub mod LeftOutAgain
+pub mod Amid
+pub mod AmidCalls
 pub mod OpenedWithout
 pub mod InStamps

@@ -1,25 +1,34 @@
 -- An example: a device that was pulled, that an epoch leaves out, and that is put back before the next opening.
-use Rattle.std.specs.Prelude.{◌≡◌, ◌≢◌, ◌==◌, ◌<◌, ℕ, true, false, Err, IsTrue, List, [], ◌∷◌, Ok, Result, if◌then◌else◌}
-use Rattle.stair_model.specs.Geometry.{Geometry, block_count}
+use Rattle.std.specs.Prelude.{◌≡◌, ◌≢◌, ◌==◌, ◌-◌, ◌<◌, ◌≤◌, ◌⊎◌, ◌^◌, ⊤, ℕ, true, false, Err, IsTrue, List, [], ◌∷◌, Ok, Result, if◌then◌else◌}
+use Rattle.stair_model.specs.Device.{gate_sector}
+use Rattle.stair_model.specs.Geometry.{Geometry, block_count, sectors_needed}
 use Rattle.stair_model.specs.Stripe.{cell}
 use Rattle.stair_rack.specs.Answers.{IsHistory, Ran}
-use Rattle.stair_rack.specs.History.{Acted, Happening, InsertedOld, Made}
-use Rattle.stair_rack.specs.Media.{Image}
-use Rattle.stair_rack.specs.Stretch.{NothingReturned}
+use Rattle.stair_rack.specs.Crash.{SlotMayLeave}
+use Rattle.stair_rack.specs.History.{Acted, Attach, Called, Happening, InsertedOld, Made, Read, Sectors, Stopped, Sync, Write, slot_state}
+use Rattle.stair_rack.specs.Media.{Image, SlotImage}
+use Rattle.stair_rack.specs.Moments.{AtEveryMoment}
+use Rattle.stair_rack.specs.Offline.{IsOffline}
+use Rattle.stair_rack.specs.Sector.{Cell, Good, Torn}
+use Rattle.stair_rack.specs.Stretch.{EachHappening, NothingReturned}
 use Rattle.stair_rack.specs.Telling.{Telling}
 use Rattle.stair_rack.specs.declared.watcher.Event.{Event}
+use Rattle.stair_super.specs.Spelling.{spelled}
 use Rattle.stair_super.specs.declared.mark.Mark.TheVariants.{Down, Live}
-use Rattle.stair_member.specs.Editions.{Edition}
+use Rattle.stair_member.specs.Current.{IsLost}
+use Rattle.stair_member.specs.Editions.{Edition, copy_of}
 use Rattle.stair_member.specs.Membership.{IsHere, IsMembership, Membership}
 use Rattle.stair_member.specs.Survey.{Surveys}
+use Rattle.stair_member.specs.Superblocks.{HasSuper}
 use Rattle.stair_member.specs.declared.fault.SurveyFault.{SurveyFault}
+use Rattle.stair_state.specs.Degraded.{AreAllDamaged, AreDamagedCopies}
 use Rattle.stair_state.specs.Blocks.{Codewords, zero_block}
 use Rattle.stair_state.specs.Holding.{IsConsistentUnderReassembly}
 use Rattle.stair_state.specs.State.{created_state, without_seats}
 use Rattle.stair_session.specs.Returning.{AnyReturns, IsCalm, IsCalmUnread}
 use Rattle.stair_array.specs.Machine.{Answer, EpochsSpent, ReadBlock, Recover, Refusal}
 use Rattle.stair_array.specs.Promise.{Found, Performs, Seen}
-use Rattle.stair_return.specs.Misled.{device_of, five, naming, rack_of}
+use Rattle.stair_return.specs.Misled.{device_cell, device_of, five, naming, rack_of}
 use Rattle.stair_return.specs.Still.{IsStill}
 use Rattle.stair_reinsert_examples.specs.Refused.{all_live, slot_without}
 use Rattle.stair_lives.specs.Stale.{IsOpenBy, ReadsBehind}
@@ -63,6 +72,68 @@ pub record IsLeftOutAgain (words : Codewords) : Type 0 where
       → first.history ≡ reinserted words → IsTrue last.honest → IsStill first.history last.history
       → Surveys answer first last
       → (m : Membership) × (answer ≡ Ok m) × (m.array ≡ (left_out 0).array) × ¬ IsHere m 3
+
+-- WHILE AN EPOCH WITHOUT IT IS ESTABLISHED
+
+-- an epoch that names of each slot what epoch 5 names, and a draw
+abbrev pub without_third : ℕ → ℕ → Edition
+without_third epoch draw = record {
+  array = naming epoch (Live ∷ Live ∷ Live ∷ Down ∷ Live ∷ []) (1 ∷ 1 ∷ 1 ∷ 0 ∷ 1 ∷ []);
+  draw = draw;
+}
+
+-- A superblock place of slot j holds its copy of epoch 5 or of such a later epoch, with any draw that may be; or a write over one was cut.
+pub data IsPlaceAmid (j : ℕ) (cell : Cell) : Type 0 where
+  Holds : (epoch draw : ℕ) → 5 ≤ epoch → epoch ≤ draw → draw < 2 ^ 64
+      → cell ≡ Good (spelled (copy_of (without_third epoch draw) j)) → IsPlaceAmid j cell
+  Cut : cell ≡ Torn → IsPlaceAmid j cell
+
+-- Slot j, which isn't slot 3, with these cells: one place at least holds a superblock, and no sector from the gate on is lost.
+pub record IsSlotAmid (j : ℕ) (cell : ℕ → Cell) : Type 0 where
+  pub places : (k : ℕ) → k < 2 → IsPlaceAmid j (cell k)
+  pub one : HasSuper cell
+  pub whole : (k : ℕ) → gate_sector ≤ k → k < sectors_needed five → ¬ IsLost (cell k)
+
+-- A crash at this moment leaves slots 0, 1, 2 and 4 so, and none of them is offline. Slot 3 has what its device has, but that sectors
+-- may be damaged, and the slots past the array hold nothing.
+pub record IsMomentAmid (words : Codewords) (h : List Happening) : Type 0 where
+  pub slots : (j : ℕ) (left : SlotImage) → j < 5 → j ≢ 3 → SlotMayLeave (slot_state h j) left → IsSlotAmid j left.cell
+  pub online : (j : ℕ) → j < 5 → j ≢ 3 → ¬ IsOffline (reinserted words) h j
+  pub third : (left : SlotImage) → SlotMayLeave (slot_state h 3) left → AreDamagedCopies (device_cell words left_out 3) left.cell
+  pub bare : (j : ℕ) (left : SlotImage) → 5 ≤ j → SlotMayLeave (slot_state h j) left → AreAllDamaged left.cell
+
+-- these bytes are slot j's copy of epoch 5 or of a later one that names the same slots
+pub record IsSpelledAmid (j : ℕ) (bytes : List ℕ) : Type 0 where
+  pub epoch : ℕ
+  pub draw : ℕ
+  pub from : 5 ≤ epoch
+  pub drawn : epoch ≤ draw
+  pub fits : draw < 2 ^ 64
+  pub is : bytes ≡ spelled (copy_of (without_third epoch draw) j)
+
+-- The outside does nothing, and no call writes slot 3. Of the others a superblock place gets such a copy, while nothing is unsynced in the
+-- other place, and a sector from the gate on any bytes.
+abbrev pub KeepsAmid : List Happening → Happening → Type 0
+KeepsAmid h (Made image) = ⊥
+KeepsAmid h Stopped = ⊥
+KeepsAmid h (Acted j act) = ⊥
+KeepsAmid h (Called j (Attach answer)) = ⊤
+KeepsAmid h (Called j (Sectors size)) = ⊤
+KeepsAmid h (Called j (Read k answer)) = ⊤
+KeepsAmid h (Called j (Write k bytes answer)) = (j < 5) × (j ≢ 3)
+    × ((gate_sector ≤ k) ⊎ (IsSpelledAmid j bytes × (((slot_state h j).sector (1 - k)).since ≡ [])))
+KeepsAmid h (Called j (Sync answer)) = ⊤
+
+-- It is so once the device was put back, and such calls keep it so. As long as it is so at every moment, the premise of an opening is
+-- met, and what is asked of one whose first epoch is refused.
+pub record IsCalmAmid (words : Codewords) : Type 0 where
+  pub begins : IsMomentAmid words (reinserted words)
+  pub kept : (h : List Happening) → EachHappening KeepsAmid (reinserted words) h
+      → AtEveryMoment (IsMomentAmid words) (reinserted words) h
+  pub calm : (h : List Happening) → AtEveryMoment (IsMomentAmid words) (reinserted words) h
+      → IsCalm AnyReturns five false (reinserted words) h
+  pub unread : (h : List Happening) → AtEveryMoment (IsMomentAmid words) (reinserted words) h
+      → IsCalmUnread AnyReturns five false (reinserted words) h
 
 -- THE NEXT OPENING
 

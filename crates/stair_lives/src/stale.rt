@@ -2,7 +2,7 @@
 
 ghost use Rattle.stair_state.specs.Blocks.{AreEncodingsOf, Codewords, zero_blocks};
 ghost use Rattle.stair_return.specs.Misled.{five};
-ghost use Rattle.stair_lives.specs.Example.{EachOpensWithout, HaveAllBut, IsLeftOutAgain};
+ghost use Rattle.stair_lives.specs.Example.{EachOpensWithout, HaveAllBut, IsCalmAmid, IsLeftOutAgain};
 ghost use Rattle.stair_lives.specs.Stale.{AllNameOnce, AllNameOnceWithin, LeftOutStays, MediaStayOut};
 ghost use Rattle.stair_lives.specs.Stale.{MediaStayOutWithin, NeverLiveInStamps, NeverLiveWhileBegun};
 ghost use Rattle.stair_lives.specs.Stale.{NeverStale, NeverStaleWithin, NewestIsFound, OnlyLiveAreRead};
@@ -47,4 +47,6 @@ pub fn stale_example()
     // an opening by what was found, and the reads after it, leave it out, as long as what is asked of the outside is kept
     ensures opened { (now words : Codewords) → AreEncodingsOf five zero_blocks now →
         HaveAllBut now words → EachOpensWithout words }
+    // that is kept as long as the other slots stay as they are while epochs without the device are established
+    ensures amid { (words : Codewords) → IsCalmAmid words }
 {}
