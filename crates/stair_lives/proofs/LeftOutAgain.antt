@@ -82,7 +82,7 @@ newest_super j below up =
     named_super 5 Live Live Live Down Live 1 1 1 0 1 (omega arith) (omega arith, omega arith) (omega arith, omega arith) (omega arith, omega arith)
     refl (omega arith, omega arith) 5 j (omega arith) (omega arith) below up
 
-pub newest_supers : (j : ℕ) → j < 5 → j ≢ 3 → IsSuperblock (copy_of newest j)
+newest_supers : (j : ℕ) → j < 5 → j ≢ 3 → IsSuperblock (copy_of newest j)
 newest_supers =
     five_cases (λ j. j < 5 → j ≢ 3 → IsSuperblock (copy_of newest j)) (λ b other. newest_super 0 b live_up) (λ b other. newest_super 1 b live_up)
     (λ b other. newest_super 2 b live_up) (λ b other. absurd (other refl)) (λ b other. newest_super 4 b live_up)
@@ -277,7 +277,7 @@ module _ (words : Codewords) where
   pub goes : GoesOn words left_out third (reinserted words)
   goes = goes_back words left_out third (made_without words) 3 refl (omega arith) refl made_goes
 
-  pub are : AreEditions words left_out
+  are : AreEditions words left_out
   are = record {
     formed = λ j below.
         elim (cases_eq j 3) [
@@ -299,7 +299,7 @@ module _ (words : Codewords) where
         | inr other ↦ inr (ap (λ (e : Edition). e.array.epoch) (other_is j other), omega arith)
       ]
 
-  pub online : (j : ℕ) → j < 5 → ¬ HasSlot third j → ¬ IsOffline (reinserted words) (reinserted words) j
+  online : (j : ℕ) → j < 5 → ¬ HasSlot third j → ¬ IsOffline (reinserted words) (reinserted words) j
   online j below out (NoMedium none) = not_both words left_out j (slot_state (reinserted words) j) none (goes.kept j below out).0
   online j below out (Unattached off pulled) = omega (arith, pulled)
   online j below out (RackStopped stops) = false≢true stops

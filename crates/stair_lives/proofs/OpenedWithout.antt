@@ -36,8 +36,9 @@ use Rattle.stair_return.proofs.OpeningsLead.{openings_lead}
 use Rattle.stair_return.proofs.ReadsLead.{reads_lead}
 use Rattle.stair_return.proofs.SurveyLemmas as survey
 use Rattle.stair_reinsert_examples.proofs.FiveConsistent.{zeros}
-use Rattle.stair_lives.specs.Example.{EachOpensWithout, HaveAllBut, OpensWithout, ReadsWithout, made_without, reinserted}
+use Rattle.stair_lives.specs.Example.{EachOpensAmid, EachOpensWithout, HaveAllBut, OpensWithout, ReadsWithout, made_without, reinserted}
 use Rattle.stair_lives.specs.Stale.{HasMember, ReadsBehind}
+use Rattle.stair_lives.proofs.AmidCalls.{calm_amid}
 use Rattle.stair_lives.proofs.Known.{IsKnown, up_here}
 use Rattle.stair_lives.proofs.LeftOutAgain.{acted, made_consistent, made_names, mixed, newest, not_here, was_history}
 use Rattle.stair_lives.proofs.NewestLemmas.{NamesNewest, found_newest, looked_current}
@@ -204,3 +205,11 @@ module _ (words now : Codewords) (encoded : AreEncodingsOf five zero_blocks now)
 pub each_opens_without : (words now : Codewords) → AreEncodingsOf five zero_blocks now → HaveAllBut now words → EachOpensWithout words
 each_opens_without words now encoded agree first found m answer events y begins honest still surveys rules p told calm =
     opens words now encoded agree first found m answer events y begins honest still surveys rules p told calm
+
+pub each_opens_amid : (words now : Codewords) → AreEncodingsOf five zero_blocks now → HaveAllBut now words → EachOpensAmid words
+each_opens_amid words now encoded agree first found m answer events y begins honest still surveys rules p told keeps =
+    let amid = calm_amid words in
+    let each = amid.kept y.told.history keeps in
+    let opened : OpensWithout words answer (record { told = found; session = Found m }) y =
+    opens words now encoded agree first found m answer events y begins honest still surveys rules p told (amid.calm y.told.history each) in
+    (opened, opened.refused (amid.unread y.told.history each))

@@ -166,3 +166,14 @@ EachOpensWithout words = (first found : Telling) (m : Membership) (answer : Answ
     → Performs Recover answer events (record { told = found; session = Found m }) y
     → IsTrue y.told.honest → IsCalm AnyReturns five false (reinserted words) y.told.history
     → OpensWithout words answer (record { told = found; session = Found m }) y
+
+-- So does each with no such premise, where the rack is only looked at and written so as KeepsAmid says: it is refused only where no epoch
+-- is left, and else has the array open without slot 3.
+abbrev pub EachOpensAmid : Codewords → Type 0
+EachOpensAmid words = (first found : Telling) (m : Membership) (answer : Answer Recover)
+    (events : List Event) (y : Seen) → first.history ≡ reinserted words → IsTrue found.honest
+    → IsStill first.history found.history → Surveys (Ok m) first found → IsMembership m
+    → Performs Recover answer events (record { told = found; session = Found m }) y
+    → IsTrue y.told.honest → EachHappening KeepsAmid (reinserted words) y.told.history
+    → OpensWithout words answer (record { told = found; session = Found m }) y
+    × ((refusal : Refusal) → answer ≡ Err refusal → refusal ≡ EpochsSpent)

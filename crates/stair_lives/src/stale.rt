@@ -2,7 +2,8 @@
 
 ghost use Rattle.stair_state.specs.Blocks.{AreEncodingsOf, Codewords, zero_blocks};
 ghost use Rattle.stair_return.specs.Misled.{five};
-ghost use Rattle.stair_lives.specs.Example.{EachOpensWithout, HaveAllBut, IsCalmAmid, IsLeftOutAgain};
+ghost use Rattle.stair_lives.specs.Example.{EachOpensAmid, EachOpensWithout, HaveAllBut};
+ghost use Rattle.stair_lives.specs.Example.{IsCalmAmid, IsLeftOutAgain};
 ghost use Rattle.stair_lives.specs.Stale.{AllNameOnce, AllNameOnceWithin, LeftOutStays, MediaStayOut};
 ghost use Rattle.stair_lives.specs.Stale.{MediaStayOutWithin, NeverLiveInStamps, NeverLiveWhileBegun};
 ghost use Rattle.stair_lives.specs.Stale.{NeverStale, NeverStaleWithin, NewestIsFound, OnlyLiveAreRead};
@@ -49,4 +50,7 @@ pub fn stale_example()
         HaveAllBut now words → EachOpensWithout words }
     // that is kept as long as the other slots stay as they are while epochs without the device are established
     ensures amid { (words : Codewords) → IsCalmAmid words }
+    // so the opening leaves it out where the calls keep them so, and the outside does nothing
+    ensures opened_amid { (now words : Codewords) → AreEncodingsOf five zero_blocks now →
+        HaveAllBut now words → EachOpensAmid words }
 {}
