@@ -11,6 +11,7 @@ import subprocess
 import tempfile
 import time
 
+from common import bad
 from fixture import *
 from messages import BEGUN, WRITE, greeted, reply, request
 from rounds import *
@@ -216,10 +217,17 @@ class OfBlocks(Cut):
         self.reads_blocks(less, blocks, says)
 
     def found(self, folder):
-        """Returns the blocks that the first opening finds."""
+        """Returns the blocks that the first opening finds. It reports the superblocks and gates that the cut left in part."""
+        torn = collections.Counter(slot for slot in range(SMALL.n) for number in range(3) if is_torn(image(folder, slot), number))
         ended = self.run_program(f"read 0 {SMALL.blocks}", folder=folder)
-        self.check_ended(ended, 0, "", ended.out)
+        self.check_ended(ended, 0, [bad(slot, count) for slot, count in sorted(torn.items())], ended.out)
         return ended.out
+
+
+def is_torn(path, number):
+    """Tells whether a sector of an image file is no sealed one."""
+    data = path.read_bytes()[SEALED * number : SEALED * (number + 1)]
+    return tool("patch").sealed(number, data[:SIZE]) != data
 
 
 @once

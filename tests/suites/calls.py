@@ -4,11 +4,34 @@ import re
 from messages import *
 
 
+def runs(numbers):
+    """Returns how many rows of following numbers these are."""
+    return sum(number - 1 not in numbers for number in numbers)
+
+
+def cost_of(*steps):
+    """Returns the writes, sectors and syncs of steps, each of which writes these blocks of a stripe of EIGHT.
+
+    The blocks and their parities change (tests/tools/factors). Each device gets the cells that change in the body of its journal, in
+    which cells follow each other row by row, and its gate is opened and closed. Then each changed cell goes to its own device."""
+    n, m, r, e = EIGHT.n, EIGHT.m, EIGHT.r, EIGHT.e
+    cells_of_blocks, parities = tool("factors").dependencies(n, m, r, e)
+    writes = sectors = 0
+    for step in steps:
+        own = {cells_of_blocks[block] for block in step}
+        cells = own | {cell for cell, factors in parities.items() if any(factors[place] for place in own)}
+        writes += n * (runs(cells) + 2) + sum(runs({cell // n for cell in cells if cell % n == slot}) for slot in range(n))
+        sectors += n * (len(cells) + 2) + len(cells)
+    return writes, sectors, 4 * n * len(steps)
+
+
+STRIPE = range(20)  # the blocks of one
+
+
 class Calls(Story):
     """Each command makes so many writes of image files, of so many sectors, and so many syncs more than an opening.
 
-    EIGHT has 20 blocks a stripe. A step writes to each of its 8 devices the body of the journal, and opens and closes the gate: 3 writes.
-    And it writes the cells that change (tests/tools/factors), one write for those that follow each other on a device."""
+    EIGHT has 20 blocks a stripe."""
 
     def setUp(self):
         super().setUp()
@@ -30,13 +53,13 @@ class Calls(Story):
         self.assertTrue(all(size % SEALED == 0 and size // SEALED in range(1, 129) for size in sizes), sizes)
         return len(sizes), sum(sizes) // SEALED, sum("fdatasync(" in line for line in trace)
 
-    def costs(self, case, writes, sectors, syncs, words, input=b""):
+    def costs(self, case, cost, words, input=b""):
         """Returns the trace."""
         trace = []
         with self.subTest(case):
             opening, trace = self.count(self.traced("read 0 0")), self.traced(words, input)
             found = self.count(trace)
-            self.assertEqual((writes, sectors, syncs), tuple(more - less for more, less in zip(found, opening)))
+            self.assertEqual(cost, tuple(more - less for more, less in zip(found, opening)))
         return trace
 
     def done(self, *words):
@@ -44,32 +67,32 @@ class Calls(Story):
             self.assertEqual(0, self.run_program(command, folder=self.work).status)
 
     def test_blocks(self):
-        self.costs("a block", 29, 106, 32, "write 10 1", ONE)
-        self.costs("a whole stripe", 32, 304, 32, "write 20 20", bytes(range(256)) * 40)
-        self.costs("a read", 0, 0, 0, "read 0 40")
-        self.costs("two blocks that come slowly", 56, 203, 64, "write 10 2", Pipe(ONE, TAKEN, 0.5, ONE))
+        self.costs("a block", cost_of([10]), "write 10 1", ONE)
+        self.costs("a whole stripe", cost_of(STRIPE), "write 20 20", bytes(range(256)) * 40)
+        self.costs("a read", cost_of(), "read 0 40")
+        self.costs("two blocks that come slowly", cost_of([10], [11]), "write 10 2", Pipe(ONE, TAKEN, 0.5, ONE))
 
     def test_lines(self):
-        self.costs("two lines", 56, 203, 64, "run", Pipe(lines(f"write 10 {digits('01')}", f"write 11 {digits('01')}")))
+        self.costs("two lines", cost_of([10], [11]), "run", Pipe(lines(f"write 10 {digits('01')}", f"write 11 {digits('01')}")))
 
     def test_volumes(self):
         # The zeros of a stripe are one step, and the table is another one. The blocks of a stripe that come at once are one step, too.
         self.done("vinit")
-        self.costs("a volume of the rest of a stripe", 64, 410, 64, "vmake v 19")
-        self.costs("a volume of a stripe", 64, 419, 64, "vmake w 20")
-        self.costs("a volume that is dropped", 32, 115, 32, "vdrop v")
-        self.costs("two blocks of a volume", 33, 124, 32, "vwrite w 0 2", Pipe(ONE + ONE))
-        self.costs("two blocks of a volume that come slowly", 64, 230, 64, "vwrite w 0 2", Pipe(ONE, TAKEN, 0.5, ONE))
-        self.costs("a list", 0, 0, 0, "vlist")
+        self.costs("a volume of the rest of a stripe", cost_of(STRIPE[1:], [0]), "vmake v 19")
+        self.costs("a volume of a stripe", cost_of(STRIPE, [0]), "vmake w 20")
+        self.costs("a volume that is dropped", cost_of([0]), "vdrop v")
+        self.costs("two blocks of a volume", cost_of([0, 1]), "vwrite w 0 2", Pipe(ONE + ONE))
+        self.costs("two blocks of a volume that come slowly", cost_of([0], [1]), "vwrite w 0 2", Pipe(ONE, TAKEN, 0.5, ONE))
+        self.costs("a list", cost_of(), "vlist")
 
     def test_sessions(self):
         # A READ is put out in few pieces, and a WRITE is done a stripe at a time.
-        trace = self.costs("a READ of all blocks", 0, 0, 0, "serve", BEGUN + request(READ, 0, 655360))
+        trace = self.costs("a READ of all blocks", cost_of(), "serve", BEGUN + request(READ, 0, 655360))
         with self.subTest("its pieces"):
             self.assertIn(sum(bool(re.search(r"^\d* *write\(1,", line)) for line in trace), range(1, 16))
         whole = Pipe(BEGUN + request(WRITE, 10240, 10240) + bytes(range(256)) * 40)
-        self.costs("a WRITE of a whole stripe", 32, 304, 32, "serve", whole)
-        self.costs("a WRITE over two stripes", 62, 185, 64, "serve", Pipe(BEGUN + request(WRITE, 10239, 2) + spelt("AABB")))
+        self.costs("a WRITE of a whole stripe", cost_of(STRIPE), "serve", whole)
+        self.costs("a WRITE over two stripes", cost_of([19], [0]), "serve", Pipe(BEGUN + request(WRITE, 10239, 2) + spelt("AABB")))
 
 
 class Failing(Sessions):
